@@ -1,0 +1,4 @@
+pub mod Comments
+pub mod Names
+pub mod Numbers
+pub mod Once

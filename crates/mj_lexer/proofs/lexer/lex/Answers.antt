@@ -1,0 +1,8 @@
+use Rattle.mj_lexer.proofs.Once.{only_tokens, only_fault}
+use Rattle.mj_lexer.proofs.lexer.lex.Goals as goal
+
+pub returns-clause-only : goal.returns-clause-only
+returns-clause-only c = only_tokens _ c.tokens.result c.tokens.ensures.found c.tokens.ensures.fault
+
+pub returns-clause-fault_only : goal.returns-clause-fault_only
+returns-clause-fault_only c = only_fault _ c.tokens.result c.tokens.ensures.found c.tokens.ensures.fault

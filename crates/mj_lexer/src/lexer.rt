@@ -1,0 +1,90 @@
+//! A text cut into tokens.
+ghost use Rattle.std.specs.Prelude.{◌≡◌, ◌⊎◌, List, IfOk, IfErr, MatchResult, ◌≢◌};
+ghost use Rattle.mj_lexer.specs.Lexes.{Lexes, Breaks, fault_at};
+ghost use Rattle.mj_lexer.specs.declared.token.Token.{Token};
+ghost use Rattle.mj_lexer.specs.declared.lexer.LexFault.{LexFault};
+ghost use Rattle.mj_lexer.specs.declared.lexer.LexFault.TheVariants.{OutOfMemory};
+
+use crate::front::{Front, Problem, read_front};
+use crate::token::Token;
+use std::alloc::{AllocError, AllocFailed, Global};
+
+const LIMIT: usize = 1048576;
+
+/// Why a text isn't cut into tokens.
+#[derive(Clone, Copy, Debug, PartialEq, Eq)]
+pub enum LexFault {
+    BadByte(usize),
+    /// The outermost opening.
+    OpenComment(usize),
+    NameTooLong(usize),
+    FileTooLong,
+    OutOfMemory,
+}
+
+impl From<AllocError> for LexFault {
+    ghost use Rattle.mj_lexer.specs.declared.lexer.LexFault.TheVariants.{OutOfMemory};
+
+    ghost from_gives = { λ _ e. e ≡ OutOfMemory };
+
+    fn from(_: AllocError) -> Self {
+        LexFault::OutOfMemory
+    }
+}
+
+impl<T: Drop> From<AllocFailed<T>> for LexFault {
+    ghost use Rattle.mj_lexer.specs.declared.lexer.LexFault.TheVariants.{OutOfMemory};
+
+    ghost from_gives = { λ _ e. e ≡ OutOfMemory };
+
+    fn from(_: AllocFailed<T>) -> Self {
+        LexFault::OutOfMemory
+    }
+}
+
+fn fault(problem: Problem, at: usize) -> LexFault
+    ensures { result ≡ fault_at problem at }
+{
+    match problem {
+        Problem::Byte => LexFault::BadByte(at),
+        Problem::Comment => LexFault::OpenComment(at),
+        Problem::Name => LexFault::NameTooLong(at),
+    }
+}
+
+fn tokens(alloc: Global, text: &[u8]) -> Result<Vec<Token>, LexFault>
+    ensures found { IfOk result (λ v. Lexes text.now v.items) }
+    ensures fault { IfErr result (λ e. e ≢ OutOfMemory → Breaks text.now e) }
+{
+    if text.len() > LIMIT {
+        return Err(LexFault::FileTooLong);
+    }
+    let mut tokens = Vec::new(alloc);
+    let mut at = 0;
+    loop {
+        let here = read_front(alloc, &text[at..])?;
+        match here {
+            Front::Nothing => return Ok(tokens),
+            Front::Blank(n) => at += n,
+            Front::Word(kind, n) => {
+                tokens.push(Token {
+                    kind,
+                    start: at,
+                    end: at + n,
+                })?;
+                at += n;
+            }
+            Front::Wrong(problem) => return Err(fault(problem, at)),
+        }
+    }
+}
+
+/// The tokens of a text.
+pub fn lex(alloc: Global, text: &[u8]) -> Result<Vec<Token>, LexFault>
+    ensures found { IfOk result (λ v. Lexes text.now v.items) }
+    ensures only { (others : List Token) → Lexes text.now others → MatchResult result (λ v. v.items ≡ others) (λ e. e ≡ OutOfMemory) }
+    ensures fault { IfErr result (λ e. e ≢ OutOfMemory → Breaks text.now e) }
+    ensures fault_only { (f : LexFault) → Breaks text.now f → MatchResult result (λ _. ⊥) (λ e. (e ≡ f) ⊎ (e ≡ OutOfMemory)) }
+{
+    tokens(alloc, text)
+}

@@ -1,0 +1,88 @@
+//! Tokens.
+use crate::name::Name;
+
+/// A symbol or a reserved word: a token that has one text.
+#[derive(Clone, Copy, Debug, PartialEq, Eq)]
+pub enum Terminal {
+    /// `{`
+    LeftBrace,
+    /// `}`
+    RightBrace,
+    /// `(`
+    LeftParenthesis,
+    /// `)`
+    RightParenthesis,
+    /// `[`
+    LeftBracket,
+    /// `]`
+    RightBracket,
+    /// `;`
+    Semicolon,
+    /// `,`
+    Comma,
+    /// `.`
+    Dot,
+    /// `=`
+    Assign,
+    /// `&&`
+    And,
+    /// `<`
+    Less,
+    /// `+`
+    Plus,
+    /// `-`
+    Minus,
+    /// `*`
+    Times,
+    /// `!`
+    Not,
+    /// `class`
+    Class,
+    /// `public`
+    Public,
+    /// `static`
+    Static,
+    /// `void`
+    Void,
+    /// `extends`
+    Extends,
+    /// `return`
+    Return,
+    /// `int`
+    Int,
+    /// `boolean`
+    Boolean,
+    /// `if`
+    If,
+    /// `else`
+    Else,
+    /// `while`
+    While,
+    /// `true`
+    True,
+    /// `false`
+    False,
+    /// `this`
+    This,
+    /// `new`
+    New,
+}
+
+/// What a token is.
+#[derive(Debug, Drop)]
+pub enum Kind {
+    /// A name that isn't reserved.
+    Identifier(Name),
+    /// A decimal literal with its value, where 2147483648 stands for all greater ones.
+    Literal(u32),
+    /// A symbol or a reserved word.
+    Terminal(Terminal),
+}
+
+/// A token and its place: the bytes of the text from `start` to before `end`.
+#[derive(Debug, Drop)]
+pub struct Token {
+    pub kind: Kind,
+    pub start: usize,
+    pub end: usize,
+}

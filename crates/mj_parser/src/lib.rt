@@ -1,0 +1,10 @@
+//! Tokens into trees.
+#![tactic(auto)]
+
+mod place;
+mod tree;
+
+pub use place::Place;
+pub use tree::{
+    ClassTree, Exp, Field, FileTree, MainTree, MethodTree, Operator, Stmt, Ty, Variable,
+};

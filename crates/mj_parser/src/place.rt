@@ -1,0 +1,22 @@
+//! Where a fault stands.
+use mj_lexer::Name;
+
+/// A place that stays the same under edits outside its item. Places are ordered as they are listed here, then by
+/// their contents, names by their bytes.
+#[derive(Debug, Drop, PartialEq, Eq, PartialOrd, Ord)]
+pub enum Place {
+    /// The whole project.
+    Project,
+    /// A file.
+    File(Name),
+    /// The class with this number in a file. Classes are numbered from 0, the main class first.
+    ClassOf(Name, usize),
+    /// The class that is spoken of.
+    Class,
+    /// The field with this number in the class, counted from 0.
+    Field(usize),
+    /// The method with this number in the class, counted from 0.
+    Method(usize),
+    /// The token with this number in the first method of this name, counted from its `public`.
+    Inside(Name, usize),
+}
