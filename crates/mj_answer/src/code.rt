@@ -1,6 +1,8 @@
 //! Codes of faults.
-ghost use Rattle.std.specs.Prelude.{◌≡◌, ◌↔◌, IfSome};
+ghost use Rattle.std.specs.Prelude.{◌≡◌, ◌++◌, Some, codes, decimal};
 ghost use Rattle.mj_answer.specs.Codes.{number_of, code_of};
+
+use std::fmt;
 
 /// What is wrong. The first digit of a code's number tells what it is about: 1 the project, 2 a declaration, 3 a body.
 /// Codes are ordered by their numbers.
@@ -145,5 +147,13 @@ impl Code {
             _ => return None,
         };
         Some(code)
+    }
+}
+
+impl fmt::Display for Code {
+    ghost output = { λ code. Some (codes "E" ++ decimal (number_of code)) };
+
+    fn fmt<W: fmt::Write>(&self, f: &mut fmt::Formatter<W>) -> fmt::Result {
+        write!(f, "E{}", self.number())
     }
 }

@@ -4,7 +4,9 @@
 mod code;
 mod diagnostic;
 mod table;
+mod text;
 
 pub use code::Code;
 pub use diagnostic::Diagnostic;
 pub use table::{Answer, ClassAnswer, ClassTable, FieldRow, MethodRow};
+pub use text::render;
