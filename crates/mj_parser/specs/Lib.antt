@@ -4,3 +4,7 @@ pub mod Tokens
 pub mod Expressions
 pub mod Statements
 pub mod Declarations
+pub mod Steps
+pub mod ExpressionReading
+pub mod StatementReading
+pub mod FileReading

@@ -1,0 +1,6 @@
+pub mod Bodies
+pub mod Inquiries
+pub mod Phrases
+pub mod Steps
+pub mod Table
+pub mod Types

@@ -1,0 +1,11 @@
+//! The typing rules of bodies: what each phrase demands, and the walk that finds the mistakes.
+#![tactic(auto)]
+
+mod asking;
+mod code;
+mod plain;
+mod verdict;
+
+pub use asking::{Asking, Declarations, Signature, Stop};
+pub use code::Code;
+pub use verdict::{Mistake, Verdict};
