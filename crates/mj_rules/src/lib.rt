@@ -1,0 +1,8 @@
+//! The static rules of MiniJava over a whole project, and the checker that follows them from scratch.
+#![tactic(auto)]
+
+mod project;
+mod repeats;
+
+pub use mj_answer::{Answer, ClassAnswer, ClassTable, Code, Diagnostic, FieldRow, MethodRow, render};
+pub use project::{Project, ProjectFault};
