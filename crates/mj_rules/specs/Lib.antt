@@ -1,2 +1,9 @@
 pub mod Projects
 pub mod Repeats
+pub mod Sentences
+pub mod ProjectFaults
+pub mod Worlds
+pub mod ClassFaults
+pub mod Rules
+pub mod FaultLists
+pub mod Answering
