@@ -109,7 +109,7 @@ pub code_back : (code : Code) → code_of (number_of code) ≡ Some code
 code_back E101 = refl
 code_back code = refl
 
-code_injective : (c d : Code) → number_of c ≡ number_of d → c ≡ d
+pub code_injective : (c d : Code) → number_of c ≡ number_of d → c ≡ d
 code_injective c d e = let f : Some c ≡ Some d = sym (code_back c) ∙ ap code_of e ∙ code_back d in cc
 
 abbrev FaultKey : Type 0
