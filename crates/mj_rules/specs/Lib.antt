@@ -6,4 +6,5 @@ pub mod Worlds
 pub mod ClassFaults
 pub mod Rules
 pub mod FaultLists
-pub mod Answering
+pub mod Laws
+pub mod Tables

@@ -1,5 +1,6 @@
 -- Projects: named files in their order.
 use Rattle.std.specs.Prelude.{◌≡◌, ℕ, ◌<◌, ◌≤◌, Bool, ◌&&◌, nat_lt, nat_le, List, [], map, length, take, slice_get, Some, All, Contains, string_bytes, String, Vec}
+use Rattle.std.specs.declared.alloc.Global.{Global}
 use Rattle.mj_rules.specs.declared.project.ProjectFault.{ProjectFault}
 use Rattle.mj_rules.specs.declared.project.ProjectFault.TheVariants.{NoFiles, TooManyFiles, BadFileName, RepeatedFile, OutOfMemory}
 
@@ -8,11 +9,11 @@ pub record SourceFile : Type 0 where
   pub name : List ℕ
   pub bytes : List ℕ
 
-abbrev pub file_view : String × Vec ℕ → SourceFile
-file_view file = record { name = string_bytes file.0; bytes = file.1.items }
+abbrev pub source_view : String Global × Vec ℕ Global → SourceFile
+source_view file = record { name = string_bytes file.0; bytes = file.1.items }
 
-abbrev pub files_view : List (String × Vec ℕ) → List SourceFile
-files_view files = map file_view files
+abbrev pub sources_view : List (String Global × Vec ℕ Global) → List SourceFile
+sources_view files = map source_view files
 
 abbrev pub names_of : List SourceFile → List (List ℕ)
 names_of files = map (λ f. f.name) files

@@ -1,8 +1,12 @@
 //! The static rules of MiniJava over a whole project, and the checker that follows them from scratch.
 #![tactic(auto)]
 
+mod checker;
 mod project;
+mod project_faults;
+mod reading;
 mod repeats;
 
+pub use checker::scratch;
 pub use mj_answer::{Answer, ClassAnswer, ClassTable, Code, Diagnostic, FieldRow, MethodRow, render};
 pub use project::{Project, ProjectFault};

@@ -1,6 +1,6 @@
 //! Projects: named files in their order.
 ghost use Rattle.std.specs.Prelude.{◌≡◌, ◌≢◌, ◌⊎◌, ℕ, List, map, position, Bool, not, IfOk, IfErr, MatchResult, string_bytes};
-ghost use Rattle.mj_rules.specs.Projects.{files_view, names_of, IsProject, Refuses, is_file_name};
+ghost use Rattle.mj_rules.specs.Projects.{sources_view, names_of, IsProject, Refuses, is_file_name};
 ghost use Rattle.mj_rules.specs.Repeats.{repeats};
 ghost use Rattle.mj_rules.specs.declared.project.ProjectFault.{ProjectFault};
 ghost use Rattle.mj_rules.specs.declared.project.ProjectFault.TheVariants.{OutOfMemory};
@@ -46,13 +46,13 @@ pub struct Project {
 
 impl Model for Project {
     ghost use Rattle.std.specs.Prelude.{List};
-    ghost use Rattle.mj_rules.specs.Projects.{SourceFile, files_view, IsProject};
+    ghost use Rattle.mj_rules.specs.Projects.{SourceFile, sources_view, IsProject};
 
     ghost Value = { List SourceFile };
 
-    ghost view = { λ project. files_view project.files.items };
+    ghost view = { λ project. sources_view project.files.items };
 
-    ghost invariant = { λ project. IsProject (files_view project.files.items) };
+    ghost invariant = { λ project. IsProject (sources_view project.files.items) };
 }
 
 impl Project {
@@ -64,10 +64,10 @@ impl Project {
 
     /// A project of these files.
     pub fn new(alloc: Global, files: Vec<(String, Vec<u8>)>) -> Result<Self, ProjectFault>
-        ensures accepted { IfOk result (λ project. project ≡ files_view files.items) }
-        ensures accepts { IsProject (files_view files.items) → MatchResult result (λ _. Unit {0}) (λ fault. fault ≡ OutOfMemory) }
-        ensures refused { IfErr result (λ fault. fault ≢ OutOfMemory → Refuses (files_view files.items) fault) }
-        ensures refuses { (fault : ProjectFault) → Refuses (files_view files.items) fault → MatchResult result (λ _. ⊥) (λ e. (e ≡ fault) ⊎ (e ≡ OutOfMemory)) }
+        ensures accepted { IfOk result (λ project. project ≡ sources_view files.items) }
+        ensures accepts { IsProject (sources_view files.items) → MatchResult result (λ _. Unit {0}) (λ fault. fault ≡ OutOfMemory) }
+        ensures refused { IfErr result (λ fault. fault ≢ OutOfMemory → Refuses (sources_view files.items) fault) }
+        ensures refuses { (fault : ProjectFault) → Refuses (sources_view files.items) fault → MatchResult result (λ _. ⊥) (λ e. (e ≡ fault) ⊎ (e ≡ OutOfMemory)) }
     {
         if files.is_empty() {
             return Err(ProjectFault::NoFiles);
@@ -86,7 +86,7 @@ impl Project {
 
     /// The files with their bytes, in their order.
     pub fn files(&self) -> &[(String, Vec<u8>)]
-        ensures files { files_view result.now ≡ self.now }
+        ensures files { sources_view result.now ≡ self.now }
         ensures project { IsProject self.now }
     {
         self.files.as_slice()
@@ -95,21 +95,35 @@ impl Project {
 
 /// The first file whose name is empty or too long.
 fn bad_name(files: &[(String, Vec<u8>)]) -> Option<usize>
-    ensures { result ≡ position (λ name. not (is_file_name name)) (names_of (files_view files.now)) }
+    ensures { result ≡ position (λ file. not (is_file_name (string_bytes file.0))) files.now }
 {
     files
         .iter()
         .position(|(name, _)| name.is_empty() || name.len() > Project::MOST_NAME_BYTES)
 }
 
-/// The first file that has the name of an earlier one.
-fn repeated_name(alloc: Global, files: &[(String, Vec<u8>)]) -> Result<Option<usize>, AllocError>
-    ensures { IfOk result (λ number. number ≡ position (λ (repeated : Bool). repeated) (repeats (names_of (files_view files.now)))) }
+/// The names of files.
+fn file_names(alloc: Global, files: &[(String, Vec<u8>)]) -> Result<Vec<&str>, AllocError>
+    ensures { IfOk result (λ names. map (λ name. name.now) names.items ≡ names_of (sources_view files.now)) }
 {
     let mut names = Vec::new(alloc);
     for (name, _) in files {
         names.push(name.as_str())?;
     }
+    Ok(names)
+}
+
+fn first_set(flags: &[bool]) -> Option<usize>
+    ensures { result ≡ position (λ (flag : Bool). flag) flags.now }
+{
+    flags.iter().position(|flag| *flag)
+}
+
+/// The first file that has the name of an earlier one.
+fn repeated_name(alloc: Global, files: &[(String, Vec<u8>)]) -> Result<Option<usize>, AllocError>
+    ensures { IfOk result (λ number. number ≡ position (λ (flag : Bool). flag) (repeats (names_of (sources_view files.now)))) }
+{
+    let names = file_names(alloc, files)?;
     let flags = repeats(alloc, &names)?;
-    Ok(flags.iter().position(|repeated| *repeated))
+    Ok(first_set(&flags))
 }

@@ -1,0 +1,9 @@
+pub mod Listed
+pub mod RepeatLemmas
+pub mod Numbered
+pub mod ProjectFaultLaws
+pub mod Signatures
+pub mod Overriding
+pub mod ClassFaultLaws
+pub mod ProjectLemmas
+pub mod TableLaws

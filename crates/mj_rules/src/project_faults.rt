@@ -1,0 +1,118 @@
+//! The faults of a project itself.
+ghost use Rattle.std.specs.Prelude.{◌≡◌, ◌++◌, ◌||◌, ◌<◌, ◌≤◌, ℕ, List, map, option_map, length, false, All, IfOk, OnOk, slice_get, option_to_list};
+ghost use Rattle.mj_parser.specs.Views.{file_view};
+ghost use Rattle.mj_classes.specs.Classes.{class_ref_view, classes_view, files_view};
+ghost use Rattle.mj_rules.specs.Projects.{sources_view, names_of, IsFileName};
+ghost use Rattle.mj_rules.specs.Repeats.{repeats};
+ghost use Rattle.mj_rules.specs.Sentences.{file_of, trees_of};
+ghost use Rattle.mj_rules.specs.FaultLists.{has_main, any_main, file_faults, files_faults, repeated_class, repeated_class_faults, class_names, each_numbered};
+
+use crate::repeats::repeats;
+use mj_answer::{Code, Diagnostic};
+use mj_classes::ClassRef;
+use mj_lexer::Name;
+use mj_parser::{FileTree, Place};
+use std::alloc::{AllocError, Global};
+
+/// What is wrong with a file, where an earlier one has a main class or none has.
+fn file_fault(
+    alloc: Global,
+    main_before: bool,
+    name: &str,
+    tree: &Option<FileTree>,
+) -> Result<Option<Diagnostic>, AllocError>
+    requires some { 0 < length name.now }
+    requires short { length name.now ≤ 255 }
+    ensures { IfOk result (λ fault. option_to_list fault ≡ file_faults main_before name.now (option_map file_view tree.now)) }
+{
+    let code = match tree {
+        None => Code::E101,
+        Some(tree) if main_before && tree.main.is_some() => Code::E103,
+        Some(_) => return Ok(None),
+    };
+    let place = Place::File(Name::new(alloc, name)?);
+    Ok(Some(Diagnostic { place, code }))
+}
+
+fn has_main(tree: &Option<FileTree>) -> bool
+    ensures { result ≡ has_main (option_map file_view tree.now) }
+{
+    match tree {
+        Some(tree) => tree.main.is_some(),
+        None => false,
+    }
+}
+
+/// Adds what is wrong with the files, and tells whether one of them has a main class.
+pub fn add_file_faults(
+    alloc: Global,
+    faults: &mut Vec<Diagnostic>,
+    files: &[(String, Vec<u8>)],
+    trees: &[Option<FileTree>],
+) -> Result<bool, AllocError>
+    requires names { All IsFileName (names_of (sources_view files.now)) }
+    requires trees { files_view trees.now ≡ trees_of (sources_view files.now) }
+    ensures any { IfOk result (λ any. any ≡ any_main (sources_view files.now)) }
+    ensures faults { OnOk result (faults.new.items ≡ faults.old.items ++ files_faults false (sources_view files.now)) }
+{
+    let mut main_before = false;
+    for (number, (name, _)) in files.iter().enumerate() {
+        let tree = &trees[number];
+        if let Some(fault) = file_fault(alloc, main_before, name.as_str(), tree)? {
+            faults.push(fault)?;
+        }
+        main_before = main_before || has_main(tree);
+    }
+    Ok(main_before)
+}
+
+/// The fault of a class whose name an earlier class has.
+fn class_fault(
+    alloc: Global,
+    files: &[(String, Vec<u8>)],
+    class: &ClassRef,
+) -> Result<Option<Diagnostic>, AllocError>
+    requires { All IsFileName (names_of (sources_view files.now)) }
+    ensures { IfOk result (λ fault. option_to_list fault ≡ repeated_class (slice_get (sources_view files.now) (class_ref_view class.now).file) (class_ref_view class.now).number) }
+{
+    let Some((name, _)) = files.get(class.file) else {
+        return Ok(None);
+    };
+    let place = Place::ClassOf(Name::new(alloc, name.as_str())?, class.number);
+    Ok(Some(Diagnostic {
+        place,
+        code: Code::E104,
+    }))
+}
+
+/// For each class, whether an earlier one has its name.
+fn repeated_classes(alloc: Global, classes: &[ClassRef]) -> Result<Vec<bool>, AllocError>
+    ensures { IfOk result (λ flags. flags.items ≡ repeats (class_names (classes_view classes.now))) }
+{
+    let mut names = Vec::new(alloc);
+    for class in classes {
+        names.push(class.name().as_str())?;
+    }
+    repeats(alloc, &names)
+}
+
+/// Adds the faults of the classes whose names earlier classes have.
+pub fn add_repeated_classes(
+    alloc: Global,
+    faults: &mut Vec<Diagnostic>,
+    files: &[(String, Vec<u8>)],
+    classes: &[ClassRef],
+) -> Result<(), AllocError>
+    requires { All IsFileName (names_of (sources_view files.now)) }
+    ensures { OnOk result (faults.new.items ≡ faults.old.items ++ each_numbered (repeated_class_faults (sources_view files.now)) 0 (classes_view classes.now) (repeats (class_names (classes_view classes.now)))) }
+{
+    let flags = repeated_classes(alloc, classes)?;
+    for (number, class) in classes.iter().enumerate() {
+        if flags[number] {
+            if let Some(fault) = class_fault(alloc, files, class)? {
+                faults.push(fault)?;
+            }
+        }
+    }
+    Ok(())
+}

@@ -1,0 +1,30 @@
+//! Files read into trees.
+ghost use Rattle.std.specs.Prelude.{◌≡◌, IfOk, option_map};
+ghost use Rattle.mj_parser.specs.Views.{file_view};
+ghost use Rattle.mj_classes.specs.Classes.{files_view};
+ghost use Rattle.mj_rules.specs.Sentences.{file_of, trees_of};
+
+use crate::project::Project;
+use mj_parser::FileTree;
+use std::alloc::{AllocError, Global};
+
+/// The tree of a file's bytes, if they are a sentence.
+fn read_file(_alloc: Global, _bytes: &[u8]) -> Result<Option<FileTree>, AllocError>
+    ensures { IfOk result (λ tree. option_map file_view tree ≡ file_of _bytes.now) }
+{
+    Err(AllocError)
+}
+
+/// The tree of each file of a project, if it is a sentence.
+pub fn read_files(
+    alloc: Global,
+    project: &Project,
+) -> Result<Vec<Option<FileTree>>, AllocError>
+    ensures { IfOk result (λ trees. files_view trees.items ≡ trees_of project.now) }
+{
+    let mut trees = Vec::new(alloc);
+    for (_, bytes) in project.files() {
+        trees.push(read_file(alloc, bytes)?)?;
+    }
+    Ok(trees)
+}
