@@ -1,5 +1,6 @@
 //! A declared class.
-ghost use Rattle.std.specs.Prelude.{◌≡◌, map, option_copied, option_map};
+ghost use Rattle.std.specs.Prelude.{◌≡◌, map, find, option_copied, option_map};
+ghost use Rattle.std.specs.Str.{bytes_eq};
 ghost use Rattle.mj_classes.specs.Members.{own_field, own_method};
 ghost use Rattle.mj_parser.specs.Views.{method_view};
 ghost use Rattle.mj_classes.specs.Classes.{class_ref_view};
@@ -76,6 +77,12 @@ impl<'a> ClassRef<'a> {
     pub fn method(&self, name: &Name) -> Option<&'a MethodTree>
         ensures { option_map method_view (option_copied result) ≡ own_method name.now (class_ref_view self.now) }
     {
-        self.methods().iter().find(|method| &method.name == name)
+        first_method(self.methods(), name)
     }
+}
+
+fn first_method<'a>(methods: &'a [MethodTree], name: &Name) -> Option<&'a MethodTree>
+    ensures { option_copied result ≡ find (λ m. bytes_eq m.name name.now) methods.now }
+{
+    methods.iter().find(|method| &method.name == name)
 }

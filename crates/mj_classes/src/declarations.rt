@@ -1,16 +1,16 @@
 //! The declared classes by their names.
-ghost use Rattle.std.specs.Prelude.{◌≡◌, ◌++◌, ℕ, List, map, position, option_map, OnOk, IfOk, ◌<◌, length, Some, slice_get, is_some, take};
+ghost use Rattle.std.specs.Prelude.{◌≡◌, ◌++◌, ℕ, List, map, position, option_map, OnOk, IfOk, ◌<◌, ◌≤◌, length, Some, slice_get, is_some, take};
 ghost use Rattle.std.specs.Str.{bytes_eq};
 ghost use Rattle.std.specs.BTreeMap.{get};
 ghost use Rattle.std.specs.Cmp.Lexicographic.{slice_cmp};
 ghost use Rattle.std.specs.Ordering.{nat_cmp};
-ghost use Rattle.mj_parser.specs.Views.{file_view};
-ghost use Rattle.mj_classes.specs.Declarations.{ClassDecl, classes_of, declarations, decl};
+ghost use Rattle.mj_parser.specs.Views.{class_view, file_view};
+ghost use Rattle.mj_classes.specs.Declarations.{ClassDecl, classes_of, numbered, declarations, decl};
 ghost use Rattle.mj_classes.specs.Classes.{class_ref_view, classes_view, files_view};
 
 use crate::class::{ClassRef, Tree};
 use mj_lexer::Name;
-use mj_parser::FileTree;
+use mj_parser::{ClassTree, FileTree};
 use std::alloc::{AllocError, Global};
 use std::collections::BTreeMap;
 
@@ -22,34 +22,6 @@ pub struct Declarations<'a> {
     ghost indexed: { (q : List ℕ) → get (slice_cmp nat_cmp) by_name q ≡ position (λ k. bytes_eq k.name q) (classes_view classes.items) },
 }
 
-/// Adds the classes of a file.
-fn add_file<'a>(
-    classes: &mut Vec<ClassRef<'a>>,
-    file: usize,
-    tree: &'a FileTree,
-) -> Result<(), AllocError>
-    ensures { OnOk result (classes_view classes.new.items ≡ classes_view classes.old.items ++ classes_of file (file_view tree.now)) }
-{
-    let mut number = 0;
-    if let Some(main) = &tree.main {
-        classes.push(ClassRef {
-            file,
-            number,
-            tree: Tree::Main(main),
-        })?;
-        number = 1;
-    }
-    for class in &tree.classes {
-        classes.push(ClassRef {
-            file,
-            number,
-            tree: Tree::Plain(class),
-        })?;
-        number += 1;
-    }
-    Ok(())
-}
-
 impl<'a> Declarations<'a> {
     ghost use Rattle.mj_classes.specs.Index.{declared_in};
 
@@ -57,12 +29,7 @@ impl<'a> Declarations<'a> {
     pub fn new(alloc: Global, files: &'a [Option<FileTree>]) -> Result<Self, AllocError>
         ensures { IfOk result (λ d. declared_in d ≡ declarations (files_view files.now)) }
     {
-        let mut classes = Vec::new(alloc);
-        for (file, tree) in files.iter().enumerate() {
-            if let Some(tree) = tree {
-                add_file(&mut classes, file, tree)?;
-            }
-        }
+        let classes = all_classes(alloc, files)?;
         let by_name = indexed(alloc, &classes)?;
         Ok(Declarations { classes, by_name })
     }
@@ -78,8 +45,10 @@ impl<'a> Declarations<'a> {
     pub fn find(&self, name: &Name) -> Option<ClassRef<'a>>
         ensures { option_map class_ref_view result ≡ decl (declared_in self.now) name.now }
     {
-        let at = *self.by_name.get(name)?;
-        Some(self.classes[at])
+        match self.by_name.get(name) {
+            Some(at) => Some(self.classes[*at]),
+            None => None,
+        }
     }
 
     /// Whether an earlier class has the name of the class at this place.
@@ -87,10 +56,48 @@ impl<'a> Declarations<'a> {
         requires { at < length (declared_in self.now) }
         ensures { (k : ClassDecl) → slice_get (declared_in self.now) at ≡ Some k → result ≡ is_some (decl (take at (declared_in self.now)) k.name) }
     {
-        self.by_name
-            .get(self.classes[at].name())
-            .is_some_and(|first| *first < at)
+        match self.by_name.get(self.classes[at].name()) {
+            Some(first) => *first < at,
+            None => false,
+        }
     }
+}
+
+/// The classes of these files, in order.
+fn all_classes<'a>(alloc: Global, files: &'a [Option<FileTree>]) -> Result<Vec<ClassRef<'a>>, AllocError>
+    ensures { IfOk result (λ v. classes_view v.items ≡ declarations (files_view files.now)) }
+{
+    let mut classes = Vec::new(alloc);
+    for (file, tree) in files.iter().enumerate() {
+        if let Some(tree) = tree {
+            add_file(&mut classes, file, tree)?;
+        }
+    }
+    Ok(classes)
+}
+
+/// Adds the classes of a file.
+fn add_file<'a>(classes: &mut Vec<ClassRef<'a>>, file: usize, tree: &'a FileTree) -> Result<(), AllocError>
+    ensures { OnOk result (classes_view classes.new.items ≡ classes_view classes.old.items ++ classes_of file (file_view tree.now)) }
+{
+    match &tree.main {
+        Some(main) => {
+            classes.push(ClassRef { file, number: 0, tree: Tree::Main(main) })?;
+            add_classes(classes, file, 1, &tree.classes)
+        }
+        None => add_classes(classes, file, 0, &tree.classes),
+    }
+}
+
+/// Adds the classes of a file that aren't its main class, numbered from this number on.
+fn add_classes<'a>(classes: &mut Vec<ClassRef<'a>>, file: usize, first: usize, trees: &'a [ClassTree]) -> Result<(), AllocError>
+    requires { first ≤ 1 }
+    ensures { OnOk result (classes_view classes.new.items ≡ classes_view classes.old.items ++ numbered file first (map class_view trees.now)) }
+{
+    for (n, class) in trees.iter().enumerate() {
+        classes.push(ClassRef { file, number: first + n, tree: Tree::Plain(class) })?;
+    }
+    Ok(())
 }
 
 /// The place of the first class of each name.

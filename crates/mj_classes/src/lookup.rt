@@ -3,7 +3,7 @@ ghost use Rattle.std.specs.Prelude.{◌≡◌, find, option_map};
 ghost use Rattle.mj_classes.specs.Chains.{ancestry, accepts};
 ghost use Rattle.mj_classes.specs.Members.{field_of, method_of};
 ghost use Rattle.mj_classes.specs.Classes.{class_ref_view, field_member_view, method_member_view};
-ghost use Rattle.mj_classes.specs.Walks.{is_sought};
+ghost use Rattle.mj_classes.specs.Walks.{above, is_sought};
 
 use crate::class::ClassRef;
 use crate::declarations::Declarations;
@@ -70,31 +70,40 @@ impl<'a> Declarations<'a> {
         })
     }
 
-    /// The first class of a chain in which something is found. A chain that runs into a cycle is left when it comes
-    /// back to a class that it has passed: `passed` is such a class, `since` steps ago, and it is replaced by a later
-    /// one each time that twice as many steps were made.
+    /// The first class of a chain in which something is found. A walk that comes back to a class which it has passed
+    /// has seen the whole chain; that class is replaced by a later one each time that twice as many steps were made.
     fn nearest(&self, name: &Name, sought: &Sought) -> Option<ClassRef<'a>>
         ensures { option_map class_ref_view result ≡ find (is_sought sought.now) (ancestry (declared_in self.now) name.now) }
     {
-        let mut class = self.find(name)?;
+        let Some(mut class) = self.find(name) else {
+            return None;
+        };
         let mut passed = class;
-        let mut since = 0usize;
-        let mut limit = 1usize;
-        for _step in 0..self.classes().len() {
+        for step in 0..self.classes().len() {
             if sought.is_found_in(&class) {
                 return Some(class);
             }
-            if since == limit {
+            if step.is_power_of_two() {
                 passed = class;
-                since = 0;
-                limit = limit.saturating_mul(2);
             }
-            class = self.find(class.superclass()?)?;
-            since += 1;
-            if class.name() == passed.name() {
+            let Some(next) = self.above(&class) else {
+                return None;
+            };
+            if next.name() == passed.name() {
                 return None;
             }
+            class = next;
         }
         None
+    }
+
+    /// The declared class that a class extends.
+    fn above(&self, class: &ClassRef<'a>) -> Option<ClassRef<'a>>
+        ensures { option_map class_ref_view result ≡ above (declared_in self.now) (class_ref_view class.now) }
+    {
+        match class.superclass() {
+            Some(name) => self.find(name),
+            None => None,
+        }
     }
 }
