@@ -81,8 +81,8 @@ module _ {X : Type 0} (name_of : X → List ℕ) (name : List ℕ) where
   first_at : (xs : List X) (i : ℕ) (d : X) → IsAscendingByName name_of xs → i < length xs → comparison (get_or xs i d) ≡ Equal → position_or_len has_name xs ≡ i
   first_at xs i d up lt e =
       position_or_len_is has_name xs i d (omega arith)
-        (λ k below. has-less (get_or xs k d) (subst (NameBefore (name_of (get_or xs k d))) (equal_names _ name e) (before_at (λ x y. NameBefore (name_of x) (name_of y)) xs k i d up below lt)))
-        (λ _. has-equal (get_or xs i d) e)
+      (λ k below. has-less (get_or xs k d) (subst (NameBefore (name_of (get_or xs k d))) (equal_names _ name e) (before_at (λ x y. NameBefore (name_of x) (name_of y)) xs k i d up below lt)))
+      (λ _. has-equal (get_or xs i d) e)
 
   pub searched : (xs : List X) → IsAscendingByName name_of xs → (r : Result ℕ ℕ) → IsSearchInRange r (length xs) → IsBinarySearchResult comparison xs r → result_ok r ≡ position has_name xs
   searched [] up (Ok i) in_range equal = absurd (omega arith)
@@ -91,8 +91,8 @@ module _ {X : Type 0} (name_of : X → List ℕ) (name : List ℕ) where
   searched (x ∷ xs) up (Err i) in_range parted =
       let split = parted (comparisons_rise (x ∷ xs) up) in
       sym (found_nowhere (x ∷ xs) (position_or_len_is has_name (x ∷ xs) (length (x ∷ xs)) x (omega arith)
-        (λ k below. elim (below_or_not k i) [ inl lt ↦ has-less _ (split.0 k x (omega arith) lt) | inr le ↦ has-greater _ (split.1 k x le below) ])
-        (λ lt. absurd (omega arith))))
+      (λ k below. elim (below_or_not k i) [ inl lt ↦ has-less _ (split.0 k x (omega arith) lt) | inr le ↦ has-greater _ (split.1 k x le below) ])
+      (λ lt. absurd (omega arith))))
     where
       below_or_not : (k i : ℕ) → (k < i) ⊎ (i ≤ k)
       below_or_not k i = elim (cases_order k i) [ inl e ↦ inr (omega arith) | inr c ↦ elim c [ inl lt ↦ inl lt | inr gt ↦ inr (omega arith) ] ]
