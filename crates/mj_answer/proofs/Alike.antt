@@ -34,8 +34,8 @@ one_list X B one (x ∷ xs) [] up vp f g = absurd (nowhere x (f x (Contains-firs
 one_list X B one (x ∷ xs) (y ∷ ys) up vp f g =
     let same = heads (Contains-cases y ys x (f x (Contains-first x xs))) (Contains-cases x xs y (g y (Contains-first y ys))) in
     let tails = one_list X B one xs ys up.1 vp.1
-      (λ z h. elim (Contains-cases y ys z (f z (Contains-later x xs z h))) [ inl e ↦ absurd (strict x z (same ∙ e) (each (B x) xs z up.0 h)) | inr i ↦ i ])
-      (λ z h. elim (Contains-cases x xs z (g z (Contains-later y ys z h))) [ inl e ↦ absurd (strict y z (sym same ∙ e) (each (B y) ys z vp.0 h)) | inr i ↦ i ]) in
+    (λ z h. elim (Contains-cases y ys z (f z (Contains-later x xs z h))) [ inl e ↦ absurd (strict x z (same ∙ e) (each (B x) xs z up.0 h)) | inr i ↦ i ])
+    (λ z h. elim (Contains-cases x xs z (g z (Contains-later y ys z h))) [ inl e ↦ absurd (strict y z (sym same ∙ e) (each (B y) ys z vp.0 h)) | inr i ↦ i ]) in
     ap (λ (v : X). v ∷ xs) same ∙ ap (λ (vs : List X). y ∷ vs) tails
   where
     strict : (a b : X) → a ≡ b → B a b → ⊥

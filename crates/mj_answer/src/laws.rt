@@ -11,16 +11,14 @@ ghost use Rattle.mj_answer.specs.Order.{NameBefore, PlaceBefore, Before, IsStric
 pub fn code_numbers()
     ensures there { (code : Code) → code_of (number_of code) ≡ Some code }
     ensures back { (number : ℕ) (code : Code) → code_of number ≡ Some code → number_of code ≡ number }
-{
-}
+{}
 
 /// Names, places and faults are in strict total orders.
 pub fn strict_total_orders()
     ensures names { IsStrictTotalOrder NameBefore }
     ensures places { IsStrictTotalOrder PlaceBefore }
     ensures faults { IsStrictTotalOrder Before }
-{
-}
+{}
 
 /// One list only has given elements in ascending order.
 pub fn one_list()
@@ -29,5 +27,4 @@ pub fn one_list()
     ensures fields { OneListByName FieldRow (λ row. row.name) }
     ensures methods { OneListByName MethodRowValue (λ row. row.name) }
     ensures classes { OneListByName ClassAnswerValue (λ class. class.name) }
-{
-}
+{}
