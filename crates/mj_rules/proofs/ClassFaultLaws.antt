@@ -1,5 +1,5 @@
 -- The list of a class's faults has just those of the rows.
-use Rattle.std.proofs.Common.{◌≡◌, ◌≢◌, ℕ, ◌<◌, Bool, true, false, not, List, [], ◌∷◌, ◌++◌, map, take, slice_get, Option, Some, None, is_some, is_none, Contains, refl, sym, ap, subst, ◌∙◌, ◌⊎◌, inl, inr, true≢false, if◌then◌else◌}
+use Rattle.std.proofs.Common.{◌≡◌, ◌≢◌, ℕ, ◌<◌, Bool, true, false, not, List, [], ◌∷◌, ◌++◌, map, take, slice_get, Option, Some, None, is_some, is_none, option_map, Contains, refl, sym, ap, subst, ◌∙◌, ◌⊎◌, inl, inr, true≢false, if◌then◌else◌}
 use Rattle.std.proofs.lemmas.Option.{none-some}
 use Rattle.std.proofs.lemmas.List.Elements.{Contains-append_left, Contains-append_right, Contains-append_cases}
 use Rattle.mj_answer.proofs.Alike.{Contains-first}
@@ -21,7 +21,7 @@ use Rattle.mj_typing.specs.Bodies.{method_faults, main_faults}
 use Rattle.mj_rules.specs.Repeats.{is_in, repeats}
 use Rattle.mj_rules.specs.Worlds.{sig_of, world_of}
 use Rattle.mj_rules.specs.ClassFaults.{FaultOfClass, UndeclaredSuperclass, CyclicChain, RepeatedField, RepeatedMethod, OtherSignature, UndeclaredFieldType, InMethod, InMain, IsFirstMethod, main_word, main_of}
-use Rattle.mj_rules.specs.FaultLists.{fault, when_fault, each_numbered, superclass_faults, is_cycle, chain_faults, is_undeclared, field_faults, same_signature, override_faults, inside, rest_of, method_faults_of, main_method_faults, field_names, method_names, class_faults}
+use Rattle.mj_rules.specs.FaultLists.{fault, when_fault, each_numbered, superclass_faults, is_cycle, chain_faults, is_undeclared, field_faults, same_signature, override_faults, inside, rest_of, nearest_sig, method_faults_of, body_faults_of, main_method_faults, field_names, method_names, declaration_faults, body_faults, class_faults}
 use Rattle.mj_rules.specs.Laws.{BodyLaws, ClassFaultLaw}
 use Rattle.mj_rules.proofs.Listed.{place_before, contains_before, contains_at, at_map, map_at, place_of}
 use Rattle.mj_rules.proofs.RepeatLemmas.{Contains-is_in, is_in-Contains, repeats-at, flag_at}
@@ -113,30 +113,35 @@ module _ (chains : ChainLaws) (bodies : BodyLaws) (cs : List ClassDecl) (k : Cla
       later : (i : ℕ) × (i < n) × (slice_get (method_names k) i ≡ Some m.name) → ⊥
       later p = let f = at_map (λ (f : Method). f.name) k.methods p.0 m.name p.2 in is.first p.0 f.0 p.1 f.1 f.2
 
-  from_override : (d : Diagnostic) (n : ℕ) (m : Method) (o : Option (Name × Method)) → IsFirstMethod k n m → nearest (own_method m.name) (rest_of cs k.name) ≡ o → Contains (override_faults n m o) d → Row d
+  from_override : (d : Diagnostic) (n : ℕ) (m : Method) (o : Option (Name × Method)) → IsFirstMethod k n m → nearest (own_method m.name) (rest_of cs k.name) ≡ o
+      → Contains (override_faults n m (option_map (λ (f : Name × Method). sig_of f.1) o)) d → Row d
   from_override d n m None is e h = absurd (nowhere d h)
   from_override d n m (Some found) is e h =
-      let w = from_when (not (same_signature m found.1)) (places.Method n) E205 d h in
+      let w = from_when (not (same_signature m (sig_of found.1))) (places.Method n) E205 d h in
       subst Row w.1 (OtherSignature n m found.1 is (overridden_from chains cs k.name m.name k found.0 found.1 first e)
-      (λ same. true≢false (sym (signature_to m found.1 same) ∙ not_when (same_signature m found.1) w.0)))
+      (λ same. true≢false (sym (signature_to m (sig_of found.1) same) ∙ not_when (same_signature m (sig_of found.1)) w.0)))
 
-  by_flag : (d : Diagnostic) (n : ℕ) (m : Method) (flag : Bool) → slice_get k.methods n ≡ Some m → flag ≡ is_in (take n (method_names k)) m.name → Contains (method_faults_of cs k.name n flag m) d → Row d
+  by_flag : (d : Diagnostic) (n : ℕ) (m : Method) (flag : Bool) → slice_get k.methods n ≡ Some m → flag ≡ is_in (take n (method_names k)) m.name → Contains (method_faults_of (nearest_sig (rest_of cs k.name)) n flag m) d → Row d
   by_flag d n m true e s h =
       let p = place_before n (method_names k) m.name (Contains-is_in (take n (method_names k)) m.name (sym s)) in
       let f = at_map (λ (f : Method). f.name) k.methods p.0 m.name p.2 in
       subst Row (only _ d h) (RepeatedMethod p.0 n f.0 m p.1 f.1 e f.2)
-  by_flag d n m false e s h =
-      let is = first_method n m e (sym s) in
-      elim (Contains-append_cases (override_faults n m (nearest (own_method m.name) (rest_of cs k.name))) (inside m.name (method_faults (world_of cs) k.name m)) d h) [
-        | inl a ↦ from_override d n m (nearest (own_method m.name) (rest_of cs k.name)) is refl a
-        | inr b ↦
-            let x = from_inside m.name (method_faults (world_of cs) k.name m) d b in
-            subst Row x.2 (InMethod n m x.0 is ((bodies.method (world_of cs) k.name m x.0).1 x.1))
-      ]
+  by_flag d n m false e s h = from_override d n m (nearest (own_method m.name) (rest_of cs k.name)) (first_method n m e (sym s)) refl h
 
-  from_method : (d : Diagnostic) → IsFlagged (method_faults_of cs k.name) k.methods (repeats (method_names k)) d → Row d
-  from_method d r =
-      by_flag d r.i r.item r.flag r.here (repeats-at (method_names k) r.i r.flag r.item.name (map_at (λ (f : Method). f.name) k.methods r.i r.item r.here) r.flagged) r.found
+  body_by_flag : (d : Diagnostic) (n : ℕ) (m : Method) (flag : Bool) → slice_get k.methods n ≡ Some m → flag ≡ is_in (take n (method_names k)) m.name → Contains (body_faults_of cs k.name n flag m) d → Row d
+  body_by_flag d n m true e s h = absurd (nowhere d h)
+  body_by_flag d n m false e s h =
+      let x = from_inside m.name (method_faults (world_of cs) k.name m) d h in
+      subst Row x.2 (InMethod n m x.0 (first_method n m e (sym s)) ((bodies.method (world_of cs) k.name m x.0).1 x.1))
+
+  method_flag : (i : ℕ) (flag : Bool) (m : Method) → slice_get k.methods i ≡ Some m → slice_get (repeats (method_names k)) i ≡ Some flag → flag ≡ is_in (take i (method_names k)) m.name
+  method_flag i flag m e f = repeats-at (method_names k) i flag m.name (map_at (λ (g : Method). g.name) k.methods i m e) f
+
+  from_method : (d : Diagnostic) → IsFlagged (method_faults_of (nearest_sig (rest_of cs k.name))) k.methods (repeats (method_names k)) d → Row d
+  from_method d r = by_flag d r.i r.item r.flag r.here (method_flag r.i r.flag r.item r.here r.flagged) r.found
+
+  from_body : (d : Diagnostic) → IsFlagged (body_faults_of cs k.name) k.methods (repeats (method_names k)) d → Row d
+  from_body d r = body_by_flag d r.i r.item r.flag r.here (method_flag r.i r.flag r.item r.here r.flagged) r.found
 
   from_main : (d : Diagnostic) (o : Option Statement) → k.main ≡ o → Contains (main_method_faults cs k o) d → Row d
   from_main d None e h = absurd (nowhere d h)
@@ -144,60 +149,82 @@ module _ (chains : ChainLaws) (bodies : BodyLaws) (cs : List ClassDecl) (k : Cla
       let x = from_inside main_word (main_faults (world_of cs) (main_of k s)) d h in
       subst Row x.2 (InMain s x.0 e ((bodies.main (world_of cs) (main_of k s) x.0).1 x.1))
 
-  pub from_class_faults : (d : Diagnostic) → Contains (class_faults cs k) d → Row d
-  unfolding class_faults
-  from_class_faults d h =
+  from_declarations : (d : Diagnostic) → Contains (declaration_faults cs k) d → Row d
+  unfolding declaration_faults
+  from_declarations d h =
       elim (Contains-append_cases (superclass_faults cs k.superclass) _ d h) [
         | inl a ↦ from_superclass d k.superclass refl a
         | inr b ↦ elim (Contains-append_cases (chain_faults (chain_of cs k.name)) _ d b) [
             | inl a ↦ from_chain d (chain_of cs k.name) refl a
-            | inr c ↦ elim (Contains-append_cases (each_numbered (field_faults cs) 0 k.fields (repeats (field_names k))) _ d c) [
+            | inr c ↦ elim (Contains-append_cases (each_numbered (field_faults cs) 0 k.fields (repeats (field_names k))) (each_numbered (method_faults_of (nearest_sig (rest_of cs k.name))) 0 k.methods (repeats (method_names k))) d c) [
                 | inl a ↦ from_field d (from_all (field_faults cs) k.fields (repeats (field_names k)) d a)
-                | inr e ↦ elim (Contains-append_cases (each_numbered (method_faults_of cs k.name) 0 k.methods (repeats (method_names k))) (main_method_faults cs k k.main) d e) [
-                    | inl a ↦ from_method d (from_all (method_faults_of cs k.name) k.methods (repeats (method_names k)) d a)
-                    | inr a ↦ from_main d k.main refl a
-                  ]
+                | inr e ↦ from_method d (from_all (method_faults_of (nearest_sig (rest_of cs k.name))) k.methods (repeats (method_names k)) d e)
               ]
           ]
       ]
 
+  from_bodies : (d : Diagnostic) → Contains (body_faults cs k) d → Row d
+  unfolding body_faults
+  from_bodies d h =
+      elim (Contains-append_cases (each_numbered (body_faults_of cs k.name) 0 k.methods (repeats (method_names k))) (main_method_faults cs k k.main) d h) [
+        | inl a ↦ from_body d (from_all (body_faults_of cs k.name) k.methods (repeats (method_names k)) d a)
+        | inr a ↦ from_main d k.main refl a
+      ]
+
+  pub from_class_faults : (d : Diagnostic) → Contains (class_faults cs k) d → Row d
+  from_class_faults d h = elim (Contains-append_cases (declaration_faults cs k) (body_faults cs k) d h) [ inl a ↦ from_declarations d a | inr b ↦ from_bodies d b ]
+
   -- ---- the other way
 
   in_superclass : (d : Diagnostic) → Contains (superclass_faults cs k.superclass) d → Contains (class_faults cs k) d
-  unfolding class_faults
-  in_superclass d h = Contains-append_left (superclass_faults cs k.superclass) _ d h
+  unfolding declaration_faults
+  in_superclass d h = Contains-append_left (declaration_faults cs k) (body_faults cs k) d (Contains-append_left (superclass_faults cs k.superclass) _ d h)
 
   in_chain : (d : Diagnostic) → Contains (chain_faults (chain_of cs k.name)) d → Contains (class_faults cs k) d
-  unfolding class_faults
-  in_chain d h = Contains-append_right (superclass_faults cs k.superclass) _ d (Contains-append_left (chain_faults (chain_of cs k.name)) _ d h)
+  unfolding declaration_faults
+  in_chain d h =
+      Contains-append_left (declaration_faults cs k) (body_faults cs k) d
+      (Contains-append_right (superclass_faults cs k.superclass) _ d (Contains-append_left (chain_faults (chain_of cs k.name)) _ d h))
 
   in_fields : (d : Diagnostic) → Contains (each_numbered (field_faults cs) 0 k.fields (repeats (field_names k))) d → Contains (class_faults cs k) d
-  unfolding class_faults
+  unfolding declaration_faults
   in_fields d h =
-      Contains-append_right (superclass_faults cs k.superclass) _ d (Contains-append_right (chain_faults (chain_of cs k.name)) _ d
-      (Contains-append_left (each_numbered (field_faults cs) 0 k.fields (repeats (field_names k))) _ d h))
+      Contains-append_left (declaration_faults cs k) (body_faults cs k) d
+      (Contains-append_right (superclass_faults cs k.superclass) _ d (Contains-append_right (chain_faults (chain_of cs k.name)) _ d
+      (Contains-append_left (each_numbered (field_faults cs) 0 k.fields (repeats (field_names k))) _ d h)))
 
-  in_methods : (d : Diagnostic) → Contains (each_numbered (method_faults_of cs k.name) 0 k.methods (repeats (method_names k))) d → Contains (class_faults cs k) d
-  unfolding class_faults
+  in_methods : (d : Diagnostic) → Contains (each_numbered (method_faults_of (nearest_sig (rest_of cs k.name))) 0 k.methods (repeats (method_names k))) d → Contains (class_faults cs k) d
+  unfolding declaration_faults
   in_methods d h =
-      Contains-append_right (superclass_faults cs k.superclass) _ d (Contains-append_right (chain_faults (chain_of cs k.name)) _ d
-      (Contains-append_right (each_numbered (field_faults cs) 0 k.fields (repeats (field_names k))) _ d
-      (Contains-append_left (each_numbered (method_faults_of cs k.name) 0 k.methods (repeats (method_names k))) (main_method_faults cs k k.main) d h)))
+      Contains-append_left (declaration_faults cs k) (body_faults cs k) d
+      (Contains-append_right (superclass_faults cs k.superclass) _ d (Contains-append_right (chain_faults (chain_of cs k.name)) _ d
+      (Contains-append_right (each_numbered (field_faults cs) 0 k.fields (repeats (field_names k))) (each_numbered (method_faults_of (nearest_sig (rest_of cs k.name))) 0 k.methods (repeats (method_names k))) d h)))
+
+  in_bodies : (d : Diagnostic) → Contains (each_numbered (body_faults_of cs k.name) 0 k.methods (repeats (method_names k))) d → Contains (class_faults cs k) d
+  unfolding body_faults
+  in_bodies d h =
+      Contains-append_right (declaration_faults cs k) (body_faults cs k) d
+      (Contains-append_left (each_numbered (body_faults_of cs k.name) 0 k.methods (repeats (method_names k))) (main_method_faults cs k k.main) d h)
 
   in_main : (d : Diagnostic) → Contains (main_method_faults cs k k.main) d → Contains (class_faults cs k) d
-  unfolding class_faults
+  unfolding body_faults
   in_main d h =
-      Contains-append_right (superclass_faults cs k.superclass) _ d (Contains-append_right (chain_faults (chain_of cs k.name)) _ d
-      (Contains-append_right (each_numbered (field_faults cs) 0 k.fields (repeats (field_names k))) _ d
-      (Contains-append_right (each_numbered (method_faults_of cs k.name) 0 k.methods (repeats (method_names k))) (main_method_faults cs k k.main) d h)))
+      Contains-append_right (declaration_faults cs k) (body_faults cs k) d
+      (Contains-append_right (each_numbered (body_faults_of cs k.name) 0 k.methods (repeats (method_names k))) (main_method_faults cs k k.main) d h)
 
-  in_first_method : (n : ℕ) (m : Method) (d : Diagnostic) → IsFirstMethod k n m
-      → Contains (override_faults n m (nearest (own_method m.name) (rest_of cs k.name)) ++ inside m.name (method_faults (world_of cs) k.name m)) d → Contains (class_faults cs k) d
+  in_first_method : (n : ℕ) (m : Method) (d : Diagnostic) → IsFirstMethod k n m → Contains (override_faults n m (nearest_sig (rest_of cs k.name) m.name)) d → Contains (class_faults cs k) d
   in_first_method n m d is h =
       let here = map_at (λ (f : Method). f.name) k.methods n m is.here in
       let flag = flag_at (method_names k) n m.name here in
-      in_methods d (to_all (method_faults_of cs k.name) k.methods (repeats (method_names k)) d n flag.0 m is.here flag.1
-      (subst (λ b. Contains (method_faults_of cs k.name n b m) d) (sym (flag.2 ∙ not_before n m is)) h))
+      in_methods d (to_all (method_faults_of (nearest_sig (rest_of cs k.name))) k.methods (repeats (method_names k)) d n flag.0 m is.here flag.1
+      (subst (λ b. Contains (method_faults_of (nearest_sig (rest_of cs k.name)) n b m) d) (sym (flag.2 ∙ not_before n m is)) h))
+
+  in_first_body : (n : ℕ) (m : Method) (d : Diagnostic) → IsFirstMethod k n m → Contains (inside m.name (method_faults (world_of cs) k.name m)) d → Contains (class_faults cs k) d
+  in_first_body n m d is h =
+      let here = map_at (λ (f : Method). f.name) k.methods n m is.here in
+      let flag = flag_at (method_names k) n m.name here in
+      in_bodies d (to_all (body_faults_of cs k.name) k.methods (repeats (method_names k)) d n flag.0 m is.here flag.1
+      (subst (λ b. Contains (body_faults_of cs k.name n b m) d) (sym (flag.2 ∙ not_before n m is)) h))
 
   pub to_class_faults : {place : Place} {code : Code} → FaultOfClass cs k place code → Contains (class_faults cs k) (fault place code)
   to_class_faults (UndeclaredSuperclass u e none) =
@@ -216,21 +243,19 @@ module _ (chains : ChainLaws) (bodies : BodyLaws) (cs : List ClassDecl) (k : Cla
       let flag = flag_at (method_names k) n m.name here in
       let before = contains_before n i (method_names k) m.name below (map_at (λ (g : Method). g.name) k.methods i earlier ei ∙ ap Some same) in
       let set : flag.0 ≡ true = flag.2 ∙ is_in-Contains (take n (method_names k)) m.name before in
-      in_methods _ (to_all (method_faults_of cs k.name) k.methods (repeats (method_names k)) _ n flag.0 m en flag.1
-      (subst (λ b. Contains (method_faults_of cs k.name n b m) (fault (places.Method n) E204)) (sym set) (Contains-first _ [])))
+      in_methods _ (to_all (method_faults_of (nearest_sig (rest_of cs k.name))) k.methods (repeats (method_names k)) _ n flag.0 m en flag.1
+      (subst (λ b. Contains (method_faults_of (nearest_sig (rest_of cs k.name)) n b m) (fault (places.Method n) E204)) (sym set) (Contains-first _ [])))
   to_class_faults (OtherSignature n m found is over other) =
-      let differs : not (same_signature m found) ≡ true = ap not (when_not (same_signature m found) (λ e. other (signature_from m found e))) in
-      in_first_method n m _ is (Contains-append_left (override_faults n m (nearest (own_method m.name) (rest_of cs k.name))) _ _
-      (subst (λ o. Contains (override_faults n m o) (fault (places.Method n) E205)) (sym (overridden_to chains cs k.name m.name found over)) (to_when _ _ _ differs)))
+      let differs : not (same_signature m (sig_of found)) ≡ true = ap not (when_not (same_signature m (sig_of found)) (λ e. other (signature_from m (sig_of found) e))) in
+      in_first_method n m _ is
+      (subst (λ (o : Option (Name × Method)). Contains (override_faults n m (option_map (λ (f : Name × Method). sig_of f.1) o)) (fault (places.Method n) E205)) (sym (overridden_to chains cs k.name m.name found over)) (to_when _ _ _ differs))
   to_class_faults (UndeclaredFieldType n f u en et none) =
       let here = map_at (λ (g : Field). g.name) k.fields n f en in
       let flag = flag_at (field_names k) n f.name here in
       let is : is_undeclared cs f.ty ≡ true = ap (is_undeclared cs) et ∙ ap (λ (o : Option ClassDecl). is_none o) none in
       in_fields _ (to_all (field_faults cs) k.fields (repeats (field_names k)) _ n flag.0 f en flag.1
       (Contains-append_right (when_fault flag.0 (places.Field n) E203) _ _ (to_when _ _ _ is)))
-  to_class_faults (InMethod n m x is ill) =
-      in_first_method n m _ is (Contains-append_right (override_faults n m (nearest (own_method m.name) (rest_of cs k.name))) _ _
-      (to_inside m.name (method_faults (world_of cs) k.name m) x ((bodies.method (world_of cs) k.name m x).0 ill)))
+  to_class_faults (InMethod n m x is ill) = in_first_body n m _ is (to_inside m.name (method_faults (world_of cs) k.name m) x ((bodies.method (world_of cs) k.name m x).0 ill))
   to_class_faults (InMain s x e ill) =
       in_main _ (subst (λ o. Contains (main_method_faults cs k o) (fault (places.Inside main_word x.mark) x.code)) (sym e)
       (to_inside main_word (main_faults (world_of cs) (main_of k s)) x ((bodies.main (world_of cs) (main_of k s) x).0 ill)))

@@ -7,3 +7,7 @@ pub mod Overriding
 pub mod ClassFaultLaws
 pub mod ProjectLemmas
 pub mod TableLaws
+pub mod Steps
+pub mod RowLemmas
+pub mod OneAnswer
+pub mod Composing

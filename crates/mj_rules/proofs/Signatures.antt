@@ -33,9 +33,6 @@ itself Boolean = refl
 itself IntArray = refl
 itself (Class c) = (bytes_eq-Decides c c).1 refl
 
-pub same_to : (t u : Ty) → t ≡ u → same_type t u ≡ true
-same_to t u e = ap (same_type t) (sym e) ∙ itself t
-
 both : (a b : Bool) → (a && b) ≡ true → (a ≡ true) × (b ≡ true)
 both true b e = (refl, e)
 both false b e = absurd (true≢false (sym e))
@@ -43,30 +40,24 @@ both false b e = absurd (true≢false (sym e))
 both_hold : (a b : Bool) → a ≡ true → b ≡ true → (a && b) ≡ true
 both_hold a b e f = ap (λ c. c && b) e ∙ f
 
-types_from : (us vs : List Variable) → same_types us vs ≡ true → map (λ (v : Variable). v.ty) us ≡ map (λ (v : Variable). v.ty) vs
+types_from : (vs : List Variable) (ts : List Ty) → same_types vs ts ≡ true → map (λ (v : Variable). v.ty) vs ≡ ts
 types_from [] [] h = refl
-types_from [] (v ∷ vs) h = absurd (true≢false (sym h))
-types_from (u ∷ us) [] h = absurd (true≢false (sym h))
-types_from (u ∷ us) (v ∷ vs) h =
-    let w = both (same_type u.ty v.ty) (same_types us vs) h in
-    ap₂ (λ (t : Ty) (ts : List Ty). t ∷ ts) (same_from u.ty v.ty w.0) (types_from us vs w.1)
+types_from [] (t ∷ ts) h = absurd (true≢false (sym h))
+types_from (v ∷ vs) [] h = absurd (true≢false (sym h))
+types_from (v ∷ vs) (t ∷ ts) h =
+    let w = both (same_type v.ty t) (same_types vs ts) h in
+    ap₂ (λ (u : Ty) (us : List Ty). u ∷ us) (same_from v.ty t w.0) (types_from vs ts w.1)
 
-types_to : (us vs : List Variable) → map (λ (v : Variable). v.ty) us ≡ map (λ (v : Variable). v.ty) vs → same_types us vs ≡ true
-types_to [] [] h = refl
-types_to [] (v ∷ vs) h = absurd (cc)
-types_to (u ∷ us) [] h = absurd (cc)
-types_to (u ∷ us) (v ∷ vs) h =
-    let first : u.ty ≡ v.ty = cc in
-    let others : map (λ (w : Variable). w.ty) us ≡ map (λ (w : Variable). w.ty) vs = cc in
-    both_hold _ _ (same_to u.ty v.ty first) (types_to us vs others)
+types_itself : (vs : List Variable) → same_types vs (map (λ (v : Variable). v.ty) vs) ≡ true
+types_itself [] = refl
+types_itself (v ∷ vs) = both_hold _ _ (itself v.ty) (types_itself vs)
 
--- equal types of parameters and return are equal signatures
-pub signature_from : (m found : Method) → same_signature m found ≡ true → sig_of found ≡ sig_of m
-signature_from m found h =
-    let w = both (same_type m.returns found.returns) (same_types m.formals found.formals) h in
+-- the signature is that of the method
+pub signature_from : (m : Method) (sig : Sig) → same_signature m sig ≡ true → sig ≡ sig_of m
+signature_from m sig h =
+    let w = both (same_type m.returns sig.returns) (same_types m.formals sig.formals) h in
     let build : List Ty → Ty → Sig = λ formals returns. record { formals = formals; returns = returns } in
-    ap₂ build (sym (types_from m.formals found.formals w.1)) (sym (same_from m.returns found.returns w.0))
+    ap₂ build (sym (types_from m.formals sig.formals w.1)) (sym (same_from m.returns sig.returns w.0))
 
-pub signature_to : (m found : Method) → sig_of found ≡ sig_of m → same_signature m found ≡ true
-signature_to m found h =
-    both_hold _ _ (same_to m.returns found.returns (sym (ap (λ (s : Sig). s.returns) h))) (types_to m.formals found.formals (sym (ap (λ (s : Sig). s.formals) h)))
+pub signature_to : (m : Method) (sig : Sig) → sig ≡ sig_of m → same_signature m sig ≡ true
+signature_to m sig e = ap (same_signature m) e ∙ both_hold _ _ (itself m.returns) (types_itself m.formals)

@@ -1,5 +1,5 @@
 -- The same faults as lists, in the order in which a checker comes upon them.
-use Rattle.std.specs.Prelude.{ℕ, ◌+◌, Bool, true, false, ◌&&◌, ◌||◌, not, is_some, is_none, List, [], ◌∷◌, ◌++◌, map, drop, Option, Some, None, slice_get, if◌then◌else◌}
+use Rattle.std.specs.Prelude.{ℕ, ◌+◌, Bool, true, false, ◌&&◌, ◌||◌, not, is_some, is_none, List, [], ◌∷◌, ◌++◌, map, drop, Option, Some, None, option_map, slice_get, if◌then◌else◌}
 use Rattle.std.specs.Str.{bytes_eq}
 use Rattle.std.specs.List.{list_any}
 use Rattle.mj_parser.specs.Trees.{Name, Statement, Method, File}
@@ -16,11 +16,12 @@ use Rattle.mj_classes.specs.Declarations.{ClassDecl, decl}
 use Rattle.mj_classes.specs.Chains.{EndOf, Top, Undeclared, Repeated, Chain, chain_of, ancestry}
 use Rattle.mj_classes.specs.Members.{nearest, own_method}
 use Rattle.mj_typing.specs.declared.verdict.Mistake.{Mistake}
+use Rattle.mj_typing.specs.Inquiries.{Sig}
 use Rattle.mj_typing.specs.Bodies.{method_faults, main_faults}
 use Rattle.mj_rules.specs.Projects.{SourceFile}
 use Rattle.mj_rules.specs.Repeats.{repeats}
 use Rattle.mj_rules.specs.Sentences.{file_of, classes_in}
-use Rattle.mj_rules.specs.Worlds.{world_of}
+use Rattle.mj_rules.specs.Worlds.{sig_of, world_of}
 use Rattle.mj_rules.specs.ClassFaults.{main_word, main_of}
 
 abbrev pub fault : Place → Code → Diagnostic
@@ -101,37 +102,31 @@ same_type types.IntArray types.IntArray = true
 same_type (types.Class c) (types.Class d) = bytes_eq c d
 same_type t u = false
 
-abbrev pub same_types : List Variable → List Variable → Bool
+abbrev pub same_types : List Variable → List Ty → Bool
 same_types [] [] = true
-same_types [] (v ∷ vs) = false
-same_types (u ∷ us) [] = false
-same_types (u ∷ us) (v ∷ vs) = same_type u.ty v.ty && same_types us vs
+same_types [] (t ∷ ts) = false
+same_types (v ∷ vs) [] = false
+same_types (v ∷ vs) (t ∷ ts) = same_type v.ty t && same_types vs ts
 
 -- the same parameter types and the same return type
-abbrev pub same_signature : Method → Method → Bool
-same_signature m found = same_type m.returns found.returns && same_types m.formals found.formals
+abbrev pub same_signature : Method → Sig → Bool
+same_signature m sig = same_type m.returns sig.returns && same_types m.formals sig.formals
 
-abbrev pub override_faults : ℕ → Method → Option (Name × Method) → List Diagnostic
+abbrev pub override_faults : ℕ → Method → Option Sig → List Diagnostic
 override_faults n m None = []
-override_faults n m (Some found) = when_fault (not (same_signature m found.1)) (places.Method n) E205
-
--- mistakes in the body of a method
-abbrev pub inside : Name → List Mistake → List Diagnostic
-inside m mistakes = map (λ x. fault (places.Inside m x.mark) x.code) mistakes
+override_faults n m (Some sig) = when_fault (not (same_signature m sig)) (places.Method n) E205
 
 -- the chain of a class behind the class itself
 abbrev pub rest_of : List ClassDecl → Name → List ClassDecl
 rest_of cs c = drop 1 (ancestry cs c)
 
-abbrev pub method_faults_of : List ClassDecl → Name → ℕ → Bool → Method → List Diagnostic
-method_faults_of cs c n repeated m =
-    if repeated
-    then fault (places.Method n) E204 ∷ []
-    else override_faults n m (nearest (own_method m.name) (rest_of cs c)) ++ inside m.name (method_faults (world_of cs) c m)
+-- the nearest method of a name in these classes
+abbrev pub nearest_sig : List ClassDecl → Name → Option Sig
+nearest_sig ks m = option_map (λ found. sig_of found.1) (nearest (own_method m) ks)
 
-abbrev pub main_method_faults : List ClassDecl → ClassDecl → Option Statement → List Diagnostic
-main_method_faults cs k None = []
-main_method_faults cs k (Some statement) = inside main_word (main_faults (world_of cs) (main_of k statement))
+-- what is wrong with a method, where these are the methods of the rest of the chain by their names
+abbrev pub method_faults_of : (Name → Option Sig) → ℕ → Bool → Method → List Diagnostic
+method_faults_of overridden n repeated m = if repeated then fault (places.Method n) E204 ∷ [] else override_faults n m (overridden m.name)
 
 abbrev pub field_names : ClassDecl → List Name
 field_names k = map (λ f. f.name) k.fields
@@ -139,7 +134,26 @@ field_names k = map (λ f. f.name) k.fields
 abbrev pub method_names : ClassDecl → List Name
 method_names k = map (λ m. m.name) k.methods
 
-unfoldable pub class_faults : List ClassDecl → ClassDecl → List Diagnostic
-class_faults cs k =
+unfoldable pub declaration_faults : List ClassDecl → ClassDecl → List Diagnostic
+declaration_faults cs k =
     superclass_faults cs k.superclass ++ (chain_faults (chain_of cs k.name) ++ (each_numbered (field_faults cs) 0 k.fields (repeats (field_names k))
-    ++ (each_numbered (method_faults_of cs k.name) 0 k.methods (repeats (method_names k)) ++ main_method_faults cs k k.main)))
+    ++ each_numbered (method_faults_of (nearest_sig (rest_of cs k.name))) 0 k.methods (repeats (method_names k))))
+
+-- ---- bodies
+
+-- mistakes in the body of a method
+abbrev pub inside : Name → List Mistake → List Diagnostic
+inside m mistakes = map (λ x. fault (places.Inside m x.mark) x.code) mistakes
+
+abbrev pub body_faults_of : List ClassDecl → Name → ℕ → Bool → Method → List Diagnostic
+body_faults_of cs c n repeated m = if repeated then [] else inside m.name (method_faults (world_of cs) c m)
+
+abbrev pub main_method_faults : List ClassDecl → ClassDecl → Option Statement → List Diagnostic
+main_method_faults cs k None = []
+main_method_faults cs k (Some statement) = inside main_word (main_faults (world_of cs) (main_of k statement))
+
+unfoldable pub body_faults : List ClassDecl → ClassDecl → List Diagnostic
+body_faults cs k = each_numbered (body_faults_of cs k.name) 0 k.methods (repeats (method_names k)) ++ main_method_faults cs k k.main
+
+abbrev pub class_faults : List ClassDecl → ClassDecl → List Diagnostic
+class_faults cs k = declaration_faults cs k ++ body_faults cs k

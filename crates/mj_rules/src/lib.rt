@@ -2,10 +2,12 @@
 #![tactic(auto)]
 
 mod checker;
+mod declaration_faults;
 mod project;
 mod project_faults;
 mod reading;
 mod repeats;
+mod tables;
 
 pub use checker::scratch;
 pub use mj_answer::{Answer, ClassAnswer, ClassTable, Code, Diagnostic, FieldRow, MethodRow, render};

@@ -1,5 +1,5 @@
 //! The faults of a project itself.
-ghost use Rattle.std.specs.Prelude.{◌≡◌, ◌++◌, ◌||◌, ◌<◌, ◌≤◌, ℕ, List, map, option_map, length, false, All, IfOk, OnOk, slice_get, option_to_list};
+ghost use Rattle.std.specs.Prelude.{◌≡◌, ◌++◌, ◌||◌, ◌<◌, ◌≤◌, ℕ, List, map, option_map, length, false, All, IfOk, OnOk, slice_get};
 ghost use Rattle.mj_parser.specs.Views.{file_view};
 ghost use Rattle.mj_classes.specs.Classes.{class_ref_view, classes_view, files_view};
 ghost use Rattle.mj_rules.specs.Projects.{sources_view, names_of, IsFileName};
@@ -14,24 +14,26 @@ use mj_lexer::Name;
 use mj_parser::{FileTree, Place};
 use std::alloc::{AllocError, Global};
 
-/// What is wrong with a file, where an earlier one has a main class or none has.
-fn file_fault(
+/// Adds what is wrong with a file, where an earlier one has a main class or none has.
+fn add_file_fault(
     alloc: Global,
+    faults: &mut Vec<Diagnostic>,
     main_before: bool,
     name: &str,
     tree: &Option<FileTree>,
-) -> Result<Option<Diagnostic>, AllocError>
+) -> Result<(), AllocError>
     requires some { 0 < length name.now }
     requires short { length name.now ≤ 255 }
-    ensures { IfOk result (λ fault. option_to_list fault ≡ file_faults main_before name.now (option_map file_view tree.now)) }
+    ensures { OnOk result (faults.new.items ≡ faults.old.items ++ file_faults main_before name.now (option_map file_view tree.now)) }
 {
     let code = match tree {
         None => Code::E101,
         Some(tree) if main_before && tree.main.is_some() => Code::E103,
-        Some(_) => return Ok(None),
+        Some(_) => return Ok(()),
     };
     let place = Place::File(Name::new(alloc, name)?);
-    Ok(Some(Diagnostic { place, code }))
+    faults.push(Diagnostic { place, code })?;
+    Ok(())
 }
 
 fn has_main(tree: &Option<FileTree>) -> bool
@@ -58,31 +60,31 @@ pub fn add_file_faults(
     let mut main_before = false;
     for (number, (name, _)) in files.iter().enumerate() {
         let tree = &trees[number];
-        if let Some(fault) = file_fault(alloc, main_before, name.as_str(), tree)? {
-            faults.push(fault)?;
-        }
+        add_file_fault(alloc, faults, main_before, name.as_str(), tree)?;
         main_before = main_before || has_main(tree);
     }
     Ok(main_before)
 }
 
-/// The fault of a class whose name an earlier class has.
-fn class_fault(
+/// Adds the fault of a class, given by its file and its number there, whose name an earlier class has.
+fn add_repeated_class(
     alloc: Global,
+    faults: &mut Vec<Diagnostic>,
     files: &[(String, Vec<u8>)],
-    class: &ClassRef,
-) -> Result<Option<Diagnostic>, AllocError>
+    file: usize,
+    number: usize,
+) -> Result<(), AllocError>
     requires { All IsFileName (names_of (sources_view files.now)) }
-    ensures { IfOk result (λ fault. option_to_list fault ≡ repeated_class (slice_get (sources_view files.now) (class_ref_view class.now).file) (class_ref_view class.now).number) }
+    ensures { OnOk result (faults.new.items ≡ faults.old.items ++ repeated_class (slice_get (sources_view files.now) file) number) }
 {
-    let Some((name, _)) = files.get(class.file) else {
-        return Ok(None);
-    };
-    let place = Place::ClassOf(Name::new(alloc, name.as_str())?, class.number);
-    Ok(Some(Diagnostic {
-        place,
-        code: Code::E104,
-    }))
+    if let Some((name, _)) = files.get(file) {
+        let place = Place::ClassOf(Name::new(alloc, name.as_str())?, number);
+        faults.push(Diagnostic {
+            place,
+            code: Code::E104,
+        })?;
+    }
+    Ok(())
 }
 
 /// For each class, whether an earlier one has its name.
@@ -109,9 +111,7 @@ pub fn add_repeated_classes(
     let flags = repeated_classes(alloc, classes)?;
     for (number, class) in classes.iter().enumerate() {
         if flags[number] {
-            if let Some(fault) = class_fault(alloc, files, class)? {
-                faults.push(fault)?;
-            }
+            add_repeated_class(alloc, faults, files, class.file, class.number)?;
         }
     }
     Ok(())
