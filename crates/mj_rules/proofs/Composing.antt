@@ -9,7 +9,7 @@ use Rattle.mj_classes.specs.Laws.{ChainLaws, MemberLaws}
 use Rattle.mj_rules.specs.Projects.{SourceFile}
 use Rattle.mj_rules.specs.Sentences.{classes_in}
 use Rattle.mj_rules.specs.Tables.{table_of}
-use Rattle.mj_rules.specs.Rules.{AreTheFaults, IsTableOf, IsAnswerFor, Rules}
+use Rattle.mj_rules.specs.Rules.{AreTheFaults, IsTableOf, IsAnswerFor, AreClassAnswers, Rules}
 use Rattle.mj_rules.specs.FaultLists.{fault, project_faults, class_faults, class_names}
 use Rattle.mj_rules.specs.Laws.{SentenceLaw, BodyLaws}
 use Rattle.mj_rules.proofs.Listed.{contains_at, place_of, map_at}
@@ -36,10 +36,20 @@ class_answer chains members bodies cs k answer first name table ascending same =
   };
 }
 
-pub project_answer : SentenceLaw → (files : List SourceFile) (answer : AnswerValue) (names : List Name) → IsAscending answer.faults → SameFaults answer.faults (project_faults files)
-    → IsAscendingBy NameBefore names → ((n : Name) → Contains names n ↔ Contains (class_names (classes_in files)) n) → map (λ (c : ClassAnswerValue). c.name) answer.classes ≡ names
-    → All (IsAnswerFor (classes_in files)) answer.classes → Rules files answer
-project_answer sentences files answer names ascending same up listed named each = record {
+-- answers in the order of these names, which are those of the declared classes
+pub class_answers : (cs : List ClassDecl) (answers : List ClassAnswerValue) (names : List Name) → IsAscendingBy NameBefore names → ((n : Name) → Contains names n ↔ Contains (class_names cs) n)
+    → map (λ (c : ClassAnswerValue). c.name) answers ≡ names → All (IsAnswerFor cs) answers → AreClassAnswers cs answers
+class_answers cs answers names up listed named each = record {
+  ascending = ascend_by_names (λ (c : ClassAnswerValue). c.name) answers (subst (IsAscendingBy NameBefore) (sym named) up);
+  each = each;
+  all = λ k h.
+      let p = place_of cs k h in
+      let stands = contains_at (class_names cs) p.0 k.name (map_at (λ (j : ClassDecl). j.name) cs p.0 k p.1) in
+      subst (λ (ns : List Name). Contains ns k.name) (sym named) ((listed k.name).1 stands);
+}
+
+pub project_answer : SentenceLaw → (files : List SourceFile) (answer : AnswerValue) → IsAscending answer.faults → SameFaults answer.faults (project_faults files) → AreClassAnswers (classes_in files) answer.classes → Rules files answer
+project_answer sentences files answer ascending same classes = record {
   faults = record {
     ascending = ascending;
     exactly = λ place code. (
@@ -47,10 +57,5 @@ project_answer sentences files answer names ascending same up listed named each 
       λ r. (same (fault place code)).1 ((project_fault_law sentences files place code).1 r)
     );
   };
-  classes_ascend = ascend_by_names (λ (c : ClassAnswerValue). c.name) answer.classes (subst (IsAscendingBy NameBefore) (sym named) up);
-  each = each;
-  all = λ k h.
-      let p = place_of (classes_in files) k h in
-      let stands = contains_at (class_names (classes_in files)) p.0 k.name (map_at (λ (j : ClassDecl). j.name) (classes_in files) p.0 k p.1) in
-      subst (λ (ns : List Name). Contains ns k.name) (sym named) ((listed k.name).1 stands);
+  classes = classes;
 }

@@ -11,3 +11,6 @@ pub mod Steps
 pub mod RowLemmas
 pub mod OneAnswer
 pub mod Composing
+pub mod Sets
+pub mod Answering
+pub mod LowerLaws

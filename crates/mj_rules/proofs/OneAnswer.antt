@@ -51,18 +51,18 @@ decl_stands cs c k e = (found_stands _ cs k e).0
 module _ (files : List SourceFile) where
   other_has : (a b : AnswerValue) → Rules files a → Rules files b → (x : ClassAnswerValue) → Contains a.classes x → Contains b.classes x
   other_has a b ra rb x h =
-      let is = All-contains (IsAnswerFor (classes_in files)) a.classes x ra.each h in
-      let named = rb.all is.class (decl_stands (classes_in files) x.name is.class is.first) in
+      let is = All-contains (IsAnswerFor (classes_in files)) a.classes x ra.classes.each h in
+      let named = rb.classes.all is.class (decl_stands (classes_in files) x.name is.class is.first) in
       let p = place_of (map (λ (c : ClassAnswerValue). c.name) b.classes) is.class.name named in
       let y = at_map (λ (c : ClassAnswerValue). c.name) b.classes p.0 is.class.name p.1 in
       let stands = contains_at b.classes p.0 y.0 y.1 in
       let same : x.name ≡ y.0.name = sym (decl-name (classes_in files) x.name is.class is.first) ∙ sym y.2 in
-      subst (Contains b.classes) (sym (one_class (classes_in files) x y.0 is (All-contains (IsAnswerFor (classes_in files)) b.classes y.0 rb.each stands) same)) stands
+      subst (Contains b.classes) (sym (one_class (classes_in files) x y.0 is (All-contains (IsAnswerFor (classes_in files)) b.classes y.0 rb.classes.each stands) same)) stands
 
   pub one_answer : (a b : AnswerValue) → Rules files a → Rules files b → a ≡ b
   one_answer a b ra rb =
       let listed = one_fault_list _ a.faults b.faults ra.faults rb.faults in
-      let classes = one_list_by ClassAnswerValue Name (λ c. c.name) NameBefore names a.classes b.classes ra.classes_ascend rb.classes_ascend
+      let classes = one_list_by ClassAnswerValue Name (λ c. c.name) NameBefore names a.classes b.classes ra.classes.ascending rb.classes.ascending
           (λ x. (other_has a b ra rb x, other_has b a rb ra x)) in
       let build : List Diagnostic → List ClassAnswerValue → AnswerValue = λ ds cs. record { faults = ds; classes = cs } in
       ap₂ build listed classes

@@ -111,17 +111,20 @@ module _ (sentences : SentenceLaw) (files : List SourceFile) where
   from_class d r =
       by_flag d r.i r.item r.flag r.here (repeats-at (class_names (classes_in files)) r.i r.flag r.item.name (map_at (λ (k : ClassDecl). k.name) (classes_in files) r.i r.item r.here) r.flagged) r.found
 
+  abbrev repeated : List Diagnostic
+  repeated = each_numbered (repeated_class_faults files) 0 (classes_in files) (repeats (class_names (classes_in files)))
+
   pub from_project_faults : (d : Diagnostic) → Contains (project_faults files) d → Row d
   unfolding project_faults
   from_project_faults d h =
-      elim (Contains-append_cases (when_fault (not (any_main files)) places.Project E102) _ d h) [
-        | inl a ↦
-            let w = from_when (not (any_main files)) places.Project E102 d a in
-            subst Row w.1 (NoMain (λ i f m. true≢false (sym w.0 ∙ ap not (any_main_at files f (contains_at files i f m.file) (has_main_of i f m)))))
+      elim (Contains-append_cases (files_faults false files) _ d h) [
+        | inl c ↦ let r = from_files false files d c in by_tree d r.i r.f (file_of r.f.bytes) r.here refl r.found
         | inr b ↦
-            elim (Contains-append_cases (files_faults false files) _ d b) [
-              | inl c ↦ let r = from_files false files d c in by_tree d r.i r.f (file_of r.f.bytes) r.here refl r.found
-              | inr e ↦ from_class d (from_all (repeated_class_faults files) (classes_in files) (repeats (class_names (classes_in files))) d e)
+            elim (Contains-append_cases repeated (when_fault (not (any_main files)) places.Project E102) d b) [
+              | inl e ↦ from_class d (from_all (repeated_class_faults files) (classes_in files) (repeats (class_names (classes_in files))) d e)
+              | inr a ↦
+                  let w = from_when (not (any_main files)) places.Project E102 d a in
+                  subst Row w.1 (NoMain (λ i f m. true≢false (sym w.0 ∙ ap not (any_main_at files f (contains_at files i f m.file) (has_main_of i f m)))))
             ]
       ]
 
@@ -141,21 +144,21 @@ module _ (sentences : SentenceLaw) (files : List SourceFile) where
   to_project_faults (NoSentence f c none) =
       let p = place_of files f c in
       let t = no_tree f (file_of f.bytes) refl none in
-      Contains-append_right (when_fault (not (any_main files)) places.Project E102) _ _ (Contains-append_left (files_faults false files) _ _
-      (to_files false files _ p.0 f p.1 (subst (λ o. Contains (file_faults (any_main (take p.0 files)) f.name o) (fault (places.File f.name) E101)) (sym t) (Contains-first _ []))))
-  to_project_faults (NoMain none) = Contains-append_left (when_fault (not (any_main files)) places.Project E102) _ _ (to_when _ _ _ (no_main (any_main files) refl none))
+      Contains-append_left (files_faults false files) _ _
+      (to_files false files _ p.0 f p.1 (subst (λ o. Contains (file_faults (any_main (take p.0 files)) f.name o) (fault (places.File f.name) E101)) (sym t) (Contains-first _ [])))
+  to_project_faults (NoMain none) = Contains-append_right (files_faults false files) _ _ (Contains-append_right repeated _ _ (to_when _ _ _ (no_main (any_main files) refl none)))
   to_project_faults (SecondMain i j f g below a b) =
       let earlier : any_main (take j files) ≡ true = any_main_at (take j files) f (contains_before j i files f below a.file) (has_main_of i f a) in
       let tree = (sentences g.bytes b.tree).0 b.sentence in
       let both : (any_main (take j files) && is_some b.tree.main) ≡ true = ap (λ e. e && is_some b.tree.main) earlier ∙ b.main in
-      Contains-append_right (when_fault (not (any_main files)) places.Project E102) _ _ (Contains-append_left (files_faults false files) _ _
-      (to_files false files _ j g b.file (subst (λ o. Contains (file_faults (any_main (take j files)) g.name o) (fault (places.File g.name) E103)) (sym tree) (to_when _ _ _ both))))
+      Contains-append_left (files_faults false files) _ _
+      (to_files false files _ j g b.file (subst (λ o. Contains (file_faults (any_main (take j files)) g.name o) (fault (places.File g.name) E103)) (sym tree) (to_when _ _ _ both)))
   to_project_faults (RepeatedClass i j c d f below ec ed same ef) =
       let here = map_at (λ (k : ClassDecl). k.name) (classes_in files) j d ed in
       let flag = flag_at (class_names (classes_in files)) j d.name here in
       let before = contains_before j i (class_names (classes_in files)) d.name below (map_at (λ (k : ClassDecl). k.name) (classes_in files) i c ec ∙ ap Some same) in
       let set : flag.0 ≡ true = flag.2 ∙ is_in-Contains (take j (class_names (classes_in files))) d.name before in
-      Contains-append_right (when_fault (not (any_main files)) places.Project E102) _ _ (Contains-append_right (files_faults false files) _ _
+      Contains-append_right (files_faults false files) _ _ (Contains-append_left repeated _ _
       (to_all (repeated_class_faults files) (classes_in files) (repeats (class_names (classes_in files))) _ j flag.0 d ed flag.1
       (subst (λ b. Contains (repeated_class_faults files j b d) (fault (places.ClassOf f.name d.number) E104)) (sym set)
       (subst (λ o. Contains (repeated_class o d.number) (fault (places.ClassOf f.name d.number) E104)) (sym ef) (Contains-first _ [])))))

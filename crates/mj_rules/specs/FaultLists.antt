@@ -68,8 +68,8 @@ class_names cs = map (λ k. k.name) cs
 
 unfoldable pub project_faults : List SourceFile → List Diagnostic
 project_faults files =
-    when_fault (not (any_main files)) places.Project E102
-    ++ (files_faults false files ++ each_numbered (repeated_class_faults files) 0 (classes_in files) (repeats (class_names (classes_in files))))
+    files_faults false files
+    ++ (each_numbered (repeated_class_faults files) 0 (classes_in files) (repeats (class_names (classes_in files))) ++ when_fault (not (any_main files)) places.Project E102)
 
 -- ---- a class
 

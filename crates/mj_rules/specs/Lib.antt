@@ -7,4 +7,5 @@ pub mod ClassFaults
 pub mod Rules
 pub mod FaultLists
 pub mod Laws
+pub mod Answering
 pub mod Tables

@@ -47,9 +47,13 @@ pub record IsAnswerFor (cs : List ClassDecl) (answer : ClassAnswerValue) : Type 
   pub table : IsTableOf cs answer.name answer.table
   pub faults : AreTheFaults (FaultOfClass cs class) answer.faults
 
--- the project's own faults, and each declared class with its table and its faults, ascending by name
+-- each declared class with its table and its faults, ascending by name
+pub record AreClassAnswers (cs : List ClassDecl) (answers : List ClassAnswerValue) : Type 0 where
+  pub ascending : IsAscendingByName (λ class. class.name) answers
+  pub each : All (IsAnswerFor cs) answers
+  pub all : (k : ClassDecl) → Contains cs k → Contains (map (λ class. class.name) answers) k.name
+
+-- the project's own faults, and its classes
 pub record Rules (files : List SourceFile) (answer : AnswerValue) : Type 0 where
   pub faults : AreTheFaults (FaultOfProject files) answer.faults
-  pub classes_ascend : IsAscendingByName (λ class. class.name) answer.classes
-  pub each : All (IsAnswerFor (classes_in files)) answer.classes
-  pub all : (k : ClassDecl) → Contains (classes_in files) k → Contains (map (λ class. class.name) answer.classes) k.name
+  pub classes : AreClassAnswers (classes_in files) answer.classes

@@ -4,9 +4,10 @@ ghost use Rattle.mj_parser.specs.Views.{file_view};
 ghost use Rattle.mj_classes.specs.Classes.{class_ref_view, classes_view, files_view};
 ghost use Rattle.mj_rules.specs.Projects.{sources_view, names_of, IsFileName};
 ghost use Rattle.mj_rules.specs.Repeats.{repeats};
-ghost use Rattle.mj_rules.specs.Sentences.{file_of, trees_of};
-ghost use Rattle.mj_rules.specs.FaultLists.{has_main, any_main, file_faults, files_faults, repeated_class, repeated_class_faults, class_names, each_numbered};
+ghost use Rattle.mj_rules.specs.Sentences.{trees_of, classes_in};
+ghost use Rattle.mj_rules.specs.FaultLists.{has_main, any_main, file_faults, files_faults, repeated_class, repeated_class_faults, class_names, each_numbered, project_faults};
 
+use crate::project::Project;
 use crate::repeats::repeats;
 use mj_answer::{Code, Diagnostic};
 use mj_classes::ClassRef;
@@ -115,4 +116,28 @@ pub fn add_repeated_classes(
         }
     }
     Ok(())
+}
+
+/// The faults of a project itself.
+pub fn project_faults(
+    alloc: Global,
+    project: &Project,
+    trees: &[Option<FileTree>],
+    classes: &[ClassRef],
+) -> Result<Vec<Diagnostic>, AllocError>
+    requires trees { files_view trees.now ≡ trees_of project.now }
+    requires classes { classes_view classes.now ≡ classes_in project.now }
+    ensures { IfOk result (λ faults. faults.items ≡ project_faults project.now) }
+{
+    let files = project.files();
+    let mut faults = Vec::new(alloc);
+    let has_main = add_file_faults(alloc, &mut faults, files, trees)?;
+    add_repeated_classes(alloc, &mut faults, files, classes)?;
+    if !has_main {
+        faults.push(Diagnostic {
+            place: Place::Project,
+            code: Code::E102,
+        })?;
+    }
+    Ok(faults)
 }
