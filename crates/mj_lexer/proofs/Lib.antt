@@ -4,3 +4,4 @@ pub mod Names
 pub mod Numbers
 pub mod Within
 pub mod Lexings
+pub mod Longest

@@ -2,6 +2,8 @@
 ghost use Rattle.std.specs.Prelude.{◌≡◌, ◌↔◌, List, Some, IsSome, IsNone};
 ghost use Rattle.mj_lexer.specs.declared.token.Token.{Token};
 ghost use Rattle.mj_lexer.specs.declared.lexer.LexFault.{LexFault};
+ghost use Rattle.mj_lexer.specs.Fronts.{front_of};
+ghost use Rattle.mj_lexer.specs.Pieces.{Stands};
 ghost use Rattle.mj_lexer.specs.Lexes.{Lexes, Breaks};
 ghost use Rattle.mj_lexer.specs.Lexing.{tokens_of, fault_of};
 
@@ -12,3 +14,9 @@ pub fn lexing_laws(text: &[u8])
     ensures fault { (fault : LexFault) → Breaks text.now fault ↔ (fault_of text.now ≡ Some fault) }
     ensures one { IsSome (tokens_of text.now) ↔ IsNone (fault_of text.now) }
 {}
+
+/// What is read at the front of a text is what stands there: the longest piece, or what is wrong.
+pub fn front_laws(text: &[u8])
+    ensures { Stands text.now (front_of text.now) }
+{
+}
