@@ -20,7 +20,10 @@ fn last_line_len(text: &[u8]) -> usize
     ensures value { result ≡ suffix_len is_inside_line text.now }
     ensures within { result ≤ length text.now }
 {
-    text.iter().rev().take_while(|b| is_inside_line(**b)).count()
+    text.iter()
+        .rev()
+        .take_while(|b| is_inside_line(**b))
+        .count()
 }
 
 /// The line and the column of the byte at `at`, both counted from 1 in bytes: a line ends behind
