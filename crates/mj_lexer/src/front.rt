@@ -11,6 +11,9 @@ use crate::token::{Kind, Terminal};
 use std::alloc::{AllocError, Global};
 use std::str;
 
+/// The value that stands for each greater one too, where a literal is over the range of `int`.
+const GREATEST: u64 = 2147483648;
+
 /// What may be wrong at a place.
 #[derive(Clone, Copy, Debug, PartialEq, Eq)]
 pub enum Problem {
@@ -220,7 +223,7 @@ fn number(digits: &[u8]) -> u32
 {
     let mut value = 0u64;
     for d in digits {
-        value = (10 * value + u64::from(d.saturating_sub(b'0'))).min(2147483648);
+        value = (10 * value + u64::from(d.saturating_sub(b'0'))).min(GREATEST);
     }
     value as u32
 }
@@ -260,7 +263,7 @@ pub(crate) fn read_front(alloc: Global, text: &[u8]) -> Result<Front, AllocError
         Ok(Front::Blank(1))
     } else if is_letter(first) {
         let n = name_len(text);
-        if n > 255 {
+        if n > Name::MOST {
             return Ok(Front::Wrong(Problem::Name));
         }
         let kind = word_kind(alloc, &text[..n])?;

@@ -78,7 +78,8 @@ impl Name {
         ensures short { length self.now ≤ 255 }
         ensures text { IsUtf8 self.now }
     {
-        self.text.as_str().as_bytes()
+        let text = self.text.as_str();
+        text.as_bytes()
     }
 }
 
