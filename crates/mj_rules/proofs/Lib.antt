@@ -13,4 +13,5 @@ pub mod OneAnswer
 pub mod Composing
 pub mod Sets
 pub mod Answering
+pub mod SentenceLaws
 pub mod LowerLaws

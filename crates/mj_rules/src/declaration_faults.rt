@@ -55,8 +55,8 @@ pub fn add_superclass_fault(
 }
 
 /// Adds the fault of a class whose chain runs into a cycle.
-pub fn add_chain_fault(faults: &mut Vec<Diagnostic>, end: End) -> Result<(), AllocError>
-    ensures { OnOk result (faults.new.items ≡ faults.old.items ++ when_fault (is_cycle (end_view end)) places.Class E202) }
+pub fn add_chain_fault(faults: &mut Vec<Diagnostic>, end: &End) -> Result<(), AllocError>
+    ensures { OnOk result (faults.new.items ≡ faults.old.items ++ when_fault (is_cycle (end_view end.now)) places.Class E202) }
 {
     if let End::Repeated(_) = end {
         faults.push(Diagnostic {
@@ -219,10 +219,7 @@ pub fn add_methods(
 fn behind_first<'a, 'b>(classes: &'b [ClassRef<'a>]) -> &'b [ClassRef<'a>]
     ensures { result.now ≡ drop 1 classes.now }
 {
-    match classes.split_first() {
-        Some((_, rest)) => rest,
-        None => &[],
-    }
+    &classes[classes.len().min(1)..]
 }
 
 /// The faults of the declarations of a class with this chain.
@@ -238,7 +235,7 @@ pub fn declaration_faults(
 {
     let mut faults = Vec::new(alloc);
     add_superclass_fault(&mut faults, declarations, class)?;
-    add_chain_fault(&mut faults, chain.end)?;
+    add_chain_fault(&mut faults, &chain.end)?;
     add_fields(alloc, &mut faults, declarations, class.fields())?;
     let rest = method_rows(alloc, behind_first(&chain.classes))?;
     add_methods(alloc, &mut faults, &rest, class.methods())?;
