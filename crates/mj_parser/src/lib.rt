@@ -1,9 +1,13 @@
 //! Tokens into trees.
 #![tactic(auto)]
 
+mod expressions;
 mod fault;
+mod nodes;
 mod parser;
 mod place;
+mod statements;
+mod tokens;
 mod tree;
 
 pub use fault::ParseFault;
