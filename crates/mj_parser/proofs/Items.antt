@@ -1,5 +1,5 @@
 -- A loop that reads parts as long as a test holds.
-use Rattle.std.proofs.Common.{◌≡◌, ℕ, zero, suc, ◌+◌, ◌<◌, ◌≤◌, Bool, true, false, List, [], ◌∷◌, ◌++◌, length, map, Option, Some, None, refl, sym, ap, ◌∙◌, arith, append_assoc, append-nil}
+use Rattle.std.proofs.Common.{◌≡◌, ◌↔◌, ℕ, zero, suc, ◌+◌, ◌<◌, ◌≤◌, Bool, true, false, List, [], ◌∷◌, ◌++◌, length, map, Option, Some, None, refl, sym, ap, ◌∙◌, arith, append_assoc, append-nil}
 use Rattle.mj_lexer.specs.declared.token.Token.{Token}
 use Rattle.mj_lexer.specs.declared.token.Terminal.TheVariants as terminals
 use Rattle.mj_parser.specs.declared.fault.ParseFault.{ParseFault}
@@ -87,3 +87,13 @@ pub fails_on : {A B : Type 0} (e : ParseFault) (x : Option A) (y : Option B) →
 fails_on OutOfMemory x y f h = tt
 fails_on (NotAFile k) x y f h = f h
 fails_on TooDeep x y f h = f h
+
+-- a fault whose place is counted from another token
+pub fails_behind : {A B : Type 0} (e f : ParseFault) (x : Option A) (y : Option B) → ((f ≡ OutOfMemory) ↔ (e ≡ OutOfMemory)) → (x ≡ None → y ≡ None) → Fails e x → Fails f y
+fails_behind e OutOfMemory x y same g h = tt
+fails_behind OutOfMemory (NotAFile k) x y same g h = absurd (let n = same.1 refl in cc)
+fails_behind (NotAFile j) (NotAFile k) x y same g h = g h
+fails_behind TooDeep (NotAFile k) x y same g h = g h
+fails_behind OutOfMemory TooDeep x y same g h = absurd (let n = same.1 refl in cc)
+fails_behind (NotAFile j) TooDeep x y same g h = g h
+fails_behind TooDeep TooDeep x y same g h = g h

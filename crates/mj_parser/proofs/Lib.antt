@@ -9,3 +9,6 @@ pub mod ExpressionAgain
 pub mod Rows
 pub mod StatementFound
 pub mod StatementAgain
+pub mod FileFound
+pub mod FileAgain
+pub mod Whole

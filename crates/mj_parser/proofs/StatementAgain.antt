@@ -34,7 +34,7 @@ stmt_height_some (Assign m n k v) = omega arith
 stmt_height_some (Store m n k x v) = omega arith
 
 -- `System` begins a print
-print_name : (ts : List Token) (i : ℕ) → opens_print ts i ≡ true → name_at ts i ≡ Some (codes "System")
+pub print_name : (ts : List Token) (i : ℕ) → opens_print ts i ≡ true → name_at ts i ≡ Some (codes "System")
 print_name ts i h = says_name ts i (codes "System") (first (says ts i (codes "System")) _ _ _ _ _ h)
   where
     first : (a b c d e f : Bool) → (a && b && c && d && e && f) ≡ true → a ≡ true
@@ -42,7 +42,7 @@ print_name ts i h = says_name ts i (codes "System") (first (says ts i (codes "Sy
     first false b c d e f h = absurd cc
 
 -- `.` follows it
-print_dot : (ts : List Token) (i : ℕ) → opens_print ts i ≡ true → has ts (i + 1) terminals.Dot ≡ true
+pub print_dot : (ts : List Token) (i : ℕ) → opens_print ts i ≡ true → has ts (i + 1) terminals.Dot ≡ true
 print_dot ts i h = second (says ts i (codes "System")) (has ts (i + 1) terminals.Dot) _ _ _ _ h
   where
     second : (a b c d e f : Bool) → (a && b && c && d && e && f) ≡ true → b ≡ true

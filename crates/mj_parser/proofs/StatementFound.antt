@@ -14,7 +14,7 @@ use Rattle.mj_parser.specs.StatementReading.{not_brace, block_at, condition_at, 
 use Rattle.mj_parser.proofs.Binds.{bind_some, when_some, if_some, some_is, and_both}
 use Rattle.mj_parser.proofs.ExpressionFound.{Sound, exp_found}
 
-not_is_false : (b : Bool) → not b ≡ false → b ≡ true
+pub not_is_false : (b : Bool) → not b ≡ false → b ≡ true
 not_is_false true e = refl
 not_is_false false e = absurd cc
 

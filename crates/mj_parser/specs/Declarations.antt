@@ -93,10 +93,13 @@ pub record IsMethod (ts : List Token) (m : Method) : Type 0 where
   pub semicolon : has ts (return_place m + 1 + size m.returned) terminals.Semicolon ≡ true
   pub end_brace : has ts (return_place m + 1 + size m.returned + 1) terminals.RightBrace ≡ true
 
--- `public static void main ( String [ ] id ) {` stands at the front
-abbrev pub opens_main : List Token → Bool
-opens_main ts = has ts 0 terminals.Public && has ts 1 terminals.Static && has ts 2 terminals.Void && says ts 3 (codes "main") && has ts 4 terminals.LeftParenthesis && says ts 5 (codes "String")
-    && has ts 6 terminals.LeftBracket && has ts 7 terminals.RightBracket && is_some (name_at ts 8) && has ts 9 terminals.RightParenthesis && has ts 10 terminals.LeftBrace
+-- `public static void main (` stands at the front
+abbrev pub main_head : List Token → Bool
+main_head ts = has ts 0 terminals.Public && has ts 1 terminals.Static && has ts 2 terminals.Void && says ts 3 (codes "main") && has ts 4 terminals.LeftParenthesis
+
+-- and then `String [ ] id ) {`
+abbrev pub main_parameter : List Token → Bool
+main_parameter ts = says ts 5 (codes "String") && has ts 6 terminals.LeftBracket && has ts 7 terminals.RightBracket && is_some (name_at ts 8) && has ts 9 terminals.RightParenthesis && has ts 10 terminals.LeftBrace
 
 -- ---- classes
 
@@ -143,7 +146,8 @@ pub record IsMain (ts : List Token) (m : Main) : Type 0 where
   pub class_word : has ts 0 terminals.Class ≡ true
   pub name : name_at ts 1 ≡ Some m.name
   pub brace : has ts 2 terminals.LeftBrace ≡ true
-  pub opening : opens_main (drop 3 ts) ≡ true
+  pub head : main_head (drop 3 ts) ≡ true
+  pub parameter : main_parameter (drop 3 ts) ≡ true
   pub statement : IsStmt (drop 3 ts) 11 m.statement
   pub end_brace : has (drop 3 ts) (11 + stmt_size m.statement) terminals.RightBrace ≡ true
   pub end_class : has (drop 3 ts) (11 + stmt_size m.statement + 1) terminals.RightBrace ≡ true
