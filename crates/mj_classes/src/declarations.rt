@@ -45,10 +45,8 @@ impl<'a> Declarations<'a> {
     pub fn find(&self, name: &Name) -> Option<ClassRef<'a>>
         ensures { option_map class_ref_view result ≡ decl (declared_in self.now) name.now }
     {
-        match self.by_name.get(name) {
-            Some(at) => Some(self.classes[*at]),
-            None => None,
-        }
+        let at = *self.by_name.get(name)?;
+        Some(self.classes[at])
     }
 
     /// Whether an earlier class has the name of the class at this place.
