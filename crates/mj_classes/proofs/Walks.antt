@@ -1,12 +1,13 @@
 -- Walks up the superclasses, which find what stands in a chain.
 use Rattle.std.proofs.Common.{◌≡◌, ℕ, zero, suc, ◌+◌, ◌-◌, ◌<◌, ◌≤◌, Bool, true, false, List, [], ◌∷◌, ◌++◌, length, Option, Some, None, refl, sym, ap, ◌∙◌, subst, arith, ◌⊎◌, inl, inr, cond}
-use Rattle.std.specs.Prelude.{find, option_and_then, is_some, ◌||◌, map, if◌then◌else◌}
+use Rattle.std.specs.Prelude.{find, option_map, option_and_then, is_some, ◌||◌, map, if◌then◌else◌}
 use Rattle.std.specs.Str.{bytes_eq}
 use Rattle.std.specs.List.{filter_map, cons_option}
 use Rattle.mj_parser.specs.Trees.{Name}
+use Rattle.mj_parser.specs.declared.tree.Ty.TheVariants.{Class}
 use Rattle.mj_classes.specs.Declarations.{ClassDecl, decl}
 use Rattle.mj_classes.specs.Walks.{above}
-use Rattle.mj_classes.specs.Chains.{EndOf, Top, Undeclared, Repeated, Links, IsChain, is_in, chain_names, chain_of, ancestry}
+use Rattle.mj_classes.specs.Chains.{EndOf, Top, Undeclared, Repeated, Links, IsChain, is_in, chain_names, chain_of, accepts, ancestry}
 use Rattle.mj_classes.proofs.Distinct.{In, in_contains}
 use Rattle.mj_classes.proofs.Climb.{decl_name, all_declared, links_declared, no_more, has_chain, has_none}
 use Rattle.mj_classes.proofs.Distinct.{contains_in}
@@ -221,3 +222,11 @@ is_some-find u (k ∷ ks) = by (bytes_eq k.name u) (is_some-find u ks)
 
 pub stands_above : (cs : List ClassDecl) (t u : Name) → is_some (find (λ k. bytes_eq k.name u) (ancestry cs t)) ≡ is_in (chain_names (chain_of cs t)) u
 stands_above cs t u = is_some-find u (ancestry cs t) ∙ ap (λ (ns : List Name). is_in ns u) (ancestry_names cs t)
+
+pub is_some_mapped : {A B : Type 0} (f : A → B) (o : Option A) → is_some (option_map f o) ≡ is_some o
+is_some_mapped f None = refl
+is_some_mapped f (Some a) = refl
+
+-- of two classes that differ, the second stands above the first
+pub accepts_above : (cs : List ClassDecl) (t u : Name) (r : Bool) → bytes_eq t u ≡ false → r ≡ is_some (find (λ k. bytes_eq k.name u) (ancestry cs t)) → r ≡ accepts cs (Class t) (Class u)
+accepts_above cs t u r e h = rw e (h ∙ stands_above cs t u)
