@@ -66,8 +66,8 @@ is_chain_after : (all : List ClassRef) (first : ClassRef) (met after : List Clas
 is_chain_after all first met after names at end c e h =
     let now = names_after met after at e in
     subst (λ (xs : List Name). IsChain (classes_view all) (class_ref_view first).name xs end) (sym now)
-      (ends (classes_view all) (class_ref_view first).name (names_of_refs met) (class_ref_view at) end c.climbs
-        (subst (λ (xs : List Name). Ends (classes_view all) xs (class_ref_view at).name end) now h))
+    (ends (classes_view all) (class_ref_view first).name (names_of_refs met) (class_ref_view at) end c.climbs
+    (subst (λ (xs : List Name). Ends (classes_view all) xs (class_ref_view at).name end) now h))
 
 pub chain_after : (all : List ClassRef) (first : ClassRef) (met after : List ClassRef) (names : BTreeSet (Bor Name)) (at : ClassRef) (end : EndOf) → Climbing all first met names at → after ≡ met ++ at ∷ []
     → Ends (classes_view all) (names_of_refs after) (class_ref_view at).name end → chain_of (classes_view all) (class_ref_view first).name ≡ Some (names_of_refs after, end)
@@ -102,7 +102,7 @@ climbs_up all first met after names more at next u c e seen super fresh d =
     let now = names_after met after at e in
     record {
       climbs = subst (λ (xs : List Name). Climbs (classes_view all) (class_ref_view first).name xs (class_ref_view next)) (sym now)
-        (climbs_on (classes_view all) (class_ref_view first).name (names_of_refs met) (class_ref_view at) (class_ref_view next) u c.climbs super
+          (climbs_on (classes_view all) (class_ref_view first).name (names_of_refs met) (class_ref_view at) (class_ref_view next) u c.climbs super
           (not_listed (names_of_refs met ++ (class_ref_view at).name ∷ []) u (ap (λ (xs : List Name). is_in xs u) (sym now) ∙ fresh)) d);
       found = found_after all first met after names at c e;
       seen = seen;

@@ -125,7 +125,7 @@ pub row_kept : {X Y A : Type 0} (seen : X → Name × A) (view : Y → A) (name 
 row_kept {X} {Y} {A} seen view name owner ys n y rows before lt is h there =
     let has : is_some (under (name (view y)) (rows_by seen rows)) ≡ true = sym (rows_has seen rows (name (view y))) ∙ there in
     let more : before ++ own_rows name owner (map view (take (n + 1) ys)) ≡ (before ++ own_rows name owner (map view (take n ys))) ++ (name (view y), (owner, view y)) ∷ [] =
-      ap (λ (zs : List (Name × (Name × A))). before ++ zs) (rows_more view name owner ys n y lt is) ∙ sym (append_assoc before (own_rows name owner (map view (take n ys))) ((name (view y), (owner, view y)) ∷ [])) in
+    ap (λ (zs : List (Name × (Name × A))). before ++ zs) (rows_more view name owner ys n y lt is) ∙ sym (append_assoc before (own_rows name owner (map view (take n ys))) ((name (view y), (owner, view y)) ∷ [])) in
     subst (SayAlike (rows_by seen rows)) (sym more) (alike_kept (rows_by seen rows) (before ++ own_rows name owner (map view (take n ys))) (name (view y)) (owner, view y) h has)
 
 -- the name of the next is new
@@ -135,19 +135,19 @@ pub row_added : {X Y A : Type 0} (seen : X → Name × A) (view : Y → A) (name
 row_added {X} {Y} {A} seen view name owner ys n y rows after before k x lt is h key value new put =
     let has : is_some (under (name (view y)) (rows_by seen rows)) ≡ false = sym (rows_has seen rows (name (view y))) ∙ new in
     let more : before ++ own_rows name owner (map view (take (n + 1) ys)) ≡ (before ++ own_rows name owner (map view (take n ys))) ++ (name (view y), (owner, view y)) ∷ [] =
-      ap (λ (zs : List (Name × (Name × A))). before ++ zs) (rows_more view name owner ys n y lt is) ∙ sym (append_assoc before (own_rows name owner (map view (take n ys))) ((name (view y), (owner, view y)) ∷ [])) in
+    ap (λ (zs : List (Name × (Name × A))). before ++ zs) (rows_more view name owner ys n y lt is) ∙ sym (append_assoc before (own_rows name owner (map view (take n ys))) ((name (view y), (owner, view y)) ∷ [])) in
     let there : rows_by seen after ≡ entries.put by_bytes (name (view y)) (owner, view y) (rows_by seen rows) =
-      ap (rows_by seen) put ∙ (rows_insert seen rows k x ∙ (ap (λ (m : Name). entries.put by_bytes m (seen x) (rows_by seen rows)) key ∙ ap (λ (r : Name × A). entries.put by_bytes (name (view y)) r (rows_by seen rows)) value)) in
+    ap (rows_by seen) put ∙ (rows_insert seen rows k x ∙ (ap (λ (m : Name). entries.put by_bytes m (seen x) (rows_by seen rows)) key ∙ ap (λ (r : Name × A). entries.put by_bytes (name (view y)) r (rows_by seen rows)) value)) in
     subst (λ (zs : List (Name × (Name × A))). SayAlike zs (before ++ own_rows name owner (map view (take (n + 1) ys)))) (sym there)
-      (subst (SayAlike (entries.put by_bytes (name (view y)) (owner, view y) (rows_by seen rows))) (sym more)
-        (alike_put (rows_by seen rows) (before ++ own_rows name owner (map view (take n ys))) (name (view y)) (owner, view y) h has))
+    (subst (SayAlike (entries.put by_bytes (name (view y)) (owner, view y) (rows_by seen rows))) (sym more)
+    (alike_put (rows_by seen rows) (before ++ own_rows name owner (map view (take n ys))) (name (view y)) (owner, view y) h has))
 
 -- at the end of the loop
 pub all_rows : {X Y A : Type 0} (seen : X → Name × A) (view : Y → A) (name : A → Name) (ys : List Y) (own : List A) (before : List (Name × (Name × A))) (rows : List (Bor Name × X)) (owner owner' : Name) (n : ℕ)
     → length ys ≤ n → SayAlike (rows_by seen rows) (before ++ own_rows name owner (map view (take n ys))) → owner ≡ owner' → map view ys ≡ own → SayAlike (rows_by seen rows) (before ++ own_rows name owner' own)
 all_rows {X} {Y} {A} seen view name ys own before rows owner owner' n le h e is =
     subst (λ (m : Name). SayAlike (rows_by seen rows) (before ++ own_rows name m own)) e
-      (subst (λ (zs : List A). SayAlike (rows_by seen rows) (before ++ own_rows name owner zs)) (ap (map view) (take_all n ys le) ∙ is) h)
+    (subst (λ (zs : List A). SayAlike (rows_by seen rows) (before ++ own_rows name owner zs)) (ap (map view) (take_all n ys le) ∙ is) h)
 
 pub map_same : {A : Type 0} (xs : List A) → map (λ x. x) xs ≡ xs
 map_same [] = refl
@@ -163,7 +163,7 @@ pub class_added : {X A : Type 0} (seen : X → Name × A) (name : A → Name) (o
     → SayAlike (rows_by seen rows) (all_along name own ks) → SayAlike (rows_by seen after) (rows_by seen rows ++ own_rows name k.name (own k)) → more ≡ ks ++ k ∷ [] → SayAlike (rows_by seen after) (all_along name own more)
 class_added {X} {A} seen name own rows after ks more k h added is n =
     let all : all_along name own more ≡ all_along name own ks ++ own_rows name k.name (own k) =
-      ap (all_along name own) is ∙ (along-append name own ks (k ∷ []) ∙ ap (λ (rs : List (Name × (Name × A))). all_along name own ks ++ rs) (append-nil (own_rows name k.name (own k)))) in
+    ap (all_along name own) is ∙ (along-append name own ks (k ∷ []) ∙ ap (λ (rs : List (Name × (Name × A))). all_along name own ks ++ rs) (append-nil (own_rows name k.name (own k)))) in
     added n ∙ (alike_append (rows_by seen rows) (all_along name own ks) (own_rows name k.name (own k)) h n ∙ ap (under n) (sym all))
 
 -- ---- the table

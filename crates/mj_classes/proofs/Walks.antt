@@ -38,7 +38,7 @@ met cs p whole c (d ∷ rest) end k j (suc n) l e lt f =
     let super : k.superclass ≡ Some d = ap (λ (m : ClassDecl). m.superclass) (sym same) ∙ l.0.2 in
     let found = next.1 in
     cond_on (p k) k j (along cs p (d ∷ rest)) (option_and_then (up cs p n) (above cs k)) (rw e at f)
-      (λ g. rw (super, found) (met cs p whole d rest end next.0 j n l.1 next.1 (omega arith) g))
+    (λ g. rw (super, found) (met cs p whole d rest end next.0 j n l.1 next.1 (omega arith) g))
 
 -- a class of these fails where none is found
 fails_first : (p : ClassDecl → Bool) (m : ClassDecl) (f : Option ClassDecl) → cond (p m) (Some m) f ≡ None → (p m ≡ false) × (f ≡ None)
@@ -133,7 +133,7 @@ farther cs p (suc m) i k j e =
     let add : suc m + i ≡ suc (m + i) = omega arith in
     ap (λ (n : ℕ). up cs p n k) add
     ∙ cond_later (p k) k j (option_and_then (up cs p m) (above cs k)) (option_and_then (up cs p (m + i)) (above cs k))
-        (λ f. then_later (up cs p m) (up cs p (m + i)) j (above cs k) (λ n g. farther cs p m i n j g) f) e
+    (λ f. then_later (up cs p m) (up cs p (m + i)) j (above cs k) (λ n g. farther cs p m i n j g) f) e
 
 abbrev rounds : ℕ → ℕ → ℕ
 rounds s zero = 0

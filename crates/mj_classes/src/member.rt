@@ -29,7 +29,10 @@ pub struct MethodMember<'a> {
 
 /// The fields that these classes declare, each name once: that of the first class which declares it. They ascend by
 /// name.
-pub fn field_table<'a>(alloc: Global, classes: &[ClassRef<'a>]) -> Result<Vec<FieldMember<'a>>, AllocError>
+pub fn field_table<'a>(
+    alloc: Global,
+    classes: &[ClassRef<'a>],
+) -> Result<Vec<FieldMember<'a>>, AllocError>
     ensures { IfOk result (λ v. map field_member_view v.items ≡ fields_along (classes_view classes.now)) }
 {
     let mut rows = BTreeMap::new(alloc);
@@ -41,7 +44,10 @@ pub fn field_table<'a>(alloc: Global, classes: &[ClassRef<'a>]) -> Result<Vec<Fi
 
 /// The methods that these classes declare, each name once: that of the first class which declares it. They ascend by
 /// name.
-pub fn method_table<'a>(alloc: Global, classes: &[ClassRef<'a>]) -> Result<Vec<MethodMember<'a>>, AllocError>
+pub fn method_table<'a>(
+    alloc: Global,
+    classes: &[ClassRef<'a>],
+) -> Result<Vec<MethodMember<'a>>, AllocError>
     ensures { IfOk result (λ v. map method_member_view v.items ≡ methods_along (classes_view classes.now)) }
 {
     let mut rows = BTreeMap::new(alloc);
@@ -52,7 +58,10 @@ pub fn method_table<'a>(alloc: Global, classes: &[ClassRef<'a>]) -> Result<Vec<M
 }
 
 /// Adds the fields of a class whose names aren't there yet.
-fn add_fields<'a>(rows: &mut BTreeMap<&'a Name, FieldMember<'a>>, class: &ClassRef<'a>) -> Result<(), AllocError>
+fn add_fields<'a>(
+    rows: &mut BTreeMap<&'a Name, FieldMember<'a>>,
+    class: &ClassRef<'a>,
+) -> Result<(), AllocError>
     ensures { OnOk result (SayAlike (field_rows rows.new.entries) (field_rows rows.old.entries ++ own_rows (λ f. f.name) (class_ref_view class.now).name (class_ref_view class.now).fields)) }
 {
     let owner = class.name();
@@ -66,7 +75,10 @@ fn add_fields<'a>(rows: &mut BTreeMap<&'a Name, FieldMember<'a>>, class: &ClassR
 }
 
 /// Adds the methods of a class whose names aren't there yet.
-fn add_methods<'a>(rows: &mut BTreeMap<&'a Name, MethodMember<'a>>, class: &ClassRef<'a>) -> Result<(), AllocError>
+fn add_methods<'a>(
+    rows: &mut BTreeMap<&'a Name, MethodMember<'a>>,
+    class: &ClassRef<'a>,
+) -> Result<(), AllocError>
     ensures { OnOk result (SayAlike (method_rows rows.new.entries) (method_rows rows.old.entries ++ own_rows (λ m. m.name) (class_ref_view class.now).name (class_ref_view class.now).methods)) }
 {
     let owner = class.name();

@@ -17,11 +17,11 @@ loop-at-preserved c =
           let puts = w.in_ok-insert.ensures.updates.0 in
           let key = w.in_ok-copy.ensures ∙ name in
           rw w.by_name-is
-            (index_added c.args.classes.now c.loop-at.at c.index-classes-at.result (get (slice_cmp nat_cmp) c.loop-at.by_name) (get (slice_cmp nat_cmp) w.insert.new.self)
-              c.loop-at-test.true c.index-classes-at.is c.loop-at.invariant new
-              (λ q. puts q ∙ ap (λ (n : List ℕ). cond (is_eq (slice_cmp nat_cmp n q)) (Some c.loop-at.at) (get (slice_cmp nat_cmp) c.loop-at.by_name q)) key))
+          (index_added c.args.classes.now c.loop-at.at c.index-classes-at.result (get (slice_cmp nat_cmp) c.loop-at.by_name) (get (slice_cmp nat_cmp) w.insert.new.self)
+          c.loop-at-test.true c.index-classes-at.is c.loop-at.invariant new
+          (λ q. puts q ∙ ap (λ (n : List ℕ). cond (is_eq (slice_cmp nat_cmp n q)) (Some c.loop-at.at) (get (slice_cmp nat_cmp) c.loop-at.by_name q)) key))
       | else-not-contains_key w ↦
           let old = ap (λ (n : List ℕ). is_some (get (slice_cmp nat_cmp) c.loop-at.by_name n)) (sym name) ∙ (sym met ∙ w.if-not-contains_key.false) in
           rw w.by_name-is
-            (index_kept c.args.classes.now c.loop-at.at c.index-classes-at.result (get (slice_cmp nat_cmp) c.loop-at.by_name) c.loop-at-test.true c.index-classes-at.is c.loop-at.invariant old)
+          (index_kept c.args.classes.now c.loop-at.at c.index-classes-at.result (get (slice_cmp nat_cmp) c.loop-at.by_name) c.loop-at-test.true c.index-classes-at.is c.loop-at.invariant old)
     ]

@@ -12,9 +12,9 @@ returns-in_err-owner c =
 pub returns-in_err-field : goal.returns-in_err-field
 returns-in_err-field c =
     rw c.from_residual-in_err-field.ensures
-      (sym (nearest_some (own_field c.args.name.now) (ancestry (classes_view c.args.self.now.classes.items) c.args.class.now) (class_ref_view c.in_ok-owner.owner) _ (sym c.in_ok-owner.ensures) (sym c.in_err-field.ensures)))
+    (sym (nearest_some (own_field c.args.name.now) (ancestry (classes_view c.args.self.now.classes.items) c.args.class.now) (class_ref_view c.in_ok-owner.owner) _ (sym c.in_ok-owner.ensures) (sym c.in_err-field.ensures)))
 
 pub returns : goal.returns
 returns c =
     rw c.name.ensures
-      (sym (nearest_some (own_field c.args.name.now) (ancestry (classes_view c.args.self.now.classes.items) c.args.class.now) (class_ref_view c.in_ok-owner.owner) _ (sym c.in_ok-owner.ensures) (sym c.in_ok-field.ensures)))
+    (sym (nearest_some (own_field c.args.name.now) (ancestry (classes_view c.args.self.now.classes.items) c.args.class.now) (class_ref_view c.in_ok-owner.owner) _ (sym c.in_ok-owner.ensures) (sym c.in_ok-field.ensures)))

@@ -12,9 +12,9 @@ returns-in_err-owner c =
 pub returns-in_err-method : goal.returns-in_err-method
 returns-in_err-method c =
     rw c.from_residual-in_err-method.ensures
-      (sym (nearest_some (own_method c.args.name.now) (ancestry (classes_view c.args.self.now.classes.items) c.args.class.now) (class_ref_view c.in_ok-owner.owner) _ (sym c.in_ok-owner.ensures) (sym c.in_err-method.ensures)))
+    (sym (nearest_some (own_method c.args.name.now) (ancestry (classes_view c.args.self.now.classes.items) c.args.class.now) (class_ref_view c.in_ok-owner.owner) _ (sym c.in_ok-owner.ensures) (sym c.in_err-method.ensures)))
 
 pub returns : goal.returns
 returns c =
     rw c.name.ensures
-      (sym (nearest_some (own_method c.args.name.now) (ancestry (classes_view c.args.self.now.classes.items) c.args.class.now) (class_ref_view c.in_ok-owner.owner) _ (sym c.in_ok-owner.ensures) (sym c.in_ok-method.ensures)))
+    (sym (nearest_some (own_method c.args.name.now) (ancestry (classes_view c.args.self.now.classes.items) c.args.class.now) (class_ref_view c.in_ok-owner.owner) _ (sym c.in_ok-owner.ensures) (sym c.in_ok-method.ensures)))
