@@ -92,7 +92,7 @@ pub bounded : (cs : List ClassDecl) (c : Name) (names : List Name) (at : ClassDe
 bounded cs c names at climbs =
     let all = names ++ at.name ∷ [] in
     let more = no_more cs all (distinct_push names at.name climbs.distinct climbs.fresh)
-      (λ x h. elim (Contains-push_cases names at.name x h) [ inl a ↦ climbs.all_declared x a | inr s ↦ (at, rw (← s) climbs.here) ]) in
+    (λ x h. elim (Contains-push_cases names at.name x h) [ inl a ↦ climbs.all_declared x a | inr s ↦ (at, rw (← s) climbs.here) ]) in
     omega (arith, more, length-append names (at.name ∷ []))
 
 -- ---- there is a chain

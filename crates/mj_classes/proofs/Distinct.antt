@@ -61,9 +61,10 @@ pigeons (x ∷ xs) ys d h =
 
 pub distinct_push : (xs : List Name) (x : Name) → AreDistinct xs → (Contains xs x → ⊥) → AreDistinct (xs ++ x ∷ [])
 distinct_push [] x d n = (λ h. nowhere x h, tt)
-distinct_push (y ∷ ys) x d n =
-    (λ h. elim (Contains-push_cases ys x y h) [ inl a ↦ d.0 a | inr e ↦ n (subst (Contains (y ∷ ys)) (sym e) (Contains-append_left (y ∷ []) ys y (Contains-push [] y))) ],
-     distinct_push ys x d.1 (λ h. n (Contains-append_right (y ∷ []) ys x h)))
+distinct_push (y ∷ ys) x d n = (
+  λ h. elim (Contains-push_cases ys x y h) [ inl a ↦ d.0 a | inr e ↦ n (subst (Contains (y ∷ ys)) (sym e) (Contains-append_left (y ∷ []) ys y (Contains-push [] y))) ],
+  distinct_push ys x d.1 (λ h. n (Contains-append_right (y ∷ []) ys x h)),
+)
 
 -- what stands behind distinct names isn't among them
 pub fresh_behind : (names : List Name) (u : Name) (rest : List Name) → AreDistinct (names ++ (u ∷ rest)) → Contains names u → ⊥

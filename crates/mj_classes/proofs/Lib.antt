@@ -6,5 +6,6 @@ pub mod Distinct
 pub mod Index
 pub mod Nearest
 pub mod Positions
+pub mod Rows
 pub mod Tables
 pub mod Walks

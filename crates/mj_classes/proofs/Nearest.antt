@@ -146,3 +146,10 @@ nearest_by_find {A} own (k ∷ ks) = by (own k) refl (nearest_by_find own ks)
         → or_farther k.name o (nearest own ks) ≡ option_and_then (λ j. option_map (λ a. (j.name, a)) (own j)) (cond (is_some o) (Some k) (find (λ j. is_some (own j)) ks))
     by None e rest = rest
     by (Some a) e rest = rw e refl
+
+pub nearest_none : {A : Type 0} (own : ClassDecl → Option A) (ks : List ClassDecl) → find (λ k. is_some (own k)) ks ≡ None → nearest own ks ≡ None
+nearest_none {A} own ks e = nearest_by_find own ks ∙ ap (option_and_then (λ (k : ClassDecl). option_map (λ a. (k.name, a)) (own k))) e
+
+pub nearest_some : {A : Type 0} (own : ClassDecl → Option A) (ks : List ClassDecl) (k : ClassDecl) (o : Option A) → find (λ k. is_some (own k)) ks ≡ Some k → own k ≡ o → nearest own ks ≡ option_map (λ a. (k.name, a)) o
+nearest_some {A} own ks k o e f =
+    nearest_by_find own ks ∙ (ap (option_and_then (λ (k : ClassDecl). option_map (λ a. (k.name, a)) (own k))) e ∙ ap (option_map (λ a. (k.name, a))) f)

@@ -149,7 +149,7 @@ early {X} p (x ∷ xs) (suc n) h = by (p x) h (λ i. early p xs n i)
     by false h e =
         let rest = e (omega arith) in
         rest ∙ same_from_decides {P = position_or_len p xs < n} (nat_lt (position_or_len p xs) n) (nat_lt (1 + position_or_len p xs) (suc n)) (Decides-ltb (position_or_len p xs) n)
-          (λ t. let lt = (Decides-ltb (1 + position_or_len p xs) (suc n)).0 t in omega arith, λ lt. (Decides-ltb (1 + position_or_len p xs) (suc n)).1 (omega arith))
+        (λ t. let lt = (Decides-ltb (1 + position_or_len p xs) (suc n)).0 t in omega arith, λ lt. (Decides-ltb (1 + position_or_len p xs) (suc n)).1 (omega arith))
 
 pub found_early : {X : Type 0} (p : X → Bool) (xs : List X) (i n : ℕ) → position p xs ≡ Some i → is_some (find p (take n xs)) ≡ nat_lt i n
 found_early p xs i n e =

@@ -169,7 +169,7 @@ is_table {A} name own ks IsMember there back = record {
   ascending = subst AreAscending (sym (named_names (λ (r : Name × A). name r.1) table named)) up;
   members = λ owner a. (
     λ h. there owner a (sym (says (name a)) ∙ found (name a) (owner, a) table up (stands_named (λ (r : Name × A). name r.1) (owner, a) table named h)),
-    λ h. value_stands (name a) (owner, a) table (stands (name a) (owner, a) table (says (name a) ∙ back owner a h))
+    λ h. value_stands (name a) (owner, a) table (stands (name a) (owner, a) table (says (name a) ∙ back owner a h)),
   );
 }
   where
@@ -187,5 +187,5 @@ is_table {A} name own ks IsMember there back = record {
 
     named : AllNamed (λ (r : Name × A). name r.1) table
     named = all_from_each _ table (λ e h.
-      let at = found e.0 e.1 table up h in
-      each_from_all (λ (f : Name × (Name × A)). f.0 ≡ name f.1.1) all (along_named name own ks) e (stands e.0 e.1 all (sym (under_first e.0 all) ∙ at)))
+        let at = found e.0 e.1 table up h in
+        each_from_all (λ (f : Name × (Name × A)). f.0 ≡ name f.1.1) all (along_named name own ks) e (stands e.0 e.1 all (sym (under_first e.0 all) ∙ at)))

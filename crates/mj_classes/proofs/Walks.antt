@@ -1,16 +1,18 @@
 -- Walks up the superclasses, which find what stands in a chain.
 use Rattle.std.proofs.Common.{◌≡◌, ℕ, zero, suc, ◌+◌, ◌-◌, ◌<◌, ◌≤◌, Bool, true, false, List, [], ◌∷◌, ◌++◌, length, Option, Some, None, refl, sym, ap, ◌∙◌, subst, arith, ◌⊎◌, inl, inr, cond}
-use Rattle.std.specs.Prelude.{find, option_and_then, if◌then◌else◌}
+use Rattle.std.specs.Prelude.{find, option_map, option_and_then, is_some, ◌||◌, map, if◌then◌else◌}
+use Rattle.std.specs.Str.{bytes_eq}
 use Rattle.std.specs.List.{filter_map, cons_option}
 use Rattle.mj_parser.specs.Trees.{Name}
+use Rattle.mj_parser.specs.declared.tree.Ty.TheVariants.{Class}
 use Rattle.mj_classes.specs.Declarations.{ClassDecl, decl}
 use Rattle.mj_classes.specs.Walks.{above}
-use Rattle.mj_classes.specs.Chains.{EndOf, Top, Undeclared, Repeated, Links, IsChain, chain_of, ancestry}
+use Rattle.mj_classes.specs.Chains.{EndOf, Top, Undeclared, Repeated, Links, IsChain, is_in, chain_names, chain_of, accepts, ancestry}
 use Rattle.mj_classes.proofs.Distinct.{In, in_contains}
 use Rattle.mj_classes.proofs.Climb.{decl_name, all_declared, links_declared, no_more, has_chain, has_none}
 use Rattle.mj_classes.proofs.Distinct.{contains_in}
 use Rattle.mj_classes.proofs.Closed.{closed}
-use Rattle.mj_classes.proofs.Nearest.{ancestry_of_chain, ancestry_by}
+use Rattle.mj_classes.proofs.Nearest.{ancestry_of_chain, ancestry_by, ancestry_names}
 
 -- the first class that passes the test, of so many from this one up
 abbrev pub up : List ClassDecl → (ClassDecl → Bool) → ℕ → ClassDecl → Option ClassDecl
@@ -36,7 +38,7 @@ met cs p whole c (d ∷ rest) end k j (suc n) l e lt f =
     let super : k.superclass ≡ Some d = ap (λ (m : ClassDecl). m.superclass) (sym same) ∙ l.0.2 in
     let found = next.1 in
     cond_on (p k) k j (along cs p (d ∷ rest)) (option_and_then (up cs p n) (above cs k)) (rw e at f)
-      (λ g. rw (super, found) (met cs p whole d rest end next.0 j n l.1 next.1 (omega arith) g))
+    (λ g. rw (super, found) (met cs p whole d rest end next.0 j n l.1 next.1 (omega arith) g))
 
 -- a class of these fails where none is found
 fails_first : (p : ClassDecl → Bool) (m : ClassDecl) (f : Option ClassDecl) → cond (p m) (Some m) f ≡ None → (p m ≡ false) × (f ≡ None)
@@ -131,7 +133,7 @@ farther cs p (suc m) i k j e =
     let add : suc m + i ≡ suc (m + i) = omega arith in
     ap (λ (n : ℕ). up cs p n k) add
     ∙ cond_later (p k) k j (option_and_then (up cs p m) (above cs k)) (option_and_then (up cs p (m + i)) (above cs k))
-        (λ f. then_later (up cs p m) (up cs p (m + i)) j (above cs k) (λ n g. farther cs p m i n j g) f) e
+    (λ f. then_later (up cs p m) (up cs p (m + i)) j (above cs k) (λ n g. farther cs p m i n j g) f) e
 
 abbrev rounds : ℕ → ℕ → ℕ
 rounds s zero = 0
@@ -167,42 +169,64 @@ pub record Walks (cs : List ClassDecl) (p : ClassDecl → Bool) (c : Name) (left
   pub here : decl cs k.name ≡ Some k
   pub before : decl cs passed.name ≡ Some passed
 
-pub walk_starts : (cs : List ClassDecl) (p : ClassDecl → Bool) (c : Name) (k : ClassDecl) → decl cs c ≡ Some k → Walks cs p c (length cs) k k
-walk_starts cs p c k e =
+pub walk_starts : (cs : List ClassDecl) (p : ClassDecl → Bool) (c : Name) (left : ℕ) (k : ClassDecl) → left ≡ length cs → decl cs c ≡ Some k → Walks cs p c left k k
+walk_starts cs p c left k all e =
     let name = decl_name cs c k e in
     let here : decl cs k.name ≡ Some k = ap (decl cs) name ∙ e in
-    record { rest = walk_finds cs p c k e; since = (0, λ m. ap (λ (n : ℕ). up cs p n k) (omega arith)); here = here; before = here }
+    record { rest = walk_finds cs p c k e ∙ ap (λ (n : ℕ). up cs p n k) (sym all); since = (0, λ m. ap (λ (n : ℕ). up cs p n k) (omega arith)); here = here; before = here }
 
--- the class at hand is from now on the one passed
-pub walk_marks : (cs : List ClassDecl) (p : ClassDecl → Bool) (c : Name) (left : ℕ) (k passed : ClassDecl) → Walks cs p c left k passed → Walks cs p c left k k
-walk_marks cs p c left k passed w = record { rest = w.rest; since = (0, λ m. ap (λ (n : ℕ). up cs p n k) (omega arith)); here = w.here; before = w.here }
+-- the class at hand may from now on be the one passed
+pub walk_marks : (cs : List ClassDecl) (p : ClassDecl → Bool) (c : Name) (left : ℕ) (k passed mark : ClassDecl) → Walks cs p c left k passed → (mark ≡ k) ⊎ (mark ≡ passed) → Walks cs p c left k mark
+walk_marks cs p c left k passed mark w (inl e) =
+    subst (λ (j : ClassDecl). Walks cs p c left k j) (sym e) (record { rest = w.rest; since = (0, λ m. ap (λ (n : ℕ). up cs p n k) (omega arith)); here = w.here; before = w.here })
+walk_marks cs p c left k passed mark w (inr e) = subst (λ (j : ClassDecl). Walks cs p c left k j) (sym e) w
+
+above_declared : (cs : List ClassDecl) (k j : ClassDecl) → above cs k ≡ Some j → decl cs j.name ≡ Some j
+above_declared cs k j e = by k.superclass e
+  where
+    by : (o : Option Name) → option_and_then (decl cs) o ≡ Some j → decl cs j.name ≡ Some j
+    by None e = absurd cc
+    by (Some u) e = ap (decl cs) (decl_name cs u j e) ∙ e
 
 -- one step up from a class that fails
-up_step : (cs : List ClassDecl) (p : ClassDecl → Bool) (k j : ClassDecl) (u : Name) (m : ℕ) → p k ≡ false → k.superclass ≡ Some u → decl cs u ≡ Some j → up cs p (suc m) k ≡ up cs p m j
-up_step cs p k j u m fails_here s e = rw (fails_here, s, e) refl
+up_step : (cs : List ClassDecl) (p : ClassDecl → Bool) (k j : ClassDecl) (m : ℕ) → p k ≡ false → above cs k ≡ Some j → up cs p (suc m) k ≡ up cs p m j
+up_step cs p k j m fails_here e = rw (fails_here, e) refl
 
-pub walk_on : (cs : List ClassDecl) (p : ClassDecl → Bool) (c : Name) (left : ℕ) (k passed j : ClassDecl) (u : Name)
-    → Walks cs p c (suc left) k passed → p k ≡ false → k.superclass ≡ Some u → decl cs u ≡ Some j → Walks cs p c left j passed
-walk_on cs p c left k passed j u w fails_here s e =
-    let name = decl_name cs u j e in
-    record {
-      rest = w.rest ∙ up_step cs p k j u left fails_here s e;
-      since = (suc w.since.0, λ m. let move : suc w.since.0 + m ≡ w.since.0 + suc m = omega arith in ap (λ (n : ℕ). up cs p n passed) move ∙ (w.since.1 (suc m) ∙ up_step cs p k j u m fails_here s e));
-      here = ap (decl cs) name ∙ e;
-      before = w.before;
-    }
-
-pub walk_found : (cs : List ClassDecl) (p : ClassDecl → Bool) (c : Name) (left : ℕ) (k passed : ClassDecl) → Walks cs p c (suc left) k passed → p k ≡ true → find p (ancestry cs c) ≡ Some k
-walk_found cs p c left k passed w passes = w.rest ∙ rw passes refl
-
-pub walk_ends : (cs : List ClassDecl) (p : ClassDecl → Bool) (c : Name) (left : ℕ) (k passed : ClassDecl) → Walks cs p c (suc left) k passed → p k ≡ false → above cs k ≡ None → find p (ancestry cs c) ≡ None
-walk_ends cs p c left k passed w fails_here none = w.rest ∙ rw (fails_here, none) refl
+pub walk_on : (cs : List ClassDecl) (p : ClassDecl → Bool) (c : Name) (left more : ℕ) (k passed j : ClassDecl)
+    → Walks cs p c left k passed → left ≡ suc more → p k ≡ false → above cs k ≡ Some j → Walks cs p c more j passed
+walk_on cs p c left more k passed j w one fails_here e = record {
+  rest = w.rest ∙ (ap (λ (n : ℕ). up cs p n k) one ∙ up_step cs p k j more fails_here e);
+  since = (suc w.since.0, λ m. let move : suc w.since.0 + m ≡ w.since.0 + suc m = omega arith in ap (λ (n : ℕ). up cs p n passed) move ∙ (w.since.1 (suc m) ∙ up_step cs p k j m fails_here e));
+  here = above_declared cs k j e;
+  before = w.before;
+}
 
 -- a step that leads back to the class that was passed
-pub walk_back : (cs : List ClassDecl) (p : ClassDecl → Bool) (c : Name) (left : ℕ) (k passed j : ClassDecl) (u : Name)
-    → Walks cs p c (suc left) k passed → p k ≡ false → k.superclass ≡ Some u → decl cs u ≡ Some j → j.name ≡ passed.name → find p (ancestry cs c) ≡ None
+pub walk_back : (cs : List ClassDecl) (p : ClassDecl → Bool) (c : Name) (left more : ℕ) (k passed j : ClassDecl)
+    → Walks cs p c left k passed → left ≡ suc more → p k ≡ false → above cs k ≡ Some j → j.name ≡ passed.name → find p (ancestry cs c) ≡ None
 unfolding walk_on
-walk_back cs p c left k passed j u w fails_here s e back =
-    let on = walk_on cs p c left k passed j u w fails_here s e in
+walk_back cs p c left more k passed j w one fails_here e back =
+    let on = walk_on cs p c left more k passed j w one fails_here e in
     let same : passed ≡ j = let a = on.here in let b = on.before in cc in
-    on.rest ∙ round_trip cs p (suc w.since.0) j (omega arith) (subst (λ (q : ClassDecl). (m : ℕ) → up cs p (suc w.since.0 + m) q ≡ up cs p m j) same on.since.1) left
+    on.rest ∙ round_trip cs p (suc w.since.0) j (omega arith) (subst (λ (q : ClassDecl). (m : ℕ) → up cs p (suc w.since.0 + m) q ≡ up cs p m j) same on.since.1) more
+
+-- ---- what stands in a chain, by the names
+
+is_some-find : (u : Name) (ks : List ClassDecl) → is_some (find (λ k. bytes_eq k.name u) ks) ≡ is_in (map (λ (k : ClassDecl). k.name) ks) u
+is_some-find u [] = refl
+is_some-find u (k ∷ ks) = by (bytes_eq k.name u) (is_some-find u ks)
+  where
+    by : (b : Bool) → is_some (find (λ j. bytes_eq j.name u) ks) ≡ is_in (map (λ (j : ClassDecl). j.name) ks) u → is_some (cond b (Some k) (find (λ j. bytes_eq j.name u) ks)) ≡ (b || is_in (map (λ (j : ClassDecl). j.name) ks) u)
+    by true e = refl
+    by false e = e
+
+pub stands_above : (cs : List ClassDecl) (t u : Name) → is_some (find (λ k. bytes_eq k.name u) (ancestry cs t)) ≡ is_in (chain_names (chain_of cs t)) u
+stands_above cs t u = is_some-find u (ancestry cs t) ∙ ap (λ (ns : List Name). is_in ns u) (ancestry_names cs t)
+
+pub is_some_mapped : {A B : Type 0} (f : A → B) (o : Option A) → is_some (option_map f o) ≡ is_some o
+is_some_mapped f None = refl
+is_some_mapped f (Some a) = refl
+
+-- of two classes that differ, the second stands above the first
+pub accepts_above : (cs : List ClassDecl) (t u : Name) (r : Bool) → bytes_eq t u ≡ false → r ≡ is_some (find (λ k. bytes_eq k.name u) (ancestry cs t)) → r ≡ accepts cs (Class t) (Class u)
+accepts_above cs t u r e h = rw e (h ∙ stands_above cs t u)

@@ -20,10 +20,14 @@ pub record IsTable {A : Type 0} (name : A → Name) (IsMember : Name → A → T
 
 -- ---- the tables as functions
 
--- all that these classes declare, with its name and its owner, in order
+-- what an owner declares, each with its name
+abbrev pub own_rows : {A : Type 0} → (A → Name) → Name → List A → List (Name × (Name × A))
+own_rows name owner own = map (λ a. (name a, (owner, a))) own
+
+-- all that these classes declare, in order
 abbrev pub all_along : {A : Type 0} → (A → Name) → (ClassDecl → List A) → List ClassDecl → List (Name × (Name × A))
 all_along name own [] = []
-all_along name own (k ∷ ks) = map (λ a. (name a, (k.name, a))) (own k) ++ all_along name own ks
+all_along name own (k ∷ ks) = own_rows name k.name (own k) ++ all_along name own ks
 
 -- the first of each name, ascending by name
 abbrev pub firsts : {A : Type 0} → List (Name × A) → List A

@@ -45,10 +45,8 @@ impl<'a> Declarations<'a> {
     pub fn find(&self, name: &Name) -> Option<ClassRef<'a>>
         ensures { option_map class_ref_view result ≡ decl (declared_in self.now) name.now }
     {
-        match self.by_name.get(name) {
-            Some(at) => Some(self.classes[*at]),
-            None => None,
-        }
+        let at = *self.by_name.get(name)?;
+        Some(self.classes[at])
     }
 
     /// Whether an earlier class has the name of the class at this place.
@@ -64,7 +62,10 @@ impl<'a> Declarations<'a> {
 }
 
 /// The classes of these files, in order.
-fn all_classes<'a>(alloc: Global, files: &'a [Option<FileTree>]) -> Result<Vec<ClassRef<'a>>, AllocError>
+fn all_classes<'a>(
+    alloc: Global,
+    files: &'a [Option<FileTree>],
+) -> Result<Vec<ClassRef<'a>>, AllocError>
     ensures { IfOk result (λ v. classes_view v.items ≡ declarations (files_view files.now)) }
 {
     let mut classes = Vec::new(alloc);
@@ -77,12 +78,20 @@ fn all_classes<'a>(alloc: Global, files: &'a [Option<FileTree>]) -> Result<Vec<C
 }
 
 /// Adds the classes of a file.
-fn add_file<'a>(classes: &mut Vec<ClassRef<'a>>, file: usize, tree: &'a FileTree) -> Result<(), AllocError>
+fn add_file<'a>(
+    classes: &mut Vec<ClassRef<'a>>,
+    file: usize,
+    tree: &'a FileTree,
+) -> Result<(), AllocError>
     ensures { OnOk result (classes_view classes.new.items ≡ classes_view classes.old.items ++ classes_of file (file_view tree.now)) }
 {
     match &tree.main {
         Some(main) => {
-            classes.push(ClassRef { file, number: 0, tree: Tree::Main(main) })?;
+            classes.push(ClassRef {
+                file,
+                number: 0,
+                tree: Tree::Main(main),
+            })?;
             add_classes(classes, file, 1, &tree.classes)
         }
         None => add_classes(classes, file, 0, &tree.classes),
@@ -90,12 +99,21 @@ fn add_file<'a>(classes: &mut Vec<ClassRef<'a>>, file: usize, tree: &'a FileTree
 }
 
 /// Adds the classes of a file that aren't its main class, numbered from this number on.
-fn add_classes<'a>(classes: &mut Vec<ClassRef<'a>>, file: usize, first: usize, trees: &'a [ClassTree]) -> Result<(), AllocError>
+fn add_classes<'a>(
+    classes: &mut Vec<ClassRef<'a>>,
+    file: usize,
+    first: usize,
+    trees: &'a [ClassTree],
+) -> Result<(), AllocError>
     requires { first ≤ 1 }
     ensures { OnOk result (classes_view classes.new.items ≡ classes_view classes.old.items ++ numbered file first (map class_view trees.now)) }
 {
     for (n, class) in trees.iter().enumerate() {
-        classes.push(ClassRef { file, number: first + n, tree: Tree::Plain(class) })?;
+        classes.push(ClassRef {
+            file,
+            number: first + n,
+            tree: Tree::Plain(class),
+        })?;
     }
     Ok(())
 }

@@ -75,9 +75,7 @@ impl<'a> Declarations<'a> {
     fn nearest(&self, name: &Name, sought: &Sought) -> Option<ClassRef<'a>>
         ensures { option_map class_ref_view result ≡ find (is_sought sought.now) (ancestry (declared_in self.now) name.now) }
     {
-        let Some(mut class) = self.find(name) else {
-            return None;
-        };
+        let mut class = self.find(name)?;
         let mut passed = class;
         for step in 0..self.classes().len() {
             if sought.is_found_in(&class) {
@@ -86,13 +84,10 @@ impl<'a> Declarations<'a> {
             if step.is_power_of_two() {
                 passed = class;
             }
-            let Some(next) = self.above(&class) else {
-                return None;
-            };
-            if next.name() == passed.name() {
+            class = self.above(&class)?;
+            if class.name() == passed.name() {
                 return None;
             }
-            class = next;
         }
         None
     }
@@ -101,9 +96,6 @@ impl<'a> Declarations<'a> {
     fn above(&self, class: &ClassRef<'a>) -> Option<ClassRef<'a>>
         ensures { option_map class_ref_view result ≡ above (declared_in self.now) (class_ref_view class.now) }
     {
-        match class.superclass() {
-            Some(name) => self.find(name),
-            None => None,
-        }
+        self.find(class.superclass()?)
     }
 }

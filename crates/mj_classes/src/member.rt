@@ -1,7 +1,11 @@
 //! The members of a class: what the nearest class of its chain declares.
-ghost use Rattle.std.specs.Prelude.{◌≡◌, map, IfOk};
-ghost use Rattle.mj_classes.specs.Tables.{fields_along, methods_along};
-ghost use Rattle.mj_classes.specs.Classes.{classes_view, field_member_view, method_member_view};
+ghost use Rattle.std.specs.Prelude.{◌≡◌, ◌++◌, map, IfOk, OnOk};
+ghost use Rattle.std.specs.BTreeMap.{values, IsOrdered};
+ghost use Rattle.std.specs.Ordering.{nat_cmp};
+ghost use Rattle.std.specs.Cmp.Lexicographic.{slice_cmp};
+ghost use Rattle.mj_classes.specs.Rows.{field_rows, method_rows, SayAlike};
+ghost use Rattle.mj_classes.specs.Tables.{own_rows, fields_along, methods_along};
+ghost use Rattle.mj_classes.specs.Classes.{classes_view, class_ref_view, field_member_view, method_member_view};
 
 use crate::class::ClassRef;
 use mj_lexer::Name;
@@ -35,7 +39,7 @@ pub fn field_table<'a>(
     for class in classes {
         add_fields(&mut rows, class)?;
     }
-    rows.into_values().collect(alloc)
+    in_order(alloc, &rows)
 }
 
 /// The methods that these classes declare, each name once: that of the first class which declares it. They ascend by
@@ -50,43 +54,47 @@ pub fn method_table<'a>(
     for class in classes {
         add_methods(&mut rows, class)?;
     }
-    rows.into_values().collect(alloc)
+    in_order(alloc, &rows)
 }
 
+/// Adds the fields of a class whose names aren't there yet.
 fn add_fields<'a>(
     rows: &mut BTreeMap<&'a Name, FieldMember<'a>>,
     class: &ClassRef<'a>,
-) -> Result<(), AllocError> {
+) -> Result<(), AllocError>
+    ensures { OnOk result (SayAlike (field_rows rows.new.entries) (field_rows rows.old.entries ++ own_rows (λ f. f.name) (class_ref_view class.now).name (class_ref_view class.now).fields)) }
+{
+    let owner = class.name();
     for field in class.fields() {
         let name = &field.name;
         if !rows.contains_key(&name) {
-            rows.insert(
-                name,
-                FieldMember {
-                    owner: class.name(),
-                    field,
-                },
-            )?;
+            rows.insert(name, FieldMember { owner, field })?;
         }
     }
     Ok(())
 }
 
+/// Adds the methods of a class whose names aren't there yet.
 fn add_methods<'a>(
     rows: &mut BTreeMap<&'a Name, MethodMember<'a>>,
     class: &ClassRef<'a>,
-) -> Result<(), AllocError> {
+) -> Result<(), AllocError>
+    ensures { OnOk result (SayAlike (method_rows rows.new.entries) (method_rows rows.old.entries ++ own_rows (λ m. m.name) (class_ref_view class.now).name (class_ref_view class.now).methods)) }
+{
+    let owner = class.name();
     for method in class.methods() {
         let name = &method.name;
         if !rows.contains_key(&name) {
-            rows.insert(
-                name,
-                MethodMember {
-                    owner: class.name(),
-                    method,
-                },
-            )?;
+            rows.insert(name, MethodMember { owner, method })?;
         }
     }
     Ok(())
+}
+
+/// The values of a map, in the order of the names.
+fn in_order<T: Copy>(alloc: Global, rows: &BTreeMap<&Name, T>) -> Result<Vec<T>, AllocError>
+    ensures values { IfOk result (λ v. v.items ≡ values rows.now) }
+    ensures ordered { IsOrdered (λ x y. slice_cmp nat_cmp x.now y.now) rows.now }
+{
+    rows.values().copied().collect(alloc)
 }

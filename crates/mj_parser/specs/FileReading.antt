@@ -2,6 +2,7 @@
 use Rattle.std.specs.Prelude.{ℕ, zero, suc, ◌+◌, Bool, ◌&&◌, ◌||◌, not, nat_lt, is_some, List, [], length, drop, Option, Some, None, if◌then◌else◌}
 use Rattle.mj_lexer.specs.declared.token.Token.{Token}
 use Rattle.mj_lexer.specs.declared.token.Terminal.TheVariants as terminals
+use Rattle.mj_parser.specs.declared.declarations.Signature as parts
 use Rattle.mj_parser.specs.declared.tree.Ty.{Ty}
 use Rattle.mj_parser.specs.declared.tree.Ty.TheVariants as types
 use Rattle.mj_parser.specs.declared.tree.Field.{Field}
@@ -9,7 +10,7 @@ use Rattle.mj_parser.specs.declared.tree.Variable.{Variable}
 use Rattle.mj_parser.specs.Tokens.{has, name_at}
 use Rattle.mj_parser.specs.Trees.{Name, Statement, Method, Main, Class, File}
 use Rattle.mj_parser.specs.Views.{statements_of}
-use Rattle.mj_parser.specs.Declarations.{opens_main}
+use Rattle.mj_parser.specs.Declarations.{main_head, main_parameter}
 use Rattle.mj_parser.specs.Steps.{◌>>=◌, when, PartReader, items_from, listed_at}
 use Rattle.mj_parser.specs.ExpressionReading.{exp_at}
 use Rattle.mj_parser.specs.StatementReading.{stmt_at}
@@ -49,6 +50,9 @@ pub record Signature : Type 0 where
   pub name : Name
   pub returns : Ty
   pub formals : List Variable
+
+abbrev pub signature_view : parts.Signature → Signature
+signature_view s = record { name = s.name; returns = s.returns; formals = s.formals.items }
 
 unfoldable pub signature_at : List Token → Option (Signature × ℕ)
 signature_at ts = when (has ts 0 terminals.Public) (type_at ts 1 >>= λ t. name_at ts t.1 >>= λ name. when (has ts (t.1 + 1) terminals.LeftParenthesis)
@@ -91,10 +95,14 @@ begins_main ts = has ts 2 terminals.LeftBrace && has ts 3 terminals.Public && ha
 
 -- `main` from its `public` on, with the brace that closes the class
 unfoldable pub main_method_at : List Token → Option (Statement × ℕ)
-main_method_at ts = when (opens_main ts) (stmt_at 500 ts 11 >>= λ s. when (has ts s.1 terminals.RightBrace && has ts (s.1 + 1) terminals.RightBrace) (Some (s.0, s.1 + 2)))
+main_method_at ts = when (main_head ts && main_parameter ts) (stmt_at 500 ts 11 >>= λ s. when (has ts s.1 terminals.RightBrace && has ts (s.1 + 1) terminals.RightBrace) (Some (s.0, s.1 + 2)))
+
+-- a main class from its `main` on
+unfoldable pub main_from : List Token → Option (Statement × ℕ)
+main_from ts = main_method_at (drop 3 ts) >>= λ s. Some (s.0, 3 + s.1)
 
 unfoldable pub main_at : List Token → Option (Main × ℕ)
-main_at ts = when (has ts 0 terminals.Class) (name_at ts 1 >>= λ name. when (has ts 2 terminals.LeftBrace) (main_method_at (drop 3 ts) >>= λ s. Some (record { name = name; statement = s.0 }, 3 + s.1)))
+main_at ts = when (has ts 0 terminals.Class) (name_at ts 1 >>= λ name. when (has ts 2 terminals.LeftBrace) (main_from ts >>= λ s. Some (record { name = name; statement = s.0 }, s.1)))
 
 unfoldable pub main_part_at : List Token → Option (Option Main × ℕ)
 main_part_at ts = if begins_main ts then (main_at ts >>= λ m. Some (Some m.0, m.1)) else Some (None, 0)

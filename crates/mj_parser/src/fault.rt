@@ -1,5 +1,5 @@
 //! Why tokens are no file.
-ghost use Rattle.std.specs.Prelude.{◌≡◌};
+ghost use Rattle.std.specs.Prelude.{◌≡◌, ◌↔◌};
 
 use std::alloc::{AllocError, AllocFailed};
 
@@ -12,6 +12,18 @@ pub enum ParseFault {
     /// A phrase has a level over 500.
     TooDeep,
     OutOfMemory,
+}
+
+impl ParseFault {
+    /// The fault, where its place was counted from a later token.
+    pub fn behind(self, start: usize) -> Self
+        ensures { (result ≡ ParseFault.OutOfMemory) ↔ (self ≡ ParseFault.OutOfMemory) }
+    {
+        match self {
+            ParseFault::NotAFile(at) => ParseFault::NotAFile(at.saturating_add(start)),
+            other => other,
+        }
+    }
 }
 
 impl From<AllocError> for ParseFault {

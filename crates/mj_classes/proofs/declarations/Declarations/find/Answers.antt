@@ -1,12 +1,14 @@
-use Rattle.std.proofs.Common.{◌≡◌, ◌∙◌, sym}
+use Rattle.std.proofs.Common.{◌≡◌, ◌∙◌, sym, arith}
 use Rattle.mj_classes.proofs.Index.{decl_none, decl_some, place_below}
 use Rattle.mj_classes.proofs.declarations.Declarations.find.Goals as goal
 
+pub returns-in_err-at : goal.returns-in_err-at
+returns-in_err-at c =
+    rw c.from_residual.ensures (sym (decl_none c.args.self.now.classes.items c.args.name.now (sym (c.args.self.now.indexed c.args.name.now) ∙ sym c.in_err-at.ensures.value)))
+
 pub index-requires : goal.index-requires
-index-requires c = place_below c.args.self.now.classes.items c.args.name.now _ (sym (c.args.self.now.indexed c.args.name.now) ∙ sym c.in-Some.ensures.value)
+index-requires c =
+    omega (arith, place_below c.args.self.now.classes.items c.args.name.now _ (sym (c.args.self.now.indexed c.args.name.now) ∙ sym c.in_ok-at.ensures.value), c.args.self.now.classes.ok.0)
 
-pub returns-in-Some : goal.returns-in-Some
-returns-in-Some c = sym (decl_some c.args.self.now.classes.items c.args.name.now _ _ (sym (c.args.self.now.indexed c.args.name.now) ∙ sym c.in-Some.ensures.value) c.index.ensures)
-
-pub returns-in-None : goal.returns-in-None
-returns-in-None c = sym (decl_none c.args.self.now.classes.items c.args.name.now (sym (c.args.self.now.indexed c.args.name.now) ∙ sym c.in-None.ensures.value))
+pub returns : goal.returns
+returns c = sym (decl_some c.args.self.now.classes.items c.args.name.now _ _ (sym (c.args.self.now.indexed c.args.name.now) ∙ sym c.in_ok-at.ensures.value) c.index.ensures)
