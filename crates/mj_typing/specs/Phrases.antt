@@ -92,6 +92,12 @@ and_type None ts = None
 and_type (Some t) None = None
 and_type (Some t) (Some ts) = Some (t ∷ ts)
 
+-- all these types and one more
+abbrev pub with_type : Option (List Ty) → Option Ty → Option (List Ty)
+with_type None t = None
+with_type (Some ts) None = None
+with_type (Some ts) (Some t) = Some (ts ++ t ∷ [])
+
 abbrev mutual
   pub type_of : World → Phrase → Option Ty
   type_of w (phrase mark row parts) = type_by (verdict_by w row (types_of w parts))

@@ -4,7 +4,11 @@
 mod asking;
 mod code;
 mod plain;
+mod rows;
+mod scope;
+mod types;
 mod verdict;
+mod walk;
 
 pub use asking::{Asking, Declarations, Signature, Stop};
 pub use code::Code;
