@@ -6,8 +6,8 @@ use Rattle.std.specs.Prelude.{nat_eq}
 use Rattle.mj_parser.specs.declared.tree.Ty.{Ty}
 use Rattle.mj_typing.specs.declared.asking.Stop.{Stop}
 use Rattle.mj_typing.specs.declared.asking.Stop.TheVariants.{OutOfMemory}
-use Rattle.mj_typing.specs.declared.code.Code.{Code}
-use Rattle.mj_typing.specs.declared.code.Code.TheVariants.{E312, E313}
+use Rattle.mj_answer.specs.declared.code.Code.{Code}
+use Rattle.mj_answer.specs.declared.code.Code.TheVariants.{E312, E313}
 use Rattle.mj_typing.specs.declared.verdict.Verdict.{Verdict}
 use Rattle.mj_typing.specs.declared.verdict.Verdict.TheVariants.{Wrong}
 use Rattle.mj_typing.specs.Inquiries.{Sig, Inquiry, Concludes, AsksDescent, AsksField, AsksMethod, AsksDeclared, and_then}

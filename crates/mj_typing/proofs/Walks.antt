@@ -1,10 +1,12 @@
 -- The walk over phrases and their parts.
 use Rattle.std.proofs.Common.{◌≡◌, ℕ, ◌+◌, ◌<◌, ◌≤◌, List, [], ◌∷◌, ◌++◌, length, map, drop, get_or, Option, Some, None, Result, Ok, Err, IfOk, IfErr, refl, ap, subst, sym, ◌∙◌, append_assoc, append-nil}
-use Rattle.mj_parser.specs.Views.{exp_view, exps_view}
+use Rattle.mj_parser.specs.Views.{exp_view, exps_view, stmt_view, stmts_view}
 use Rattle.mj_parser.specs.declared.tree.Exp.{Exp}
+use Rattle.mj_parser.specs.declared.tree.Stmt.{Stmt}
 use Rattle.mj_parser.specs.declared.tree.Ty.{Ty}
 use Rattle.mj_typing.specs.declared.verdict.Mistake.{Mistake}
 use Rattle.mj_typing.specs.declared.verdict.Verdict.{Verdict}
+use Rattle.mj_typing.specs.Bodies.{mistakes_step, statement_step, statements_step}
 use Rattle.mj_typing.specs.Inquiries.{Inquiry}
 use Rattle.mj_typing.specs.Phrases.{Phrase, Phrases, phrase, nothing, part, Found, own_step, phrase_step, parts_step, and_type, with_type}
 use Rattle.mj_typing.specs.Steps.{Check, Goes, GivesUp}
@@ -137,4 +139,41 @@ module _ {S E : Type 0} (stands : S → Check → Check → Type 0) (halts : S �
       goes = λ start k w.
           subst (λ x. stands new start (k (found x mistakes))) (joined-nil types)
           (subst (λ ps. stands new start (parts_step ps mistakes (λ rest. k (found (joined types rest.type) rest.mistakes)))) (ap (λ es. phrases_of scope (exps_view es)) (at_end exps i h)) (l.comes start k w));
+    }
+
+  -- ---- phrases whose mistakes alone matter
+
+  pub up_mistakes : (p : Phrase) (before : List Mistake) (e : E) (old new : S) → GivesUp stands halts (phrase_step p before) old e new → GivesUp stands halts (mistakes_step p before) old e new
+  up_mistakes p before e old new g = record { ends = λ start k h. g.ends start (λ found. k found.mistakes) h }
+
+  -- ---- a loop over statements
+
+  module _ (scope : Scope) (stmts : List Stmt) (before : List Mistake) (old : S) where
+    -- what is left of the statements from an index on
+    abbrev pub StatementsLeft : ℕ → List Mistake → S → Type 0
+    StatementsLeft i mistakes mid = Comes stands (statements_step scope (stmts_view stmts) before) (statements_step scope (stmts_view (drop i stmts)) mistakes) old mid
+
+    pub statements_start : StatementsLeft 0 before old
+    statements_start = record { comes = λ start k w. w }
+
+    pub statements_more : (i : ℕ) (a : Stmt) (mistakes more : List Mistake) (mid new : S) → StatementsLeft i mistakes mid → i < length stmts → a ≡ get_or stmts i a → Goes stands (statement_step scope (stmt_view a) mistakes) mid more new → StatementsLeft (i + 1) more new
+    unfolding statements_step
+    statements_more i a mistakes more mid new l h is g = record {
+      comes = λ start k w.
+          g.goes start (λ more. statements_step scope (stmts_view (drop (i + 1) stmts)) more k)
+          (subst (λ ss. stands mid start (statements_step scope (stmts_view ss) mistakes k)) (front_at stmts i a h is) (l.comes start k w));
+    }
+
+    pub statements_up : (i : ℕ) (a : Stmt) (mistakes : List Mistake) (e : E) (mid new : S) → StatementsLeft i mistakes mid → i < length stmts → a ≡ get_or stmts i a → GivesUp stands halts (statement_step scope (stmt_view a) mistakes) mid e new → GivesUp stands halts (statements_step scope (stmts_view stmts) before) old e new
+    unfolding statements_step
+    statements_up i a mistakes e mid new l h is g = record {
+      ends = λ start k w.
+          g.ends start (λ more. statements_step scope (stmts_view (drop (i + 1) stmts)) more k)
+          (subst (λ ss. stands mid start (statements_step scope (stmts_view ss) mistakes k)) (front_at stmts i a h is) (l.comes start k w));
+    }
+
+    pub statements_done : (i : ℕ) (mistakes : List Mistake) (new : S) → StatementsLeft i mistakes new → length stmts ≤ i → Goes stands (statements_step scope (stmts_view stmts) before) old mistakes new
+    unfolding statements_step
+    statements_done i mistakes new l h = record {
+      goes = λ start k w. subst (λ ss. stands new start (statements_step scope (stmts_view ss) mistakes k)) (at_end stmts i h) (l.comes start k w);
     }

@@ -5,7 +5,7 @@ use Rattle.mj_parser.specs.Trees as trees
 use Rattle.mj_parser.specs.declared.tree.Ty.{Ty}
 use Rattle.mj_parser.specs.declared.tree.Ty.TheVariants as ty
 use Rattle.mj_parser.specs.declared.tree.Variable.{Variable}
-use Rattle.mj_typing.specs.declared.code.Code.TheVariants.{E206, E207}
+use Rattle.mj_answer.specs.declared.code.Code.TheVariants.{E206, E207}
 use Rattle.mj_typing.specs.declared.verdict.Mistake.{Mistake}
 use Rattle.mj_typing.specs.Types.{is_same}
 use Rattle.mj_typing.specs.Inquiries.{World, Inquiry, Concludes, AsksDeclared}

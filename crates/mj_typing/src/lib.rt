@@ -2,7 +2,7 @@
 #![tactic(auto)]
 
 mod asking;
-mod code;
+mod body;
 mod plain;
 mod rows;
 mod scope;
@@ -11,5 +11,4 @@ mod verdict;
 mod walk;
 
 pub use asking::{Asking, Declarations, Signature, Stop};
-pub use code::Code;
 pub use verdict::{Mistake, Verdict};

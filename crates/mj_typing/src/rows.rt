@@ -5,10 +5,10 @@ ghost use Rattle.mj_typing.specs.Steps.{Goes, GivesUp};
 ghost use Rattle.mj_typing.specs.Table.{accepts, accepts_all, literal, named, this, negation, binary, index, array_length, called, call, new_array, new_object, condition, print, assign, store, returned};
 
 use crate::asking::{Asking, Signature, Stop};
-use crate::code::Code;
 use crate::scope::Scope;
 use crate::types::{copy_of, is_boolean, is_int, is_int_array};
 use crate::verdict::Verdict;
+use mj_answer::Code;
 use mj_lexer::Name;
 use mj_parser::{Operator, Ty};
 use std::alloc::{AllocError, Global};

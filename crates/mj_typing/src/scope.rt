@@ -3,9 +3,9 @@ ghost use Rattle.std.specs.Prelude.{◌≡◌, ◌++◌, List, [], IfOk, Some, N
 ghost use Rattle.std.specs.Option.{option_copied};
 ghost use Rattle.mj_typing.specs.Table.{local_of};
 
-use crate::code::Code;
 use crate::types::copy_of;
 use crate::verdict::Mistake;
+use mj_answer::Code;
 use mj_lexer::Name;
 use mj_parser::{Ty, Variable};
 use std::alloc::{AllocError, Global};

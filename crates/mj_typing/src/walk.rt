@@ -5,7 +5,7 @@ ghost use Rattle.mj_typing.specs.Phrases.{phrase_step, parts_step, own_step, and
 ghost use Rattle.mj_typing.specs.declared.asking.Stop.TheVariants.{OutOfMemory};
 ghost use Rattle.mj_typing.specs.Steps.{Goes, GivesUp};
 ghost use Rattle.mj_typing.specs.Seen.{items_in};
-ghost use Rattle.mj_typing.specs.Table.{phrase_of, phrases_of, some_parts, call};
+ghost use Rattle.mj_typing.specs.Table.{name_phrase, phrase_of, phrases_of, some_parts, call};
 
 use crate::asking::{Asking, Stop};
 use crate::rows;
@@ -34,6 +34,24 @@ pub fn note<E>(
     }
 }
 
+/// The type of a variable's name, if it is in scope; adds the mistake if it isn't.
+#[tactic(auto, unfolding(crate::specs::Phrases::phrase_step, crate::specs::Phrases::parts_step))]
+pub fn name_type<A: Asking>(
+    alloc: Global,
+    asking: &mut A,
+    scope: &Scope,
+    mark: usize,
+    name: &Name,
+    mistakes: &mut Vec<Mistake>,
+) -> Result<Option<Ty>, Stop<A::Refusal>>
+    ensures ok { IfOk result (λ ty. Goes A.stands (phrase_step (name_phrase scope.now mark name.now) mistakes.old.items) asking.old (record { type = ty; mistakes = mistakes.new.items }) asking.new) }
+    ensures err { IfErr result (λ e. GivesUp A.stands A.halts (phrase_step (name_phrase scope.now mark name.now) mistakes.old.items) asking.old e asking.new) }
+    ensures follows { A.follows asking.old asking.new }
+{
+    let verdict = rows::named(alloc, asking, scope, name)?;
+    note(mistakes, mark, verdict)
+}
+
 /// The type of an expression, if it has one; adds the mistakes in it.
 #[cycle(expressions)]
 #[inline(never)]
@@ -52,10 +70,7 @@ pub fn check<A: Asking>(
     match exp {
         Exp::Literal { mark, value } => note(mistakes, *mark, rows::literal(*value)),
         Exp::Boolean { .. } => Ok(Some(Ty::Boolean)),
-        Exp::Variable { mark, name } => {
-            let verdict = rows::named(alloc, asking, scope, name)?;
-            note(mistakes, *mark, verdict)
-        }
+        Exp::Variable { mark, name } => name_type(alloc, asking, scope, *mark, name, mistakes),
         Exp::This { mark } => note(mistakes, *mark, rows::this(alloc, scope)?),
         Exp::Parenthesized { inner, .. } => check(alloc, asking, scope, inner, mistakes),
         Exp::Not { mark, operand } => match check(alloc, asking, scope, operand, mistakes)? {

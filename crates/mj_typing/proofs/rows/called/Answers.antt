@@ -1,6 +1,6 @@
 use Rattle.std.proofs.Common.{rules, refl, sym}
 use Rattle.mj_typing.specs.declared.asking.Stop.TheVariants.{OutOfMemory}
-use Rattle.mj_typing.specs.declared.code.Code.TheVariants.{E313}
+use Rattle.mj_answer.specs.declared.code.Code.TheVariants.{E313}
 use Rattle.mj_typing.specs.declared.verdict.Verdict.TheVariants.{Is, Wrong}
 use Rattle.mj_typing.specs.Inquiries.{and_then}
 use Rattle.mj_typing.specs.Steps.{Goes, GivesUp}

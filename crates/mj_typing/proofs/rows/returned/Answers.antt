@@ -1,5 +1,5 @@
 use Rattle.std.proofs.Common.{rules, refl}
-use Rattle.mj_typing.specs.declared.code.Code.TheVariants.{E319}
+use Rattle.mj_answer.specs.declared.code.Code.TheVariants.{E319}
 use Rattle.mj_typing.specs.declared.verdict.Verdict.TheVariants.{Fine, Wrong}
 use Rattle.mj_typing.specs.Inquiries.{and_then}
 use Rattle.mj_typing.specs.Phrases.{fine}
