@@ -5,7 +5,7 @@ use Rattle.mj_parser.specs.Trees as trees
 use Rattle.mj_parser.specs.declared.tree.Ty.{Ty}
 use Rattle.mj_parser.specs.declared.tree.Ty.TheVariants as ty
 use Rattle.mj_parser.specs.declared.tree.Variable.{Variable}
-use Rattle.mj_typing.specs.declared.code.Code.TheVariants.{E206, E207}
+use Rattle.mj_answer.specs.declared.code.Code.TheVariants.{E206, E207}
 use Rattle.mj_typing.specs.declared.verdict.Mistake.{Mistake}
 use Rattle.mj_typing.specs.Types.{is_same}
 use Rattle.mj_typing.specs.Inquiries.{World, Inquiry, Concludes, AsksDeclared}
@@ -92,15 +92,19 @@ unfoldable pub types_step : List Variable → List Mistake → (List Mistake →
 types_step [] mistakes next = next mistakes
 types_step (v ∷ vs) mistakes next = type_step v.mark v.ty mistakes (λ more. types_step vs more next)
 
+-- a phrase whose mistakes alone matter
+abbrev pub mistakes_step : Phrase → List Mistake → (List Mistake → Check) → Check
+mistakes_step p mistakes next = phrase_step p mistakes (λ found. next found.mistakes)
+
 -- the phrases of a statement in their order
 unfoldable mutual
   pub statement_step : Scope → Statement → List Mistake → (List Mistake → Check) → Check
-  statement_step s (Block mark body) mistakes next = phrase_step (own_phrase s (Block mark body)) mistakes (λ found. statements_step s body found.mistakes next)
-  statement_step s (If mark e a b) mistakes next = phrase_step (own_phrase s (If mark e a b)) mistakes (λ found. statement_step s a found.mistakes (λ more. statement_step s b more next))
-  statement_step s (While mark e a) mistakes next = phrase_step (own_phrase s (While mark e a)) mistakes (λ found. statement_step s a found.mistakes next)
-  statement_step s (Print mark e) mistakes next = phrase_step (own_phrase s (Print mark e)) mistakes (λ found. next found.mistakes)
-  statement_step s (Assign mark x x_mark e) mistakes next = phrase_step (own_phrase s (Assign mark x x_mark e)) mistakes (λ found. next found.mistakes)
-  statement_step s (Store mark x x_mark i e) mistakes next = phrase_step (own_phrase s (Store mark x x_mark i e)) mistakes (λ found. next found.mistakes)
+  statement_step s (Block mark body) mistakes next = mistakes_step (own_phrase s (Block mark body)) mistakes (λ more. statements_step s body more next)
+  statement_step s (If mark e a b) mistakes next = mistakes_step (own_phrase s (If mark e a b)) mistakes (λ more. statement_step s a more (λ others. statement_step s b others next))
+  statement_step s (While mark e a) mistakes next = mistakes_step (own_phrase s (While mark e a)) mistakes (λ more. statement_step s a more next)
+  statement_step s (Print mark e) mistakes next = mistakes_step (own_phrase s (Print mark e)) mistakes next
+  statement_step s (Assign mark x x_mark e) mistakes next = mistakes_step (own_phrase s (Assign mark x x_mark e)) mistakes next
+  statement_step s (Store mark x x_mark i e) mistakes next = mistakes_step (own_phrase s (Store mark x x_mark i e)) mistakes next
 
   pub statements_step : Scope → Statements → List Mistake → (List Mistake → Check) → Check
   statements_step s done mistakes next = next mistakes

@@ -1,7 +1,7 @@
 -- Phrases by their demands: the judgement, its mistakes, and both as functions.
 use Rattle.std.specs.Prelude.{◌≡◌, ℕ, Bool, List, [], ◌∷◌, ◌++◌, Option, Some, None, ◌⊎◌, Contains, ◌↔◌, if◌then◌else◌}
 use Rattle.mj_parser.specs.declared.tree.Ty.{Ty}
-use Rattle.mj_typing.specs.declared.code.Code.{Code}
+use Rattle.mj_answer.specs.declared.code.Code.{Code}
 use Rattle.mj_typing.specs.declared.verdict.Verdict.{Verdict}
 use Rattle.mj_typing.specs.declared.verdict.Verdict.TheVariants.{Is, Fine, Wrong, Silent}
 use Rattle.mj_typing.specs.declared.verdict.Mistake.{Mistake}
@@ -91,6 +91,12 @@ abbrev pub and_type : Option Ty → Option (List Ty) → Option (List Ty)
 and_type None ts = None
 and_type (Some t) None = None
 and_type (Some t) (Some ts) = Some (t ∷ ts)
+
+-- all these types and one more
+abbrev pub with_type : Option (List Ty) → Option Ty → Option (List Ty)
+with_type None t = None
+with_type (Some ts) None = None
+with_type (Some ts) (Some t) = Some (ts ++ t ∷ [])
 
 abbrev mutual
   pub type_of : World → Phrase → Option Ty

@@ -6,11 +6,11 @@ use Rattle.mj_parser.specs.declared.tree.Operator.TheVariants.{And, Less, Plus, 
 use Rattle.mj_parser.specs.declared.tree.Ty.{Ty}
 use Rattle.mj_parser.specs.declared.tree.Ty.TheVariants as ty
 use Rattle.mj_parser.specs.declared.tree.Variable.{Variable}
-use Rattle.mj_typing.specs.declared.code.Code.TheVariants.{E301, E302, E303, E304, E305, E306, E307, E308, E309, E310, E311, E312, E313, E314, E315, E316, E317, E318, E319}
+use Rattle.mj_answer.specs.declared.code.Code.TheVariants.{E301, E302, E303, E304, E305, E306, E307, E308, E309, E310, E311, E312, E313, E314, E315, E316, E317, E318, E319}
 use Rattle.mj_typing.specs.declared.verdict.Verdict.{Verdict}
 use Rattle.mj_typing.specs.declared.verdict.Verdict.TheVariants.{Is, Silent}
 use Rattle.mj_typing.specs.Types.{is_same, is_int, is_boolean, is_int_array, class_in}
-use Rattle.mj_typing.specs.Inquiries.{Inquiry, Concludes, AsksDescent, AsksField, AsksMethod, AsksDeclared, and_then}
+use Rattle.mj_typing.specs.Inquiries.{Sig, Inquiry, Concludes, AsksDescent, AsksField, AsksMethod, AsksDeclared, and_then}
 use Rattle.mj_typing.specs.Phrases.{demand, demand_asked, given, is, fine, Phrase, Phrases, phrase, nothing, part}
 
 -- where a phrase stands: in a method of a class, whose formals and locals are these, or in main, which has neither
@@ -29,7 +29,7 @@ local_of (v ∷ vs) x = if is_same v.name x then Some v.ty else local_of vs x
 -- ---- what is accepted
 
 -- a type is accepted by an equal one, and a class by one that stands in its chain
-abbrev pub accepts : Ty → Ty → Inquiry Bool
+unfoldable pub accepts : Ty → Ty → Inquiry Bool
 accepts ty.Int wanted = Concludes (is_int wanted)
 accepts ty.Boolean wanted = Concludes (is_boolean wanted)
 accepts ty.IntArray wanted = Concludes (is_int_array wanted)
@@ -39,71 +39,73 @@ accepts (ty.Class c) ty.IntArray = Concludes false
 accepts (ty.Class c) (ty.Class d) = if is_same c d then Concludes true else AsksDescent c d (λ descends. Concludes descends)
 
 -- each is accepted by its formal, up to the first that isn't
-abbrev pub accepts_all : List Ty → List Ty → Inquiry Bool
+unfoldable pub accepts_all : List Ty → List Ty → Inquiry Bool
 accepts_all [] us = Concludes true
 accepts_all (t ∷ ts) [] = Concludes true
 accepts_all (t ∷ ts) (u ∷ us) = and_then (accepts t u) (λ ok. if ok then accepts_all ts us else Concludes false)
 
 -- ---- what an expression comes to, by the types of its immediate expressions
 
-abbrev pub literal : ℕ → Inquiry Verdict
+unfoldable pub literal : ℕ → Inquiry Verdict
 literal value = demand (nat_le value 2147483647) E315 (is ty.Int)
 
-abbrev pub named : Scope → Name → Inquiry Verdict
+unfoldable pub named : Scope → Name → Inquiry Verdict
 named scope x = of_local (local_of scope.variables x) scope.class
   where
     of_local : Option Ty → Option Name → Inquiry Verdict
     of_local (Some t) class = is t
     of_local None class = given class E303 (λ c. AsksField c x (λ field. given field E303 is))
 
-abbrev pub this : Scope → Inquiry Verdict
+unfoldable pub this : Scope → Inquiry Verdict
 this scope = given scope.class E306 (λ c. is (ty.Class c))
 
 abbrev pub parenthesized : Ty → Inquiry Verdict
 parenthesized a = is a
 
-abbrev pub «not» : Ty → Inquiry Verdict
-«not» a = demand (is_boolean a) E301 (is ty.Boolean)
+unfoldable pub negation : Ty → Inquiry Verdict
+negation a = demand (is_boolean a) E301 (is ty.Boolean)
 
-abbrev pub binary : Operator → Ty → Ty → Inquiry Verdict
+unfoldable pub binary : Operator → Ty → Ty → Inquiry Verdict
 binary And a b = demand (is_boolean a && is_boolean b) E301 (is ty.Boolean)
 binary Less a b = demand (is_int a && is_int b) E302 (is ty.Boolean)
 binary Plus a b = demand (is_int a && is_int b) E304 (is ty.Int)
 binary Minus a b = demand (is_int a && is_int b) E304 (is ty.Int)
 binary Times a b = demand (is_int a && is_int b) E304 (is ty.Int)
 
-abbrev pub index : Ty → Ty → Inquiry Verdict
+unfoldable pub index : Ty → Ty → Inquiry Verdict
 index a i = demand (is_int_array a) E307 (demand (is_int i) E308 (is ty.Int))
 
-abbrev pub array_length : Ty → Inquiry Verdict
+unfoldable pub array_length : Ty → Inquiry Verdict
 array_length a = demand (is_int_array a) E309 (is ty.Int)
 
-abbrev pub call : Name → Ty → List Ty → Inquiry Verdict
-call m a ts =
-    given (class_in a) E310 (λ c. AsksMethod c m (λ method. given method E311 (λ s.
-    demand (nat_eq (length ts) (length s.formals)) E312 (demand_asked (accepts_all ts s.formals) E313 (is s.returns)))))
+-- as many arguments as formals, each accepted
+unfoldable pub called : Sig → List Ty → Inquiry Verdict
+called s ts = demand (nat_eq (length ts) (length s.formals)) E312 (demand_asked (accepts_all ts s.formals) E313 (is s.returns))
 
-abbrev pub new_array : Ty → Inquiry Verdict
+unfoldable pub call : Name → Ty → List Ty → Inquiry Verdict
+call m a ts = given (class_in a) E310 (λ c. AsksMethod c m (λ method. given method E311 (λ s. called s ts)))
+
+unfoldable pub new_array : Ty → Inquiry Verdict
 new_array a = demand (is_int a) E314 (is ty.IntArray)
 
-abbrev pub new_object : Name → Inquiry Verdict
+unfoldable pub new_object : Name → Inquiry Verdict
 new_object c = AsksDeclared c (λ declared. demand declared E305 (is (ty.Class c)))
 
 -- ---- what a statement comes to
 
-abbrev pub condition : Ty → Inquiry Verdict
+unfoldable pub condition : Ty → Inquiry Verdict
 condition a = demand (is_boolean a) E316 fine
 
-abbrev pub print : Ty → Inquiry Verdict
+unfoldable pub print : Ty → Inquiry Verdict
 print a = demand (is_int a) E317 fine
 
-abbrev pub assign : Ty → Ty → Inquiry Verdict
+unfoldable pub assign : Ty → Ty → Inquiry Verdict
 assign x a = demand_asked (accepts a x) E318 fine
 
-abbrev pub store : Ty → Ty → Ty → Inquiry Verdict
+unfoldable pub store : Ty → Ty → Ty → Inquiry Verdict
 store x i a = demand (is_int_array x) E307 (demand (is_int i) E308 (demand (is_int a) E318 fine))
 
-abbrev pub returned : Ty → Ty → Inquiry Verdict
+unfoldable pub returned : Ty → Ty → Inquiry Verdict
 returned wanted a = demand_asked (accepts a wanted) E319 fine
 
 -- ---- the table
@@ -138,7 +140,7 @@ abbrev mutual
   phrase_of s (Named mark x) = name_phrase s mark x
   phrase_of s (This mark) = phrase mark (no_parts (this s)) nothing
   phrase_of s (Parenthesized mark e) = phrase mark (one_part parenthesized) (part (phrase_of s e) nothing)
-  phrase_of s (Not mark e) = phrase mark (one_part «not») (part (phrase_of s e) nothing)
+  phrase_of s (Not mark e) = phrase mark (one_part negation) (part (phrase_of s e) nothing)
   phrase_of s (Binary o mark l r) = phrase mark (two_parts (binary o)) (part (phrase_of s l) (part (phrase_of s r) nothing))
   phrase_of s (Index mark a i) = phrase mark (two_parts index) (part (phrase_of s a) (part (phrase_of s i) nothing))
   phrase_of s (Length mark a) = phrase mark (one_part array_length) (part (phrase_of s a) nothing)

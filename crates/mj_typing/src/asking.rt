@@ -38,9 +38,9 @@ pub trait Signature {
 
 /// Who answers the questions of a check, one after the other, or refuses to.
 pub trait Asking {
-    type Refusal;
+    type Refusal: Drop;
 
-    type Method: Signature;
+    type Method: Signature + Drop;
 
     /// A check that began with the first inquiry has come to the second.
     ghost stands: { Self → Check → Check → Type 0 };
@@ -100,7 +100,7 @@ pub trait Asking {
 
 /// Declarations that answer by themselves.
 pub trait Declarations {
-    type Method: Signature;
+    type Method: Signature + Drop;
 
     ghost world: { Self → World };
 

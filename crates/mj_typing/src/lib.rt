@@ -2,10 +2,13 @@
 #![tactic(auto)]
 
 mod asking;
-mod code;
+mod body;
 mod plain;
+mod rows;
+mod scope;
+mod types;
 mod verdict;
+mod walk;
 
 pub use asking::{Asking, Declarations, Signature, Stop};
-pub use code::Code;
 pub use verdict::{Mistake, Verdict};

@@ -1,5 +1,5 @@
 //! What phrases come to.
-use crate::code::Code;
+use mj_answer::Code;
 use mj_parser::Ty;
 
 /// What a phrase comes to.
