@@ -7,6 +7,10 @@ use Rattle.mj_classes.specs.Laws.{ChainLaws, MemberLaws}
 use Rattle.mj_classes.proofs.Climb.{chain_of_is, is_chain_of, has_chain, has_none}
 use Rattle.mj_classes.proofs.Nearest.{nearest_from_is, is_from_nearest}
 use Rattle.mj_classes.proofs.Tables.{is_table}
+use Rattle.mj_parser.specs.Laws.{GrammarLaws}
+use Rattle.mj_parser.proofs.FileFound.{file_found}
+use Rattle.mj_parser.proofs.FileAgain.{file_again}
+use Rattle.mj_rules.proofs.SentenceLaws.{sentences_by}
 use Rattle.mj_rules.specs.Laws.{SentenceLaw, BodyLaws}
 
 pub chain_laws : ChainLaws
@@ -27,8 +31,11 @@ member_laws = record {
     (λ owner m h. is_from_nearest (own_method m.name) cs c owner m h) (λ owner m h. nearest_from_is (own_method m.name) cs c owner m h);
 }
 
+pub grammar : GrammarLaws
+grammar = λ ts f. (file_again ts f, file_found ts f)
+
 pub sentence_law : SentenceLaw
-sentence_law = ?
+sentence_law = sentences_by grammar
 
 pub body_laws : BodyLaws
 body_laws = ?

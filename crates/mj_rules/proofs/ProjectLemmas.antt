@@ -3,7 +3,7 @@ use Rattle.std.proofs.Common.{◌≡◌, ◌≢◌, ℕ, ◌+◌, ◌<◌, ◌�
 use Rattle.std.specs.declared.alloc.Global.{Global}
 use Rattle.std.specs.List.{position_or_len}
 use Rattle.std.proofs.lemmas.Bool.Decides.{nat_tests}
-use Rattle.std.proofs.lemmas.Option.{none-some, same_Some, slice_get-get_or, slice_get_within, get_or_from_slice_get}
+use Rattle.std.proofs.lemmas.Option.{none-some, slice_get-get_or, slice_get_within, slice_get_read, slice_get_past, get_or_from_slice_get}
 use Rattle.std.proofs.lemmas.List.Quantifiers.{position-Some}
 use Rattle.std.proofs.lemmas.List.{length-map}
 use Rattle.std.proofs.lemmas.List.Sums.{fails_before_first}
@@ -11,6 +11,7 @@ use Rattle.mj_rules.specs.declared.project.ProjectFault.{ProjectFault}
 use Rattle.mj_rules.specs.declared.project.ProjectFault.TheVariants.{NoFiles, TooManyFiles, BadFileName, RepeatedFile, OutOfMemory}
 use Rattle.mj_rules.specs.Repeats.{is_in, repeats}
 use Rattle.mj_rules.specs.Projects.{SourceFile, source_view, sources_view, names_of, IsFileName, is_file_name, HasProjectSize, IsRepeated, IsProject, IsFirst, Refuses}
+use Rattle.mj_rules.proofs.Listed.{map_at}
 use Rattle.mj_rules.proofs.RepeatLemmas.{Contains-is_in, is_in-Contains, repeats-at, flag_at, length-repeats}
 
 past : (a b : ℕ) → cond (nat_lt a b) (Some a) None ≡ None → b ≤ a
@@ -156,3 +157,13 @@ is_project files size names e = record { size = size; names = names; distinct = 
 pub none_by : (o : Option ℕ) → ((n : ℕ) → o ≡ Some n → ⊥) → o ≡ None
 none_by None never = refl
 none_by (Some n) never = absurd (never n refl)
+
+-- the file at a place
+pub file_at : (files : Files) (n : ℕ) (f : String Global × Vec ℕ Global) → n < length files → f ≡ get_or files n f → slice_get (sources_view files) n ≡ Some (source_view f)
+file_at files n f within is = map_at source_view files n f (slice_get_read files (length files) n f refl within is)
+
+pub past_end : (files : Files) (n : ℕ) → length files ≤ n → slice_get (sources_view files) n ≡ None
+past_end files n h = slice_get_past (sources_view files) n (rw (length-map files source_view) h)
+
+pub good_at : (files : Files) (n : ℕ) (f : String Global × Vec ℕ Global) → All IsFileName (names_of (sources_view files)) → n < length files → f ≡ get_or files n f → IsFileName (string_bytes f.0)
+good_at files n f names within is = name_good (names_of (sources_view files)) n (string_bytes f.0) names (map_at (λ (s : SourceFile). s.name) (sources_view files) n (source_view f) (file_at files n f within is))

@@ -6,6 +6,7 @@ use Rattle.std.specs.Cmp.Lexicographic.{slice_cmp}
 use Rattle.std.proofs.lemmas.Cmp.{nat_list_cmp_total, tied_itself}
 use Rattle.std.proofs.lemmas.Bool.Decides.{nat_tests}
 use Rattle.mj_answer.specs.declared.diagnostic.Diagnostic.{Diagnostic}
+use Rattle.mj_answer.specs.Codes.{number_of}
 use Rattle.mj_answer.specs.Order.{IsAscendingBy, IsStrictTotalOrder, NameBefore, Before, kind_of, name_in, number_in}
 use Rattle.mj_answer.proofs.Alike.{Contains-cases, Contains-first, Contains-later}
 use Rattle.mj_answer.proofs.Orders.{names, faults}
@@ -148,22 +149,50 @@ less_decides e = cc
 greater_decides : Greater ≡ Equal → ⊥
 greater_decides e = cc
 
+-- the parts of the comparison
+abbrev kinds : Diagnostic → Diagnostic → Ordering
+kinds d e = nat_cmp (kind_of d.place) (kind_of e.place)
+
+abbrev names_in : Diagnostic → Diagnostic → Ordering
+names_in d e = name_order (name_in d.place) (name_in e.place)
+
+abbrev numbers_in : Diagnostic → Diagnostic → Ordering
+numbers_in d e = nat_cmp (number_in d.place) (number_in e.place)
+
+abbrev codes_of : Diagnostic → Diagnostic → Ordering
+codes_of d e = nat_cmp (number_of d.code) (number_of e.code)
+
+abbrev behind_names : Diagnostic → Diagnostic → Ordering
+behind_names d e = ordering_then (numbers_in d e) (codes_of d e)
+
+abbrev behind_kinds : Diagnostic → Diagnostic → Ordering
+behind_kinds d e = ordering_then (names_in d e) (behind_names d e)
+
 fault_lt : (d e : Diagnostic) → Before d e → fault_order d e ≡ Less
-fault_lt d e (inl (inl h)) = at_first _ _ Less (number_lt _ _ h) less_decides
-fault_lt d e (inl (inr (k, inl h))) = at_later _ _ Less (number_eq _ _ k) (at_first _ _ Less h less_decides)
-fault_lt d e (inl (inr (k, inr (n, h)))) = at_later _ _ Less (number_eq _ _ k) (at_later _ _ Less (name_eq _ _ n) (at_first _ _ Less (number_lt _ _ h) less_decides))
+fault_lt d e (inl (inl h)) = at_first (kinds d e) (behind_kinds d e) Less (number_lt (kind_of d.place) (kind_of e.place) h) less_decides
+fault_lt d e (inl (inr (k, inl h))) = at_later (kinds d e) (behind_kinds d e) Less (number_eq (kind_of d.place) (kind_of e.place) k) (at_first (names_in d e) (behind_names d e) Less h less_decides)
+fault_lt d e (inl (inr (k, inr (n, h)))) =
+    at_later (kinds d e) (behind_kinds d e) Less (number_eq (kind_of d.place) (kind_of e.place) k) (at_later (names_in d e) (behind_names d e) Less (name_eq (name_in d.place) (name_in e.place) n)
+    (at_first (numbers_in d e) (codes_of d e) Less (number_lt (number_in d.place) (number_in e.place) h) less_decides))
 fault_lt d e (inr (p, h)) =
-    at_later _ _ Less (number_eq _ _ (ap kind_of p)) (at_later _ _ Less (name_eq _ _ (ap name_in p)) (at_later _ _ Less (number_eq _ _ (ap number_in p)) (number_lt _ _ h)))
+    at_later (kinds d e) (behind_kinds d e) Less (number_eq (kind_of d.place) (kind_of e.place) (ap kind_of p)) (at_later (names_in d e) (behind_names d e) Less (name_eq (name_in d.place) (name_in e.place) (ap name_in p))
+    (at_later (numbers_in d e) (codes_of d e) Less (number_eq (number_in d.place) (number_in e.place) (ap number_in p)) (number_lt (number_of d.code) (number_of e.code) h)))
 
 fault_gt : (d e : Diagnostic) → Before e d → fault_order d e ≡ Greater
-fault_gt d e (inl (inl h)) = at_first _ _ Greater (number_gt _ _ h) greater_decides
-fault_gt d e (inl (inr (k, inl h))) = at_later _ _ Greater (number_eq _ _ (sym k)) (at_first _ _ Greater (name_gt _ _ h) greater_decides)
-fault_gt d e (inl (inr (k, inr (n, h)))) = at_later _ _ Greater (number_eq _ _ (sym k)) (at_later _ _ Greater (name_eq _ _ (sym n)) (at_first _ _ Greater (number_gt _ _ h) greater_decides))
+fault_gt d e (inl (inl h)) = at_first (kinds d e) (behind_kinds d e) Greater (number_gt (kind_of d.place) (kind_of e.place) h) greater_decides
+fault_gt d e (inl (inr (k, inl h))) =
+    at_later (kinds d e) (behind_kinds d e) Greater (number_eq (kind_of d.place) (kind_of e.place) (sym k)) (at_first (names_in d e) (behind_names d e) Greater (name_gt (name_in d.place) (name_in e.place) h) greater_decides)
+fault_gt d e (inl (inr (k, inr (n, h)))) =
+    at_later (kinds d e) (behind_kinds d e) Greater (number_eq (kind_of d.place) (kind_of e.place) (sym k)) (at_later (names_in d e) (behind_names d e) Greater (name_eq (name_in d.place) (name_in e.place) (sym n))
+    (at_first (numbers_in d e) (codes_of d e) Greater (number_gt (number_in d.place) (number_in e.place) h) greater_decides))
 fault_gt d e (inr (p, h)) =
-    at_later _ _ Greater (number_eq _ _ (sym (ap kind_of p))) (at_later _ _ Greater (name_eq _ _ (sym (ap name_in p))) (at_later _ _ Greater (number_eq _ _ (sym (ap number_in p))) (number_gt _ _ h)))
+    at_later (kinds d e) (behind_kinds d e) Greater (number_eq (kind_of d.place) (kind_of e.place) (sym (ap kind_of p))) (at_later (names_in d e) (behind_names d e) Greater (name_eq (name_in d.place) (name_in e.place) (sym (ap name_in p)))
+    (at_later (numbers_in d e) (codes_of d e) Greater (number_eq (number_in d.place) (number_in e.place) (sym (ap number_in p))) (number_gt (number_of d.code) (number_of e.code) h)))
 
 fault_eq : (d : Diagnostic) → fault_order d d ≡ Equal
-fault_eq d = at_later _ _ Equal (number_eq _ _ refl) (at_later _ _ Equal (name_eq _ _ refl) (at_later _ _ Equal (number_eq _ _ refl) (number_eq _ _ refl)))
+fault_eq d =
+    at_later (kinds d d) (behind_kinds d d) Equal (number_eq (kind_of d.place) (kind_of d.place) refl) (at_later (names_in d d) (behind_names d d) Equal (name_eq (name_in d.place) (name_in d.place) refl)
+    (at_later (numbers_in d d) (codes_of d d) Equal (number_eq (number_in d.place) (number_in d.place) refl) (number_eq (number_of d.code) (number_of d.code) refl)))
 
 pub faults_compare : Compares fault_order Before
 faults_compare = from_trichotomy fault_order Before faults fault_lt fault_eq fault_gt

@@ -39,7 +39,7 @@ ascend_by_names {X} name (x ∷ xs) h = (each xs h.0, ascend_by_names name xs h.
     each (y ∷ ys) k = (k.0, each ys k.1)
 
 -- the same elements, mapped
-mapped : {X Y : Type 0} (f : X → Y) (name : Y → Name) (xs : List X) → IsAscendingBy NameBefore (map (λ (x : X). name (f x)) xs) → IsAscendingByName name (map f xs)
+pub mapped : {X Y : Type 0} (f : X → Y) (name : Y → Name) (xs : List X) → IsAscendingBy NameBefore (map (λ (x : X). name (f x)) xs) → IsAscendingByName name (map f xs)
 mapped f name [] h = tt
 mapped {X} {Y} f name (x ∷ xs) h = (each xs h.0, mapped f name xs h.1)
   where

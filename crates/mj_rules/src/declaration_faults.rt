@@ -123,7 +123,8 @@ pub fn add_fields(
 ) -> Result<(), AllocError>
     ensures { OnOk result (faults.new.items ≡ faults.old.items ++ each_numbered (field_faults (declared_in declarations.now)) 0 fields.now (repeats (map (λ f. f.name) fields.now))) }
 {
-    let flags = repeated_fields(alloc, fields)?;
+    let repeated = repeated_fields(alloc, fields)?;
+    let flags = repeated.as_slice();
     for (number, field) in fields.iter().enumerate() {
         add_field(faults, declarations, number, flags[number], field)?;
     }
@@ -164,7 +165,7 @@ fn add_override(
     method: &MethodTree,
     other: Option<&MethodRow>,
 ) -> Result<(), AllocError>
-    ensures { OnOk result (faults.new.items ≡ faults.old.items ++ override_faults number (method_view method.now) (option_map row_sig (option_copied other))) }
+    ensures { OnOk result (faults.new.items ≡ faults.old.items ++ override_faults number (method_view method.now) (option_map row_sig (option_copied other.entry))) }
 {
     if let Some(other) = other {
         if !same_signature(method, other) {
@@ -209,7 +210,8 @@ pub fn add_methods(
     requires { IsAscendingByName (λ row. row.name) rest.now }
     ensures { OnOk result (faults.new.items ≡ faults.old.items ++ each_numbered (method_faults_of (sig_in rest.now)) 0 (map method_view methods.now) (repeats (map (λ m. m.name) (map method_view methods.now)))) }
 {
-    let flags = repeated_methods(alloc, methods)?;
+    let repeated = repeated_methods(alloc, methods)?;
+    let flags = repeated.as_slice();
     for (number, method) in methods.iter().enumerate() {
         add_method(faults, rest, number, flags[number], method)?;
     }

@@ -3,6 +3,7 @@
 
 mod checker;
 mod declaration_faults;
+mod laws;
 mod project;
 mod project_faults;
 mod reading;
@@ -10,5 +11,6 @@ mod repeats;
 mod tables;
 
 pub use checker::scratch;
+pub use laws::{project_fault_laws, sentence_laws};
 pub use mj_answer::{Answer, ClassAnswer, ClassTable, Code, Diagnostic, FieldRow, MethodRow, render};
 pub use project::{Project, ProjectFault};

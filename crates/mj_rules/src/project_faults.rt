@@ -1,5 +1,5 @@
 //! The faults of a project itself.
-ghost use Rattle.std.specs.Prelude.{◌≡◌, ◌++◌, ◌||◌, ◌<◌, ◌≤◌, ℕ, List, map, option_map, length, false, All, IfOk, OnOk, slice_get};
+ghost use Rattle.std.specs.Prelude.{◌≡◌, [], ◌++◌, if◌then◌else◌, ◌||◌, ◌<◌, ◌≤◌, ℕ, List, map, option_map, length, false, All, IfOk, OnOk, slice_get};
 ghost use Rattle.mj_parser.specs.Views.{file_view};
 ghost use Rattle.mj_classes.specs.Classes.{class_ref_view, classes_view, files_view};
 ghost use Rattle.mj_rules.specs.Projects.{sources_view, names_of, IsFileName};
@@ -67,24 +67,27 @@ pub fn add_file_faults(
     Ok(main_before)
 }
 
-/// Adds the fault of a class, given by its file and its number there, whose name an earlier class has.
+/// Adds the fault of a class, given by its file and its number there, if an earlier class has its name.
 fn add_repeated_class(
     alloc: Global,
     faults: &mut Vec<Diagnostic>,
     files: &[(String, Vec<u8>)],
     file: usize,
     number: usize,
+    repeated: bool,
 ) -> Result<(), AllocError>
     requires { All IsFileName (names_of (sources_view files.now)) }
-    ensures { OnOk result (faults.new.items ≡ faults.old.items ++ repeated_class (slice_get (sources_view files.now) file) number) }
+    ensures { OnOk result (faults.new.items ≡ faults.old.items ++ (if repeated then repeated_class (slice_get (sources_view files.now) file) number else [])) }
 {
-    if let Some((name, _)) = files.get(file) {
-        let place = Place::ClassOf(Name::new(alloc, name.as_str())?, number);
-        faults.push(Diagnostic {
-            place,
-            code: Code::E104,
-        })?;
+    if !repeated || file >= files.len() {
+        return Ok(());
     }
+    let (name, _) = &files[file];
+    let place = Place::ClassOf(Name::new(alloc, name.as_str())?, number);
+    faults.push(Diagnostic {
+        place,
+        code: Code::E104,
+    })?;
     Ok(())
 }
 
@@ -109,11 +112,10 @@ pub fn add_repeated_classes(
     requires { All IsFileName (names_of (sources_view files.now)) }
     ensures { OnOk result (faults.new.items ≡ faults.old.items ++ each_numbered (repeated_class_faults (sources_view files.now)) 0 (classes_view classes.now) (repeats (class_names (classes_view classes.now)))) }
 {
-    let flags = repeated_classes(alloc, classes)?;
+    let repeated = repeated_classes(alloc, classes)?;
+    let flags = repeated.as_slice();
     for (number, class) in classes.iter().enumerate() {
-        if flags[number] {
-            add_repeated_class(alloc, faults, files, class.file, class.number)?;
-        }
+        add_repeated_class(alloc, faults, files, class.file, class.number, flags[number])?;
     }
     Ok(())
 }
