@@ -9,3 +9,4 @@ pub mod FaultLists
 pub mod Laws
 pub mod Answering
 pub mod Tables
+pub mod FaultCodes

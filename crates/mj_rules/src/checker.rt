@@ -1,34 +1,22 @@
 //! The checker that follows the rules from scratch.
-ghost use Rattle.std.specs.Prelude.{◌≡◌, ◌↔◌, ◌++◌, ℕ, List, Some, IfOk, OnOk, Contains};
+ghost use Rattle.std.specs.Prelude.{◌≡◌, ◌↔◌, ℕ, List, Some, IfOk, Contains};
 ghost use Rattle.mj_answer.specs.Order.{NameBefore, IsAscendingBy};
 ghost use Rattle.mj_classes.specs.Declarations.{decl};
 ghost use Rattle.mj_classes.specs.Classes.{class_ref_view};
 ghost use Rattle.mj_classes.specs.Index.{declared_in};
-ghost use Rattle.mj_rules.specs.Sentences.{classes_in};
-ghost use Rattle.mj_rules.specs.FaultLists.{project_faults, body_faults, class_names};
+ghost use Rattle.mj_rules.specs.FaultLists.{class_names};
 ghost use Rattle.mj_rules.specs.Rules.{IsAnswerFor, AreClassAnswers, Rules};
 
+use crate::body_faults::add_body_faults;
 use crate::declaration_faults::declaration_faults;
 use crate::project::Project;
 use crate::project_faults::project_faults;
 use crate::reading::read_files;
 use crate::tables::class_table;
-use mj_answer::{Answer, ClassAnswer, Diagnostic, fault_set, name_set};
+use mj_answer::{Answer, ClassAnswer, fault_set, name_set};
 use mj_classes::{ClassRef, Declarations};
 use mj_lexer::Name;
 use std::alloc::{AllocError, Global};
-
-/// Adds the faults of the bodies of a class.
-fn add_body_faults(
-    _alloc: Global,
-    _faults: &mut Vec<Diagnostic>,
-    _declarations: &Declarations,
-    _class: &ClassRef,
-) -> Result<(), AllocError>
-    ensures { OnOk result (_faults.new.items ≡ _faults.old.items ++ body_faults (declared_in _declarations.now) (class_ref_view _class.now)) }
-{
-    Err(AllocError)
-}
 
 /// The answer for a class, the first one of its name.
 fn class_answer(

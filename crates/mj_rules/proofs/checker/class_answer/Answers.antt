@@ -15,7 +15,7 @@ pub returns-clause-rules : goal.returns-clause-rules
 returns-clause-rules c =
     let cs = declared_in c.args.declarations.now in
     let k = class_ref_view c.args.class.now in
-    let listed : c.add_body_faults.new._faults.items ≡ class_faults cs k = c.in_ok-add_body_faults.ensures ∙ ap (λ ds. ds ++ body_faults cs k) c.in_ok-faults.ensures in
+    let listed : c.add_body_faults.new.faults.items ≡ class_faults cs k = c.in_ok-add_body_faults.ensures ∙ ap (λ ds. ds ++ body_faults cs k) c.in_ok-faults.ensures in
     let name : c.new.result.name ≡ k.name = ap (λ (a : ClassAnswerValue). a.name) c.new.ensures ∙ (c.in_ok-name.ensures ∙ c.name-2.ensures) in
     let chain : classes_view c.in-Some.chain.classes.items ≡ ancestry cs k.name = (rw c.in-Some.is at c.in_ok-chain.ensures.classes) ∙ ap (ancestry cs) c.name.ensures in
     let table : c.new.result.table ≡ table_of cs k.name = ap (λ (a : ClassAnswerValue). a.table) c.new.ensures ∙ (c.in_ok-table.ensures ∙ ap table_along (ap (λ xs. classes_view xs) c.deref.ensures.value ∙ chain)) in
