@@ -38,3 +38,9 @@ stmt_view-If mark condition then_branch else_branch = ap stmt_view (sym (stmt.ro
 
 pub stmt_view-While : (mark : ℕ) (condition : Exp) (body : Box Stmt) → stmt_view (stmt.While mark condition body) ≡ trees.While mark (exp_view condition) (stmt_view body.value)
 stmt_view-While mark condition body = ap stmt_view (sym (stmt.rolls-While mark condition body)) ∙ fold-roll-Stmt Statement stmt_layer (stmt_layers.While mark condition body)
+
+pub stmt_view-Assign : (mark : ℕ) (name : List ℕ) (name_mark : ℕ) (value : Exp) → stmt_view (stmt.Assign mark name name_mark value) ≡ trees.Assign mark name name_mark (exp_view value)
+stmt_view-Assign mark name name_mark value = ap stmt_view (sym (stmt.rolls-Assign mark name name_mark value)) ∙ fold-roll-Stmt Statement stmt_layer (stmt_layers.Assign mark name name_mark value)
+
+pub stmt_view-Store : (mark : ℕ) (name : List ℕ) (name_mark : ℕ) (index value : Exp) → stmt_view (stmt.Store mark name name_mark index value) ≡ trees.Store mark name name_mark (exp_view index) (exp_view value)
+stmt_view-Store mark name name_mark index value = ap stmt_view (sym (stmt.rolls-Store mark name name_mark index value)) ∙ fold-roll-Stmt Statement stmt_layer (stmt_layers.Store mark name name_mark index value)

@@ -4,9 +4,10 @@ use Rattle.mj_parser.specs.Views.{exp_view, exps_view, stmt_view, stmts_view}
 use Rattle.mj_parser.specs.declared.tree.Exp.{Exp}
 use Rattle.mj_parser.specs.declared.tree.Stmt.{Stmt}
 use Rattle.mj_parser.specs.declared.tree.Ty.{Ty}
+use Rattle.mj_parser.specs.declared.tree.Variable.{Variable}
 use Rattle.mj_typing.specs.declared.verdict.Mistake.{Mistake}
 use Rattle.mj_typing.specs.declared.verdict.Verdict.{Verdict}
-use Rattle.mj_typing.specs.Bodies.{mistakes_step, statement_step, statements_step}
+use Rattle.mj_typing.specs.Bodies.{type_step, types_step, mistakes_step, statement_step, statements_step}
 use Rattle.mj_typing.specs.Inquiries.{Inquiry}
 use Rattle.mj_typing.specs.Phrases.{Phrase, Phrases, phrase, nothing, part, Found, own_step, phrase_step, parts_step, and_type, with_type}
 use Rattle.mj_typing.specs.Steps.{Check, Goes, GivesUp}
@@ -176,4 +177,29 @@ module _ {S E : Type 0} (stands : S → Check → Check → Type 0) (halts : S �
     unfolding statements_step
     statements_done i mistakes new l h = record {
       goes = λ start k w. subst (λ ss. stands new start (statements_step scope (stmts_view ss) mistakes k)) (at_end stmts i h) (l.comes start k w);
+    }
+
+  -- ---- a loop over variables
+
+  module _ (vs : List Variable) (before : List Mistake) (old : S) where
+    -- what is left of the variables from an index on
+    abbrev pub TypesLeft : ℕ → List Mistake → S → Type 0
+    TypesLeft i mistakes mid = Comes stands (types_step vs before) (types_step (drop i vs) mistakes) old mid
+
+    pub types_more : (i : ℕ) (v : Variable) (mistakes more : List Mistake) (mid new : S) → TypesLeft i mistakes mid → i < length vs → v ≡ get_or vs i v → Goes stands (type_step v.mark v.ty mistakes) mid more new → TypesLeft (i + 1) more new
+    unfolding types_step
+    types_more i v mistakes more mid new l h is g = record {
+      comes = λ start k w. g.goes start (λ more. types_step (drop (i + 1) vs) more k) (subst (λ us. stands mid start (types_step us mistakes k)) (front_at vs i v h is) (l.comes start k w));
+    }
+
+    pub types_up : (i : ℕ) (v : Variable) (mistakes : List Mistake) (e : E) (mid new : S) → TypesLeft i mistakes mid → i < length vs → v ≡ get_or vs i v → GivesUp stands halts (type_step v.mark v.ty mistakes) mid e new → GivesUp stands halts (types_step vs before) old e new
+    unfolding types_step
+    types_up i v mistakes e mid new l h is g = record {
+      ends = λ start k w. g.ends start (λ more. types_step (drop (i + 1) vs) more k) (subst (λ us. stands mid start (types_step us mistakes k)) (front_at vs i v h is) (l.comes start k w));
+    }
+
+    pub types_done : (i : ℕ) (mistakes : List Mistake) (new : S) → TypesLeft i mistakes new → length vs ≤ i → Goes stands (types_step vs before) old mistakes new
+    unfolding types_step
+    types_done i mistakes new l h = record {
+      goes = λ start k w. subst (λ us. stands new start (types_step us mistakes k)) (at_end vs i h) (l.comes start k w);
     }

@@ -1,5 +1,5 @@
 -- The mistakes in a method, and in main.
-use Rattle.std.specs.Prelude.{◌≡◌, ℕ, ◌+◌, Bool, true, false, List, [], ◌∷◌, ◌++◌, Option, Some, Contains, if◌then◌else◌}
+use Rattle.std.specs.Prelude.{◌≡◌, ℕ, ◌+◌, ◌-◌, ◌^◌, min, Bool, true, false, List, [], ◌∷◌, ◌++◌, Option, Some, Contains, if◌then◌else◌}
 use Rattle.mj_parser.specs.Trees.{Name, Expression, Statement, Statements, Block, If, While, Print, Assign, Store, done, Method, Main}
 use Rattle.mj_parser.specs.Trees as trees
 use Rattle.mj_parser.specs.declared.tree.Ty.{Ty}
@@ -21,9 +21,9 @@ variables_of m = m.formals ++ m.locals
 abbrev pub return_type_mark : ℕ
 return_type_mark = 1
 
--- a variable's name stands behind its type, of which `int[]` has three tokens
+-- a variable's name stands behind its type, of which `int[]` has three tokens; no number of a token is above 2 ^ 64 - 1
 abbrev pub name_mark : Variable → ℕ
-name_mark v = v.mark + type_len v.ty
+name_mark v = min (v.mark + type_len v.ty) (2 ^ 64 - 1)
   where
     type_len : Ty → ℕ
     type_len ty.IntArray = 3
@@ -73,7 +73,7 @@ add_repeated_each mistakes before (v ∷ vs) = add_repeated_each (add_repeated m
 abbrev pub method_faults : World → Name → Method → List Mistake
 method_faults w class m =
     let repeated = add_repeated_each [] [] (variables_of m) in
-    let undeclared = add_undeclared_each w (add_undeclared w repeated return_type_mark m.returns) (variables_of m) in
+    let undeclared = add_undeclared_each w (add_undeclared_each w (add_undeclared w repeated return_type_mark m.returns) m.formals) m.locals in
     add_each w undeclared (method_phrases class m)
 
 abbrev pub main_faults : World → Main → List Mistake
@@ -110,13 +110,14 @@ unfoldable mutual
   statements_step s done mistakes next = next mistakes
   statements_step s (trees.next a ss) mistakes next = statement_step s a mistakes (λ more. statements_step s ss more next)
 
--- a method of the class: the types of its return, formals and locals, the statements, the return
+-- a method of the class: the types of its return, its formals and its locals, the statements, the return
 unfoldable pub method_step : Name → Method → (List Mistake → Check) → Check
 method_step class m next =
     type_step return_type_mark m.returns (add_repeated_each [] [] (variables_of m)) (λ a.
-    types_step (variables_of m) a (λ b.
-    statements_step (method_scope class m) m.body b (λ c.
-    phrase_step (return_phrase (method_scope class m) m.return_mark m.returns m.returned) c (λ found. next found.mistakes))))
+    types_step m.formals a (λ b.
+    types_step m.locals b (λ c.
+    statements_step (method_scope class m) m.body c (λ d.
+    mistakes_step (return_phrase (method_scope class m) m.return_mark m.returns m.returned) d next))))
 
 unfoldable pub main_step : Main → (List Mistake → Check) → Check
 main_step m next = statement_step main_scope m.statement [] next

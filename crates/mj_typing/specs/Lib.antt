@@ -1,5 +1,7 @@
 pub mod Bodies
+pub mod Cases
 pub mod Inquiries
+pub mod Laws
 pub mod Phrases
 pub mod Seen
 pub mod Steps

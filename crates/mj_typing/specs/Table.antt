@@ -49,12 +49,12 @@ accepts_all (t ∷ ts) (u ∷ us) = and_then (accepts t u) (λ ok. if ok then ac
 unfoldable pub literal : ℕ → Inquiry Verdict
 literal value = demand (nat_le value 2147483647) E315 (is ty.Int)
 
+abbrev pub local_or_field : Option Ty → Option Name → Name → Inquiry Verdict
+local_or_field (Some t) class x = is t
+local_or_field None class x = given class E303 (λ c. AsksField c x (λ field. given field E303 is))
+
 unfoldable pub named : Scope → Name → Inquiry Verdict
-named scope x = of_local (local_of scope.variables x) scope.class
-  where
-    of_local : Option Ty → Option Name → Inquiry Verdict
-    of_local (Some t) class = is t
-    of_local None class = given class E303 (λ c. AsksField c x (λ field. given field E303 is))
+named scope x = local_or_field (local_of scope.variables x) scope.class x
 
 unfoldable pub this : Scope → Inquiry Verdict
 this scope = given scope.class E306 (λ c. is (ty.Class c))

@@ -3,6 +3,8 @@
 
 mod asking;
 mod body;
+mod check;
+mod laws;
 mod plain;
 mod rows;
 mod scope;
@@ -11,4 +13,6 @@ mod verdict;
 mod walk;
 
 pub use asking::{Asking, Declarations, Signature, Stop};
+pub use check::{check_main, check_method};
+pub use laws::{body_laws, case_laws, row_laws, typing_laws};
 pub use verdict::{Mistake, Verdict};
