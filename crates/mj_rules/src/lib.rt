@@ -12,6 +12,8 @@ mod project_faults;
 mod reading;
 mod repeats;
 mod tables;
+#[cfg(test)]
+mod tests;
 mod world;
 
 pub use checker::scratch;
