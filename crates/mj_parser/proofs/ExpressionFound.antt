@@ -1,23 +1,20 @@
 -- What is read as an expression is that expression by the grammar.
-use Rattle.std.proofs.Common.{◌≡◌, ℕ, zero, suc, ◌+◌, ◌-◌, ◌<◌, ◌≤◌, max, Bool, true, false, not, ◌&&◌, cond, eqb, leb, List, [], ◌∷◌, length, Option, Some, None, refl, sym, ap, ◌∙◌, subst, arith, ◌⊎◌, inl, inr}
-use Rattle.std.specs.Prelude.{slice_get, codes, if◌then◌else◌}
-use Rattle.std.specs.Str.{bytes_eq}
+use Rattle.std.proofs.Common.{◌≡◌, ℕ, zero, suc, ◌+◌, ◌≤◌, true, not, ◌&&◌, eqb, leb, List, length, Option, Some, None, refl, sym, ap, ◌∙◌, subst, arith, inl, inr}
+use Rattle.std.specs.Prelude.{codes}
 use Rattle.std.proofs.lemmas.Bool.{eqb-true, leb-true}
-use Rattle.std.proofs.lemmas.Slice.Eq.{bytes_eq-Decides}
 use Rattle.mj_lexer.specs.declared.token.Terminal.{Terminal}
 use Rattle.mj_lexer.specs.declared.token.Token.{Token}
 use Rattle.mj_lexer.specs.declared.token.Terminal.TheVariants as terminals
 use Rattle.mj_lexer.specs.declared.token.Kind.{Kind}
 use Rattle.mj_lexer.specs.declared.token.Kind.TheVariants as kinds
 use Rattle.mj_parser.specs.declared.tree.Operator.{Operator}
-use Rattle.mj_parser.specs.declared.tree.Operator.TheVariants.{And, Less, Plus, Minus, Times}
-use Rattle.mj_parser.specs.Tokens.{number_of, same_terminal, is_terminal, name_of, value_of, kind_at, has, name_at, value_at, says}
-use Rattle.mj_parser.specs.Trees.{Expression, Expressions, Binary, Index, Length, Call, Literal, Boolean, Named, This, NewArray, NewObject, Not, Parenthesized, none, more}
-use Rattle.mj_parser.specs.Expressions.{tier_of, terminal_of, terminal_of_bool, size, sizes, sizes_more, height, heights, is_new_array, IsExp, AreArguments, AreMore}
+use Rattle.mj_parser.specs.Tokens.{same_terminal, is_terminal, name_of, value_of, kind_at, has, name_at, value_at, says}
+use Rattle.mj_parser.specs.Trees.{Expression, Binary, Index, Length, Call, Literal, Boolean, Named, This, NewArray, NewObject, Not, Parenthesized}
+use Rattle.mj_parser.specs.Expressions.{tier_of, terminal_of, size, sizes, sizes_more, height, heights, is_new_array, IsExp, AreArguments, AreMore}
 use Rattle.mj_parser.specs.Views.{expressions_of}
-use Rattle.mj_parser.specs.Steps.{◌>>=◌, when, items_from, behind_comma, at_comma, listed_at}
+use Rattle.mj_parser.specs.Steps.{◌>>=◌, items_from, behind_comma, at_comma, listed_at}
 use Rattle.mj_parser.proofs.Binds.{bind_some, when_some, if_some, some_or_none, some_is, and_both, not_false}
-use Rattle.mj_parser.specs.ExpressionReading.{Found, Reader, closed, operator_here, of_tier, operator_at, takes_index, new_at, terminal_at, prim_of, prim_at, index_at, member_at, post_from, post_at, binary_from, tier_at, exp_at}
+use Rattle.mj_parser.specs.ExpressionReading.{Reader, closed, operator_here, of_tier, operator_at, takes_index, new_at, terminal_at, prim_of, prim_at, index_at, member_at, post_from, post_at, binary_from, tier_at, exp_at}
 
 -- a tree that was read up to a place
 pub record Sound (ts : List Token) (d i room : ℕ) (x : Expression × ℕ) : Type 0 where

@@ -1,6 +1,6 @@
 -- What is a declaration or a file by the grammar is read as that.
-use Rattle.std.proofs.Common.{◌≡◌, ℕ, zero, suc, ◌+◌, ◌<◌, ◌≤◌, max, Bool, true, false, not, ◌&&◌, List, [], ◌∷◌, length, drop, Option, Some, None, refl, sym, ap, ◌∙◌, subst, arith, zero-add}
-use Rattle.std.specs.Prelude.{slice_get, is_some, ◌||◌, codes}
+use Rattle.std.proofs.Common.{◌≡◌, ℕ, zero, suc, ◌+◌, ◌≤◌, Bool, true, false, not, ◌&&◌, List, [], ◌∷◌, length, drop, Option, Some, None, refl, sym, ap, ◌∙◌, subst, arith, zero-add}
+use Rattle.std.specs.Prelude.{slice_get, codes}
 use Rattle.std.proofs.lemmas.Bool.{lt-ltb, le-ltb}
 use Rattle.mj_lexer.specs.declared.token.Token.{Token}
 use Rattle.mj_lexer.specs.declared.token.Kind.{Kind}
@@ -11,23 +11,21 @@ use Rattle.mj_parser.specs.declared.tree.Ty.{Ty}
 use Rattle.mj_parser.specs.declared.tree.Ty.TheVariants as types
 use Rattle.mj_parser.specs.declared.tree.Field.{Field}
 use Rattle.mj_parser.specs.declared.tree.Variable.{Variable}
-use Rattle.mj_parser.specs.Tokens.{same_terminal, kind_of, kind_at, is_terminal, name_of, has, says, name_at}
+use Rattle.mj_parser.specs.Tokens.{same_terminal, kind_of, kind_at, is_terminal, name_of, has, name_at}
 use Rattle.mj_parser.specs.Trees.{Name, Statement, Statements, Block, If, While, Print, Assign, Store, done, next, Method, Main, Class, File}
-use Rattle.mj_parser.specs.Views.{statements_of}
-use Rattle.mj_parser.specs.Expressions.{size, height, IsExp}
-use Rattle.mj_parser.specs.Statements.{stmt_size, stmts_size, stmt_height, stmts_height, opens_print, IsStmt, AreStmts}
+use Rattle.mj_parser.specs.Expressions.{size}
+use Rattle.mj_parser.specs.Statements.{stmt_size, stmts_size, stmt_height, IsStmt, AreStmts}
 use Rattle.mj_parser.specs.Rows.{row_size, row_height, InRow}
-use Rattle.mj_parser.specs.Declarations.{type_size, IsType, IsVariable, variable_size, IsMoreFormal, more_formal_size, formals_size, AreFormals, IsLocal, local_size, formals_place, locals_place, body_place, return_place, method_size, method_height, IsMethod, main_head, main_parameter, field_size, IsField, IsMethodAt, superclass_size, IsSuperclass, head_size, class_size, IsClass, class_height, IsMain, main_size, IsMainPart, main_part_size, main_part_height, file_size, file_height, Derives}
-use Rattle.mj_parser.specs.Steps.{PartReader, items_from, behind_comma, at_comma, more_listed, listed_at}
-use Rattle.mj_parser.specs.ExpressionReading.{exp_at}
+use Rattle.mj_parser.specs.Declarations.{type_size, IsType, IsVariable, variable_size, IsMoreFormal, more_formal_size, formals_size, AreFormals, IsLocal, local_size, formals_place, locals_place, body_place, return_place, method_size, method_height, IsMethod, main_head, main_parameter, field_size, IsField, IsMethodAt, superclass_size, IsSuperclass, head_size, class_size, IsClass, class_height, IsMain, main_size, IsMainPart, main_part_size, main_part_height, Derives}
+use Rattle.mj_parser.specs.Steps.{behind_comma, at_comma, listed_at}
 use Rattle.mj_parser.specs.StatementReading.{stmt_at}
-use Rattle.mj_parser.specs.FileReading.{type_at, variable_at, local_at, field_at, begins_type, begins_local, Signature, signature_at, not_return, method_of, method_at, method_from, superclass_at, at_public, class_at, begins_main, main_method_at, main_from, main_at, main_part_at, before_end, tree_of}
+use Rattle.mj_parser.specs.FileReading.{type_at, variable_at, local_at, field_at, begins_type, begins_local, signature_at, not_return, method_of, method_at, method_from, superclass_at, at_public, class_at, begins_main, main_method_at, main_from, main_at, main_part_at, before_end, tree_of}
 use Rattle.mj_parser.proofs.Binds.{and_both}
-use Rattle.mj_parser.proofs.Lists.{stmts_list, list_stmts}
-use Rattle.mj_parser.proofs.Marks.{has_other, has_named, has_within, name_within, says_name}
+use Rattle.mj_parser.proofs.Lists.{list_stmts}
+use Rattle.mj_parser.proofs.Marks.{has_other, has_named, has_within}
 use Rattle.mj_parser.proofs.Rows.{row_again}
 use Rattle.mj_parser.proofs.ExpressionAgain.{closer_semicolon}
-use Rattle.mj_parser.proofs.StatementAgain.{stmt_some, print_name, print_dot, no_statement, exp_before, stmts_again, stmt_again}
+use Rattle.mj_parser.proofs.StatementAgain.{print_name, print_dot, no_statement, exp_before, stmts_again, stmt_again}
 
 -- ---- tokens
 

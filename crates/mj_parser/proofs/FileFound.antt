@@ -1,30 +1,28 @@
 -- What is read as a declaration or a file is that by the grammar.
-use Rattle.std.proofs.Common.{◌≡◌, ℕ, zero, suc, ◌+◌, ◌<◌, ◌≤◌, max, Bool, true, false, not, ◌&&◌, List, [], ◌∷◌, length, drop, Option, Some, None, refl, sym, ap, ◌∙◌, subst, arith, inl, inr}
-use Rattle.std.specs.Prelude.{if◌then◌else◌}
+use Rattle.std.proofs.Common.{◌≡◌, ℕ, suc, ◌+◌, ◌≤◌, true, ◌&&◌, List, [], ◌∷◌, length, drop, Option, Some, None, refl, ap, subst, arith, inl, inr}
 use Rattle.std.proofs.lemmas.Bool.{ltb-false}
 use Rattle.std.proofs.lemmas.List.{length-drop}
 use Rattle.mj_parser.proofs.Marks.{has_within}
 use Rattle.mj_lexer.specs.declared.token.Token.{Token}
 use Rattle.mj_lexer.specs.declared.token.Terminal.TheVariants as terminals
 use Rattle.mj_parser.specs.declared.tree.Ty.{Ty}
-use Rattle.mj_parser.specs.declared.tree.Ty.TheVariants as types
 use Rattle.mj_parser.specs.declared.tree.Field.{Field}
 use Rattle.mj_parser.specs.declared.tree.Variable.{Variable}
 use Rattle.mj_parser.specs.Tokens.{has, name_at}
 use Rattle.mj_parser.specs.Trees.{Name, Statement, Method, Main, Class, File}
 use Rattle.mj_parser.specs.Views.{statements_of}
-use Rattle.mj_parser.specs.Expressions.{size, height, IsExp}
-use Rattle.mj_parser.specs.Statements.{stmt_size, stmts_size, stmt_height, stmts_height, IsStmt, AreStmts}
-use Rattle.mj_parser.specs.Rows.{row_size, row_height, InRow}
-use Rattle.mj_parser.specs.Declarations.{type_size, IsType, IsVariable, variable_size, IsMoreFormal, more_formal_size, formals_size, AreFormals, IsLocal, local_size, formals_place, locals_place, body_place, return_place, method_size, method_height, IsMethod, main_head, main_parameter, field_size, IsField, IsMethodAt, superclass_size, IsSuperclass, head_size, class_size, IsClass, class_height, IsMain, main_size, IsMainPart, main_part_size, main_part_height, file_size, file_height, Derives}
-use Rattle.mj_parser.specs.Steps.{◌>>=◌, when, PartReader, items_from, behind_comma, at_comma, more_listed, listed_at}
+use Rattle.mj_parser.specs.Expressions.{size, IsExp}
+use Rattle.mj_parser.specs.Statements.{stmt_size, stmts_size, stmt_height, IsStmt, AreStmts}
+use Rattle.mj_parser.specs.Rows.{row_size, InRow}
+use Rattle.mj_parser.specs.Declarations.{type_size, IsType, IsVariable, variable_size, IsMoreFormal, more_formal_size, formals_size, AreFormals, IsLocal, local_size, method_size, method_height, IsMethod, main_head, main_parameter, field_size, IsField, IsMethodAt, superclass_size, IsSuperclass, class_size, IsClass, class_height, IsMain, main_size, IsMainPart, main_part_size, main_part_height, Derives}
+use Rattle.mj_parser.specs.Steps.{items_from, behind_comma, at_comma, listed_at}
 use Rattle.mj_parser.specs.ExpressionReading.{exp_at}
 use Rattle.mj_parser.specs.StatementReading.{stmt_at}
 use Rattle.mj_parser.specs.FileReading.{type_at, variable_at, local_at, field_at, begins_type, begins_local, Signature, signature_at, not_return, method_of, method_at, method_from, superclass_at, at_public, class_at, begins_main, main_method_at, main_from, main_at, main_part_at, before_end, tree_of}
 use Rattle.mj_parser.proofs.Binds.{bind_some, when_some, if_some, some_is, and_both}
-use Rattle.mj_parser.proofs.Rows.{PartSound, RowSound, row_found}
-use Rattle.mj_parser.proofs.ExpressionFound.{Sound, exp_found}
-use Rattle.mj_parser.proofs.StatementFound.{not_is_false, SoundStmt, SoundStmts, stmts_found, stmt_found}
+use Rattle.mj_parser.proofs.Rows.{PartSound, row_found}
+use Rattle.mj_parser.proofs.ExpressionFound.{exp_found}
+use Rattle.mj_parser.proofs.StatementFound.{not_is_false, stmts_found, stmt_found}
 
 abbrev flat : {A : Type 0} → A → ℕ
 flat x = 0

@@ -1,6 +1,5 @@
 -- Items that are read one after the other.
-use Rattle.std.proofs.Common.{◌≡◌, ℕ, zero, suc, ◌+◌, ◌<◌, ◌≤◌, max, Bool, true, false, List, [], ◌∷◌, length, Option, Some, None, refl, subst, arith, inl, inr}
-use Rattle.mj_lexer.specs.declared.token.Token.{Token}
+use Rattle.std.proofs.Common.{◌≡◌, ℕ, zero, suc, ◌+◌, ◌<◌, ◌≤◌, Bool, true, false, List, [], ◌∷◌, Some, refl, subst, arith, inl, inr}
 use Rattle.mj_parser.specs.Rows.{row_size, row_height, InRow}
 use Rattle.mj_parser.specs.Steps.{PartReader, items_from}
 use Rattle.mj_parser.proofs.Binds.{bind_some, if_some, some_is}

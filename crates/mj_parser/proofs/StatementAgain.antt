@@ -1,20 +1,18 @@
 -- What is a statement by the grammar is read as that statement.
-use Rattle.std.proofs.Common.{◌≡◌, ℕ, zero, suc, ◌+◌, ◌<◌, ◌≤◌, max, Bool, true, false, not, ◌&&◌, cond, List, [], ◌∷◌, length, Option, Some, None, refl, sym, ap, ◌∙◌, subst, arith}
+use Rattle.std.proofs.Common.{◌≡◌, ℕ, zero, suc, ◌+◌, ◌<◌, ◌≤◌, Bool, true, false, not, ◌&&◌, List, length, Option, Some, refl, ap, subst, arith}
 use Rattle.std.specs.Prelude.{codes}
 use Rattle.mj_lexer.specs.declared.token.Token.{Token}
 use Rattle.mj_lexer.specs.declared.token.Terminal.{Terminal}
 use Rattle.mj_lexer.specs.declared.token.Terminal.TheVariants as terminals
 use Rattle.mj_parser.specs.Tokens.{same_terminal, has, says, name_at}
 use Rattle.mj_parser.specs.Trees.{Name, Expression, Statement, Statements, Block, If, While, Print, Assign, Store, done, next}
-use Rattle.mj_parser.specs.Views.{statements_of}
 use Rattle.mj_parser.specs.Expressions.{size, height, IsExp}
 use Rattle.mj_parser.specs.Statements.{stmt_size, stmts_size, stmt_height, stmts_height, opens_print, IsStmt, AreStmts}
 use Rattle.mj_parser.specs.Steps.{PartReader, items_from}
 use Rattle.mj_parser.specs.ExpressionReading.{exp_at}
 use Rattle.mj_parser.specs.StatementReading.{not_brace, block_at, condition_at, if_at, while_at, print_at, assign_at, store_at, named_at, stmt_of, stmt_at}
-use Rattle.mj_parser.proofs.Binds.{and_both}
 use Rattle.mj_parser.proofs.Lists.{stmts_list, list_stmts}
-use Rattle.mj_parser.proofs.Marks.{has_other, has_named, has_within, name_within, says_name, IsCloser, stops_closer}
+use Rattle.mj_parser.proofs.Marks.{has_other, has_named, has_within, says_name, IsCloser, stops_closer}
 use Rattle.mj_parser.proofs.ExpressionAgain.{exp_again, closer_paren, closer_bracket, closer_semicolon}
 
 pub stmt_some : (s : Statement) → 0 < stmt_size s

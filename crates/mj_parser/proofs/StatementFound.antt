@@ -1,18 +1,17 @@
 -- What is read as a statement is that statement by the grammar.
-use Rattle.std.proofs.Common.{◌≡◌, ℕ, zero, suc, ◌+◌, ◌<◌, ◌≤◌, max, Bool, true, false, not, ◌&&◌, List, [], ◌∷◌, length, Option, Some, None, refl, sym, ap, ◌∙◌, subst, arith, inl, inr}
-use Rattle.std.specs.Prelude.{if◌then◌else◌}
+use Rattle.std.proofs.Common.{◌≡◌, ℕ, zero, suc, ◌+◌, ◌≤◌, Bool, true, false, not, ◌&&◌, List, length, Some, refl, subst, arith, inl, inr}
 use Rattle.mj_lexer.specs.declared.token.Token.{Token}
 use Rattle.mj_lexer.specs.declared.token.Terminal.TheVariants as terminals
 use Rattle.mj_parser.specs.Tokens.{has, name_at}
-use Rattle.mj_parser.specs.Trees.{Name, Expression, Statement, Statements, Block, If, While, Print, Assign, Store, done, next}
+use Rattle.mj_parser.specs.Trees.{Name, Expression, Statement}
 use Rattle.mj_parser.specs.Views.{statements_of}
 use Rattle.mj_parser.specs.Expressions.{size, height, IsExp}
 use Rattle.mj_parser.specs.Statements.{stmt_size, stmts_size, stmt_height, stmts_height, opens_print, IsStmt, AreStmts}
-use Rattle.mj_parser.specs.Steps.{◌>>=◌, when, PartReader, items_from}
+use Rattle.mj_parser.specs.Steps.{PartReader, items_from}
 use Rattle.mj_parser.specs.ExpressionReading.{exp_at}
 use Rattle.mj_parser.specs.StatementReading.{not_brace, block_at, condition_at, if_at, while_at, print_at, assign_at, store_at, named_at, stmt_of, stmt_at}
 use Rattle.mj_parser.proofs.Binds.{bind_some, when_some, if_some, some_is, and_both}
-use Rattle.mj_parser.proofs.ExpressionFound.{Sound, exp_found}
+use Rattle.mj_parser.proofs.ExpressionFound.{exp_found}
 
 pub not_is_false : (b : Bool) → not b ≡ false → b ≡ true
 not_is_false true e = refl
