@@ -280,12 +280,12 @@ module _ (part : Reader) (ts : List Token) (room : ℕ) (reads : (d i j : ℕ) (
         elim (cases_lt (tier_of o) (suc d)) [
           | inl lt ↦ lower_then (Binary o m l r) i j total (lt, h.1, h.2, h.3, h.4) fits at w s leads
           | inr ge ↦
-            let lt = h.0 in
-            let same : tier_of o ≡ suc d = omega arith in
-            let m-is = h.2 in
-            let here = has_within ts m (terminal_of o) h.3 in
-            climb l i m total (subst (λ (k : ℕ). IsExp ts (suc k) i l) same h.1) (omega arith) h.2 (omega arith) (subst (λ (k : ℕ). Stops ts k m) same (stops_operator ts m o h.3))
-            (chain_goes_on part ts room (suc d) l m (omega arith) o r j total (subst (λ (k : ℕ). operator_at ts m k ≡ Some o) same (at_is ts m o h.3)) (omega arith)
+              let lt = h.0 in
+              let same : tier_of o ≡ suc d = omega arith in
+              let m-is = h.2 in
+              let here = has_within ts m (terminal_of o) h.3 in
+              climb l i m total (subst (λ (k : ℕ). IsExp ts (suc k) i l) same h.1) (omega arith) h.2 (omega arith) (subst (λ (k : ℕ). Stops ts k m) same (stops_operator ts m o h.3))
+              (chain_goes_on part ts room (suc d) l m (omega arith) o r j total (subst (λ (k : ℕ). operator_at ts m k ≡ Some o) same (at_is ts m o h.3)) (omega arith)
               (reads (suc d) (m + 1) j r (subst (λ (k : ℕ). IsExp ts k (m + 1) r) same h.4) (omega arith) (omega arith) w s) (omega arith) leads)
         ]
     climb (Not m e) i j total h fits at w s leads = lower_then (Not m e) i j total (omega arith, h.1, h.2, h.3) fits at w s leads

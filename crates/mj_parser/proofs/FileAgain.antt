@@ -133,7 +133,7 @@ formals_again ts i j (v ∷ vs) h at e =
     let w = has_within ts j terminals.RightParenthesis e in
     let v-is = h.0 in
     let r = row_again (IsMoreFormal ts) more_formal_size flat 0 (behind_comma (variable_at ts)) (at_comma ts) (length ts) (λ k x g low. variable_again ts (k + 1) (k + more_formal_size x) x g.1 (omega arith)) (λ k x g. g.0) (λ x. omega arith) vs (suc (length ts)) (i + variable_size v) j h.1 (flat_row vs)
-      (omega arith) (has_other ts j terminals.RightParenthesis terminals.Comma e refl) (omega arith) (omega arith) in
+    (omega arith) (has_other ts j terminals.RightParenthesis terminals.Comma e refl) (omega arith) (omega arith) in
     rw (listed_at, no_type ts terminals.RightParenthesis refl refl i v.ty v-is.1, variable_again ts i (i + variable_size v) v h.0 refl, r, e) refl
 
 -- ---- methods
@@ -149,7 +149,7 @@ unfolding method_at method_of
 method_again ts m h low =
     let w = has_within ts (return_place m) terminals.Return h.return_word in
     let ls = row_again (IsLocal ts) local_size flat 0 (local_at ts) (begins_local ts) (length ts) (λ k x g lw. local_again ts k (k + local_size x) x g refl) (λ k x g. local_begins ts k x.ty x.name g.0.1 g.0.2) (λ x. omega arith) m.locals (suc (length ts)) (locals_place m) (body_place m) h.locals (flat_row m.locals)
-      refl (no_local_behind ts (body_place m) m.body h.body h.return_word) (omega arith) (omega arith) in
+    refl (no_local_behind ts (body_place m) m.body h.body h.return_word) (omega arith) (omega arith) in
     let bs = stmts_again ts 500 (stmt_at 500 ts) (λ i j s. stmt_again ts 500 i j s) (not_return ts) (λ i s g. ap not (no_statement ts terminals.Return refl refl refl s i g)) m.body (suc (length ts)) (body_place m) (return_place m) h.body (omega arith) refl (ap not h.return_word) (omega arith) (omega arith) in
     let v = exp_before ts 500 terminals.Semicolon closer_semicolon (return_place m + 1) (return_place m + 1 + size m.returned) m.returned h.returned (omega arith) refl h.semicolon in
     let make : ℕ → Option (Method × ℕ) = λ k. Some (record { name = m.name; returns = m.returns; formals = m.formals; locals = m.locals; body = m.body; returned = m.returned; return_mark = k }, method_size m) in
@@ -188,9 +188,9 @@ class_again ts i j c h low at =
     let head-is : i + (2 + superclass_size c.superclass) + 1 ≡ i + head_size c = omega arith in
     let ss = superclass_again ts (i + 2) (i + (2 + superclass_size c.superclass)) c.superclass h.superclass h.brace (omega arith) in
     let fs = row_again (IsField ts) field_size flat 0 (field_at ts) (begins_type ts) (length ts) (λ k x g lw. field_again ts k (k + field_size x) x g refl) (λ k x g. type_begins ts k x.ty g.0) (λ x. omega arith) c.fields (suc (length ts)) (i + head_size c) (i + head_size c + row_size field_size c.fields) h.fields (flat_row c.fields)
-      refl (no_field_behind ts (i + head_size c + row_size field_size c.fields) c.methods h.methods h.end_brace) (omega arith) (omega arith) in
+    refl (no_field_behind ts (i + head_size c + row_size field_size c.fields) c.methods h.methods h.end_brace) (omega arith) (omega arith) in
     let ms = row_again (IsMethodAt ts) method_size method_height 500 (method_from ts) (at_public ts) (length ts) (method_from_again ts) (method_begins ts) (λ x. omega arith) c.methods (suc (length ts)) (i + head_size c + row_size field_size c.fields) (i + head_size c + row_size field_size c.fields + row_size method_size c.methods) h.methods low
-      refl (has_other ts _ terminals.RightBrace terminals.Public h.end_brace refl) (omega arith) (omega arith) in
+    refl (has_other ts _ terminals.RightBrace terminals.Public h.end_brace refl) (omega arith) (omega arith) in
     rw (class_at, j-is, h.class_word, h.name, ss, h.brace, head-is, fs, ms, h.end_brace) refl
 
 class_begins : (ts : List Token) (i : ℕ) (c : Class) → IsClass ts i c → before_end ts i ≡ true
@@ -255,5 +255,5 @@ file_again ts f d =
     let whole = d.whole in
     let low = d.low in
     let cs = row_again (IsClass ts) class_size class_height 500 (class_at ts) (before_end ts) (length ts) (λ k x g lw. class_again ts k (k + class_size x) x g lw refl) (class_begins ts) (λ x. omega arith) f.classes (suc (length ts)) (main_part_size f.main) (length ts) d.classes (omega arith)
-      (omega arith) (le-ltb (length ts) (length ts) (omega arith)) (omega arith) (omega arith) in
+    (omega arith) (le-ltb (length ts) (length ts) (omega arith)) (omega arith) (omega arith) in
     rw (tree_of, main_part_again ts f.main f.classes d.main d.classes d.whole (omega arith), cs) refl

@@ -38,15 +38,15 @@ type_found ts i x e =
     elim (if_some (has ts i terminals.Int) _ _ x e) [
       | inl a ↦ elim (if_some (has ts (i + 1) terminals.LeftBracket) _ _ x a.1) [
         | inl b ↦
-          let c = when_some (has ts (i + 2) terminals.RightBracket) _ x b.1 in
-          subst (SoundType ts i) (some_is _ x c.1) (record { is = (a.0, b.0, c.0); at = refl; low = omega arith })
+            let c = when_some (has ts (i + 2) terminals.RightBracket) _ x b.1 in
+            subst (SoundType ts i) (some_is _ x c.1) (record { is = (a.0, b.0, c.0); at = refl; low = omega arith })
         | inr b ↦ subst (SoundType ts i) (some_is _ x b.1) (record { is = a.0; at = refl; low = omega arith })
       ]
       | inr a ↦ elim (if_some (has ts i terminals.Boolean) _ _ x a.1) [
         | inl b ↦ subst (SoundType ts i) (some_is _ x b.1) (record { is = b.0; at = refl; low = omega arith })
         | inr b ↦
-          let c = bind_some (name_at ts i) _ x b.1 in
-          subst (SoundType ts i) (some_is _ x c.2) (record { is = c.1; at = refl; low = omega arith })
+            let c = bind_some (name_at ts i) _ x b.1 in
+            subst (SoundType ts i) (some_is _ x c.2) (record { is = c.1; at = refl; low = omega arith })
       ]
     ]
 
@@ -100,22 +100,22 @@ unfolding listed_at
 formals_found ts i x e =
     elim (if_some (has ts i terminals.RightParenthesis) _ _ x e) [
       | inl a ↦
-        let same : i ≡ i + 0 = omega arith in
-        subst (SoundFormals ts i) (some_is _ x a.1) (record { are = tt; at = omega arith; close = subst (λ (k : ℕ). has ts k terminals.RightParenthesis ≡ true) same a.0 })
+          let same : i ≡ i + 0 = omega arith in
+          subst (SoundFormals ts i) (some_is _ x a.1) (record { are = tt; at = omega arith; close = subst (λ (k : ℕ). has ts k terminals.RightParenthesis ≡ true) same a.0 })
       | inr a ↦
-        let b = bind_some (variable_at ts i) _ x a.1 in
-        let c = bind_some (items_from (suc (length ts)) (behind_comma (variable_at ts)) (at_comma ts) b.0.1) _ x b.2 in
-        let f = when_some (has ts c.0.1 terminals.RightParenthesis) _ x c.2 in
-        let v = variable_found ts i b.0 b.1 in
-        let r = row_found (IsMoreFormal ts) more_formal_size flat 0 (behind_comma (variable_at ts)) (at_comma ts) (more_formal_found ts) (suc (length ts)) b.0.1 c.0 c.1 in
-        let v-at = v.at in
-        let r-at = r.at in
-        let there : c.0.1 ≡ i + (variable_size b.0.0 + row_size more_formal_size c.0.0) = omega arith in
-        subst (SoundFormals ts i) (some_is _ x f.1) (record {
-          are = (v.is, subst (λ (k : ℕ). InRow (IsMoreFormal ts) more_formal_size k c.0.0) v.at r.are);
-          at = omega arith;
-          close = subst (λ (k : ℕ). has ts k terminals.RightParenthesis ≡ true) there f.0;
-        })
+          let b = bind_some (variable_at ts i) _ x a.1 in
+          let c = bind_some (items_from (suc (length ts)) (behind_comma (variable_at ts)) (at_comma ts) b.0.1) _ x b.2 in
+          let f = when_some (has ts c.0.1 terminals.RightParenthesis) _ x c.2 in
+          let v = variable_found ts i b.0 b.1 in
+          let r = row_found (IsMoreFormal ts) more_formal_size flat 0 (behind_comma (variable_at ts)) (at_comma ts) (more_formal_found ts) (suc (length ts)) b.0.1 c.0 c.1 in
+          let v-at = v.at in
+          let r-at = r.at in
+          let there : c.0.1 ≡ i + (variable_size b.0.0 + row_size more_formal_size c.0.0) = omega arith in
+          subst (SoundFormals ts i) (some_is _ x f.1) (record {
+            are = (v.is, subst (λ (k : ℕ). InRow (IsMoreFormal ts) more_formal_size k c.0.0) v.at r.are);
+            at = omega arith;
+            close = subst (λ (k : ℕ). has ts k terminals.RightParenthesis ≡ true) there f.0;
+          })
     ]
 
 -- ---- methods
@@ -218,8 +218,8 @@ unfolding superclass_at
 superclass_found ts i x e =
     elim (if_some (has ts i terminals.Extends) _ _ x e) [
       | inl a ↦
-        let b = bind_some (name_at ts (i + 1)) _ x a.1 in
-        subst (PartSound (IsSuperclass ts) superclass_size flat 0 i) (some_is _ x b.2) (record { is = (a.0, b.1); at = refl; low = omega arith })
+          let b = bind_some (name_at ts (i + 1)) _ x a.1 in
+          subst (PartSound (IsSuperclass ts) superclass_size flat 0 i) (some_is _ x b.2) (record { is = (a.0, b.1); at = refl; low = omega arith })
       | inr a ↦ subst (PartSound (IsSuperclass ts) superclass_size flat 0 i) (some_is _ x a.1) (record { is = tt; at = omega arith; low = omega arith })
     ]
 
@@ -323,9 +323,9 @@ unfolding main_part_at
 main_part_found ts x e =
     elim (if_some (begins_main ts) _ _ x e) [
       | inl a ↦
-        let b = bind_some (main_at ts) _ x a.1 in
-        let m = main_found ts b.0 b.1 in
-        subst (SoundMainPart ts) (some_is _ x b.2) (record { is = m.is; at = m.at; low = m.low })
+          let b = bind_some (main_at ts) _ x a.1 in
+          let m = main_found ts b.0 b.1 in
+          subst (SoundMainPart ts) (some_is _ x b.2) (record { is = m.is; at = m.at; low = m.low })
       | inr a ↦ subst (SoundMainPart ts) (some_is _ x a.1) (record { is = tt; at = refl; low = omega arith })
     ]
 

@@ -91,8 +91,14 @@ module _ (ts : List Token) (room : ℕ) (part : PartReader Statement) (reads : (
       → has ts (i + 2 + size e + 1 + stmt_size s) terminals.Else ≡ true → IsStmt ts (i + 2 + size e + 1 + stmt_size s + 1) t → stmt_height t ≤ room → j ≡ i + 2 + size e + 1 + stmt_size s + 1 + stmt_size t → if_at (exp_at room ts 5) part ts i ≡ Some (If i e s t, j)
   unfolding if_at
   if_again i j e s t p h low c hs lows o ht lowt at =
-      rw (if_at, at, condition_again ts room i (i + 2 + size e + 1) e p h low c refl, reads (i + 2 + size e + 1) (i + 2 + size e + 1 + stmt_size s) s hs lows refl, o,
-        reads (i + 2 + size e + 1 + stmt_size s + 1) (i + 2 + size e + 1 + stmt_size s + 1 + stmt_size t) t ht lowt refl) refl
+      rw (
+        if_at,
+        at,
+        condition_again ts room i (i + 2 + size e + 1) e p h low c refl,
+        reads (i + 2 + size e + 1) (i + 2 + size e + 1 + stmt_size s) s hs lows refl,
+        o,
+        reads (i + 2 + size e + 1 + stmt_size s + 1) (i + 2 + size e + 1 + stmt_size s + 1 + stmt_size t) t ht lowt refl,
+      ) refl
 
   while_again : (i j : ℕ) (e : Expression) (s : Statement) → has ts (i + 1) terminals.LeftParenthesis ≡ true → IsExp ts 5 (i + 2) e → height e ≤ room → has ts (i + 2 + size e) terminals.RightParenthesis ≡ true → IsStmt ts (i + 2 + size e + 1) s → stmt_height s ≤ room
       → j ≡ i + 2 + size e + 1 + stmt_size s → while_at (exp_at room ts 5) part ts i ≡ Some (While i e s, j)
