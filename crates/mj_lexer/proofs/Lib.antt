@@ -1,4 +1,6 @@
 pub mod Comments
+pub mod Cutting
 pub mod Names
 pub mod Numbers
-pub mod Once
+pub mod Within
+pub mod Lexings

@@ -1,6 +1,7 @@
 //! A text cut into tokens.
 ghost use Rattle.std.specs.Prelude.{◌≡◌, ◌⊎◌, List, IfOk, IfErr, MatchResult, ◌≢◌};
 ghost use Rattle.mj_lexer.specs.Lexes.{Lexes, Breaks, fault_at};
+ghost use Rattle.mj_lexer.specs.Lexing.{lexing_of};
 ghost use Rattle.mj_lexer.specs.declared.token.Token.{Token};
 ghost use Rattle.mj_lexer.specs.declared.lexer.LexFault.{LexFault};
 ghost use Rattle.mj_lexer.specs.declared.lexer.LexFault.TheVariants.{OutOfMemory};
@@ -85,6 +86,10 @@ pub fn lex(alloc: Global, text: &[u8]) -> Result<Vec<Token>, LexFault>
     ensures only { (others : List Token) → Lexes text.now others → MatchResult result (λ v. v.items ≡ others) (λ e. e ≡ OutOfMemory) }
     ensures fault { IfErr result (λ e. e ≢ OutOfMemory → Breaks text.now e) }
     ensures fault_only { (f : LexFault) → Breaks text.now f → MatchResult result (λ _. ⊥) (λ e. (e ≡ f) ⊎ (e ≡ OutOfMemory)) }
+
+    // The same by the function that computes them.
+    ensures tokens { IfOk result (λ v. lexing_of text.now ≡ Ok v.items) }
+    ensures refusal { IfErr result (λ e. e ≢ OutOfMemory → lexing_of text.now ≡ Err e) }
 {
     tokens(alloc, text)
 }

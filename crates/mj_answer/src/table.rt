@@ -1,0 +1,201 @@
+//! The fields and methods of classes, and the whole answer.
+ghost use Rattle.std.specs.Prelude.{◌≡◌};
+
+use crate::diagnostic::Diagnostic;
+use mj_lexer::Name;
+use mj_parser::Ty;
+use std::marker::Model;
+
+/// A field that a class has, with the class that declares it.
+#[derive(Debug, Drop, PartialEq, Eq)]
+pub struct FieldRow {
+    pub name: Name,
+    pub owner: Name,
+    pub ty: Ty,
+}
+
+/// A method that a class has, with the class that declares it.
+#[derive(Debug, Drop)]
+pub struct MethodRow {
+    name: Name,
+    owner: Name,
+    formals: Vec<Ty>,
+    returns: Ty,
+}
+
+impl Model for MethodRow {
+    ghost use Rattle.mj_answer.specs.Answers.{MethodRowValue};
+
+    ghost Value = { MethodRowValue };
+
+    ghost view = { λ row. record { name = row.name; owner = row.owner; formals = row.formals.items; returns = row.returns } };
+}
+
+impl MethodRow {
+    /// A method of these formal types and this return type.
+    pub fn new(name: Name, owner: Name, formals: Vec<Ty>, returns: Ty) -> Self
+        ensures { result ≡ record { name = name; owner = owner; formals = formals.items; returns = returns } }
+    {
+        MethodRow {
+            name,
+            owner,
+            formals,
+            returns,
+        }
+    }
+
+    /// The method's name.
+    pub fn name(&self) -> &Name
+        ensures { result.now ≡ self.now.name }
+    {
+        &self.name
+    }
+
+    /// The class that declares it.
+    pub fn owner(&self) -> &Name
+        ensures { result.now ≡ self.now.owner }
+    {
+        &self.owner
+    }
+
+    /// The types of its formals, in their order.
+    pub fn formals(&self) -> &[Ty]
+        ensures { result.now ≡ self.now.formals }
+    {
+        self.formals.as_slice()
+    }
+
+    /// The type that it returns.
+    pub fn returns(&self) -> &Ty
+        ensures { result.now ≡ self.now.returns }
+    {
+        &self.returns
+    }
+}
+
+/// The fields and the methods that a class has, each ascending by name.
+#[derive(Debug, Drop)]
+pub struct ClassTable {
+    fields: Vec<FieldRow>,
+    methods: Vec<MethodRow>,
+}
+
+impl Model for ClassTable {
+    ghost use Rattle.mj_answer.specs.Answers.{ClassTableValue};
+
+    ghost Value = { ClassTableValue };
+
+    ghost view = { λ table. record { fields = table.fields.items; methods = table.methods.items } };
+}
+
+impl ClassTable {
+    /// A table of these rows.
+    pub fn new(fields: Vec<FieldRow>, methods: Vec<MethodRow>) -> Self
+        ensures { result ≡ record { fields = fields.items; methods = methods.items } }
+    {
+        ClassTable { fields, methods }
+    }
+
+    /// The fields.
+    pub fn fields(&self) -> &[FieldRow]
+        ensures { result.now ≡ self.now.fields }
+    {
+        self.fields.as_slice()
+    }
+
+    /// The methods.
+    pub fn methods(&self) -> &[MethodRow]
+        ensures { result.now ≡ self.now.methods }
+    {
+        self.methods.as_slice()
+    }
+}
+
+/// What is answered for a class: its fields and methods, and its faults in ascending order.
+#[derive(Debug, Drop)]
+pub struct ClassAnswer {
+    name: Name,
+    table: ClassTable,
+    faults: Vec<Diagnostic>,
+}
+
+impl Model for ClassAnswer {
+    ghost use Rattle.mj_answer.specs.Answers.{ClassAnswerValue};
+
+    ghost Value = { ClassAnswerValue };
+
+    ghost view = { λ class. record { name = class.name; table = class.table; faults = class.faults.items } };
+}
+
+impl ClassAnswer {
+    /// The answer for the class of this name.
+    pub fn new(name: Name, table: ClassTable, faults: Vec<Diagnostic>) -> Self
+        ensures { result ≡ record { name = name; table = table; faults = faults.items } }
+    {
+        ClassAnswer {
+            name,
+            table,
+            faults,
+        }
+    }
+
+    /// The class's name.
+    pub fn name(&self) -> &Name
+        ensures { result.now ≡ self.now.name }
+    {
+        &self.name
+    }
+
+    /// The class's fields and methods.
+    pub fn table(&self) -> &ClassTable
+        ensures { result.now ≡ self.now.table }
+    {
+        &self.table
+    }
+
+    /// The class's faults.
+    pub fn faults(&self) -> &[Diagnostic]
+        ensures { result.now ≡ self.now.faults }
+    {
+        self.faults.as_slice()
+    }
+}
+
+/// What is answered for a project: the faults of the project itself in ascending order, and its classes ascending by
+/// name.
+#[derive(Debug, Drop)]
+pub struct Answer {
+    faults: Vec<Diagnostic>,
+    classes: Vec<ClassAnswer>,
+}
+
+impl Model for Answer {
+    ghost use Rattle.mj_answer.specs.Answers.{AnswerValue};
+
+    ghost Value = { AnswerValue };
+
+    ghost view = { λ answer. record { faults = answer.faults.items; classes = answer.classes.items } };
+}
+
+impl Answer {
+    /// An answer of these faults and classes.
+    pub fn new(faults: Vec<Diagnostic>, classes: Vec<ClassAnswer>) -> Self
+        ensures { result ≡ record { faults = faults.items; classes = classes.items } }
+    {
+        Answer { faults, classes }
+    }
+
+    /// The project's own faults.
+    pub fn faults(&self) -> &[Diagnostic]
+        ensures { result.now ≡ self.now.faults }
+    {
+        self.faults.as_slice()
+    }
+
+    /// The classes.
+    pub fn classes(&self) -> &[ClassAnswer]
+        ensures { result.now ≡ self.now.classes }
+    {
+        self.classes.as_slice()
+    }
+}
