@@ -24,6 +24,9 @@ fn name(rt: HostRuntime, text: &str) -> Result<Option<Name>, Fail> {
     if text.is_empty() {
         return Ok(None);
     }
+    if text.len() > Name::MOST {
+        return Err("a name".into());
+    }
     Ok(Some(Name::new(rt.alloc(), text)?))
 }
 
@@ -69,11 +72,27 @@ fn names_of_a_key(rt: HostRuntime) -> Result<(), Fail> {
     assert!(rt; body.kind() == Kind::CheckBody);
     assert_eq!(rt; body.class().ok_or("a class")?.as_str(), "A");
     assert_eq!(rt; body.member().ok_or("a method")?.as_str(), "f");
-    assert!(rt; Key::new(Kind::Method, name(rt, "A")?, None).is_none());
-    assert!(rt; Key::new(Kind::Answer, name(rt, "A")?, None).is_none());
-    assert!(rt; Key::new(Kind::Header, None, None).is_none());
-    assert!(rt; Key::new(Kind::Tree, name(rt, "A")?, name(rt, "f")?).is_none());
+    Ok(())
+}
+
+#[test]
+fn names_that_fit_no_kind(rt: HostRuntime) -> Result<(), Fail> {
+    let rows = [
+        (Kind::Method, "A", ""),
+        (Kind::Answer, "A", ""),
+        (Kind::Header, "", ""),
+        (Kind::Tree, "A", "f"),
+        (Kind::Sig, "", "f"),
+    ];
+    for (kind, class, member) in &rows {
+        let made = Key::new(*kind, name(rt, class)?, name(rt, member)?);
+        assert!(rt; made.is_none());
+    }
+    Ok(())
+}
+
+#[test]
+fn laws(_rt: HostRuntime) {
     keys_in_order();
     ranks_in_order();
-    Ok(())
 }
