@@ -1,0 +1,36 @@
+-- The statement of `main`, or a method.
+use Rattle.std.specs.Prelude.{ℕ, List, [], ◌∷◌, Result, Err, refl, ◌≡◌, ◌⊎◌}
+use Rattle.std.specs.Coded.{Coded, code_by, coded⊎}
+use Rattle.std.proofs.Common.{inl, inr}
+use Rattle.mj_parser.specs.Trees.{Statement, Method}
+use Rattle.tree_bytes.specs.Spelling.{stmt, method}
+use Rattle.tree_bytes.specs.Fits.{TopStmtFits, MethodFits}
+use Rattle.tree_bytes.specs.Codes.{statement_code, method_code}
+
+pub data BodyValue : Type 0 where
+  OfMain : (statement : Statement) → BodyValue
+  OfMethod : (tree : Method) → BodyValue
+
+abbrev to_sum : BodyValue → Statement ⊎ Method
+to_sum (OfMain s) = inl s
+to_sum (OfMethod m) = inr m
+
+abbrev from_sum : Statement ⊎ Method → BodyValue
+from_sum (inl s) = OfMain s
+from_sum (inr m) = OfMethod m
+
+pub from_sum-to_sum : (b : BodyValue) → from_sum (to_sum b) ≡ b
+from_sum-to_sum (OfMain s) = refl
+from_sum-to_sum (OfMethod m) = refl
+
+abbrev pub body_code : Coded BodyValue
+body_code = code_by (Statement ⊎ Method) (coded⊎ statement_code method_code) to_sum from_sum from_sum-to_sum
+
+abbrev pub BodyFits : BodyValue → Type 0
+BodyFits (OfMain s) = TopStmtFits s
+BodyFits (OfMethod m) = MethodFits m
+
+-- a tag, and the statement or the method
+abbrev pub body : BodyValue → List ℕ
+body (OfMain s) = 0x00 ∷ stmt s
+body (OfMethod m) = 0x01 ∷ method m
