@@ -1,13 +1,20 @@
-// A library with one function.
+//! The results of queries, and the one spelling of each in bytes.
 #![tactic(auto)]
 
-ghost use Rattle.std.specs.Prelude.{◌≡◌};
-ghost use Rattle.result_bytes.specs.Echo.{echo_of};
+mod answer;
+mod class;
+mod files;
+mod laws;
+mod reading;
+mod refusal;
+mod value;
+mod writing;
 
-// The `ensures` clause is the contract: what `echo` returns is `echo_of` of its argument, a definition
-// in `specs/Echo.antt`, which a caller's clause can cite too.
-pub fn echo(x: usize) -> usize
-    ensures { result ≡ echo_of x }
-{
-    x
-}
+pub use answer::{Faults, Members, WholeAnswer};
+pub use class::{ChainEnd, Header, Signature, Supers};
+pub use files::{FileNames, Index, IndexRow, Text};
+pub use laws::is_value;
+pub use reading::decode;
+pub use refusal::Refusal;
+pub use value::Value;
+pub use writing::encode;

@@ -1,0 +1,5 @@
+pub mod Payloads
+pub mod Canon
+pub mod Fits
+pub mod Reading
+pub mod Values
