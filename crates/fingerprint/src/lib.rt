@@ -1,13 +1,8 @@
-// A library with one function.
+//! Results with their canonical bytes and the fingerprint of these.
 #![tactic(auto)]
 
-ghost use Rattle.std.specs.Prelude.{◌≡◌};
-ghost use Rattle.fingerprint.specs.Echo.{echo_of};
+mod print;
+mod sealed;
 
-// The `ensures` clause is the contract: what `echo` returns is `echo_of` of its argument, a definition
-// in `specs/Echo.antt`, which a caller's clause can cite too.
-pub fn echo(x: usize) -> usize
-    ensures { result ≡ echo_of x }
-{
-    x
-}
+pub use print::Print;
+pub use sealed::{OpenFault, Sealed, open_sealed, seal};
