@@ -11,7 +11,7 @@ use Rattle.mj_parser.specs.Laws.{GrammarLaws}
 use Rattle.mj_parser.proofs.FileFound.{file_found}
 use Rattle.mj_parser.proofs.FileAgain.{file_again}
 use Rattle.mj_rules.proofs.SentenceLaws.{sentences_by}
-use Rattle.mj_rules.specs.Laws.{SentenceLaw, BodyLaws}
+use Rattle.mj_rules.specs.Laws.{SentenceLaw}
 
 pub chain_laws : ChainLaws
 chain_laws = record {
@@ -36,6 +36,3 @@ grammar = λ ts f. (file_again ts f, file_found ts f)
 
 pub sentence_law : SentenceLaw
 sentence_law = sentences_by grammar
-
-pub body_laws : BodyLaws
-body_laws = ?
