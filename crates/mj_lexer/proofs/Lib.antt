@@ -6,3 +6,4 @@ pub mod Within
 pub mod Lexings
 pub mod Taken
 pub mod Longest
+pub mod Only

@@ -17,7 +17,7 @@ use Rattle.mj_lexer.specs.declared.front.Front.TheVariants.{Nothing, Blank, Word
 use Rattle.mj_lexer.specs.Bytes.{is_white, is_letter, is_digit, is_name_byte, is_line_byte, opens, closes}
 use Rattle.mj_lexer.specs.Words.{text_of, symbol_of, reserved_of, kind_of_word}
 use Rattle.mj_lexer.specs.Fronts.{after_comment, found_symbol, found_comment, slash_front, and_front, name_front, number_front, front_of, IsWithin}
-use Rattle.mj_lexer.specs.Pieces.{is_word, IsBlank, white, line_comment, closed_comment, IsToken, IsLongest, HasNoPiece, OpensComment, Stands}
+use Rattle.mj_lexer.specs.Pieces.{is_word, IsBlank, white, line_comment, closed_comment, IsToken, IsLongest, HasNoPiece, OpensComment, IsShort, Stands}
 use Rattle.mj_lexer.proofs.Within.{either_way, letter_in_name, front_within}
 use Rattle.mj_lexer.proofs.Taken.{TerminalIs, symbol, reserved, terminal_is, Takes, piece_taken}
 
@@ -57,7 +57,7 @@ symbol_text b =
     found_if (b ∷ []) (b == 33) Not _ (λ e. byte_text b 33 Not e refl) (
     λ terminal e. absurd cc)))))))))))))))
 
-reserved_text : (bytes : List ℕ) → IsWrittenAs bytes (reserved_of bytes)
+pub reserved_text : (bytes : List ℕ) → IsWrittenAs bytes (reserved_of bytes)
 unfolding reserved_of
 reserved_text bytes =
     found_if bytes (bytes_eq bytes (codes "class")) Class _ (λ e. same_bytes bytes (codes "class") e) (
@@ -82,7 +82,7 @@ not_reserved : (bytes : List ℕ) → is_word bytes ≡ true → (reserved_of by
 not_reserved bytes word none terminal is = by_terminal (terminal_is terminal) none
   where
     by_terminal : TerminalIs terminal → (reserved_of bytes ≡ None) ⊎ (255 < length bytes) → ⊥
-    by_terminal (symbol single e) none = let a = ap is_word is in absurd cc
+    by_terminal (symbol single other e) none = let a = ap is_word is in absurd cc
     by_terminal (reserved other short e) (inl none) = let a = ap reserved_of is in absurd cc
     by_terminal (reserved other short e) (inr long) = let a = ap length is in let b : length (text_of terminal) ≤ 255 = grind (arith, nat_tests) in omega arith
 
@@ -90,7 +90,7 @@ not_reserved bytes word none terminal is = by_terminal (terminal_is terminal) no
 abbrev Sound : List ℕ → Front → Type 0
 Sound text Nothing = text ≡ []
 Sound text (Blank n) = IsBlank (take n text)
-Sound text (Word kind n) = IsToken (take n text) kind
+Sound text (Word kind n) = IsToken (take n text) kind × IsShort kind
 Sound text (Wrong problems.Name) = let n = prefix_len is_name_byte text in (255 < n) × IsToken (take n text) (Identifier (take n text))
 Sound text (Wrong problems.Comment) = OpensComment text
 Sound text (Wrong problems.Byte) = (text ≢ []) × (OpensComment text → ⊥)
@@ -106,12 +106,12 @@ prefix_passes p (b ∷ text) = by_first (p b) refl (prefix_passes p text)
     by_first true e behind = rw (take-prefix_len p b text e) (rw (e, behind) refl)
     by_first false e behind = rw e refl
 
-word_is_token : (bytes : List ℕ) → is_word bytes ≡ true → IsToken bytes (kind_of_word bytes)
-word_is_token bytes word = by_found (reserved_of bytes) refl
+word_is_token : (bytes : List ℕ) → is_word bytes ≡ true → length bytes ≤ 255 → IsToken bytes (kind_of_word bytes) × IsShort (kind_of_word bytes)
+word_is_token bytes word short = by_found (reserved_of bytes) refl
   where
-    by_found : (found : Option Terminal) → reserved_of bytes ≡ found → IsToken bytes (kind_of_word bytes)
-    by_found None e = let others = not_reserved bytes word (inl e) in rw e (word, refl, others)
-    by_found (Some terminal) e = let is = reserved_text bytes terminal e in rw e is
+    by_found : (found : Option Terminal) → reserved_of bytes ≡ found → IsToken bytes (kind_of_word bytes) × IsShort (kind_of_word bytes)
+    by_found None e = let others = not_reserved bytes word (inl e) in rw e ((word, refl, others), short)
+    by_found (Some terminal) e = let is = reserved_text bytes terminal e in rw e (is, tt)
 
 name_sound : (b : ℕ) (text : List ℕ) → is_letter b ≡ true → Sound (b ∷ text) (name_front (b ∷ text) (prefix_len is_name_byte (b ∷ text)))
 name_sound b text letter =
@@ -120,10 +120,10 @@ name_sound b text letter =
     let len : length (take n (b ∷ text)) ≡ n = length-prefix_len is_name_byte (b ∷ text) in
     either_way (Sound (b ∷ text)) (nat_lt 255 n) _ _
     (λ e. let long : 255 < n = grind (arith, nat_tests) in (long, (word, refl, not_reserved (take n (b ∷ text)) word (inr (omega arith)))))
-    (λ _. word_is_token (take n (b ∷ text)) word)
+    (λ e. let short : n ≤ 255 = grind (arith, nat_tests) in word_is_token (take n (b ∷ text)) word (omega arith))
 
 number_sound : (b : ℕ) (text : List ℕ) → is_digit b ≡ true → Sound (b ∷ text) (number_front (b ∷ text) (prefix_len is_digit (b ∷ text)))
-number_sound b text digit = (rw (take-prefix_len is_digit b text digit) (rw (digit, prefix_passes is_digit text) refl), refl)
+number_sound b text digit = ((rw (take-prefix_len is_digit b text digit) (rw (digit, prefix_passes is_digit text) refl), refl), tt)
 
 -- a comment that ends has a part of the text up to there
 record Ending (depth : ℕ) (text left : List ℕ) : Type 0 where
@@ -187,12 +187,12 @@ and_sound : (text : List ℕ) → Sound (38 ∷ text) (and_front text)
 and_sound [] = (λ e. cc, no_comment 38 [] refl)
 and_sound (b ∷ text) =
     either_way (Sound (38 ∷ b ∷ text)) (b == 38) _ _
-    (λ e. let same = same_byte b 38 e in rw same refl)
+    (λ e. let same = same_byte b 38 e in rw same (refl, tt))
     (λ e. (λ f. cc, no_comment 38 (b ∷ text) refl))
 
 symbol_sound : (b : ℕ) (text : List ℕ) → (b == 47) ≡ false → (found : Option Terminal) → symbol_of b ≡ found → Sound (b ∷ text) (found_symbol found)
 symbol_sound b text other None e = (λ f. cc, no_comment b text other)
-symbol_sound b text other (Some terminal) e = symbol_text b terminal e
+symbol_sound b text other (Some terminal) e = (symbol_text b terminal e, tt)
 
 front_sound : (text : List ℕ) → Sound text (front_of text)
 unfolding front_of
@@ -219,9 +219,9 @@ front_stands text = by_front (front_of text) refl (front_sound text) (front_with
   where
     by_front : (front : Front) → front_of text ≡ front → Sound text front → IsWithin (length text) front → Stands text front
     by_front Nothing e sound within = sound
-    by_front (Blank n) e sound within = (sound, longest_taken text n within.1 (λ m taken. subst (Takes text m) e taken))
-    by_front (Word kind n) e sound within = (sound, longest_taken text n within.1 (λ m taken. subst (Takes text m) e taken))
+    by_front (Blank n) e sound within = (longest_taken text n within.1 (λ m taken. subst (Takes text m) e taken), sound)
+    by_front (Word kind n) e sound within = (longest_taken text n within.1 (λ m taken. subst (Takes text m) e taken), sound.0, sound.1)
     by_front (Wrong problems.Name) e sound within =
-        (prefix_len is_name_byte text, sound.0, sound.1, longest_taken text _ (prefix_len-le-length is_name_byte text) (λ m taken. subst (Takes text m) e taken))
+        (prefix_len is_name_byte text, longest_taken text _ (prefix_len-le-length is_name_byte text) (λ m taken. subst (Takes text m) e taken), sound.1, sound.0)
     by_front (Wrong problems.Comment) e sound within = (sound, none_taken text (λ m taken. subst (Takes text m) e taken))
     by_front (Wrong problems.Byte) e sound within = (sound.0, sound.1, none_taken text (λ m taken. subst (Takes text m) e taken))

@@ -19,27 +19,27 @@ use Rattle.mj_lexer.proofs.Within.{either_way}
 
 -- a reserved word is a word of the table, and a symbol is found whatever stands behind it
 pub data TerminalIs (terminal : Terminal) : Type 0 where
-  symbol : is_word (text_of terminal) ≡ false → ((rest : List ℕ) → front_of (text_of terminal ++ rest) ≡ Word (kinds.Terminal terminal) (length (text_of terminal))) → TerminalIs terminal
+  symbol : is_word (text_of terminal) ≡ false → is_number (text_of terminal) ≡ false → ((rest : List ℕ) → front_of (text_of terminal ++ rest) ≡ Word (kinds.Terminal terminal) (length (text_of terminal))) → TerminalIs terminal
   reserved : is_word (text_of terminal) ≡ true → nat_le (length (text_of terminal)) 255 ≡ true → reserved_of (text_of terminal) ≡ Some terminal → TerminalIs terminal
 
 pub terminal_is : (terminal : Terminal) → TerminalIs terminal
 unfolding front_of reserved_of
-terminal_is LeftBrace = symbol refl (λ rest. refl)
-terminal_is RightBrace = symbol refl (λ rest. refl)
-terminal_is LeftParenthesis = symbol refl (λ rest. refl)
-terminal_is RightParenthesis = symbol refl (λ rest. refl)
-terminal_is LeftBracket = symbol refl (λ rest. refl)
-terminal_is RightBracket = symbol refl (λ rest. refl)
-terminal_is Semicolon = symbol refl (λ rest. refl)
-terminal_is Comma = symbol refl (λ rest. refl)
-terminal_is Dot = symbol refl (λ rest. refl)
-terminal_is Assign = symbol refl (λ rest. refl)
-terminal_is And = symbol refl (λ rest. refl)
-terminal_is Less = symbol refl (λ rest. refl)
-terminal_is Plus = symbol refl (λ rest. refl)
-terminal_is Minus = symbol refl (λ rest. refl)
-terminal_is Times = symbol refl (λ rest. refl)
-terminal_is Not = symbol refl (λ rest. refl)
+terminal_is LeftBrace = symbol refl refl (λ rest. refl)
+terminal_is RightBrace = symbol refl refl (λ rest. refl)
+terminal_is LeftParenthesis = symbol refl refl (λ rest. refl)
+terminal_is RightParenthesis = symbol refl refl (λ rest. refl)
+terminal_is LeftBracket = symbol refl refl (λ rest. refl)
+terminal_is RightBracket = symbol refl refl (λ rest. refl)
+terminal_is Semicolon = symbol refl refl (λ rest. refl)
+terminal_is Comma = symbol refl refl (λ rest. refl)
+terminal_is Dot = symbol refl refl (λ rest. refl)
+terminal_is Assign = symbol refl refl (λ rest. refl)
+terminal_is And = symbol refl refl (λ rest. refl)
+terminal_is Less = symbol refl refl (λ rest. refl)
+terminal_is Plus = symbol refl refl (λ rest. refl)
+terminal_is Minus = symbol refl refl (λ rest. refl)
+terminal_is Times = symbol refl refl (λ rest. refl)
+terminal_is Not = symbol refl refl (λ rest. refl)
 terminal_is Class = reserved refl refl refl
 terminal_is Public = reserved refl refl refl
 terminal_is Static = reserved refl refl refl
@@ -66,7 +66,7 @@ Takes text n (Wrong problems.Comment) = ⊥
 Takes text n (Wrong problems.Byte) = ⊥
 
 -- bytes that all pass are a part of the prefix that passes
-passing_prefix : (p : ℕ → Bool) (bytes rest : List ℕ) → list_all p bytes ≡ true → length bytes ≤ prefix_len p (bytes ++ rest)
+pub passing_prefix : (p : ℕ → Bool) (bytes rest : List ℕ) → list_all p bytes ≡ true → length bytes ≤ prefix_len p (bytes ++ rest)
 passing_prefix p [] rest e = omega arith
 passing_prefix p (b ∷ bytes) rest e = by_first (p b) refl e (passing_prefix p bytes rest)
   where
@@ -74,24 +74,24 @@ passing_prefix p (b ∷ bytes) rest e = by_first (p b) refl e (passing_prefix p 
     by_first true f e behind = let l = behind e in rw f (omega arith)
     by_first false f e behind = absurd cc
 
-both_true : (s t : Bool) → (s && t) ≡ true → (s ≡ true) × (t ≡ true)
+pub both_true : (s t : Bool) → (s && t) ≡ true → (s ≡ true) × (t ≡ true)
 both_true true t e = (refl, e)
 both_true false t e = absurd cc
 
-letter_not_white : (b : ℕ) → is_letter b ≡ true → is_white b ≡ false
+pub letter_not_white : (b : ℕ) → is_letter b ≡ true → is_white b ≡ false
 letter_not_white b e = grind (arith, nat_tests)
 
-digit_not_white : (b : ℕ) → is_digit b ≡ true → is_white b ≡ false
+pub digit_not_white : (b : ℕ) → is_digit b ≡ true → is_white b ≡ false
 digit_not_white b e = grind (arith, nat_tests)
 
-digit_no_letter : (b : ℕ) → is_digit b ≡ true → is_letter b ≡ false
+pub digit_no_letter : (b : ℕ) → is_digit b ≡ true → is_letter b ≡ false
 digit_no_letter b e = grind (arith, nat_tests)
 
-front_of-letter : (b : ℕ) (text : List ℕ) → is_letter b ≡ true → front_of (b ∷ text) ≡ name_front (b ∷ text) (prefix_len is_name_byte (b ∷ text))
+pub front_of-letter : (b : ℕ) (text : List ℕ) → is_letter b ≡ true → front_of (b ∷ text) ≡ name_front (b ∷ text) (prefix_len is_name_byte (b ∷ text))
 unfolding front_of
 front_of-letter b text e = rw (letter_not_white b e, e) refl
 
-front_of-digit : (b : ℕ) (text : List ℕ) → is_digit b ≡ true → front_of (b ∷ text) ≡ number_front (b ∷ text) (prefix_len is_digit (b ∷ text))
+pub front_of-digit : (b : ℕ) (text : List ℕ) → is_digit b ≡ true → front_of (b ∷ text) ≡ number_front (b ∷ text) (prefix_len is_digit (b ∷ text))
 unfolding front_of
 front_of-digit b text e = rw (digit_not_white b e, digit_no_letter b e, e) refl
 
@@ -104,7 +104,7 @@ unfolding front_of
 line_comment_taken bytes rest e = let l = passing_prefix is_line_byte bytes rest e in omega arith
 
 -- what stands behind a comment doesn't change where it ends
-after_comment-append : (depth : ℕ) (bytes rest left : List ℕ) → after_comment depth bytes ≡ Some left → after_comment depth (bytes ++ rest) ≡ Some (left ++ rest)
+pub after_comment-append : (depth : ℕ) (bytes rest left : List ℕ) → after_comment depth bytes ≡ Some left → after_comment depth (bytes ++ rest) ≡ Some (left ++ rest)
 after_comment-append zero bytes rest left e = let same : bytes ≡ left = cc in rw same refl
 after_comment-append (suc depth) [] rest left e = absurd cc
 after_comment-append (suc depth) (b ∷ []) rest left e = absurd cc
@@ -138,7 +138,7 @@ number_taken (b ∷ bytes) rest e =
     subst (Takes (b ∷ bytes ++ rest) (length (b ∷ bytes))) (sym (front_of-digit b (bytes ++ rest) parts.0)) (passing_prefix is_digit (b ∷ bytes) rest (rw (parts.0, parts.1) refl))
 
 terminal_taken : (terminal : Terminal) (rest : List ℕ) → TerminalIs terminal → Takes (text_of terminal ++ rest) (length (text_of terminal)) (front_of (text_of terminal ++ rest))
-terminal_taken terminal rest (symbol single e) = rw (e rest) (omega arith)
+terminal_taken terminal rest (symbol single other e) = rw (e rest) (omega arith)
 terminal_taken terminal rest (reserved word short e) = word_taken (text_of terminal) rest word
 
 token_taken : (bytes rest : List ℕ) (kind : Kind) → IsToken bytes kind → Takes (bytes ++ rest) (length bytes) (front_of (bytes ++ rest))

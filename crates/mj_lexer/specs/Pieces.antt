@@ -48,11 +48,17 @@ HasNoPiece text = (bytes rest : List ℕ) → text ≡ bytes ++ rest → IsPiece
 abbrev pub OpensComment : List ℕ → Type 0
 OpensComment text = (rest : List ℕ) × (text ≡ 47 ∷ 42 ∷ rest)
 
+-- an identifier has 255 bytes at most
+abbrev pub IsShort : Kind → Type 0
+IsShort (Identifier name) = length name ≤ 255
+IsShort (Literal value) = Unit {0}
+IsShort (kinds.Terminal terminal) = Unit {0}
+
 -- this stands at the front of the text
 abbrev pub Stands : List ℕ → Front → Type 0
 Stands text Nothing = text ≡ []
-Stands text (Blank n) = IsBlank (take n text) × IsLongest text n
-Stands text (Word kind n) = IsToken (take n text) kind × IsLongest text n
-Stands text (Wrong problems.Name) = (n : ℕ) × (255 < n) × IsToken (take n text) (Identifier (take n text)) × IsLongest text n
+Stands text (Blank n) = IsLongest text n × IsBlank (take n text)
+Stands text (Word kind n) = IsLongest text n × IsToken (take n text) kind × IsShort kind
+Stands text (Wrong problems.Name) = (n : ℕ) × IsLongest text n × IsToken (take n text) (Identifier (take n text)) × (255 < n)
 Stands text (Wrong problems.Comment) = OpensComment text × HasNoPiece text
 Stands text (Wrong problems.Byte) = (text ≢ []) × (OpensComment text → ⊥) × HasNoPiece text

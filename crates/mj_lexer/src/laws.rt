@@ -3,6 +3,7 @@ ghost use Rattle.std.specs.Prelude.{◌≡◌, ◌↔◌, ℕ, List, Some, IsSom
 ghost use Rattle.std.specs.Cmp.{IsTotalOrder};
 ghost use Rattle.std.specs.declared.cmp.Ordering.TheVariants.{Equal};
 ghost use Rattle.mj_lexer.specs.declared.token.Token.{Token};
+ghost use Rattle.mj_lexer.specs.declared.front.Front.{Front};
 ghost use Rattle.mj_lexer.specs.declared.lexer.LexFault.{LexFault};
 ghost use Rattle.mj_lexer.specs.Fronts.{front_of};
 ghost use Rattle.mj_lexer.specs.Pieces.{Stands};
@@ -19,9 +20,10 @@ pub fn lexing_laws(text: &[u8])
     ensures one { IsSome (tokens_of text.now) ↔ IsNone (fault_of text.now) }
 {}
 
-/// What is read at the front of a text is what stands there: the longest piece, or what is wrong.
+/// What is read at the front of a text is what stands there and nothing else: the longest piece, or what is wrong.
 pub fn front_laws(text: &[u8])
-    ensures { Stands text.now (front_of text.now) }
+    ensures stands { Stands text.now (front_of text.now) }
+    ensures only { (front : Front) → Stands text.now front → front ≡ front_of text.now }
 {}
 
 /// Names are equal where their texts are; their order is total, and ties only equal names.
