@@ -1,3 +1,4 @@
 pub mod Codes
 pub mod Answers
 pub mod Text
+pub mod Order

@@ -1,12 +1,17 @@
 //! Codes of faults.
-ghost use Rattle.std.specs.Prelude.{◌≡◌, ◌++◌, Some, codes, decimal};
+ghost use Rattle.std.specs.Prelude.{◌≡◌, ◌++◌, ◌==◌, Some, codes, decimal};
+ghost use Rattle.std.specs.Ordering.{nat_cmp, on, as_partial_cmp};
+ghost use Rattle.std.specs.Cmp.{partial_order_from_own_ties, unsigned_ties};
+ghost use Rattle.std.specs.Cmp.Rules.{comparing};
+ghost use Rattle.std.proofs.Common.{rules};
 ghost use Rattle.mj_answer.specs.Codes.{number_of, code_of};
 
+use std::cmp::Ordering;
 use std::fmt;
 
 /// What is wrong. The first digit of a code's number tells what it is about: 1 the project, 2 a declaration, 3 a body.
 /// Codes are ordered by their numbers.
-#[derive(Clone, Copy, Debug, PartialEq, Eq, PartialOrd, Ord)]
+#[derive(Clone, Copy, Debug)]
 pub enum Code {
     /// The file is no sentence of the grammar, or it is too long or too deep.
     E101,
@@ -155,5 +160,43 @@ impl fmt::Display for Code {
 
     fn fmt<W: fmt::Write>(&self, f: &mut fmt::Formatter<W>) -> fmt::Result {
         write!(f, "E{}", self.number())
+    }
+}
+
+impl PartialEq for Code {
+    ghost eq = { on number_of ◌==◌ };
+
+    ghost laws = { Prim.search (comparing, rules) };
+
+    fn eq(&self, other: &Code) -> bool {
+        self.number() == other.number()
+    }
+}
+
+impl Eq for Code {
+    ghost laws = { Prim.search (comparing, rules) };
+}
+
+impl PartialOrd for Code {
+    ghost partial_cmp = { as_partial_cmp (on number_of nat_cmp) };
+
+    ghost laws = { partial_order_from_own_ties (Prim.search (comparing, rules)) (λ c d. unsigned_ties (number_of c) (number_of d)) };
+
+    fn partial_cmp(&self, other: &Code) -> Option<Ordering> {
+        Some(self.cmp(other))
+    }
+}
+
+impl Ord for Code {
+    ghost cmp = { on number_of nat_cmp };
+
+    ghost total = { Prim.search (comparing, rules) };
+
+    ghost matches_partial_cmp = { Prim.search (comparing, rules) };
+
+    ghost matches_eq = { λ c d. unsigned_ties (number_of c) (number_of d) };
+
+    fn cmp(&self, other: &Code) -> Ordering {
+        self.number().cmp(&other.number())
     }
 }

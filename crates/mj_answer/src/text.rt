@@ -72,7 +72,12 @@ fn write_method(text: &mut String, row: &MethodRow) -> Result<(), AllocError>
 {
     write!(text, "  method {}(", row.name().as_str())?;
     write_types(text, row.formals())?;
-    writeln!(text, "): {} from {}", type_name(row.returns()), row.owner().as_str())
+    writeln!(
+        text,
+        "): {} from {}",
+        type_name(row.returns()),
+        row.owner().as_str()
+    )
 }
 
 /// The types with commas between them.

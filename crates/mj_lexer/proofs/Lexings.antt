@@ -37,7 +37,7 @@ blank_within text n e = subst (IsWithin (length text)) e (front_within text)
 word_within : (text : List ℕ) (kind : Kind) (n : ℕ) → front_of text ≡ Word kind n → (0 < n) × (n ≤ length text)
 word_within text kind n e = subst (IsWithin (length text)) e (front_within text)
 
--- a cut is followed, whatever stands behind it
+-- a cut is followed, whatever agrees behind it
 follows : {at : ℕ} {text : List ℕ} {tokens : List Token} {till : ℕ} {rest : List ℕ} (behind : Lexing)
     → ((pieces : ℕ) → length rest ≤ pieces → lexing_from pieces till rest ≡ behind)
     → Cuts at text tokens till rest → (pieces : ℕ) → length text ≤ pieces → lexing_from pieces at text ≡ put_all tokens behind
@@ -118,19 +118,19 @@ cut_up (suc pieces) at text le = by_front (front_of text) refl (λ n. cut_up pie
     by_front (Wrong problem) e behind = record { tokens = []; till = at; rest = text; cut = here; stop = inr (problem, e) }
 
 -- the text is cut, or it breaks
-abbrev pub Stands : List ℕ → Lexing → Type 0
-Stands text (Ok tokens) = Lexes text tokens
-Stands text (Err fault) = Breaks text fault
+abbrev pub Agrees : List ℕ → Lexing → Type 0
+Agrees text (Ok tokens) = Lexes text tokens
+Agrees text (Err fault) = Breaks text fault
 
 pub breaks_fault : (text : List ℕ) (at : ℕ) (problem : Problem) → BreaksAt text problem at → Breaks text (fault_at problem at)
 breaks_fault text at problems.Byte b = b
 breaks_fault text at problems.Comment b = b
 breaks_fault text at problems.Name b = b
 
-short_stands : (text : List ℕ) → length text ≤ limit → Stands text (lexing_of text)
-short_stands text short = by_stop (cut_up (length text) 0 text (omega arith))
+short_agrees : (text : List ℕ) → length text ≤ limit → Agrees text (lexing_of text)
+short_agrees text short = by_stop (cut_up (length text) 0 text (omega arith))
   where
-    by_end : (tokens : List Token) (till : ℕ) (rest : List ℕ) → Cuts 0 text tokens till rest → (rest ≡ []) ⊎ ((problem : Problem) × (front_of rest ≡ Wrong problem)) → Stands text (lexing_of text)
+    by_end : (tokens : List Token) (till : ℕ) (rest : List ℕ) → Cuts 0 text tokens till rest → (rest ≡ []) ⊎ ((problem : Problem) × (front_of rest ≡ Wrong problem)) → Agrees text (lexing_of text)
     by_end tokens till rest cut (inl e) =
         let l : Lexes text tokens = record { short = short; till = till; cut = subst (Cuts 0 text tokens till) e cut } in
         rw (lexes_gives text tokens l) l
@@ -138,29 +138,29 @@ short_stands text short = by_stop (cut_up (length text) 0 text (omega arith))
         let b : BreaksAt text p.0 till = record { short = short; tokens = tokens; rest = rest; cut = cut; wrong = p.1 } in
         rw (breaks_at_gives text p.0 till b) (breaks_fault text till p.0 b)
 
-    by_stop : CutUp 0 text → Stands text (lexing_of text)
+    by_stop : CutUp 0 text → Agrees text (lexing_of text)
     by_stop c = by_end c.tokens c.till c.rest c.cut c.stop
 
-pub computed_stands : (text : List ℕ) → Stands text (lexing_of text)
-computed_stands text = by_length (nat_lt limit (length text)) refl
+pub computed_agrees : (text : List ℕ) → Agrees text (lexing_of text)
+computed_agrees text = by_length (nat_lt limit (length text)) refl
   where
-    by_length : (t : Bool) → nat_lt limit (length text) ≡ t → Stands text (lexing_of text)
+    by_length : (t : Bool) → nat_lt limit (length text) ≡ t → Agrees text (lexing_of text)
     by_length true e = let long : limit < length text = grind (arith, nat_tests) in rw (long_text text long) long
-    by_length false e = short_stands text (grind (arith, nat_tests))
+    by_length false e = short_agrees text (grind (arith, nat_tests))
 
-tokens_stand : (text : List ℕ) (lexing : Lexing) (tokens : List Token) → Stands text lexing → result_ok lexing ≡ Some tokens → Lexes text tokens
-tokens_stand text (Ok others) tokens stands e = let same : others ≡ tokens = cc in subst (Lexes text) same stands
-tokens_stand text (Err fault) tokens stands e = absurd cc
+tokens_agree : (text : List ℕ) (lexing : Lexing) (tokens : List Token) → Agrees text lexing → result_ok lexing ≡ Some tokens → Lexes text tokens
+tokens_agree text (Ok others) tokens agrees e = let same : others ≡ tokens = cc in subst (Lexes text) same agrees
+tokens_agree text (Err fault) tokens agrees e = absurd cc
 
-fault_stands : (text : List ℕ) (lexing : Lexing) (fault : LexFault) → Stands text lexing → result_err lexing ≡ Some fault → Breaks text fault
-fault_stands text (Ok tokens) fault stands e = absurd cc
-fault_stands text (Err other) fault stands e = let same : other ≡ fault = cc in subst (Breaks text) same stands
+fault_agrees : (text : List ℕ) (lexing : Lexing) (fault : LexFault) → Agrees text lexing → result_err lexing ≡ Some fault → Breaks text fault
+fault_agrees text (Ok tokens) fault agrees e = absurd cc
+fault_agrees text (Err other) fault agrees e = let same : other ≡ fault = cc in subst (Breaks text) same agrees
 
 pub Lexes-tokens_of : (text : List ℕ) (tokens : List Token) → Lexes text tokens ↔ (tokens_of text ≡ Some tokens)
-Lexes-tokens_of text tokens = (λ l. ap result_ok (lexes_gives text tokens l), tokens_stand text (lexing_of text) tokens (computed_stands text))
+Lexes-tokens_of text tokens = (λ l. ap result_ok (lexes_gives text tokens l), tokens_agree text (lexing_of text) tokens (computed_agrees text))
 
 pub Breaks-fault_of : (text : List ℕ) (fault : LexFault) → Breaks text fault ↔ (fault_of text ≡ Some fault)
-Breaks-fault_of text fault = (λ b. ap result_err (breaks_gives text fault b), fault_stands text (lexing_of text) fault (computed_stands text))
+Breaks-fault_of text fault = (λ b. ap result_err (breaks_gives text fault b), fault_agrees text (lexing_of text) fault (computed_agrees text))
 
 pub tokens_or_fault : (lexing : Lexing) → IsSome (result_ok lexing) ↔ IsNone (result_err lexing)
 tokens_or_fault (Ok tokens) = (λ _. refl, λ _. refl)

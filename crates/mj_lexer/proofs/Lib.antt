@@ -4,3 +4,6 @@ pub mod Names
 pub mod Numbers
 pub mod Within
 pub mod Lexings
+pub mod Taken
+pub mod Longest
+pub mod Only

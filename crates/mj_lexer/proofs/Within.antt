@@ -61,7 +61,7 @@ some_prefix p b text e = rw e (omega arith)
 name_within : (text : List ℕ) (n : ℕ) → 0 < n → n ≤ length text → IsWithin (length text) (name_front text n)
 name_within text n pos le = either_way (IsWithin (length text)) (nat_lt 255 n) _ _ (λ _. tt) (λ _. (pos, le))
 
-letter_in_name : (b : ℕ) → is_letter b ≡ true → is_name_byte b ≡ true
+pub letter_in_name : (b : ℕ) → is_letter b ≡ true → is_name_byte b ≡ true
 letter_in_name b e = rw e refl
 
 pub front_within : (text : List ℕ) → IsWithin (length text) (front_of text)

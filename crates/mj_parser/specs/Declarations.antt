@@ -6,6 +6,7 @@ use Rattle.mj_parser.specs.declared.tree.Ty.{Ty}
 use Rattle.mj_parser.specs.declared.tree.Ty.TheVariants as types
 use Rattle.mj_parser.specs.declared.tree.Field.{Field}
 use Rattle.mj_parser.specs.declared.tree.Variable.{Variable}
+use Rattle.mj_parser.specs.Rows.{row_size, row_height, InRow}
 use Rattle.mj_parser.specs.Tokens.{has, says, name_at}
 use Rattle.mj_parser.specs.Trees.{Name, Method, Main, Class, File}
 use Rattle.mj_parser.specs.Expressions.{size, height, IsExp}
@@ -33,30 +34,26 @@ abbrev pub variable_size : Variable → ℕ
 variable_size v = type_size v.ty + 1
 
 -- formals, with a comma between each two
-abbrev pub formals_size_more : List Variable → ℕ
-formals_size_more [] = 0
-formals_size_more (v ∷ vs) = 1 + variable_size v + formals_size_more vs
+abbrev pub IsMoreFormal : List Token → ℕ → Variable → Type 0
+IsMoreFormal ts i v = (has ts i terminals.Comma ≡ true) × IsVariable ts (i + 1) v
+
+abbrev pub more_formal_size : Variable → ℕ
+more_formal_size v = 1 + variable_size v
 
 abbrev pub formals_size : List Variable → ℕ
 formals_size [] = 0
-formals_size (v ∷ vs) = variable_size v + formals_size_more vs
-
-abbrev pub AreMoreFormals : List Token → ℕ → List Variable → Type 0
-AreMoreFormals ts i [] = Unit {0}
-AreMoreFormals ts i (v ∷ vs) = (has ts i terminals.Comma ≡ true) × IsVariable ts (i + 1) v × AreMoreFormals ts (i + 1 + variable_size v) vs
+formals_size (v ∷ vs) = variable_size v + row_size more_formal_size vs
 
 abbrev pub AreFormals : List Token → ℕ → List Variable → Type 0
 AreFormals ts i [] = Unit {0}
-AreFormals ts i (v ∷ vs) = IsVariable ts i v × AreMoreFormals ts (i + variable_size v) vs
+AreFormals ts i (v ∷ vs) = IsVariable ts i v × InRow (IsMoreFormal ts) more_formal_size (i + variable_size v) vs
 
--- locals, each with its semicolon
-abbrev pub locals_size : List Variable → ℕ
-locals_size [] = 0
-locals_size (v ∷ vs) = variable_size v + 1 + locals_size vs
+-- a local
+abbrev pub IsLocal : List Token → ℕ → Variable → Type 0
+IsLocal ts i v = IsVariable ts i v × (has ts (i + variable_size v) terminals.Semicolon ≡ true)
 
-abbrev pub AreLocals : List Token → ℕ → List Variable → Type 0
-AreLocals ts i [] = Unit {0}
-AreLocals ts i (v ∷ vs) = (IsVariable ts i v × (has ts (i + variable_size v) terminals.Semicolon ≡ true)) × AreLocals ts (i + (variable_size v + 1)) vs
+abbrev pub local_size : Variable → ℕ
+local_size v = variable_size v + 1
 
 -- ---- methods
 
@@ -68,7 +65,7 @@ abbrev pub locals_place : Method → ℕ
 locals_place m = formals_place m + formals_size m.formals + 2
 
 abbrev pub body_place : Method → ℕ
-body_place m = locals_place m + locals_size m.locals
+body_place m = locals_place m + row_size local_size m.locals
 
 abbrev pub return_place : Method → ℕ
 return_place m = body_place m + stmts_size m.body
@@ -88,7 +85,7 @@ pub record IsMethod (ts : List Token) (m : Method) : Type 0 where
   pub formals : AreFormals ts (formals_place m) m.formals
   pub closing : has ts (formals_place m + formals_size m.formals) terminals.RightParenthesis ≡ true
   pub brace : has ts (formals_place m + formals_size m.formals + 1) terminals.LeftBrace ≡ true
-  pub locals : AreLocals ts (locals_place m) m.locals
+  pub locals : InRow (IsLocal ts) local_size (locals_place m) m.locals
   pub body : AreStmts ts (body_place m) m.body
   pub return_word : has ts (return_place m) terminals.Return ≡ true
   pub return_mark : m.return_mark ≡ return_place m
@@ -96,10 +93,13 @@ pub record IsMethod (ts : List Token) (m : Method) : Type 0 where
   pub semicolon : has ts (return_place m + 1 + size m.returned) terminals.Semicolon ≡ true
   pub end_brace : has ts (return_place m + 1 + size m.returned + 1) terminals.RightBrace ≡ true
 
--- `public static void main ( String [ ] id ) {` stands at the front
-abbrev pub opens_main : List Token → Bool
-opens_main ts = has ts 0 terminals.Public && has ts 1 terminals.Static && has ts 2 terminals.Void && says ts 3 (codes "main") && has ts 4 terminals.LeftParenthesis && says ts 5 (codes "String")
-    && has ts 6 terminals.LeftBracket && has ts 7 terminals.RightBracket && is_some (name_at ts 8) && has ts 9 terminals.RightParenthesis && has ts 10 terminals.LeftBrace
+-- `public static void main (` stands at the front
+abbrev pub main_head : List Token → Bool
+main_head ts = has ts 0 terminals.Public && has ts 1 terminals.Static && has ts 2 terminals.Void && says ts 3 (codes "main") && has ts 4 terminals.LeftParenthesis
+
+-- and then `String [ ] id ) {`
+abbrev pub main_parameter : List Token → Bool
+main_parameter ts = says ts 5 (codes "String") && has ts 6 terminals.LeftBracket && has ts 7 terminals.RightBracket && is_some (name_at ts 8) && has ts 9 terminals.RightParenthesis && has ts 10 terminals.LeftBrace
 
 -- ---- classes
 
@@ -109,25 +109,9 @@ field_size f = type_size f.ty + 1 + 1
 abbrev pub IsField : List Token → ℕ → Field → Type 0
 IsField ts i f = IsType ts i f.ty × (name_at ts (i + type_size f.ty) ≡ Some f.name) × (has ts (i + (type_size f.ty + 1)) terminals.Semicolon ≡ true)
 
-abbrev pub fields_size : List Field → ℕ
-fields_size [] = 0
-fields_size (f ∷ fs) = field_size f + fields_size fs
-
-abbrev pub AreFields : List Token → ℕ → List Field → Type 0
-AreFields ts i [] = Unit {0}
-AreFields ts i (f ∷ fs) = IsField ts i f × AreFields ts (i + field_size f) fs
-
-abbrev pub methods_size : List Method → ℕ
-methods_size [] = 0
-methods_size (m ∷ ms) = method_size m + methods_size ms
-
-abbrev pub AreMethods : List Token → ℕ → List Method → Type 0
-AreMethods ts i [] = Unit {0}
-AreMethods ts i (m ∷ ms) = IsMethod (drop i ts) m × AreMethods ts (i + method_size m) ms
-
-abbrev pub methods_height : List Method → ℕ
-methods_height [] = 0
-methods_height (m ∷ ms) = max (method_height m) (methods_height ms)
+-- a method that begins at a place
+abbrev pub IsMethodAt : List Token → ℕ → Method → Type 0
+IsMethodAt ts i m = IsMethod (drop i ts) m
 
 -- `extends id`, or nothing
 abbrev pub superclass_size : Option Name → ℕ
@@ -143,35 +127,27 @@ abbrev pub head_size : Class → ℕ
 head_size c = 2 + superclass_size c.superclass + 1
 
 abbrev pub class_size : Class → ℕ
-class_size c = head_size c + fields_size c.fields + methods_size c.methods + 1
+class_size c = head_size c + row_size field_size c.fields + row_size method_size c.methods + 1
 
 pub record IsClass (ts : List Token) (i : ℕ) (c : Class) : Type 0 where
   pub class_word : has ts i terminals.Class ≡ true
   pub name : name_at ts (i + 1) ≡ Some c.name
   pub superclass : IsSuperclass ts (i + 2) c.superclass
   pub brace : has ts (i + (2 + superclass_size c.superclass)) terminals.LeftBrace ≡ true
-  pub fields : AreFields ts (i + head_size c) c.fields
-  pub methods : AreMethods ts (i + head_size c + fields_size c.fields) c.methods
-  pub end_brace : has ts (i + head_size c + fields_size c.fields + methods_size c.methods) terminals.RightBrace ≡ true
+  pub fields : InRow (IsField ts) field_size (i + head_size c) c.fields
+  pub methods : InRow (IsMethodAt ts) method_size (i + head_size c + row_size field_size c.fields) c.methods
+  pub end_brace : has ts (i + head_size c + row_size field_size c.fields + row_size method_size c.methods) terminals.RightBrace ≡ true
 
-abbrev pub classes_size : List Class → ℕ
-classes_size [] = 0
-classes_size (c ∷ cs) = class_size c + classes_size cs
-
-abbrev pub AreClasses : List Token → ℕ → List Class → Type 0
-AreClasses ts i [] = Unit {0}
-AreClasses ts i (c ∷ cs) = IsClass ts i c × AreClasses ts (i + class_size c) cs
-
-abbrev pub classes_height : List Class → ℕ
-classes_height [] = 0
-classes_height (c ∷ cs) = max (methods_height c.methods) (classes_height cs)
+abbrev pub class_height : Class → ℕ
+class_height c = row_height method_height c.methods
 
 -- the main class, whose `main` begins at place 3; the statement is numbered from there
 pub record IsMain (ts : List Token) (m : Main) : Type 0 where
   pub class_word : has ts 0 terminals.Class ≡ true
   pub name : name_at ts 1 ≡ Some m.name
   pub brace : has ts 2 terminals.LeftBrace ≡ true
-  pub opening : opens_main (drop 3 ts) ≡ true
+  pub head : main_head (drop 3 ts) ≡ true
+  pub parameter : main_parameter (drop 3 ts) ≡ true
   pub statement : IsStmt (drop 3 ts) 11 m.statement
   pub end_brace : has (drop 3 ts) (11 + stmt_size m.statement) terminals.RightBrace ≡ true
   pub end_class : has (drop 3 ts) (11 + stmt_size m.statement + 1) terminals.RightBrace ≡ true
@@ -194,15 +170,15 @@ main_part_height None = 0
 main_part_height (Some m) = stmt_height m.statement
 
 abbrev pub file_size : File → ℕ
-file_size f = main_part_size f.main + classes_size f.classes
+file_size f = main_part_size f.main + row_size class_size f.classes
 
 abbrev pub file_height : File → ℕ
-file_height f = max (main_part_height f.main) (classes_height f.classes)
+file_height f = max (main_part_height f.main) (row_height class_height f.classes)
 
 -- The tokens are those of the file, in which no phrase has a level over 500. A statement in a body and the returned
 -- expression have level 1, a part of a phrase one more than the phrase.
 pub record Derives (ts : List Token) (f : File) : Type 0 where
   pub main : IsMainPart ts f.main
-  pub classes : AreClasses ts (main_part_size f.main) f.classes
+  pub classes : InRow (IsClass ts) class_size (main_part_size f.main) f.classes
   pub whole : file_size f ≡ length ts
   pub low : file_height f ≤ 500

@@ -4,3 +4,10 @@ pub mod Tokens
 pub mod Expressions
 pub mod Statements
 pub mod Declarations
+pub mod Rows
+pub mod Steps
+pub mod ExpressionReading
+pub mod StatementReading
+pub mod FileReading
+pub mod Laws
+pub mod MarkBounds

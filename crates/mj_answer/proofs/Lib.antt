@@ -1,0 +1,4 @@
+pub mod Alike
+pub mod Orders
+pub mod Compared
+pub mod Searches

@@ -1,0 +1,5 @@
+use Rattle.mj_answer.proofs.Orders.{names, places, faults}
+use Rattle.mj_answer.proofs.laws.strict_total_orders.Goals as goal
+
+pub returns : goal.returns
+returns c = record { names = names; places = places; faults = faults }

@@ -1,0 +1,30 @@
+//! What holds of codes and of the order.
+ghost use Rattle.std.specs.Prelude.{◌≡◌, ℕ, List, Some};
+ghost use Rattle.mj_answer.specs.declared.code.Code.{Code};
+ghost use Rattle.mj_answer.specs.declared.diagnostic.Diagnostic.{Diagnostic};
+ghost use Rattle.mj_answer.specs.declared.table.FieldRow.{FieldRow};
+ghost use Rattle.mj_answer.specs.Codes.{number_of, code_of};
+ghost use Rattle.mj_answer.specs.Answers.{MethodRowValue, ClassAnswerValue};
+ghost use Rattle.mj_answer.specs.Order.{NameBefore, PlaceBefore, Before, IsStrictTotalOrder, OneList, OneListByName};
+
+/// A code is the one with its number.
+pub fn code_numbers()
+    ensures there { (code : Code) → code_of (number_of code) ≡ Some code }
+    ensures back { (number : ℕ) (code : Code) → code_of number ≡ Some code → number_of code ≡ number }
+{}
+
+/// Names, places and faults are in strict total orders.
+pub fn strict_total_orders()
+    ensures names { IsStrictTotalOrder NameBefore }
+    ensures places { IsStrictTotalOrder PlaceBefore }
+    ensures faults { IsStrictTotalOrder Before }
+{}
+
+/// One list only has given elements in ascending order.
+pub fn one_list()
+    ensures names { OneList (List ℕ) NameBefore }
+    ensures faults { OneList Diagnostic Before }
+    ensures fields { OneListByName FieldRow (λ row. row.name) }
+    ensures methods { OneListByName MethodRowValue (λ row. row.name) }
+    ensures classes { OneListByName ClassAnswerValue (λ class. class.name) }
+{}
