@@ -1,4 +1,9 @@
 pub mod Comments
+pub mod Cutting
 pub mod Names
 pub mod Numbers
-pub mod Once
+pub mod Within
+pub mod Lexings
+pub mod Taken
+pub mod Longest
+pub mod Only

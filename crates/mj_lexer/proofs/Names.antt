@@ -1,5 +1,5 @@
 -- The bytes of a name are below 128.
-use Rattle.std.proofs.Common.{◌≡◌, ℕ, zero, suc, ◌+◌, ◌<◌, ◌≤◌, Bool, true, false, List, [], ◌∷◌, take, refl, sym, ◌∙◌, subst, arith, add-one, zero-add, lit<}
+use Rattle.std.proofs.Common.{◌≡◌, ℕ, zero, suc, ◌+◌, ◌<◌, Bool, true, false, List, [], ◌∷◌, take, refl, arith, lit<}
 use Rattle.std.specs.List.{prefix_len, slice_index}
 use Rattle.std.specs.Str.{IsAscii}
 use Rattle.mj_lexer.specs.Bytes.{is_name_byte}

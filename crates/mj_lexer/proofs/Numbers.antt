@@ -1,5 +1,5 @@
 -- A number that stops at 2147483648.
-use Rattle.std.proofs.Common.{◌≡◌, ℕ, suc, ◌+◌, ◌-◌, ◌*◌, ◌<◌, ◌≤◌, min, List, [], ◌∷◌, length, get_or, drop, refl, sym, ap, ◌∙◌, arith, drop-cons, add-one}
+use Rattle.std.proofs.Common.{◌≡◌, ℕ, suc, ◌+◌, ◌-◌, ◌*◌, ◌<◌, min, List, [], ◌∷◌, length, get_or, drop, arith, drop-cons, add-one}
 use Rattle.mj_lexer.specs.Bytes.{decimal}
 
 stopped : (a b : ℕ) (ds : List ℕ) → min a 2147483648 ≡ min b 2147483648 → min (decimal a ds) 2147483648 ≡ min (decimal b ds) 2147483648

@@ -1,10 +1,44 @@
 -- Reserved words and symbols.
-use Rattle.std.specs.Prelude.{ℕ, ◌==◌, List, [], ◌∷◌, Option, Some, None, codes, if◌then◌else◌}
+use Rattle.std.specs.Prelude.{ℕ, ◌==◌, List, Option, Some, None, codes, if◌then◌else◌}
 use Rattle.std.specs.Str.{bytes_eq}
 use Rattle.mj_lexer.specs.declared.token.Kind.{Kind}
 use Rattle.mj_lexer.specs.declared.token.Kind.TheVariants as kinds
 use Rattle.mj_lexer.specs.declared.token.Terminal.{Terminal}
-use Rattle.mj_lexer.specs.declared.token.Terminal.TheVariants.{LeftBrace, RightBrace, LeftParenthesis, RightParenthesis, LeftBracket, RightBracket, Semicolon, Comma, Dot, Assign, Less, Plus, Minus, Times, Not, Class, Public, Static, Void, Extends, Return, Int, Boolean, If, Else, While, True, False, This, New}
+use Rattle.mj_lexer.specs.declared.token.Terminal.TheVariants.{LeftBrace, RightBrace, LeftParenthesis, RightParenthesis, LeftBracket, RightBracket, Semicolon, Comma, Dot, Assign, And, Less, Plus, Minus, Times, Not, Class, Public, Static, Void, Extends, Return, Int, Boolean, If, Else, While, True, False, This, New}
+
+-- what a symbol or a reserved word is written as
+abbrev pub text_of : Terminal → List ℕ
+text_of LeftBrace = codes "{"
+text_of RightBrace = codes "}"
+text_of LeftParenthesis = codes "("
+text_of RightParenthesis = codes ")"
+text_of LeftBracket = codes "["
+text_of RightBracket = codes "]"
+text_of Semicolon = codes ";"
+text_of Comma = codes ","
+text_of Dot = codes "."
+text_of Assign = codes "="
+text_of And = codes "&&"
+text_of Less = codes "<"
+text_of Plus = codes "+"
+text_of Minus = codes "-"
+text_of Times = codes "*"
+text_of Not = codes "!"
+text_of Class = codes "class"
+text_of Public = codes "public"
+text_of Static = codes "static"
+text_of Void = codes "void"
+text_of Extends = codes "extends"
+text_of Return = codes "return"
+text_of Int = codes "int"
+text_of Boolean = codes "boolean"
+text_of If = codes "if"
+text_of Else = codes "else"
+text_of While = codes "while"
+text_of True = codes "true"
+text_of False = codes "false"
+text_of This = codes "this"
+text_of New = codes "new"
 
 -- the symbols of one byte
 abbrev pub symbol_of : ℕ → Option Terminal

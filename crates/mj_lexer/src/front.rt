@@ -11,6 +11,9 @@ use crate::token::{Kind, Terminal};
 use std::alloc::{AllocError, Global};
 use std::str;
 
+/// The value that stands for each greater one too, where a literal is over the range of `int`.
+const GREATEST: u64 = 2147483648;
+
 /// What may be wrong at a place.
 #[derive(Clone, Copy, Debug, PartialEq, Eq)]
 pub enum Problem {
@@ -22,12 +25,16 @@ pub enum Problem {
     Name,
 }
 
-/// What stands at the front of a text, with its length.
+/// What stands at the front of a text, with its number of bytes.
 #[derive(Debug, Drop)]
 pub enum Front {
+    /// The text is empty.
     Nothing,
+    /// White space or a comment.
     Blank(usize),
+    /// A token.
     Word(Kind, usize),
+    /// None of these.
     Wrong(Problem),
 }
 
@@ -61,7 +68,7 @@ fn is_line_byte(b: u8) -> bool
     b != b'\n' && b != b'\r'
 }
 
-/// The length of the name that the text begins with.
+/// How many bytes of a name the text begins with.
 fn name_len(text: &[u8]) -> usize
     ensures value { result ≡ prefix_len is_name_byte text.now }
     ensures within { result ≤ length text.now }
@@ -69,6 +76,7 @@ fn name_len(text: &[u8]) -> usize
     text.iter().take_while(|b| is_name_byte(**b)).count()
 }
 
+/// How many digits the text begins with.
 fn digits_len(text: &[u8]) -> usize
     ensures value { result ≡ prefix_len is_digit text.now }
     ensures within { result ≤ length text.now }
@@ -76,6 +84,7 @@ fn digits_len(text: &[u8]) -> usize
     text.iter().take_while(|b| is_digit(**b)).count()
 }
 
+/// How many bytes come up to the end of the line.
 fn line_len(text: &[u8]) -> usize
     ensures value { result ≡ prefix_len is_line_byte text.now }
     ensures within { result ≤ length text.now }
@@ -90,6 +99,7 @@ fn opens(a: u8, b: u8) -> bool
     a == b'/' && b == b'*'
 }
 
+/// Whether the two bytes close a comment.
 fn closes(a: u8, b: u8) -> bool
     ensures { result ≡ closes a b }
 {
@@ -119,6 +129,7 @@ fn comment_len(text: &[u8]) -> Option<usize>
     Some(i)
 }
 
+/// The symbol of this one byte.
 fn symbol(b: u8) -> Option<Terminal>
     ensures { result ≡ symbol_of b }
 {
@@ -142,7 +153,7 @@ fn symbol(b: u8) -> Option<Terminal>
     }
 }
 
-/// A reserved word.
+/// The reserved word that is written so.
 #[tactic(auto, unfolding(crate::specs::Words::reserved_of))]
 fn reserved(text: &[u8]) -> Option<Terminal>
     ensures { result ≡ reserved_of text.now }
@@ -182,6 +193,7 @@ fn reserved(text: &[u8]) -> Option<Terminal>
     }
 }
 
+/// A reserved word, or else an identifier.
 fn word_kind(alloc: Global, text: &[u8]) -> Result<Kind, AllocError>
     requires some { 0 < length text.now }
     requires short { length text.now ≤ 255 }
@@ -205,17 +217,18 @@ fn as_text(bytes: &[u8]) -> &str
     }
 }
 
-/// The value of digits.
+/// The value of decimal digits, where 2147483648 stands for each greater one too.
 fn number(digits: &[u8]) -> u32
     ensures { result ≡ literal_value digits.now }
 {
     let mut value = 0u64;
     for d in digits {
-        value = (10 * value + u64::from(d.saturating_sub(b'0'))).min(2147483648);
+        value = (10 * value + u64::from(d.saturating_sub(b'0'))).min(GREATEST);
     }
     value as u32
 }
 
+/// What stands at the front of a slash and this text behind it.
 fn behind_slash(text: &[u8]) -> Front
     ensures value { result ≡ slash_front text.now }
     ensures within { IsWithin (1 + length text.now) result }
@@ -238,7 +251,7 @@ fn behind_slash(text: &[u8]) -> Front
 
 /// What stands at the front of a text.
 #[tactic(auto, unfolding(crate::specs::Fronts::front_of))]
-pub fn read_front(alloc: Global, text: &[u8]) -> Result<Front, AllocError>
+pub(crate) fn read_front(alloc: Global, text: &[u8]) -> Result<Front, AllocError>
     ensures value { IfOk result (λ f. f ≡ front_of text.now) }
     ensures within { IfOk result (IsWithin (length text.now)) }
 {
@@ -250,7 +263,7 @@ pub fn read_front(alloc: Global, text: &[u8]) -> Result<Front, AllocError>
         Ok(Front::Blank(1))
     } else if is_letter(first) {
         let n = name_len(text);
-        if n > 255 {
+        if n > Name::MOST {
             return Ok(Front::Wrong(Problem::Name));
         }
         let kind = word_kind(alloc, &text[..n])?;

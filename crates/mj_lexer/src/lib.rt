@@ -2,11 +2,18 @@
 #![tactic(auto)]
 
 mod front;
+mod laws;
 mod lexer;
 mod name;
+mod place;
 mod token;
 
 pub use front::{Front, Problem};
+pub use laws::{front_laws, lexing_laws, name_laws};
 pub use lexer::{LexFault, lex};
 pub use name::Name;
+pub use place::line_col;
 pub use token::{Kind, Terminal, Token};
+
+#[cfg(test)]
+mod tests;

@@ -1,15 +1,19 @@
 //! Names: the texts of identifiers, and of whatever else is named in the same way.
-ghost use Rattle.std.specs.Prelude.{◌≡◌, ◌==◌, ◌<◌, ◌≤◌, ℕ, List, length, IfOk};
+ghost use Rattle.std.specs.Prelude.{◌≡◌, ◌==◌, ◌<◌, ◌≤◌, ℕ, List, length, Some, IfOk};
+ghost use Rattle.std.specs.Option.{SomeIff};
 ghost use Rattle.std.specs.Str.{IsUtf8};
 ghost use Rattle.std.specs.String.{string_bytes};
 ghost use Rattle.std.proofs.Common.{rules};
 ghost use Rattle.std.specs.Cmp.Lexicographic.{pointwise, slice_cmp};
 ghost use Rattle.std.specs.Cmp.{partial_order_from_own_ties};
-ghost use Rattle.std.specs.Cmp.Rules.{comparing};
+ghost use Rattle.std.specs.Cmp.Rules.{comparing, hashing};
+ghost use Rattle.std.specs.Hash as writes;
 ghost use Rattle.std.specs.Ordering.{nat_cmp, as_partial_cmp};
 
 use std::alloc::{AllocError, Global};
 use std::cmp::Ordering;
+use std::fmt;
+use std::hash::{Hash, Hasher};
 use std::marker::Model;
 
 /// A text of 1 to 255 bytes. Contracts see its bytes; names are ordered by them.
@@ -41,6 +45,16 @@ impl Name {
         })
     }
 
+    /// A name with this text, or `None` where the text is empty or too long.
+    pub fn try_new(alloc: Global, text: &str) -> Result<Option<Self>, AllocError>
+        ensures { IfOk result (λ name. SomeIff name ((0 < length text.now) × (length text.now ≤ 255)) text.now) }
+    {
+        if text.is_empty() || text.len() > Name::MOST {
+            return Ok(None);
+        }
+        Ok(Some(Name::new(alloc, text)?))
+    }
+
     /// An equal name.
     pub fn copy(&self, alloc: Global) -> Result<Self, AllocError>
         ensures { IfOk result (λ n. n ≡ self.now) }
@@ -62,8 +76,10 @@ impl Name {
         ensures value { result.now ≡ self.now }
         ensures some { 0 < length self.now }
         ensures short { length self.now ≤ 255 }
+        ensures text { IsUtf8 self.now }
     {
-        self.text.as_bytes()
+        let text = self.text.as_str();
+        text.as_bytes()
     }
 }
 
@@ -102,5 +118,23 @@ impl Ord for Name {
 
     fn cmp(&self, other: &Name) -> Ordering {
         self.bytes().cmp(other.bytes())
+    }
+}
+
+impl Hash for Name {
+    ghost hash_input = { writes.str };
+
+    ghost respects_eq = { Prim.search (hashing, rules) };
+
+    fn hash<H: Hasher>(&self, state: &mut H) {
+        self.as_str().hash(state);
+    }
+}
+
+impl fmt::Display for Name {
+    ghost output = { λ name. Some name };
+
+    fn fmt<W: fmt::Write>(&self, f: &mut fmt::Formatter<W>) -> fmt::Result {
+        f.write_str(self.as_str())
     }
 }

@@ -69,20 +69,22 @@ pub enum Terminal {
 }
 
 /// What a token is.
-#[derive(Debug, Drop)]
+#[derive(Debug, PartialEq, Eq, Drop)]
 pub enum Kind {
     /// A name that isn't reserved.
     Identifier(Name),
-    /// A decimal literal with its value, where 2147483648 stands for all greater ones.
+    /// A decimal literal with its value, where 2147483648 stands for each greater one too.
     Literal(u32),
     /// A symbol or a reserved word.
     Terminal(Terminal),
 }
 
-/// A token and its place: the bytes of the text from `start` to before `end`.
-#[derive(Debug, Drop)]
+/// A token and its place in the text.
+#[derive(Debug, PartialEq, Eq, Drop)]
 pub struct Token {
     pub kind: Kind,
+    /// The number of its first byte, counted from 0.
     pub start: usize,
+    /// The number of the byte behind its last.
     pub end: usize,
 }

@@ -1,2 +1,13 @@
 pub mod Trees
 pub mod Views
+pub mod Tokens
+pub mod Expressions
+pub mod Statements
+pub mod Declarations
+pub mod Rows
+pub mod Steps
+pub mod ExpressionReading
+pub mod StatementReading
+pub mod FileReading
+pub mod Laws
+pub mod MarkBounds

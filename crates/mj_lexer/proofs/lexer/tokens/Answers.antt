@@ -1,8 +1,7 @@
-use Rattle.std.proofs.Common.{◌≡◌, ap, sym, subst, ◌∙◌, length, drop, arith, rules}
+use Rattle.std.proofs.Common.{sym, ◌∙◌, arith}
 use Rattle.std.proofs.lemmas.List.{take_rest, length-drop}
-use Rattle.mj_lexer.specs.declared.front.Front.TheVariants.{Nothing, Blank, Word, Wrong}
-use Rattle.mj_lexer.specs.Fronts.{front_of, IsWithin}
-use Rattle.mj_lexer.proofs.Once.{after_blank, after_word, all_cut, breaks, breaks_fault}
+use Rattle.mj_lexer.proofs.Cutting.{after_blank, after_word, all_cut, breaks}
+use Rattle.mj_lexer.proofs.Lexings.{breaks_fault}
 use Rattle.mj_lexer.proofs.lexer.tokens.Goals as goal
 
 pub returns-in-Nothing-clause-found : goal.returns-in-Nothing-clause-found

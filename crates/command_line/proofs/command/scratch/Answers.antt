@@ -1,0 +1,11 @@
+use Rattle.std.proofs.Common.{◌≡◌, ◌∙◌, ap₂, codes, rules}
+use Rattle.std.proofs.lemmas.Result.{IfOk-weaker}
+use Rattle.clap.specs.Words.{app_of, new_app, with_rule}
+use Rattle.command_line.proofs.command.scratch.Goals as goal
+
+pub returns-clause-app : goal.returns-clause-app
+returns-clause-app c =
+    let named : app_of c.after_help.result ≡ new_app (codes "scratch") = search rules in
+    IfOk-weaker c.arg.result _ _
+    (λ command added. added.shape c.files-files.ensures.local ∙ ap₂ with_rule named c.files-files.ensures.rule)
+    c.arg.ensures

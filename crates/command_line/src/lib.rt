@@ -1,0 +1,11 @@
+//! Reads the words of a command line.
+#![tactic(auto)]
+
+mod asked;
+mod command;
+mod reading;
+#[cfg(test)]
+mod tests;
+
+pub use asked::{Words, WordsFault};
+pub use reading::words;

@@ -1,0 +1,11 @@
+pub mod Accepts
+pub mod Climb
+pub mod Climbing
+pub mod Closed
+pub mod Distinct
+pub mod Index
+pub mod Nearest
+pub mod Positions
+pub mod Rows
+pub mod Tables
+pub mod Walks

@@ -1,0 +1,48 @@
+-- The classes that a project declares.
+use Rattle.std.specs.Prelude.{ℕ, suc, List, [], ◌∷◌, ◌++◌, find, Option, Some, None}
+use Rattle.std.specs.Str.{bytes_eq}
+use Rattle.mj_parser.specs.Trees.{Name, Statement, Method, Main, Class, File}
+use Rattle.mj_parser.specs.declared.tree.Field.{Field}
+
+-- A class and where it is declared: the number of its file in the project, and its number in the file. Both are
+-- counted from 0, and a main class comes first in its file. `main` is what a main class has: its statement.
+pub record ClassDecl : Type 0 where
+  pub file : ℕ
+  pub number : ℕ
+  pub name : Name
+  pub superclass : Option Name
+  pub main : Option Statement
+  pub fields : List Field
+  pub methods : List Method
+
+-- A main class extends nothing and has no members.
+abbrev pub main_decl : ℕ → Main → ClassDecl
+main_decl file m = record { file = file; number = 0; name = m.name; superclass = None; main = Some m.statement; fields = []; methods = [] }
+
+abbrev pub class_decl : ℕ → ℕ → Class → ClassDecl
+class_decl file number c = record { file = file; number = number; name = c.name; superclass = c.superclass; main = None; fields = c.fields; methods = c.methods }
+
+abbrev pub numbered : ℕ → ℕ → List Class → List ClassDecl
+numbered file number [] = []
+numbered file number (c ∷ cs) = class_decl file number c ∷ numbered file (suc number) cs
+
+abbrev pub main_first : ℕ → Option Main → List Class → List ClassDecl
+main_first file None cs = numbered file 0 cs
+main_first file (Some m) cs = main_decl file m ∷ numbered file 1 cs
+
+-- the classes of a file, the main class first
+abbrev pub classes_of : ℕ → File → List ClassDecl
+classes_of file f = main_first file f.main f.classes
+
+abbrev pub declared_from : ℕ → List (Option File) → List ClassDecl
+declared_from file [] = []
+declared_from file (None ∷ others) = declared_from (suc file) others
+declared_from file (Some f ∷ others) = classes_of file f ++ declared_from (suc file) others
+
+-- All classes that a project declares, in file order. A file that is no sentence declares none.
+abbrev pub declarations : List (Option File) → List ClassDecl
+declarations files = declared_from 0 files
+
+-- The first class of a name.
+unfoldable pub decl : List ClassDecl → Name → Option ClassDecl
+decl cs c = find (λ k. bytes_eq k.name c) cs

@@ -1,0 +1,9 @@
+pub mod Chains
+pub mod Classes
+pub mod Declarations
+pub mod Index
+pub mod Laws
+pub mod Members
+pub mod Rows
+pub mod Tables
+pub mod Walks

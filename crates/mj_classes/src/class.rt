@@ -1,0 +1,88 @@
+//! A declared class.
+ghost use Rattle.std.specs.Prelude.{◌≡◌, map, find, option_copied, option_map};
+ghost use Rattle.std.specs.Str.{bytes_eq};
+ghost use Rattle.mj_classes.specs.Members.{own_field, own_method};
+ghost use Rattle.mj_parser.specs.Views.{method_view};
+ghost use Rattle.mj_classes.specs.Classes.{class_ref_view};
+
+use mj_lexer::Name;
+use mj_parser::{ClassTree, Field, MainTree, MethodTree};
+
+/// The tree of a class.
+#[derive(Clone, Copy, Debug)]
+pub enum Tree<'a> {
+    Main(&'a MainTree),
+    Plain(&'a ClassTree),
+}
+
+/// A class and where it is declared.
+#[derive(Clone, Copy, Debug)]
+pub struct ClassRef<'a> {
+    /// The number of its file, counted from 0.
+    pub file: usize,
+    /// Its number in the file, counted from 0, the main class first.
+    pub number: usize,
+    pub tree: Tree<'a>,
+}
+
+impl<'a> ClassRef<'a> {
+    /// The name of the class.
+    pub fn name(&self) -> &'a Name
+        ensures { result.now ≡ (class_ref_view self.now).name }
+    {
+        match self.tree {
+            Tree::Main(main) => &main.name,
+            Tree::Plain(class) => &class.name,
+        }
+    }
+
+    /// The name that the class extends.
+    pub fn superclass(&self) -> Option<&'a Name>
+        ensures { option_copied result ≡ (class_ref_view self.now).superclass }
+    {
+        match self.tree {
+            Tree::Main(_) => None,
+            Tree::Plain(class) => class.superclass.as_ref(),
+        }
+    }
+
+    /// The fields that the class itself declares.
+    pub fn fields(&self) -> &'a [Field]
+        ensures { result.now ≡ (class_ref_view self.now).fields }
+    {
+        match self.tree {
+            Tree::Main(_) => &[],
+            Tree::Plain(class) => class.fields.as_slice(),
+        }
+    }
+
+    /// The methods that the class itself declares.
+    pub fn methods(&self) -> &'a [MethodTree]
+        ensures { map method_view result.now ≡ (class_ref_view self.now).methods }
+    {
+        match self.tree {
+            Tree::Main(_) => &[],
+            Tree::Plain(class) => class.methods.as_slice(),
+        }
+    }
+
+    /// The first field of a name that the class itself declares.
+    pub fn field(&self, name: &Name) -> Option<&'a Field>
+        ensures { option_copied result ≡ own_field name.now (class_ref_view self.now) }
+    {
+        self.fields().iter().find(|field| &field.name == name)
+    }
+
+    /// The first method of a name that the class itself declares.
+    pub fn method(&self, name: &Name) -> Option<&'a MethodTree>
+        ensures { option_map method_view (option_copied result) ≡ own_method name.now (class_ref_view self.now) }
+    {
+        first_method(self.methods(), name)
+    }
+}
+
+fn first_method<'a>(methods: &'a [MethodTree], name: &Name) -> Option<&'a MethodTree>
+    ensures { option_copied result ≡ find (λ m. bytes_eq m.name name.now) methods.now }
+{
+    methods.iter().find(|method| &method.name == name)
+}

@@ -1,0 +1,100 @@
+//! The members of a class: what the nearest class of its chain declares.
+ghost use Rattle.std.specs.Prelude.{◌≡◌, ◌++◌, map, IfOk, OnOk};
+ghost use Rattle.std.specs.BTreeMap.{values, IsOrdered};
+ghost use Rattle.std.specs.Ordering.{nat_cmp};
+ghost use Rattle.std.specs.Cmp.Lexicographic.{slice_cmp};
+ghost use Rattle.mj_classes.specs.Rows.{field_rows, method_rows, SayAlike};
+ghost use Rattle.mj_classes.specs.Tables.{own_rows, fields_along, methods_along};
+ghost use Rattle.mj_classes.specs.Classes.{classes_view, class_ref_view, field_member_view, method_member_view};
+
+use crate::class::ClassRef;
+use mj_lexer::Name;
+use mj_parser::{Field, MethodTree};
+use std::alloc::{AllocError, Global};
+use std::collections::BTreeMap;
+
+/// A field and the class that declares it.
+#[derive(Clone, Copy, Debug)]
+pub struct FieldMember<'a> {
+    pub owner: &'a Name,
+    pub field: &'a Field,
+}
+
+/// A method and the class that declares it.
+#[derive(Clone, Copy, Debug)]
+pub struct MethodMember<'a> {
+    pub owner: &'a Name,
+    pub method: &'a MethodTree,
+}
+
+/// The fields that these classes declare, each name once: that of the first class which declares it. They ascend by
+/// name.
+pub fn field_table<'a>(
+    alloc: Global,
+    classes: &[ClassRef<'a>],
+) -> Result<Vec<FieldMember<'a>>, AllocError>
+    ensures { IfOk result (λ v. map field_member_view v.items ≡ fields_along (classes_view classes.now)) }
+{
+    let mut rows = BTreeMap::new(alloc);
+    for class in classes {
+        add_fields(&mut rows, class)?;
+    }
+    in_order(alloc, &rows)
+}
+
+/// The methods that these classes declare, each name once: that of the first class which declares it. They ascend by
+/// name.
+pub fn method_table<'a>(
+    alloc: Global,
+    classes: &[ClassRef<'a>],
+) -> Result<Vec<MethodMember<'a>>, AllocError>
+    ensures { IfOk result (λ v. map method_member_view v.items ≡ methods_along (classes_view classes.now)) }
+{
+    let mut rows = BTreeMap::new(alloc);
+    for class in classes {
+        add_methods(&mut rows, class)?;
+    }
+    in_order(alloc, &rows)
+}
+
+/// Adds the fields of a class whose names aren't there yet.
+fn add_fields<'a>(
+    rows: &mut BTreeMap<&'a Name, FieldMember<'a>>,
+    class: &ClassRef<'a>,
+) -> Result<(), AllocError>
+    ensures { OnOk result (SayAlike (field_rows rows.new.entries) (field_rows rows.old.entries ++ own_rows (λ f. f.name) (class_ref_view class.now).name (class_ref_view class.now).fields)) }
+{
+    let owner = class.name();
+    for field in class.fields() {
+        let name = &field.name;
+        if !rows.contains_key(&name) {
+            rows.insert(name, FieldMember { owner, field })?;
+        }
+    }
+    Ok(())
+}
+
+/// Adds the methods of a class whose names aren't there yet.
+fn add_methods<'a>(
+    rows: &mut BTreeMap<&'a Name, MethodMember<'a>>,
+    class: &ClassRef<'a>,
+) -> Result<(), AllocError>
+    ensures { OnOk result (SayAlike (method_rows rows.new.entries) (method_rows rows.old.entries ++ own_rows (λ m. m.name) (class_ref_view class.now).name (class_ref_view class.now).methods)) }
+{
+    let owner = class.name();
+    for method in class.methods() {
+        let name = &method.name;
+        if !rows.contains_key(&name) {
+            rows.insert(name, MethodMember { owner, method })?;
+        }
+    }
+    Ok(())
+}
+
+/// The values of a map, in the order of the names.
+fn in_order<T: Copy>(alloc: Global, rows: &BTreeMap<&Name, T>) -> Result<Vec<T>, AllocError>
+    ensures values { IfOk result (λ v. v.items ≡ values rows.now) }
+    ensures ordered { IsOrdered (λ x y. slice_cmp nat_cmp x.now y.now) rows.now }
+{
+    rows.values().copied().collect(alloc)
+}

@@ -1,0 +1,34 @@
+//! Laws of the definitions that contracts cite.
+ghost use Rattle.std.specs.Prelude.{◌≡◌, ◌↔◌, ℕ, List, Some, IsSome, IsNone, IsTrue};
+ghost use Rattle.std.specs.Cmp.{IsTotalOrder};
+ghost use Rattle.std.specs.declared.cmp.Ordering.TheVariants.{Equal};
+ghost use Rattle.mj_lexer.specs.declared.token.Token.{Token};
+ghost use Rattle.mj_lexer.specs.declared.front.Front.{Front};
+ghost use Rattle.mj_lexer.specs.declared.lexer.LexFault.{LexFault};
+ghost use Rattle.mj_lexer.specs.Fronts.{front_of};
+ghost use Rattle.mj_lexer.specs.Pieces.{Stands};
+ghost use Rattle.mj_lexer.specs.Lexes.{Lexes, Breaks};
+ghost use Rattle.mj_lexer.specs.Lexing.{tokens_of, fault_of};
+
+use crate::name::Name;
+
+/// The tokens and the fault that are computed are those that the text is cut into, or breaks by;
+/// each text has the one or the other.
+pub fn lexing_laws(text: &[u8])
+    ensures tokens { (tokens : List Token) → Lexes text.now tokens ↔ (tokens_of text.now ≡ Some tokens) }
+    ensures fault { (fault : LexFault) → Breaks text.now fault ↔ (fault_of text.now ≡ Some fault) }
+    ensures one { IsSome (tokens_of text.now) ↔ IsNone (fault_of text.now) }
+{}
+
+/// What is read at the front of a text is what stands there and nothing else: the longest piece, or what is wrong.
+pub fn front_laws(text: &[u8])
+    ensures stands { Stands text.now (front_of text.now) }
+    ensures only { (front : Front) → Stands text.now front → front ≡ front_of text.now }
+{}
+
+/// Names are equal where their texts are; their order is total, and ties only equal names.
+pub fn name_laws()
+    ensures equality { (m n : List ℕ) → IsTrue (⟦<Name as PartialEq>⟧.eq m n) ↔ (m ≡ n) }
+    ensures order { IsTotalOrder ⟦<Name as Ord>⟧.cmp }
+    ensures ties { (m n : List ℕ) → ⟦<Name as Ord>⟧.cmp m n ≡ Equal → m ≡ n }
+{}

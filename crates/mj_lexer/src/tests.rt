@@ -1,0 +1,148 @@
+//! Tests: expected values are from the language's rules and its worked examples.
+use crate::{Kind, Name, Token, front_laws, lex, lexing_laws, line_col, name_laws};
+use std::alloc::{AllocError, Global};
+use std::hash::{DefaultHasher, Hash, Hasher};
+use std::test::Fail;
+
+/// The tokens of a text in words, or its fault.
+fn told(alloc: Global, text: &[u8]) -> Result<String, AllocError> {
+    let mut words = String::new(alloc);
+    match lex(alloc, text) {
+        Ok(tokens) => {
+            for token in &tokens {
+                words.push_str(told_token(alloc, token)?.as_str())?;
+            }
+        }
+        Err(fault) => words.push_str(fault.to_string(alloc)?.as_str())?,
+    }
+    Ok(words)
+}
+
+fn told_token(alloc: Global, token: &Token) -> Result<String, AllocError> {
+    let start = token.start;
+    let end = token.end;
+    match &token.kind {
+        Kind::Identifier(name) => format!(in alloc; "`{name}` {start}-{end};"),
+        Kind::Literal(value) => format!(in alloc; "{value} {start}-{end};"),
+        Kind::Terminal(terminal) => format!(in alloc; "{terminal:?} {start}-{end};"),
+    }
+}
+
+#[test]
+fn tokens_and_faults(rt: HostRuntime) -> Result<(), Fail> {
+    let rows = [
+        ("", ""),
+        (
+            "class M { public static void main(String[] a) { System.out.println(1); } }",
+            "Class 0-5;`M` 6-7;LeftBrace 8-9;Public 10-16;Static 17-23;Void 24-28;`main` 29-33;LeftParenthesis 33-34;`String` 34-40;LeftBracket 40-41;RightBracket 41-42;`a` 43-44;RightParenthesis 44-45;LeftBrace 46-47;`System` 48-54;Dot 54-55;`out` 55-58;Dot 58-59;`println` 59-66;LeftParenthesis 66-67;1 67-68;RightParenthesis 68-69;Semicolon 69-70;RightBrace 71-72;RightBrace 73-74;",
+        ),
+        (
+            "{}()[];,.=&&<+-*!",
+            "LeftBrace 0-1;RightBrace 1-2;LeftParenthesis 2-3;RightParenthesis 3-4;LeftBracket 4-5;RightBracket 5-6;Semicolon 6-7;Comma 7-8;Dot 8-9;Assign 9-10;And 10-12;Less 12-13;Plus 13-14;Minus 14-15;Times 15-16;Not 16-17;",
+        ),
+        (
+            "class public static void extends return int boolean if else while true false this new",
+            "Class 0-5;Public 6-12;Static 13-19;Void 20-24;Extends 25-32;Return 33-39;Int 40-43;Boolean 44-51;If 52-54;Else 55-59;While 60-65;True 66-70;False 71-76;This 77-81;New 82-85;",
+        ),
+        (
+            "classy Class x_1 length",
+            "`classy` 0-6;`Class` 7-12;`x_1` 13-16;`length` 17-23;",
+        ),
+        ("2147483647 0000 007", "2147483647 0-10;0 11-15;7 16-19;"),
+        ("2147483648 2147483649", "2147483648 0-10;2147483648 11-21;"),
+        ("99999999999999999999999999", "2147483648 0-26;"),
+        ("1a", "1 0-1;`a` 1-2;"),
+        ("a\t\n\r\x0Cb", "`a` 0-1;`b` 5-6;"),
+        ("/* a /* b */ c */x", "`x` 17-18;"),
+        ("/**/x/* // */y", "`x` 4-5;`y` 13-14;"),
+        ("// /* x\ny//", "`y` 8-9;"),
+        ("//x\ry", "`y` 4-5;"),
+        ("/* /* */", "the comment at byte 0 isn't closed"),
+        ("x /*/", "the comment at byte 2 isn't closed"),
+        ("x /", "byte 2 begins no token"),
+        ("&&& &&", "byte 2 begins no token"),
+        ("_a", "byte 0 begins no token"),
+        ("a \u{e9}", "byte 2 begins no token"),
+        ("# /*", "byte 0 begins no token"),
+        ("/* #", "the comment at byte 0 isn't closed"),
+    ];
+    for (text, want) in rows {
+        assert_eq!(rt; told(rt.alloc(), text.as_bytes())?.as_str(), want, "{text}");
+    }
+    Ok(())
+}
+
+/// A text of this byte alone.
+fn repeated(alloc: Global, byte: u8, count: usize) -> Result<Vec<u8>, AllocError> {
+    let mut text = Vec::with_capacity(alloc, count)?;
+    for _ in 0..count {
+        text.push(byte)?;
+    }
+    Ok(text)
+}
+
+#[test]
+fn limits(rt: HostRuntime) -> Result<(), Fail> {
+    let rows = [
+        (b'a', 256, "the name at byte 0 has more than 255 bytes"),
+        (b' ', 1048576, ""),
+        (b' ', 1048577, "the text has more than 1048576 bytes"),
+        (b'#', 1048577, "the text has more than 1048576 bytes"),
+    ];
+    for (byte, count, want) in rows {
+        let text = repeated(rt.alloc(), byte, count)?;
+        assert_eq!(rt; told(rt.alloc(), &text)?.as_str(), want, "{count} bytes");
+    }
+    let tokens = lex(rt.alloc(), &repeated(rt.alloc(), b'a', 255)?)?;
+    assert_eq!(rt; tokens.len(), 1);
+    assert_eq!(rt; tokens[0].end, 255);
+    Ok(())
+}
+
+#[test]
+fn lines_and_columns(rt: HostRuntime) {
+    let rows = [
+        ("class {", 6, (1, 7)),
+        ("", 0, (1, 1)),
+        ("a\nbc", 1, (1, 2)),
+        ("a\nbc", 2, (2, 1)),
+        ("a\nbc", 3, (2, 2)),
+        ("a\nbc", 9, (2, 3)),
+        ("\n\n", 2, (3, 1)),
+        ("\r\r", 2, (1, 3)),
+    ];
+    for (text, at, want) in rows {
+        assert_eq!(rt; line_col(text.as_bytes(), at), want, "{text} at {at}");
+    }
+}
+
+fn hash_of(name: &Name) -> u64 {
+    let mut state = DefaultHasher::new();
+    name.hash(&mut state);
+    state.finish()
+}
+
+#[test]
+fn names(rt: HostRuntime) -> Result<(), Fail> {
+    let alloc = rt.alloc();
+    let name = Name::try_new(alloc, "ab")?.ok_or("a name")?;
+    let copy = name.copy(alloc)?;
+    assert_eq!(rt; name.as_str(), "ab");
+    assert_eq!(rt; copy.bytes(), b"ab".as_slice());
+    assert_eq!(rt; name.to_string(alloc)?.as_str(), "ab");
+    assert!(rt; name == copy && hash_of(&name) == hash_of(&copy));
+    for (less, greater) in [("a", "b"), ("a", "ab"), ("B", "a"), ("z", "\u{e9}")] {
+        let one = Name::new(alloc, less)?;
+        let other = Name::new(alloc, greater)?;
+        assert!(rt; one < other && one != other, "{less} {greater}");
+    }
+    assert!(rt; Name::try_new(alloc, "")?.is_none());
+    Ok(())
+}
+
+#[test]
+fn laws() {
+    lexing_laws(b"a");
+    front_laws(b"a");
+    name_laws();
+}

@@ -1,0 +1,15 @@
+pub mod Items
+pub mod Loops
+pub mod Rooms
+pub mod Binds
+pub mod Lists
+pub mod Marks
+pub mod ExpressionFound
+pub mod ExpressionAgain
+pub mod Rows
+pub mod StatementFound
+pub mod StatementAgain
+pub mod FileFound
+pub mod FileAgain
+pub mod Whole
+pub mod Bounds

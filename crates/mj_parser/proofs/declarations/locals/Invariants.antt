@@ -1,0 +1,16 @@
+use Rattle.std.proofs.Common.{◌≡◌, ℕ, suc, Option, List, ◌-◌, ◌≤◌, length}
+use Rattle.mj_parser.specs.declared.tree.Variable.{Variable}
+use Rattle.mj_parser.specs.Steps.{items_from}
+use Rattle.mj_parser.specs.FileReading.{local_at, begins_local}
+use Rattle.mj_parser.proofs.Items.{ItemsLead}
+use Rattle.mj_parser.proofs.declarations.locals.Given as goal
+
+abbrev pub invariant-items : goal.invariant-items
+invariant-items l = record {
+  within : l.after ≤ length l.tokens;
+  onward : l.at ≤ l.after;
+  so_far : (total : Option (List Variable × ℕ)) → ItemsLead (local_at l.tokens) (begins_local l.tokens) (length l.tokens) l.items.items l.after total → items_from (suc (length l.tokens)) (local_at l.tokens) (begins_local l.tokens) l.at ≡ total;
+}
+
+abbrev pub decreases-items : goal.decreases-items
+decreases-items l = length l.tokens - l.after

@@ -1,0 +1,32 @@
+use Rattle.std.proofs.Common.{◌≡◌, ℕ, suc, Option, List, ◌+◌, ◌-◌, ◌*◌, ◌≤◌, length, map}
+use Rattle.mj_parser.specs.Trees.{Statement}
+use Rattle.mj_parser.specs.Views.{stmt_view}
+use Rattle.mj_parser.specs.Steps.{items_from}
+use Rattle.mj_parser.specs.StatementReading.{not_brace, stmt_at}
+use Rattle.mj_parser.proofs.Items.{ItemsLead}
+use Rattle.mj_parser.proofs.statements.+statements.Given as goal
+
+abbrev pub decreases-statement : goal.decreases-statement
+decreases-statement l = 4 * l.room
+
+abbrev pub decreases-choice : goal.decreases-choice
+decreases-choice l = 4 * l.room + 1
+
+abbrev pub decreases-repetition : goal.decreases-repetition
+decreases-repetition l = 4 * l.room + 1
+
+abbrev pub decreases-braced : goal.decreases-braced
+decreases-braced l = 4 * l.room + 1
+
+abbrev pub decreases-block : goal.decreases-block
+decreases-block l = 4 * l.room + 2
+
+abbrev pub invariant-braced-items : goal.invariant-braced-items
+invariant-braced-items l = record {
+  within : l.after ≤ length l.tokens;
+  onward : l.at ≤ l.after;
+  so_far : (total : Option (List Statement × ℕ)) → ItemsLead (stmt_at l.room l.tokens) (not_brace l.tokens) (length l.tokens) (map stmt_view l.stmts.items) l.after total → items_from (suc (length l.tokens)) (stmt_at l.room l.tokens) (not_brace l.tokens) l.at ≡ total;
+}
+
+abbrev pub decreases-braced-items : goal.decreases-braced-items
+decreases-braced-items l = length l.tokens - l.after

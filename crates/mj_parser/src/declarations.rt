@@ -1,0 +1,206 @@
+//! Reading types, variables and methods.
+ghost use Rattle.std.specs.Prelude.{◌≡◌, ℕ, ◌+◌, ◌<◌, ◌≤◌, suc, length, map, IfOk, IsTrue};
+ghost use Rattle.mj_parser.specs.Views.{stmt_view, method_view};
+ghost use Rattle.mj_parser.specs.Steps.{Gives, items_from, listed_at};
+ghost use Rattle.mj_parser.specs.StatementReading.{stmt_at};
+ghost use Rattle.mj_parser.specs.FileReading.{type_at, variable_at, local_at, begins_local, signature_view, signature_at, not_return, method_at};
+
+use crate::expressions::read;
+use crate::fault::ParseFault;
+use crate::statements::statement;
+use crate::tokens::{Parsed, expect, expect_name, has, name};
+use crate::tree::{MethodTree, Stmt, Ty, Variable};
+use mj_lexer::{Name, Terminal, Token};
+use std::alloc::Global;
+
+/// A declared type.
+#[tactic(auto, unfolding(crate::specs::FileReading::type_at))]
+fn declared_type(alloc: Global, tokens: &[Token], at: usize) -> Result<Parsed<Ty>, ParseFault>
+    requires { at ≤ length tokens.now }
+    ensures exact { Gives (λ x. (x.tree, x.after)) result (type_at tokens.now at) }
+    ensures within { IfOk result (λ x. (at < x.after) × (x.after ≤ length tokens.now)) }
+{
+    if has(tokens, at, Terminal::Int) {
+        if !has(tokens, at + 1, Terminal::LeftBracket) {
+            return Ok(Parsed {
+                tree: Ty::Int,
+                after: at + 1,
+            });
+        }
+        let after = expect(tokens, at + 2, Terminal::RightBracket)?;
+        return Ok(Parsed {
+            tree: Ty::IntArray,
+            after,
+        });
+    }
+    if has(tokens, at, Terminal::Boolean) {
+        return Ok(Parsed {
+            tree: Ty::Boolean,
+            after: at + 1,
+        });
+    }
+    let class = expect_name(tokens, at)?;
+    Ok(Parsed {
+        tree: Ty::Class(class.copy(alloc)?),
+        after: at + 1,
+    })
+}
+
+/// A type and a name.
+#[tactic(auto, unfolding(crate::specs::FileReading::variable_at))]
+fn variable(alloc: Global, tokens: &[Token], at: usize) -> Result<Parsed<Variable>, ParseFault>
+    requires { at ≤ length tokens.now }
+    ensures exact { Gives (λ x. (x.tree, x.after)) result (variable_at tokens.now at) }
+    ensures within { IfOk result (λ x. (at < x.after) × (x.after ≤ length tokens.now)) }
+{
+    let ty = declared_type(alloc, tokens, at)?;
+    let name = expect_name(tokens, ty.after)?;
+    Ok(Parsed {
+        tree: Variable {
+            name: name.copy(alloc)?,
+            ty: ty.tree,
+            mark: at,
+        },
+        after: ty.after + 1,
+    })
+}
+
+/// A variable and its semicolon.
+#[tactic(auto, unfolding(crate::specs::FileReading::local_at))]
+pub fn local(alloc: Global, tokens: &[Token], at: usize) -> Result<Parsed<Variable>, ParseFault>
+    requires { at ≤ length tokens.now }
+    ensures exact { Gives (λ x. (x.tree, x.after)) result (local_at tokens.now at) }
+    ensures within { IfOk result (λ x. (at < x.after) × (x.after ≤ length tokens.now)) }
+{
+    let variable = variable(alloc, tokens, at)?;
+    let after = expect(tokens, variable.after, Terminal::Semicolon)?;
+    Ok(Parsed {
+        tree: variable.tree,
+        after,
+    })
+}
+
+/// Whether a local begins here, and no statement.
+fn begins_local(tokens: &[Token], at: usize) -> bool
+    requires { at ≤ length tokens.now }
+    ensures { result ≡ begins_local tokens.now at }
+{
+    has(tokens, at, Terminal::Int)
+        || has(tokens, at, Terminal::Boolean)
+        || (name(tokens, at).is_some() && name(tokens, at + 1).is_some())
+}
+
+/// Formals between commas, up to the parenthesis that closes them.
+fn formals(alloc: Global, tokens: &[Token], at: usize) -> Result<Parsed<Vec<Variable>>, ParseFault>
+    requires { at ≤ length tokens.now }
+    ensures exact { Gives (λ x. (x.tree.items, x.after)) result (listed_at (variable_at tokens.now) tokens.now at) }
+    ensures within { IfOk result (λ x. (at < x.after) × (x.after ≤ length tokens.now)) }
+{
+    let mut formals = Vec::new(alloc);
+    if has(tokens, at, Terminal::RightParenthesis) {
+        return Ok(Parsed {
+            tree: formals,
+            after: at + 1,
+        });
+    }
+    let first = variable(alloc, tokens, at)?;
+    formals.push(first.tree)?;
+    let mut after = first.after;
+    'list: while has(tokens, after, Terminal::Comma) {
+        let next = variable(alloc, tokens, after + 1)?;
+        formals.push(next.tree)?;
+        after = next.after;
+    }
+    let after = expect(tokens, after, Terminal::RightParenthesis)?;
+    Ok(Parsed {
+        tree: formals,
+        after,
+    })
+}
+
+/// The locals of a body.
+fn locals(alloc: Global, tokens: &[Token], at: usize) -> Result<Parsed<Vec<Variable>>, ParseFault>
+    requires { at ≤ length tokens.now }
+    ensures exact { Gives (λ x. (x.tree.items, x.after)) result (items_from (suc (length tokens.now)) (local_at tokens.now) (begins_local tokens.now) at) }
+    ensures within { IfOk result (λ x. (at ≤ x.after) × (x.after ≤ length tokens.now)) }
+{
+    let mut items = Vec::new(alloc);
+    let mut after = at;
+    'items: while begins_local(tokens, after) {
+        let next = local(alloc, tokens, after)?;
+        items.push(next.tree)?;
+        after = next.after;
+    }
+    Ok(Parsed { tree: items, after })
+}
+
+/// Statements up to `return`.
+fn body(alloc: Global, tokens: &[Token], at: usize) -> Result<Parsed<Vec<Stmt>>, ParseFault>
+    requires { at ≤ length tokens.now }
+    ensures exact { Gives (λ x. (map stmt_view x.tree.items, x.after)) result (items_from (suc (length tokens.now)) (stmt_at 500 tokens.now) (not_return tokens.now) at) }
+    ensures within { IfOk result (λ x. (at ≤ x.after) × (x.after < length tokens.now)) }
+{
+    let mut items = Vec::new(alloc);
+    let mut after = at;
+    'items: while !has(tokens, after, Terminal::Return) {
+        let next = statement(alloc, tokens, after, 500)?;
+        items.push(next.tree)?;
+        after = next.after;
+    }
+    Ok(Parsed { tree: items, after })
+}
+
+/// What stands before the locals of a method.
+#[derive(Debug, Drop)]
+pub struct Signature {
+    pub name: Name,
+    pub returns: Ty,
+    pub formals: Vec<Variable>,
+}
+
+#[tactic(auto, unfolding(crate::specs::FileReading::signature_at))]
+fn read_signature(alloc: Global, tokens: &[Token]) -> Result<Parsed<Signature>, ParseFault>
+    ensures exact { Gives (λ x. (signature_view x.tree, x.after)) result (signature_at tokens.now) }
+    ensures within { IfOk result (λ x. (0 < x.after) × (x.after ≤ length tokens.now)) }
+{
+    let after = expect(tokens, 0, Terminal::Public)?;
+    let returns = declared_type(alloc, tokens, after)?;
+    let name = expect_name(tokens, returns.after)?;
+    let after = expect(tokens, returns.after + 1, Terminal::LeftParenthesis)?;
+    let formals = formals(alloc, tokens, after)?;
+    let after = expect(tokens, formals.after, Terminal::LeftBrace)?;
+    Ok(Parsed {
+        tree: Signature {
+            name: name.copy(alloc)?,
+            returns: returns.tree,
+            formals: formals.tree,
+        },
+        after,
+    })
+}
+
+/// The method that the tokens begin with.
+#[tactic(auto, unfolding(crate::specs::FileReading::method_at, crate::specs::FileReading::method_of))]
+pub fn method(alloc: Global, tokens: &[Token]) -> Result<Parsed<MethodTree>, ParseFault>
+    ensures exact { Gives (λ x. (method_view x.tree, x.after)) result (method_at tokens.now) }
+    ensures within { IfOk result (λ x. (0 < x.after) × (x.after ≤ length tokens.now)) }
+{
+    let signature = read_signature(alloc, tokens)?;
+    let locals = locals(alloc, tokens, signature.after)?;
+    let body = body(alloc, tokens, locals.after)?;
+    let returned = read(alloc, tokens, body.after + 1, 500, 5)?;
+    let after = expect(tokens, returned.after, Terminal::Semicolon)?;
+    let after = expect(tokens, after, Terminal::RightBrace)?;
+    Ok(Parsed {
+        tree: MethodTree {
+            name: signature.tree.name,
+            returns: signature.tree.returns,
+            formals: signature.tree.formals,
+            locals: locals.tree,
+            body: body.tree,
+            returned: returned.exp,
+            return_mark: body.after,
+        },
+        after,
+    })
+}

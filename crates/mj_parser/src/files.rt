@@ -1,0 +1,270 @@
+//! Reading classes and the whole file.
+ghost use Rattle.std.specs.Prelude.{◌≡◌, ◌≢◌, ℕ, ◌+◌, ◌<◌, ◌≤◌, suc, length, drop, map, option_map, true, false, IfOk, IfErr, IsTrue};
+ghost use Rattle.mj_parser.specs.Views.{stmt_view, method_view, main_view, class_view, file_view};
+ghost use Rattle.mj_parser.specs.Declarations.{main_head, main_parameter};
+ghost use Rattle.mj_parser.specs.Steps.{Gives, items_from};
+ghost use Rattle.mj_parser.specs.FileReading.{field_at, begins_type, method_from, at_public, superclass_at, class_at, begins_main, main_method_at, main_from, main_at, main_part_at, before_end, tree_of};
+ghost use Rattle.mj_parser.specs.declared.fault.ParseFault.TheVariants.{OutOfMemory};
+
+use crate::declarations::{local, method};
+use crate::fault::ParseFault;
+use crate::statements::statement;
+use crate::tokens::{Parsed, expect, expect_name, expect_word, has, name};
+use crate::tree::{ClassTree, Field, FileTree, MainTree, MethodTree, Stmt};
+use mj_lexer::{Name, Terminal, Token};
+use std::alloc::Global;
+
+#[tactic(auto, unfolding(crate::specs::FileReading::field_at))]
+fn field(alloc: Global, tokens: &[Token], at: usize) -> Result<Parsed<Field>, ParseFault>
+    requires { at ≤ length tokens.now }
+    ensures exact { Gives (λ x. (x.tree, x.after)) result (field_at tokens.now at) }
+    ensures within { IfOk result (λ x. (at < x.after) × (x.after ≤ length tokens.now)) }
+{
+    let variable = local(alloc, tokens, at)?;
+    Ok(Parsed {
+        tree: Field {
+            name: variable.tree.name,
+            ty: variable.tree.ty,
+        },
+        after: variable.after,
+    })
+}
+
+/// Whether a type begins here.
+fn begins_type(tokens: &[Token], at: usize) -> bool
+    ensures { result ≡ begins_type tokens.now at }
+{
+    has(tokens, at, Terminal::Int)
+        || has(tokens, at, Terminal::Boolean)
+        || name(tokens, at).is_some()
+}
+
+/// The fields of a class.
+fn fields(alloc: Global, tokens: &[Token], at: usize) -> Result<Parsed<Vec<Field>>, ParseFault>
+    requires { at ≤ length tokens.now }
+    ensures exact { Gives (λ x. (x.tree.items, x.after)) result (items_from (suc (length tokens.now)) (field_at tokens.now) (begins_type tokens.now) at) }
+    ensures within { IfOk result (λ x. (at ≤ x.after) × (x.after ≤ length tokens.now)) }
+{
+    let mut items = Vec::new(alloc);
+    let mut after = at;
+    'items: while begins_type(tokens, after) {
+        let next = field(alloc, tokens, after)?;
+        items.push(next.tree)?;
+        after = next.after;
+    }
+    Ok(Parsed { tree: items, after })
+}
+
+/// The method that begins at a place.
+fn method_at(alloc: Global, tokens: &[Token], at: usize) -> Result<Parsed<MethodTree>, ParseFault>
+    requires { at ≤ length tokens.now }
+    ensures exact { Gives (λ x. (method_view x.tree, x.after)) result (method_from tokens.now at) }
+    ensures within { IfOk result (λ x. (at < x.after) × (x.after ≤ length tokens.now)) }
+{
+    match method(alloc, &tokens[at..]) {
+        Ok(method) => Ok(Parsed {
+            tree: method.tree,
+            after: at + method.after,
+        }),
+        Err(fault) => Err(fault.behind(at)),
+    }
+}
+
+/// The methods of a class.
+fn methods(
+    alloc: Global,
+    tokens: &[Token],
+    at: usize,
+) -> Result<Parsed<Vec<MethodTree>>, ParseFault>
+    requires { at ≤ length tokens.now }
+    ensures exact { Gives (λ x. (map method_view x.tree.items, x.after)) result (items_from (suc (length tokens.now)) (method_from tokens.now) (at_public tokens.now) at) }
+    ensures within { IfOk result (λ x. (at ≤ x.after) × (x.after ≤ length tokens.now)) }
+{
+    let mut items = Vec::new(alloc);
+    let mut after = at;
+    'items: while has(tokens, after, Terminal::Public) {
+        let next = method_at(alloc, tokens, after)?;
+        items.push(next.tree)?;
+        after = next.after;
+    }
+    Ok(Parsed { tree: items, after })
+}
+
+/// `extends` and a name, or nothing.
+#[tactic(auto, unfolding(crate::specs::FileReading::superclass_at))]
+fn superclass(
+    alloc: Global,
+    tokens: &[Token],
+    at: usize,
+) -> Result<Parsed<Option<Name>>, ParseFault>
+    requires { at ≤ length tokens.now }
+    ensures exact { Gives (λ x. (x.tree, x.after)) result (superclass_at tokens.now at) }
+    ensures within { IfOk result (λ x. (at ≤ x.after) × (x.after ≤ length tokens.now)) }
+{
+    if !has(tokens, at, Terminal::Extends) {
+        return Ok(Parsed {
+            tree: None,
+            after: at,
+        });
+    }
+    let name = expect_name(tokens, at + 1)?;
+    Ok(Parsed {
+        tree: Some(name.copy(alloc)?),
+        after: at + 2,
+    })
+}
+
+#[tactic(auto, unfolding(crate::specs::FileReading::class_at))]
+fn class(alloc: Global, tokens: &[Token], at: usize) -> Result<Parsed<ClassTree>, ParseFault>
+    requires { at ≤ length tokens.now }
+    ensures exact { Gives (λ x. (class_view x.tree, x.after)) result (class_at tokens.now at) }
+    ensures within { IfOk result (λ x. (at < x.after) × (x.after ≤ length tokens.now)) }
+{
+    let after = expect(tokens, at, Terminal::Class)?;
+    let name = expect_name(tokens, after)?;
+    let superclass = superclass(alloc, tokens, at + 2)?;
+    let after = expect(tokens, superclass.after, Terminal::LeftBrace)?;
+    let fields = fields(alloc, tokens, after)?;
+    let methods = methods(alloc, tokens, fields.after)?;
+    let after = expect(tokens, methods.after, Terminal::RightBrace)?;
+    Ok(Parsed {
+        tree: ClassTree {
+            name: name.copy(alloc)?,
+            superclass: superclass.tree,
+            fields: fields.tree,
+            methods: methods.tree,
+        },
+        after,
+    })
+}
+
+/// The classes up to the end.
+fn classes(alloc: Global, tokens: &[Token], at: usize) -> Result<Parsed<Vec<ClassTree>>, ParseFault>
+    requires { at ≤ length tokens.now }
+    ensures exact { Gives (λ x. (map class_view x.tree.items, x.after)) result (items_from (suc (length tokens.now)) (class_at tokens.now) (before_end tokens.now) at) }
+    ensures within { IfOk result (λ x. (at ≤ x.after) × (x.after ≡ length tokens.now)) }
+{
+    let mut items = Vec::new(alloc);
+    let mut after = at;
+    'items: while after < tokens.len() {
+        let next = class(alloc, tokens, after)?;
+        items.push(next.tree)?;
+        after = next.after;
+    }
+    Ok(Parsed { tree: items, after })
+}
+
+/// The place after `public static void main (`.
+fn expect_main_head(tokens: &[Token]) -> Result<usize, ParseFault>
+    ensures found { IfOk result (λ after. (main_head tokens.now ≡ true) × (after ≡ 5) × (after ≤ length tokens.now)) }
+    ensures fault { IfErr result (λ e. (main_head tokens.now ≡ false) × (e ≢ OutOfMemory)) }
+{
+    let after = expect(tokens, 0, Terminal::Public)?;
+    let after = expect(tokens, after, Terminal::Static)?;
+    let after = expect(tokens, after, Terminal::Void)?;
+    let after = expect_word(tokens, after, b"main".as_slice())?;
+    expect(tokens, after, Terminal::LeftParenthesis)
+}
+
+/// The place after `String [ ] id ) {`.
+fn expect_main_parameter(tokens: &[Token]) -> Result<usize, ParseFault>
+    ensures found { IfOk result (λ after. (main_parameter tokens.now ≡ true) × (after ≡ 11) × (after ≤ length tokens.now)) }
+    ensures fault { IfErr result (λ e. (main_parameter tokens.now ≡ false) × (e ≢ OutOfMemory)) }
+{
+    let after = expect_word(tokens, 5, b"String".as_slice())?;
+    let after = expect(tokens, after, Terminal::LeftBracket)?;
+    let after = expect(tokens, after, Terminal::RightBracket)?;
+    expect_name(tokens, after)?;
+    let after = expect(tokens, after + 1, Terminal::RightParenthesis)?;
+    expect(tokens, after, Terminal::LeftBrace)
+}
+
+/// The statement of `main`, which the tokens begin with, and the end of the main class.
+#[tactic(auto, unfolding(crate::specs::FileReading::main_method_at))]
+fn main_method(alloc: Global, tokens: &[Token]) -> Result<Parsed<Stmt>, ParseFault>
+    ensures exact { Gives (λ x. (stmt_view x.tree, x.after)) result (main_method_at tokens.now) }
+    ensures within { IfOk result (λ x. x.after ≤ length tokens.now) }
+{
+    expect_main_head(tokens)?;
+    let inside = expect_main_parameter(tokens)?;
+    let statement = statement(alloc, tokens, inside, 500)?;
+    let after = expect(tokens, statement.after, Terminal::RightBrace)?;
+    let after = expect(tokens, after, Terminal::RightBrace)?;
+    Ok(Parsed {
+        tree: statement.tree,
+        after,
+    })
+}
+
+/// The statement of a main class whose `main` begins at place 3.
+fn main_statement(alloc: Global, tokens: &[Token]) -> Result<Parsed<Stmt>, ParseFault>
+    requires { 3 ≤ length tokens.now }
+    ensures exact { Gives (λ x. (stmt_view x.tree, x.after)) result (main_from tokens.now) }
+    ensures within { IfOk result (λ x. x.after ≤ length tokens.now) }
+{
+    match main_method(alloc, &tokens[3..]) {
+        Ok(statement) => Ok(Parsed {
+            tree: statement.tree,
+            after: 3 + statement.after,
+        }),
+        Err(fault) => Err(fault.behind(3)),
+    }
+}
+
+#[tactic(auto, unfolding(crate::specs::FileReading::main_at))]
+fn main_class(alloc: Global, tokens: &[Token]) -> Result<Parsed<MainTree>, ParseFault>
+    ensures exact { Gives (λ x. (main_view x.tree, x.after)) result (main_at tokens.now) }
+    ensures within { IfOk result (λ x. x.after ≤ length tokens.now) }
+{
+    let after = expect(tokens, 0, Terminal::Class)?;
+    let name = expect_name(tokens, after)?;
+    expect(tokens, 2, Terminal::LeftBrace)?;
+    let statement = main_statement(alloc, tokens)?;
+    Ok(Parsed {
+        tree: MainTree {
+            name: name.copy(alloc)?,
+            statement: statement.tree,
+        },
+        after: statement.after,
+    })
+}
+
+/// Whether the first class is the main class.
+fn begins_main(tokens: &[Token]) -> bool
+    ensures { result ≡ begins_main tokens.now }
+{
+    has(tokens, 2, Terminal::LeftBrace)
+        && has(tokens, 3, Terminal::Public)
+        && has(tokens, 4, Terminal::Static)
+}
+
+#[tactic(auto, unfolding(crate::specs::FileReading::main_part_at))]
+fn main_part(alloc: Global, tokens: &[Token]) -> Result<Parsed<Option<MainTree>>, ParseFault>
+    ensures exact { Gives (λ x. (option_map main_view x.tree, x.after)) result (main_part_at tokens.now) }
+    ensures within { IfOk result (λ x. x.after ≤ length tokens.now) }
+{
+    if !begins_main(tokens) {
+        return Ok(Parsed {
+            tree: None,
+            after: 0,
+        });
+    }
+    let main = main_class(alloc, tokens)?;
+    Ok(Parsed {
+        tree: Some(main.tree),
+        after: main.after,
+    })
+}
+
+/// The file that the tokens are.
+#[tactic(auto, unfolding(crate::specs::FileReading::tree_of))]
+pub fn file(alloc: Global, tokens: &[Token]) -> Result<FileTree, ParseFault>
+    ensures { Gives file_view result (tree_of tokens.now) }
+{
+    let main = main_part(alloc, tokens)?;
+    let classes = classes(alloc, tokens, main.after)?;
+    Ok(FileTree {
+        main: main.tree,
+        classes: classes.tree,
+    })
+}

@@ -1,0 +1,17 @@
+pub mod Listed
+pub mod RepeatLemmas
+pub mod Numbered
+pub mod ProjectFaultLaws
+pub mod Signatures
+pub mod Overriding
+pub mod ClassFaultLaws
+pub mod ProjectLemmas
+pub mod TableLaws
+pub mod Steps
+pub mod RowLemmas
+pub mod OneAnswer
+pub mod Composing
+pub mod Sets
+pub mod Answering
+pub mod SentenceLaws
+pub mod LowerLaws

@@ -1,0 +1,112 @@
+-- A method found in a table is the nearest one.
+use Rattle.std.proofs.Common.{◌≡◌, ℕ, zero, suc, Bool, true, false, cond, List, [], ◌∷◌, map, slice_get, Option, Some, None, option_map, find, Contains, refl, sym, ap, ap₂, subst, ◌∙◌, bytes_eq, ◌+◌, ◌++◌, drop, if◌then◌else◌}
+use Rattle.std.proofs.lemmas.Option.{none-some, same_Some}
+use Rattle.std.proofs.lemmas.Slice.Eq.{bytes_eq-Decides}
+use Rattle.mj_parser.specs.Trees.{Name, Method}
+use Rattle.mj_answer.specs.declared.diagnostic.Diagnostic.{Diagnostic}
+use Rattle.mj_answer.specs.Answers.{MethodRowValue}
+use Rattle.mj_answer.proofs.Alike.{Contains-first, Contains-later}
+use Rattle.mj_classes.specs.Declarations.{ClassDecl}
+use Rattle.mj_classes.specs.Members.{nearest, or_farther, own_method}
+use Rattle.mj_classes.specs.Tables.{IsTable, methods_along}
+use Rattle.mj_classes.proofs.Tables.{is_table}
+use Rattle.mj_typing.specs.Inquiries.{Sig}
+use Rattle.mj_rules.specs.FaultLists.{fault, each_numbered, nearest_sig, override_faults, method_faults_of}
+use Rattle.mj_parser.specs.declared.place.Place.TheVariants as places
+use Rattle.mj_answer.specs.declared.code.Code.TheVariants.{E204}
+use Rattle.mj_answer.specs.Order.{NameBefore, IsAscendingByName}
+use Rattle.mj_answer.proofs.Compared.{ascends}
+use Rattle.std.specs.Ordering.{nat_cmp}
+use Rattle.std.specs.Cmp.Lexicographic.{slice_cmp}
+use Rattle.mj_classes.specs.Classes.{classes_view}
+use Rattle.mj_classes.specs.declared.class.ClassRef.{ClassRef}
+use Rattle.mj_rules.specs.Worlds.{sig_of}
+use Rattle.mj_rules.specs.Tables.{method_row, row_sig, sig_in}
+use Rattle.mj_rules.proofs.Listed.{place_of}
+use Rattle.mj_rules.proofs.TableLaws.{found_name, mapped}
+
+-- the table of some classes has the nearest method of each name
+along_is_table : (ks : List ClassDecl) → IsTable (λ (m : Method). m.name) (λ owner m. nearest (own_method m.name) ks ≡ Some (owner, m)) (methods_along ks)
+unfolding methods_along
+along_is_table ks = is_table (λ (m : Method). m.name) (λ (k : ClassDecl). k.methods) ks (λ owner m. nearest (own_method m.name) ks ≡ Some (owner, m)) (λ owner m h. h) (λ owner m h. h)
+
+-- what is found stands in the list and passes
+pub found_stands : {A : Type 0} (p : A → Bool) (xs : List A) (x : A) → find p xs ≡ Some x → Contains xs x × (p x ≡ true)
+found_stands p [] x e = absurd (none-some x e)
+found_stands {A} p (y ∷ xs) x e = by_test (p y) refl (found_stands p xs x) e
+  where
+    by_test : (t : Bool) → p y ≡ t → (find p xs ≡ Some x → Contains xs x × (p x ≡ true)) → cond t (Some y) (find p xs) ≡ Some x → Contains (y ∷ xs) x × (p x ≡ true)
+    by_test true h behind f = subst (λ (z : A). Contains (y ∷ xs) z × (p z ≡ true)) (same_Some y x f) (Contains-first y xs, h)
+    by_test false h behind f = let r = behind f in (Contains-later y xs x r.0, r.1)
+
+-- something passes where one of the list does
+pub finds_one : {A : Type 0} (p : A → Bool) (xs : List A) (i : ℕ) (x : A) → slice_get xs i ≡ Some x → p x ≡ true → find p xs ≡ None → ⊥
+finds_one p [] i x e t f = none-some x e
+finds_one p (y ∷ xs) zero x e t f = none-some y (sym f ∙ ap (λ b. cond b (Some y) (find p xs)) (ap p (same_Some y x e) ∙ t))
+finds_one {A} p (y ∷ xs) (suc i) x e t f = finds_one p xs i x e t (behind (p y) f)
+  where
+    behind : (b : Bool) → cond b (Some y) (find p xs) ≡ None → find p xs ≡ None
+    behind true g = absurd (none-some y (sym g))
+    behind false g = g
+
+nearest_named : (ks : List ClassDecl) (x owner : Name) (m : Method) → nearest (own_method x) ks ≡ Some (owner, m) → m.name ≡ x
+nearest_named [] x owner m e = absurd (none-some (owner, m) e)
+nearest_named (k ∷ ks) x owner m e = by_own (own_method x k) refl (nearest_named ks x owner m) e
+  where
+    by_own : (o : Option Method) → own_method x k ≡ o → (nearest (own_method x) ks ≡ Some (owner, m) → m.name ≡ x) → or_farther k.name o (nearest (own_method x) ks) ≡ Some (owner, m) → m.name ≡ x
+    by_own None h behind f = behind f
+    by_own (Some a) h behind f =
+        found_name (λ (g : Method). g.name) x k.methods m (h ∙ ap (λ (p : Name × Method). Some p.1) (same_Some (k.name, a) (owner, m) f))
+
+-- the row of a name, or none, in a table of these classes
+rows_by : (ks : List ClassDecl) (x : Name) (found : Option (Name × Method)) (near : Option (Name × Method)) → find (λ (r : Name × Method). bytes_eq r.1.name x) (methods_along ks) ≡ found
+    → nearest (own_method x) ks ≡ near → found ≡ near
+rows_by ks x None None f n = refl
+rows_by ks x (Some r) near f n =
+    let w = found_stands (λ (q : Name × Method). bytes_eq q.1.name x) (methods_along ks) r f in
+    let named = (bytes_eq-Decides r.1.name x).0 w.1 in
+    sym (subst (λ (y : Name). nearest (own_method y) ks ≡ Some r) named (((along_is_table ks).members r.0 r.1).0 w.0)) ∙ n
+rows_by ks x None (Some near) f n =
+    let named = nearest_named ks x near.0 near.1 n in
+    let stands = ((along_is_table ks).members near.0 near.1).1 (subst (λ (y : Name). nearest (own_method y) ks ≡ Some near) (sym named) n) in
+    let p = place_of (methods_along ks) near stands in
+    absurd (finds_one (λ (q : Name × Method). bytes_eq q.1.name x) (methods_along ks) p.0 near p.1 ((bytes_eq-Decides near.1.name x).1 named) f)
+
+find_rows : (x : Name) (rows : List (Name × Method)) → find (λ (r : MethodRowValue). bytes_eq r.name x) (map method_row rows) ≡ option_map method_row (find (λ (r : Name × Method). bytes_eq r.1.name x) rows)
+find_rows x [] = refl
+find_rows x (r ∷ rows) = by_test (bytes_eq r.1.name x) (find_rows x rows)
+  where
+    by_test : (t : Bool) → find (λ (q : MethodRowValue). bytes_eq q.name x) (map method_row rows) ≡ option_map method_row (find (λ (q : Name × Method). bytes_eq q.1.name x) rows)
+        → cond t (Some (method_row r)) (find (λ (q : MethodRowValue). bytes_eq q.name x) (map method_row rows)) ≡ option_map method_row (cond t (Some r) (find (λ (q : Name × Method). bytes_eq q.1.name x) rows))
+    by_test true h = refl
+    by_test false h = h
+
+sig_of_rows : (o : Option (Name × Method)) → option_map row_sig (option_map method_row o) ≡ option_map (λ (f : Name × Method). sig_of f.1) o
+sig_of_rows None = refl
+sig_of_rows (Some f) = refl
+
+-- the types found in the rows are those of the nearest method
+pub sig_in-rows : (ks : List ClassDecl) (x : Name) → sig_in (map method_row (methods_along ks)) x ≡ nearest_sig ks x
+sig_in-rows ks x =
+    ap (option_map row_sig) (find_rows x (methods_along ks) ∙ ap (option_map method_row) (rows_by ks x (find (λ (r : Name × Method). bytes_eq r.1.name x) (methods_along ks)) (nearest (own_method x) ks) refl refl))
+    ∙ sig_of_rows (nearest (own_method x) ks)
+
+-- numbered faults by equal functions
+pub each_same : {A : Type 0} (f g : ℕ → Bool → A → List Diagnostic) → ((n : ℕ) (b : Bool) (x : A) → f n b x ≡ g n b x) → (n : ℕ) (xs : List A) (flags : List Bool) → each_numbered f n xs flags ≡ each_numbered g n xs flags
+each_same f g same n [] flags = refl
+each_same f g same n (x ∷ xs) [] = refl
+each_same f g same n (x ∷ xs) (flag ∷ flags) = ap₂ (λ (a b : List Diagnostic). a ++ b) (same n flag x) (each_same f g same (n + 1) xs flags)
+
+-- the rows of a table ascend
+pub rows_ascend : (ks : List ClassDecl) → IsAscendingByName (λ (r : MethodRowValue). r.name) (map method_row (methods_along ks))
+rows_ascend ks = mapped method_row (λ (r : MethodRowValue). r.name) (methods_along ks) (ascends (slice_cmp nat_cmp) NameBefore (λ m n e. e) _ (along_is_table ks).ascending)
+
+pub methods_same : (ks : List ClassDecl) (rows : List MethodRowValue) → rows ≡ map method_row (methods_along ks) → (ms : List Method) (flags : List Bool)
+    → each_numbered (method_faults_of (sig_in rows)) 0 ms flags ≡ each_numbered (method_faults_of (nearest_sig ks)) 0 ms flags
+methods_same ks rows e ms flags =
+    each_same (method_faults_of (sig_in rows)) (method_faults_of (nearest_sig ks))
+    (λ n b m. ap (λ o. if b then fault (places.Method n) E204 ∷ [] else override_faults n m o) (ap (λ rs. sig_in rs m.name) e ∙ sig_in-rows ks m.name)) 0 ms flags
+
+pub view_behind : (cs : List ClassRef) → classes_view (drop 1 cs) ≡ drop 1 (classes_view cs)
+view_behind [] = refl
+view_behind (c ∷ cs) = refl

@@ -1,0 +1,53 @@
+use Rattle.std.proofs.Common.{◌≡◌, ◌∙◌, ◌++◌, ◌∷◌, [], ◌<◌, ◌≤◌, List, All, Contains, Some, None, length, map, take, refl, sym, ap, subst, arith, take_all}
+use Rattle.std.proofs.lemmas.Option.{none-some}
+use Rattle.std.proofs.lemmas.List.{take_more, map-append}
+use Rattle.std.proofs.lemmas.List.Elements.{All-push}
+use Rattle.mj_parser.specs.Trees.{Name}
+use Rattle.mj_answer.specs.Answers.{ClassAnswerValue}
+use Rattle.mj_classes.specs.Declarations.{ClassDecl, decl}
+use Rattle.mj_classes.specs.Classes.{class_ref_view}
+use Rattle.mj_classes.specs.Index.{declared_in}
+use Rattle.mj_rules.specs.Rules.{IsAnswerFor}
+use Rattle.mj_rules.proofs.Listed.{contains_at}
+use Rattle.mj_rules.proofs.Steps.{item_at}
+use Rattle.mj_rules.proofs.Overriding.{decl-name}
+use Rattle.mj_rules.proofs.Answering.{is_named}
+use Rattle.mj_rules.proofs.Composing.{class_answers}
+use Rattle.mj_rules.proofs.checker.class_answers.Goals as goal
+
+pub unreachable-requires : goal.unreachable-requires
+unreachable-requires c =
+    let cs = declared_in c.args.declarations.now in
+    let within : c.loop-name.name-index < length c.deref-name-items.result.now = omega arith in
+    let stands = contains_at c.deref-name-items.result.now c.loop-name.name-index c.name-item.result (item_at c.deref-name-items.result.now c.loop-name.name-index c.name-item.result within c.name-item.is) in
+    let named = (c.in_ok-names.ensures.same c.name-item.result).0 (rw c.deref-name-items.ensures.value at stands) in
+    let k = is_named cs c.name-item.result (decl cs c.name-item.result) refl named in
+    none-some k.0 (c.in_default.ensures ∙ k.1)
+
+pub class_answer-requires : goal.class_answer-requires
+class_answer-requires c =
+    let cs = declared_in c.args.declarations.now in
+    let here : decl cs c.name-item.result ≡ Some (class_ref_view c.in-Some.class) = sym c.in-Some.ensures in
+    ap (decl cs) (decl-name cs c.name-item.result (class_ref_view c.in-Some.class) here) ∙ here
+
+pub loop-name-preserved : goal.loop-name-preserved
+loop-name-preserved c =
+    let cs = declared_in c.args.declarations.now in
+    let within : c.loop-name.name-index < length c.deref-name-items.result.now = omega arith in
+    let here : decl cs c.name-item.result ≡ Some (class_ref_view c.in-Some.class) = sym c.in-Some.ensures in
+    let name : c.in_ok-class_answer.field-0.name ≡ c.name-item.result = c.in_ok-class_answer.ensures.name ∙ decl-name cs c.name-item.result (class_ref_view c.in-Some.class) here in
+    let more = take_more c.deref-name-items.result.now c.loop-name.name-index c.name-item.result within ∙ ap (λ (n : Name). take c.loop-name.name-index c.deref-name-items.result.now ++ n ∷ []) (sym c.name-item.is) in
+    record {
+      named =
+        ap (map (λ (a : ClassAnswerValue). a.name)) c.in_ok-push.ensures.items
+        ∙ (map-append (λ (a : ClassAnswerValue). a.name) c.loop-name.answers.items (c.in_ok-class_answer.field-0 ∷ [])
+        ∙ (ap (λ (ns : List Name). ns ++ c.in_ok-class_answer.field-0.name ∷ []) c.loop-name.invariant.named
+        ∙ (ap (λ (n : Name). take c.loop-name.name-index c.deref-name-items.result.now ++ n ∷ []) name ∙ sym more)));
+      each = subst (All (IsAnswerFor cs)) (sym c.in_ok-push.ensures.items) (All-push (IsAnswerFor cs) c.loop-name.answers.items c.in_ok-class_answer.field-0 c.loop-name.invariant.each c.in_ok-class_answer.ensures.rules);
+    }
+
+pub returns : goal.returns
+returns c =
+    let end : length c.deref-name-items.result.now ≤ c.loop-name.name-index = omega arith in
+    class_answers (declared_in c.args.declarations.now) c.loop-name.answers.items c.in_ok-names.names.items c.in_ok-names.ensures.ascending c.in_ok-names.ensures.same
+    (c.loop-name.invariant.named ∙ (take_all c.loop-name.name-index c.deref-name-items.result.now end ∙ c.deref-name-items.ensures.value)) c.loop-name.invariant.each

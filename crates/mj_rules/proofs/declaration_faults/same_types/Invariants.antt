@@ -1,0 +1,6 @@
+use Rattle.std.proofs.Common.{◌≡◌, drop}
+use Rattle.mj_rules.specs.FaultLists.{same_types}
+use Rattle.mj_rules.proofs.declaration_faults.same_types.Given as goal
+
+abbrev pub invariant-loop-number : goal.invariant-loop-number
+invariant-loop-number l = same_types (drop l.number l.formals) (drop l.number l.types) ≡ same_types l.formals l.types

@@ -1,0 +1,29 @@
+-- What holds of the definitions.
+use Rattle.std.specs.Prelude.{◌≡◌, ◌↔◌, ℕ, List, Some, Contains}
+use Rattle.mj_parser.specs.Trees.{Name, Method, Main, File}
+use Rattle.mj_parser.specs.declared.place.Place.{Place}
+use Rattle.mj_answer.specs.declared.code.Code.{Code}
+use Rattle.mj_classes.specs.Declarations.{ClassDecl, decl}
+use Rattle.mj_typing.specs.declared.verdict.Mistake.{Mistake}
+use Rattle.mj_typing.specs.Inquiries.{World}
+use Rattle.mj_typing.specs.Bodies.{MethodFault, MainFault, method_faults, main_faults}
+use Rattle.mj_rules.specs.Projects.{SourceFile}
+use Rattle.mj_rules.specs.Sentences.{IsSentence, file_of}
+use Rattle.mj_rules.specs.ProjectFaults.{FaultOfProject}
+use Rattle.mj_rules.specs.ClassFaults.{FaultOfClass}
+use Rattle.mj_rules.specs.FaultLists.{fault, project_faults, class_faults}
+
+-- the tree that is computed is the one that the bytes are a sentence of
+abbrev pub SentenceLaw : Type 0
+SentenceLaw = (bytes : List ℕ) (tree : File) → IsSentence bytes tree ↔ (file_of bytes ≡ Some tree)
+
+-- the lists have just the faults of the rows
+abbrev pub ProjectFaultLaw : Type 0
+ProjectFaultLaw = (files : List SourceFile) (place : Place) (code : Code) → Contains (project_faults files) (fault place code) ↔ FaultOfProject files place code
+
+abbrev pub ClassFaultLaw : Type 0
+ClassFaultLaw = (cs : List ClassDecl) (k : ClassDecl) → decl cs k.name ≡ Some k → (place : Place) (code : Code) → Contains (class_faults cs k) (fault place code) ↔ FaultOfClass cs k place code
+
+pub record BodyLaws : Type 0 where
+  pub method : (w : World) (class : Name) (m : Method) (x : Mistake) → MethodFault w class m x ↔ Contains (method_faults w class m) x
+  pub main : (w : World) (m : Main) (x : Mistake) → MainFault w m x ↔ Contains (main_faults w m) x

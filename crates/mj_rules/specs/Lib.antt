@@ -1,0 +1,12 @@
+pub mod Projects
+pub mod Repeats
+pub mod Sentences
+pub mod ProjectFaults
+pub mod Worlds
+pub mod ClassFaults
+pub mod Rules
+pub mod FaultLists
+pub mod Laws
+pub mod Answering
+pub mod Tables
+pub mod FaultCodes

@@ -1,0 +1,80 @@
+//! The checker that follows the rules from scratch.
+ghost use Rattle.std.specs.Prelude.{◌≡◌, ◌↔◌, ℕ, List, Some, IfOk, Contains};
+ghost use Rattle.mj_answer.specs.Order.{NameBefore, IsAscendingBy};
+ghost use Rattle.mj_classes.specs.Declarations.{decl};
+ghost use Rattle.mj_classes.specs.Classes.{class_ref_view};
+ghost use Rattle.mj_classes.specs.Index.{declared_in};
+ghost use Rattle.mj_rules.specs.FaultLists.{class_names};
+ghost use Rattle.mj_rules.specs.Rules.{IsAnswerFor, AreClassAnswers, Rules};
+
+use crate::body_faults::add_body_faults;
+use crate::declaration_faults::declaration_faults;
+use crate::project::Project;
+use crate::project_faults::project_faults;
+use crate::reading::read_files;
+use crate::tables::class_table;
+use mj_answer::{Answer, ClassAnswer, fault_set, name_set};
+use mj_classes::{ClassRef, Declarations};
+use mj_lexer::Name;
+use std::alloc::{AllocError, Global};
+
+/// The answer for a class, the first one of its name.
+fn class_answer(
+    alloc: Global,
+    declarations: &Declarations,
+    class: &ClassRef,
+) -> Result<ClassAnswer, AllocError>
+    requires { decl (declared_in declarations.now) (class_ref_view class.now).name ≡ Some (class_ref_view class.now) }
+    ensures name { IfOk result (λ answer. answer.name ≡ (class_ref_view class.now).name) }
+    ensures rules { IfOk result (IsAnswerFor (declared_in declarations.now)) }
+{
+    let Some(chain) = declarations.chain(alloc, class.name())? else {
+        unreachable!();
+    };
+    let table = class_table(alloc, &chain.classes)?;
+    let mut faults = declaration_faults(alloc, declarations, class, &chain)?;
+    add_body_faults(alloc, &mut faults, declarations, class)?;
+    let name = class.name().copy(alloc)?;
+    Ok(ClassAnswer::new(name, table, fault_set(faults)))
+}
+
+/// The names of the declared classes, each once, in ascending order.
+fn declared_names(alloc: Global, declarations: &Declarations) -> Result<Vec<Name>, AllocError>
+    ensures ascending { IfOk result (λ names. IsAscendingBy NameBefore names.items) }
+    ensures same { IfOk result (λ names. (name : List ℕ) → Contains names.items name ↔ Contains (class_names (declared_in declarations.now)) name) }
+{
+    let mut names = Vec::new(alloc);
+    for class in declarations.classes() {
+        names.push(class.name().copy(alloc)?)?;
+    }
+    Ok(name_set(names))
+}
+
+/// The answers for the declared classes, ascending by name.
+fn class_answers(
+    alloc: Global,
+    declarations: &Declarations,
+) -> Result<Vec<ClassAnswer>, AllocError>
+    ensures { IfOk result (λ answers. AreClassAnswers (declared_in declarations.now) answers.items) }
+{
+    let names = declared_names(alloc, declarations)?;
+    let mut answers = Vec::new(alloc);
+    for name in &names {
+        let Some(class) = declarations.find(name) else {
+            unreachable!();
+        };
+        answers.push(class_answer(alloc, declarations, &class)?)?;
+    }
+    Ok(answers)
+}
+
+/// The answer that the rules give a project.
+pub fn scratch(alloc: Global, project: &Project) -> Result<Answer, AllocError>
+    ensures { IfOk result (λ answer. Rules project.now answer) }
+{
+    let trees = read_files(alloc, project)?;
+    let declarations = Declarations::new(alloc, &trees)?;
+    let faults = project_faults(alloc, project, &trees, declarations.classes())?;
+    let classes = class_answers(alloc, &declarations)?;
+    Ok(Answer::new(fault_set(faults), classes))
+}

@@ -1,0 +1,20 @@
+//! The static rules of MiniJava over a whole project, and the checker that follows them from scratch.
+#![tactic(auto)]
+
+mod body_faults;
+mod checker;
+mod declaration_faults;
+mod laws;
+mod places;
+mod project;
+mod project_faults;
+mod reading;
+mod repeats;
+mod tables;
+mod world;
+
+pub use checker::scratch;
+pub use laws::{project_fault_laws, sentence_laws};
+pub use mj_answer::{Answer, ClassAnswer, ClassTable, Code, Diagnostic, FieldRow, MethodRow, render};
+pub use places::{FaultLine, fault_lines};
+pub use project::{Project, ProjectFault};

@@ -1,0 +1,85 @@
+//! The tables of classes.
+ghost use Rattle.std.specs.Prelude.{◌≡◌, map, IfOk};
+ghost use Rattle.mj_classes.specs.Classes.{classes_view, field_member_view, method_member_view};
+ghost use Rattle.mj_classes.specs.Tables.{fields_along, methods_along};
+ghost use Rattle.mj_rules.specs.Tables.{field_row, method_row, table_along};
+
+use mj_answer::{ClassTable, FieldRow, MethodRow};
+use mj_classes::{ClassRef, FieldMember, MethodMember, field_table, method_table};
+use mj_parser::{Ty, Variable};
+use std::alloc::{AllocError, Global};
+
+/// An equal type.
+pub fn copy_type(alloc: Global, ty: &Ty) -> Result<Ty, AllocError>
+    ensures { IfOk result (λ copy. copy ≡ ty.now) }
+{
+    match ty {
+        Ty::Int => Ok(Ty::Int),
+        Ty::Boolean => Ok(Ty::Boolean),
+        Ty::IntArray => Ok(Ty::IntArray),
+        Ty::Class(name) => Ok(Ty::Class(name.copy(alloc)?)),
+    }
+}
+
+/// The types of formals.
+pub fn formal_types(alloc: Global, formals: &[Variable]) -> Result<Vec<Ty>, AllocError>
+    ensures { IfOk result (λ types. types.items ≡ map (λ v. v.ty) formals.now) }
+{
+    let mut types = Vec::new(alloc);
+    for formal in formals {
+        types.push(copy_type(alloc, &formal.ty)?)?;
+    }
+    Ok(types)
+}
+
+fn field_row(alloc: Global, member: &FieldMember) -> Result<FieldRow, AllocError>
+    ensures { IfOk result (λ row. row ≡ field_row (field_member_view member.now)) }
+{
+    Ok(FieldRow {
+        name: member.field.name.copy(alloc)?,
+        owner: member.owner.copy(alloc)?,
+        ty: copy_type(alloc, &member.field.ty)?,
+    })
+}
+
+fn method_row(alloc: Global, member: &MethodMember) -> Result<MethodRow, AllocError>
+    ensures { IfOk result (λ row. row ≡ method_row (method_member_view member.now)) }
+{
+    let name = member.method.name.copy(alloc)?;
+    let owner = member.owner.copy(alloc)?;
+    let formals = formal_types(alloc, &member.method.formals)?;
+    let returns = copy_type(alloc, &member.method.returns)?;
+    Ok(MethodRow::new(name, owner, formals, returns))
+}
+
+fn field_rows(alloc: Global, classes: &[ClassRef]) -> Result<Vec<FieldRow>, AllocError>
+    ensures { IfOk result (λ rows. rows.items ≡ map field_row (fields_along (classes_view classes.now))) }
+{
+    let members = field_table(alloc, classes)?;
+    let mut rows = Vec::new(alloc);
+    for member in &members {
+        rows.push(field_row(alloc, member)?)?;
+    }
+    Ok(rows)
+}
+
+/// The methods that these classes have, the nearest of each name, ascending by name.
+pub fn method_rows(alloc: Global, classes: &[ClassRef]) -> Result<Vec<MethodRow>, AllocError>
+    ensures { IfOk result (λ rows. rows.items ≡ map method_row (methods_along (classes_view classes.now))) }
+{
+    let members = method_table(alloc, classes)?;
+    let mut rows = Vec::new(alloc);
+    for member in &members {
+        rows.push(method_row(alloc, member)?)?;
+    }
+    Ok(rows)
+}
+
+/// The table of a class that has these classes for its chain.
+pub fn class_table(alloc: Global, classes: &[ClassRef]) -> Result<ClassTable, AllocError>
+    ensures { IfOk result (λ table. table ≡ table_along (classes_view classes.now)) }
+{
+    let fields = field_rows(alloc, classes)?;
+    let methods = method_rows(alloc, classes)?;
+    Ok(ClassTable::new(fields, methods))
+}

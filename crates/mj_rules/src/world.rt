@@ -1,0 +1,76 @@
+//! The declarations of a project, as the check of a body asks for them.
+ghost use Rattle.std.specs.Prelude.{◌≡◌};
+
+use crate::tables::{copy_type, formal_types};
+use mj_classes::Declarations;
+use mj_lexer::Name;
+use mj_parser::Ty;
+use mj_typing::Signature;
+use std::alloc::{AllocError, Global};
+
+/// The types of a method.
+#[derive(Drop)]
+pub struct MethodTypes {
+    formals: Vec<Ty>,
+    returns: Ty,
+}
+
+impl Signature for MethodTypes {
+    ghost sig = { λ types. record { formals = types.formals.items; returns = types.returns } };
+
+    fn formals(&self) -> &[Ty] {
+        self.formals.as_slice()
+    }
+
+    fn returns(&self) -> &Ty {
+        &self.returns
+    }
+}
+
+/// What the declarations of a project say.
+#[derive(Clone, Copy)]
+pub struct World<'d, 'a> {
+    pub declarations: &'d Declarations<'a>,
+}
+
+impl<'d, 'a> mj_typing::Declarations for World<'d, 'a> {
+    ghost use Rattle.mj_classes.specs.Index.{declared_in};
+    ghost use Rattle.mj_rules.specs.Worlds.{world_of};
+
+    type Method = MethodTypes;
+
+    ghost world = { λ world. world_of (declared_in world.declarations.now) };
+
+    fn descends(&self, alloc: Global, class: &Name, ancestor: &Name) -> Result<bool, AllocError> {
+        match self.declarations.chain(alloc, class)? {
+            Some(chain) => Ok(chain.classes.iter().any(|class| class.name() == ancestor)),
+            None => Ok(false),
+        }
+    }
+
+    fn field(&self, alloc: Global, class: &Name, name: &Name) -> Result<Option<Ty>, AllocError> {
+        match self.declarations.field(class, name) {
+            Some(member) => Ok(Some(copy_type(alloc, &member.field.ty)?)),
+            None => Ok(None),
+        }
+    }
+
+    fn method(
+        &self,
+        alloc: Global,
+        class: &Name,
+        name: &Name,
+    ) -> Result<Option<MethodTypes>, AllocError> {
+        match self.declarations.method(class, name) {
+            Some(member) => Ok(Some(MethodTypes {
+                formals: formal_types(alloc, &member.method.formals)?,
+                returns: copy_type(alloc, &member.method.returns)?,
+            })),
+            None => Ok(None),
+        }
+    }
+
+    fn is_declared(&self, _alloc: Global, class: &Name) -> Result<bool, AllocError> {
+        Ok(self.declarations.find(class).is_some())
+    }
+}

@@ -1,0 +1,120 @@
+//! Whole bodies.
+ghost use Rattle.std.specs.Prelude.{◌≡◌, ◌++◌, ◌∷◌, [], IfOk, IfErr, OnOk};
+ghost use Rattle.mj_answer.specs.declared.code.Code.TheVariants.{E206};
+ghost use Rattle.mj_parser.specs.Views.{method_view, main_view};
+ghost use Rattle.mj_typing.specs.Bodies.{method_step, main_step, type_step, types_step};
+ghost use Rattle.mj_typing.specs.Steps.{Goes, GivesUp};
+
+use crate::asking::{Asking, Stop};
+use crate::body::{check_return, check_statement, check_statements};
+use crate::scope::Scope;
+use crate::verdict::Mistake;
+use mj_answer::Code;
+use mj_lexer::Name;
+use mj_parser::{MainTree, MethodTree, Ty, Variable};
+use std::alloc::{AllocError, Global};
+
+/// The token of a method's return type, behind `public`.
+const RETURN_TYPE_MARK: usize = 1;
+
+/// Notes that a declared type names no class.
+fn report_undeclared(mistakes: &mut Vec<Mistake>, mark: usize) -> Result<(), AllocError>
+    ensures { OnOk result (mistakes.new.items ≡ mistakes.old.items ++ record { mark = mark; code = E206 } ∷ []) }
+{
+    mistakes.push(Mistake {
+        mark,
+        code: Code::E206,
+    })?;
+    Ok(())
+}
+
+/// A declared type: a class is to be declared.
+fn check_type<A: Asking>(
+    alloc: Global,
+    asking: &mut A,
+    mark: usize,
+    ty: &Ty,
+    mistakes: &mut Vec<Mistake>,
+) -> Result<(), Stop<A::Refusal>>
+    ensures ok { OnOk result (Goes A.stands (type_step mark ty.now mistakes.old.items) asking.old mistakes.new.items asking.new) }
+    ensures err { IfErr result (λ e. GivesUp A.stands A.halts (type_step mark ty.now mistakes.old.items) asking.old e asking.new) }
+    ensures follows { A.follows asking.old asking.new }
+{
+    let Ty::Class(class) = ty else {
+        return Ok(());
+    };
+    if !asking.is_declared(alloc, class)? {
+        report_undeclared(mistakes, mark)?;
+    }
+    Ok(())
+}
+
+/// The types of variables in their order.
+fn check_types<A: Asking>(
+    alloc: Global,
+    asking: &mut A,
+    variables: &[Variable],
+    mistakes: &mut Vec<Mistake>,
+) -> Result<(), Stop<A::Refusal>>
+    ensures ok { OnOk result (Goes A.stands (types_step variables.now mistakes.old.items) asking.old mistakes.new.items asking.new) }
+    ensures err { IfErr result (λ e. GivesUp A.stands A.halts (types_step variables.now mistakes.old.items) asking.old e asking.new) }
+    ensures follows { A.follows asking.old asking.new }
+{
+    for variable in variables {
+        check_type(alloc, asking, variable.mark, &variable.ty, mistakes)?;
+    }
+    Ok(())
+}
+
+/// The mistakes in a method of the class, unordered and with repeats.
+#[tactic(auto, unfolding(crate::specs::Bodies::method_step))]
+pub fn check_method<A: Asking>(
+    alloc: Global,
+    asking: &mut A,
+    class: &Name,
+    method: &MethodTree,
+) -> Result<Vec<Mistake>, Stop<A::Refusal>>
+    ensures ok { IfOk result (λ mistakes. Goes A.stands (method_step class.now (method_view method.now)) asking.old mistakes.items asking.new) }
+    ensures err { IfErr result (λ e. GivesUp A.stands A.halts (method_step class.now (method_view method.now)) asking.old e asking.new) }
+    ensures follows { A.follows asking.old asking.new }
+{
+    let mut mistakes = Vec::new(alloc);
+    let scope = Scope::of_method(alloc, class, method, &mut mistakes)?;
+    check_type(
+        alloc,
+        asking,
+        RETURN_TYPE_MARK,
+        &method.returns,
+        &mut mistakes,
+    )?;
+    check_types(alloc, asking, &method.formals, &mut mistakes)?;
+    check_types(alloc, asking, &method.locals, &mut mistakes)?;
+    check_statements(alloc, asking, &scope, &method.body, &mut mistakes)?;
+    check_return(
+        alloc,
+        asking,
+        &scope,
+        method.return_mark,
+        &method.returns,
+        &method.returned,
+        &mut mistakes,
+    )?;
+    Ok(mistakes)
+}
+
+/// The mistakes in main, unordered and with repeats.
+#[tactic(auto, unfolding(crate::specs::Bodies::main_step))]
+pub fn check_main<A: Asking>(
+    alloc: Global,
+    asking: &mut A,
+    main: &MainTree,
+) -> Result<Vec<Mistake>, Stop<A::Refusal>>
+    ensures ok { IfOk result (λ mistakes. Goes A.stands (main_step (main_view main.now)) asking.old mistakes.items asking.new) }
+    ensures err { IfErr result (λ e. GivesUp A.stands A.halts (main_step (main_view main.now)) asking.old e asking.new) }
+    ensures follows { A.follows asking.old asking.new }
+{
+    let mut mistakes = Vec::new(alloc);
+    let scope = Scope::of_main(alloc);
+    check_statement(alloc, asking, &scope, &main.statement, &mut mistakes)?;
+    Ok(mistakes)
+}

@@ -1,0 +1,18 @@
+//! The typing rules of bodies: what each phrase demands, and the walk that finds the mistakes.
+#![tactic(auto)]
+
+mod asking;
+mod body;
+mod check;
+mod laws;
+mod plain;
+mod rows;
+mod scope;
+mod types;
+mod verdict;
+mod walk;
+
+pub use asking::{Asking, Declarations, Signature, Stop};
+pub use check::{check_main, check_method};
+pub use laws::{body_laws, case_laws, row_laws, typing_laws};
+pub use verdict::{Mistake, Verdict};
