@@ -1,18 +1,15 @@
 -- The index of classes by name.
-use Rattle.std.proofs.Common.{◌≡◌, ℕ, zero, suc, ◌+◌, ◌<◌, ◌≤◌, Bool, true, false, List, [], ◌∷◌, ◌++◌, length, map, take, Option, Some, None, refl, sym, ap, ◌∙◌, subst, arith, ◌⊎◌, inl, inr, cond, get_or, add-one}
-use Rattle.std.specs.Prelude.{find, position, nat_lt, slice_get, option_map, is_some}
+use Rattle.std.proofs.Common.{◌≡◌, ℕ, ◌+◌, ◌<◌, Bool, true, false, List, [], ◌∷◌, ◌++◌, length, take, Option, Some, None, refl, sym, ap, ◌∙◌, arith, cond, get_or}
+use Rattle.std.specs.Prelude.{position, is_some}
 use Rattle.std.specs.Str.{bytes_eq}
-use Rattle.std.specs.BTreeMap.{BTreeMap, get, is_at, Updates}
 use Rattle.std.specs.Ordering.{nat_cmp, is_eq}
 use Rattle.std.specs.Cmp.Lexicographic.{slice_cmp}
-use Rattle.std.proofs.lemmas.List.{take_more, map-append, length-take-le}
-use Rattle.std.proofs.lemmas.List.{length-map}
-use Rattle.std.proofs.lemmas.Option.{slice_get-map, slice_get_read}
+use Rattle.std.proofs.lemmas.List.{take_more, map-append, length-map, length-take-le}
 use Rattle.mj_parser.specs.Trees.{Name}
-use Rattle.mj_classes.specs.Declarations.{ClassDecl, decl}
+use Rattle.mj_classes.specs.Declarations.{decl}
 use Rattle.mj_classes.specs.Classes.{class_ref_view, classes_view}
 use Rattle.mj_classes.specs.declared.class.ClassRef.{ClassRef}
-use Rattle.mj_classes.proofs.Positions.{names_tie, same_name, name_itself, bytes_eq_back, find_from_position, find_at_place, position_below, position_added, position_kept, found_early, position_of_one}
+use Rattle.mj_classes.proofs.Positions.{names_tie, same_name, find_from_position, find_at_place, position_below, position_added, position_kept}
 
 abbrev pub place_of : List ClassRef → Name → Option ℕ
 place_of ks q = position (λ k. bytes_eq k.name q) (classes_view ks)
@@ -27,17 +24,6 @@ decl_none ks q e = find_from_position (λ k. bytes_eq k.name q) (classes_view ks
 pub decl_some : (ks : List ClassRef) (q : Name) (i : ℕ) (k : ClassRef) → place_of ks q ≡ Some i → k ≡ get_or ks i k → decl (classes_view ks) q ≡ Some (class_ref_view k)
 unfolding decl
 decl_some ks q i k e is = find_at_place class_ref_view (λ k. bytes_eq k.name q) ks i k e (place_below ks q i e) is
-
--- a class is repeated where the first of its name stands before it
-pub repeated : (ks : List ClassRef) (at i : ℕ) (k : ClassDecl) → slice_get (classes_view ks) at ≡ Some k → place_of ks k.name ≡ Some i → nat_lt i at ≡ is_some (decl (take at (classes_view ks)) k.name)
-unfolding decl
-repeated ks at i k e f = sym (found_early (λ j. bytes_eq j.name k.name) (classes_view ks) i at f)
-
-pub has_place : (ks : List ClassRef) (at : ℕ) (k : ClassDecl) → slice_get (classes_view ks) at ≡ Some k → place_of ks k.name ≡ None → ⊥
-has_place ks at k e f = position_of_one (λ j. bytes_eq j.name k.name) (classes_view ks) at k e (name_itself k.name) f
-
-pub view_at : (ks : List ClassRef) (at : ℕ) (x : ClassRef) (k : ClassDecl) → at < length ks → x ≡ get_or ks at x → slice_get (classes_view ks) at ≡ Some k → class_ref_view x ≡ k
-view_at ks at x k lt is e = let there : Some (class_ref_view x) ≡ Some k = sym (slice_get-map class_ref_view ks at ∙ ap (option_map class_ref_view) (slice_get_read ks (length ks) at x refl lt is)) ∙ e in cc
 
 -- ---- the index while it is built
 
@@ -69,9 +55,6 @@ index_added ks n x found after lt is so_far new puts q =
     let more = view_more ks n x lt is in
     rw more (puts q ∙ (ap (λ b. cond b (Some n) (found q)) (names_tie (class_ref_view x).name q) ∙ by (bytes_eq (class_ref_view x).name q) refl))
   where
-    before : List ClassDecl
-    before = classes_view (take n ks)
-
     count : length (classes_view (take n ks)) ≡ n
     count = let short = length-take-le n ks (omega arith) in length-map (take n ks) class_ref_view ∙ short
 

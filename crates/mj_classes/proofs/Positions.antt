@@ -1,6 +1,6 @@
 -- The first place in a list at which a test passes, and tests of names.
-use Rattle.std.proofs.Common.{◌≡◌, ℕ, zero, suc, take, ◌+◌, ◌<◌, ◌≤◌, Bool, true, false, List, [], ◌∷◌, ◌++◌, length, map, Option, Some, None, refl, sym, ap, ◌∙◌, subst, arith, ◌⊎◌, inl, inr, cond, get_or, length-append}
-use Rattle.std.specs.Prelude.{not, find, position, nat_lt, nat_eq, slice_get, option_map, option_and_then, is_some}
+use Rattle.std.proofs.Common.{◌≡◌, ℕ, ◌+◌, ◌<◌, ◌≤◌, Bool, true, false, List, [], ◌∷◌, ◌++◌, length, map, Option, Some, None, refl, sym, ap, ◌∙◌, subst, arith, inl, inr, cond, get_or, length-append}
+use Rattle.std.specs.Prelude.{not, find, position, nat_lt, nat_eq, slice_get, option_map, option_and_then}
 use Rattle.std.specs.List.{position_or_len}
 use Rattle.std.specs.Str.{bytes_eq}
 use Rattle.std.specs.Ordering.{nat_cmp, eq_by_cmp, is_eq}
@@ -27,9 +27,6 @@ names_tie m n = same_from_decides {P = m ≡ n} (eq_by_cmp (slice_cmp nat_cmp) m
 
 pub same_name : (m n : Name) → bytes_eq m n ≡ true → m ≡ n
 same_name m n e = (bytes_eq-Decides m n).0 e
-
-pub name_itself : (n : Name) → bytes_eq n n ≡ true
-name_itself n = (bytes_eq-Decides n n).1 refl
 
 pub bytes_eq_back : (m n : Name) → bytes_eq m n ≡ bytes_eq n m
 bytes_eq_back m n = same_from_decides {P = m ≡ n} (bytes_eq m n) (bytes_eq n m) (bytes_eq-Decides m n) (λ e. sym (same_name n m e), λ e. (bytes_eq-Decides n m).1 (sym e))
@@ -124,7 +121,7 @@ position_kept p xs y (Some i) e fails =
         go true e = let same = (Decides-eqb n l).0 e in absurd (omega arith)
         go false e = refl
 
--- ---- through a view, and in a part of a list
+-- ---- through a view
 
 pub find-map : {X Y : Type 0} (f : X → Y) (p : Y → Bool) (xs : List X) → find p (map f xs) ≡ option_map f (find (λ x. p (f x)) xs)
 find-map f p [] = refl
@@ -133,39 +130,3 @@ find-map {X} f p (x ∷ xs) = by (p (f x)) (find-map f p xs)
     by : (b : Bool) → find p (map f xs) ≡ option_map f (find (λ y. p (f y)) xs) → cond b (Some (f x)) (find p (map f xs)) ≡ option_map f (cond b (Some x) (find (λ y. p (f y)) xs))
     by true e = refl
     by false e = e
-
-less_by : (m n : ℕ) (r : Bool) → (r ≡ true → m < n) → (m < n → r ≡ true) → r ≡ nat_lt m n
-less_by m n r a b = same_from_decides {P = m < n} r (nat_lt m n) (a, b) (Decides-ltb m n)
-
--- the first place is in a part of the list where something is found there
-early : {X : Type 0} (p : X → Bool) (xs : List X) (n : ℕ) → position_or_len p xs < length xs → is_some (find p (take n xs)) ≡ nat_lt (position_or_len p xs) n
-early p [] n h = absurd (omega arith)
-early p (x ∷ xs) zero h = less_by (position_or_len p (x ∷ xs)) 0 false (λ e. absurd cc) (λ e. absurd (omega arith))
-early {X} p (x ∷ xs) (suc n) h = by (p x) h (λ i. early p xs n i)
-  where
-    by : (b : Bool) → cond (not b) (1 + position_or_len p xs) 0 < suc (length xs) → (position_or_len p xs < length xs → is_some (find p (take n xs)) ≡ nat_lt (position_or_len p xs) n)
-        → is_some (cond b (Some x) (find p (take n xs))) ≡ nat_lt (cond (not b) (1 + position_or_len p xs) 0) (suc n)
-    by true h e = less_by 0 (suc n) true (λ t. omega arith) (λ t. refl)
-    by false h e =
-        let rest = e (omega arith) in
-        rest ∙ same_from_decides {P = position_or_len p xs < n} (nat_lt (position_or_len p xs) n) (nat_lt (1 + position_or_len p xs) (suc n)) (Decides-ltb (position_or_len p xs) n)
-        (λ t. let lt = (Decides-ltb (1 + position_or_len p xs) (suc n)).0 t in omega arith, λ lt. (Decides-ltb (1 + position_or_len p xs) (suc n)).1 (omega arith))
-
-pub found_early : {X : Type 0} (p : X → Bool) (xs : List X) (i n : ℕ) → position p xs ≡ Some i → is_some (find p (take n xs)) ≡ nat_lt i n
-found_early p xs i n e =
-    let at = some_before (position_or_len p xs) (length xs) i e in
-    early p xs n at.0 ∙ ap (λ (m : ℕ). nat_lt m n) at.1
-
--- what stands in a list has a first place
-none_found : {X : Type 0} (p : X → Bool) (xs : List X) (i : ℕ) (x : X) → slice_get xs i ≡ Some x → p x ≡ true → find p xs ≡ None → ⊥
-none_found p [] i x e t n = absurd cc
-none_found p (y ∷ ys) zero x e t n = let same : y ≡ x = cc in let t' : p y ≡ true = ap p same ∙ t in let no_one : Some y ≡ None = rw t' at n in absurd cc
-none_found {X} p (y ∷ ys) (suc i) x e t n = none_found p ys i x e t (by (p y) n)
-  where
-    by : (b : Bool) → cond b (Some y) (find p ys) ≡ None → find p ys ≡ None
-    by true e = absurd cc
-    by false e = e
-
--- what passes in a list has a first place
-pub position_of_one : {X : Type 0} (p : X → Bool) (xs : List X) (i : ℕ) (x : X) → slice_get xs i ≡ Some x → p x ≡ true → position p xs ≡ None → ⊥
-position_of_one p xs i x e t none = none_found p xs i x e t (find_from_position p xs None none)

@@ -1,5 +1,5 @@
 -- Walks up the superclasses, which find what stands in a chain.
-use Rattle.std.proofs.Common.{◌≡◌, ℕ, zero, suc, ◌+◌, ◌-◌, ◌<◌, ◌≤◌, Bool, true, false, List, [], ◌∷◌, ◌++◌, length, Option, Some, None, refl, sym, ap, ◌∙◌, subst, arith, ◌⊎◌, inl, inr, cond}
+use Rattle.std.proofs.Common.{◌≡◌, ℕ, zero, suc, ◌+◌, ◌-◌, ◌<◌, ◌≤◌, Bool, true, false, List, [], ◌∷◌, length, Option, Some, None, refl, sym, ap, ◌∙◌, subst, arith, ◌⊎◌, inl, inr, cond}
 use Rattle.std.specs.Prelude.{find, option_map, option_and_then, is_some, ◌||◌, map, if◌then◌else◌}
 use Rattle.std.specs.Str.{bytes_eq}
 use Rattle.std.specs.List.{filter_map, cons_option}
@@ -7,8 +7,8 @@ use Rattle.mj_parser.specs.Trees.{Name}
 use Rattle.mj_parser.specs.declared.tree.Ty.TheVariants.{Class}
 use Rattle.mj_classes.specs.Declarations.{ClassDecl, decl}
 use Rattle.mj_classes.specs.Walks.{above}
-use Rattle.mj_classes.specs.Chains.{EndOf, Top, Undeclared, Repeated, Links, IsChain, is_in, chain_names, chain_of, accepts, ancestry}
-use Rattle.mj_classes.proofs.Distinct.{In, in_contains}
+use Rattle.mj_classes.specs.Chains.{EndOf, Links, IsChain, is_in, chain_names, chain_of, accepts, ancestry}
+use Rattle.mj_classes.proofs.Distinct.{In}
 use Rattle.mj_classes.proofs.Climb.{decl_name, all_declared, links_declared, no_more, has_chain, has_none}
 use Rattle.mj_classes.proofs.Distinct.{contains_in}
 use Rattle.mj_classes.proofs.Closed.{closed}

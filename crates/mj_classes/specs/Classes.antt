@@ -1,5 +1,5 @@
 -- What contracts see of the classes, chains and members that the code has.
-use Rattle.std.specs.Prelude.{◌≡◌, ℕ, List, map, Option, Some, None, option_map}
+use Rattle.std.specs.Prelude.{ℕ, List, map, Option, option_map}
 use Rattle.mj_parser.specs.Trees.{Name, Method, File}
 use Rattle.mj_parser.specs.declared.tree.Field.{Field}
 use Rattle.mj_parser.specs.declared.tree.FileTree.{FileTree}

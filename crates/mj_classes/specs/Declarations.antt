@@ -1,8 +1,7 @@
 -- The classes that a project declares.
-use Rattle.std.specs.Prelude.{ℕ, suc, List, [], ◌∷◌, ◌++◌, map, find, Option, Some, None}
+use Rattle.std.specs.Prelude.{ℕ, suc, List, [], ◌∷◌, ◌++◌, find, Option, Some, None}
 use Rattle.std.specs.Str.{bytes_eq}
 use Rattle.mj_parser.specs.Trees.{Name, Statement, Method, Main, Class, File}
-use Rattle.mj_parser.specs.declared.tree.Ty.{Ty}
 use Rattle.mj_parser.specs.declared.tree.Field.{Field}
 
 -- A class and where it is declared: the number of its file in the project, and its number in the file. Both are
@@ -47,11 +46,3 @@ declarations files = declared_from 0 files
 -- The first class of a name.
 unfoldable pub decl : List ClassDecl → Name → Option ClassDecl
 decl cs c = find (λ k. bytes_eq k.name c) cs
-
--- what a call needs to know of a method
-pub record Signature : Type 0 where
-  pub formals : List Ty
-  pub returns : Ty
-
-abbrev pub signature_of : Method → Signature
-signature_of m = record { formals = map (λ v. v.ty) m.formals; returns = m.returns }

@@ -1,11 +1,11 @@
 //! The declared classes by their names.
-ghost use Rattle.std.specs.Prelude.{◌≡◌, ◌++◌, ℕ, List, map, position, option_map, OnOk, IfOk, ◌<◌, ◌≤◌, length, Some, slice_get, is_some, take};
+ghost use Rattle.std.specs.Prelude.{◌≡◌, ◌++◌, ℕ, List, map, position, option_map, OnOk, IfOk, ◌≤◌};
 ghost use Rattle.std.specs.Str.{bytes_eq};
 ghost use Rattle.std.specs.BTreeMap.{get};
 ghost use Rattle.std.specs.Cmp.Lexicographic.{slice_cmp};
 ghost use Rattle.std.specs.Ordering.{nat_cmp};
 ghost use Rattle.mj_parser.specs.Views.{class_view, file_view};
-ghost use Rattle.mj_classes.specs.Declarations.{ClassDecl, classes_of, numbered, declarations, decl};
+ghost use Rattle.mj_classes.specs.Declarations.{classes_of, numbered, declarations, decl};
 ghost use Rattle.mj_classes.specs.Classes.{class_ref_view, classes_view, files_view};
 
 use crate::class::{ClassRef, Tree};
@@ -47,17 +47,6 @@ impl<'a> Declarations<'a> {
     {
         let at = *self.by_name.get(name)?;
         Some(self.classes[at])
-    }
-
-    /// Whether an earlier class has the name of the class at this place.
-    pub fn is_repeated(&self, at: usize) -> bool
-        requires { at < length (declared_in self.now) }
-        ensures { (k : ClassDecl) → slice_get (declared_in self.now) at ≡ Some k → result ≡ is_some (decl (take at (declared_in self.now)) k.name) }
-    {
-        match self.by_name.get(self.classes[at].name()) {
-            Some(first) => *first < at,
-            None => false,
-        }
     }
 }
 

@@ -1,7 +1,6 @@
 -- What is an expression by the grammar is read as that expression.
-use Rattle.std.proofs.Common.{◌≡◌, ℕ, zero, suc, ◌+◌, ◌-◌, ◌<◌, ◌≤◌, max, Bool, true, false, not, ◌&&◌, cond, eqb, List, length, Option, Some, None, refl, sym, ap, ◌∙◌, subst, arith, add-zero, ◌⊎◌, inl, inr}
-use Rattle.std.specs.Prelude.{slice_get, codes}
-use Rattle.std.specs.Str.{bytes_eq}
+use Rattle.std.proofs.Common.{◌≡◌, ℕ, zero, suc, ◌+◌, ◌<◌, ◌≤◌, true, false, List, length, Option, Some, None, refl, ap, ◌∙◌, subst, arith, inl, inr}
+use Rattle.std.specs.Prelude.{codes}
 use Rattle.mj_lexer.specs.declared.token.Terminal.{Terminal}
 use Rattle.mj_lexer.specs.declared.token.Token.{Token}
 use Rattle.mj_lexer.specs.declared.token.Terminal.TheVariants as terminals
@@ -12,8 +11,8 @@ use Rattle.mj_parser.specs.declared.tree.Operator.{Operator}
 use Rattle.mj_parser.specs.declared.tree.Operator.TheVariants.{And, Less, Plus, Minus, Times}
 use Rattle.mj_parser.specs.Tokens.{same_terminal, is_terminal, name_of, value_of, kind_at, has, name_at, value_at, says}
 use Rattle.mj_parser.specs.Trees.{Expression, Expressions, Binary, Index, Length, Call, Literal, Boolean, Named, This, NewArray, NewObject, Not, Parenthesized, none, more}
-use Rattle.mj_parser.specs.Expressions.{tier_of, terminal_of, terminal_of_bool, size, sizes, sizes_more, height, heights, is_new_array, IsExp, AreArguments, AreMore}
-use Rattle.mj_parser.specs.ExpressionReading.{Found, Reader, operator_at, takes_index, new_at, terminal_at, prim_of, prim_at, index_at, member_at, post_from, post_at, binary_from, tier_at, exp_at}
+use Rattle.mj_parser.specs.Expressions.{tier_of, terminal_of, size, sizes, sizes_more, height, heights, IsExp, AreArguments, AreMore}
+use Rattle.mj_parser.specs.ExpressionReading.{Found, Reader, operator_at, takes_index, new_at, terminal_at, prim_of, prim_at, index_at, member_at, post_at, tier_at, exp_at}
 use Rattle.mj_parser.proofs.Loops.{ChainLeads, PostLeads, chain_ends, chain_goes_on, post_ends, index_goes_on, member_goes_on}
 use Rattle.mj_parser.specs.Steps.{items_from, behind_comma, at_comma, listed_at}
 use Rattle.mj_parser.proofs.Lists.{exps_list, list_exps}
@@ -281,12 +280,12 @@ module _ (part : Reader) (ts : List Token) (room : ℕ) (reads : (d i j : ℕ) (
         elim (cases_lt (tier_of o) (suc d)) [
           | inl lt ↦ lower_then (Binary o m l r) i j total (lt, h.1, h.2, h.3, h.4) fits at w s leads
           | inr ge ↦
-            let lt = h.0 in
-            let same : tier_of o ≡ suc d = omega arith in
-            let m-is = h.2 in
-            let here = has_within ts m (terminal_of o) h.3 in
-            climb l i m total (subst (λ (k : ℕ). IsExp ts (suc k) i l) same h.1) (omega arith) h.2 (omega arith) (subst (λ (k : ℕ). Stops ts k m) same (stops_operator ts m o h.3))
-            (chain_goes_on part ts room (suc d) l m (omega arith) o r j total (subst (λ (k : ℕ). operator_at ts m k ≡ Some o) same (at_is ts m o h.3)) (omega arith)
+              let lt = h.0 in
+              let same : tier_of o ≡ suc d = omega arith in
+              let m-is = h.2 in
+              let here = has_within ts m (terminal_of o) h.3 in
+              climb l i m total (subst (λ (k : ℕ). IsExp ts (suc k) i l) same h.1) (omega arith) h.2 (omega arith) (subst (λ (k : ℕ). Stops ts k m) same (stops_operator ts m o h.3))
+              (chain_goes_on part ts room (suc d) l m (omega arith) o r j total (subst (λ (k : ℕ). operator_at ts m k ≡ Some o) same (at_is ts m o h.3)) (omega arith)
               (reads (suc d) (m + 1) j r (subst (λ (k : ℕ). IsExp ts k (m + 1) r) same h.4) (omega arith) (omega arith) w s) (omega arith) leads)
         ]
     climb (Not m e) i j total h fits at w s leads = lower_then (Not m e) i j total (omega arith, h.1, h.2, h.3) fits at w s leads

@@ -1,23 +1,20 @@
 -- What is read as an expression is that expression by the grammar.
-use Rattle.std.proofs.Common.{◌≡◌, ℕ, zero, suc, ◌+◌, ◌-◌, ◌<◌, ◌≤◌, max, Bool, true, false, not, ◌&&◌, cond, eqb, leb, List, [], ◌∷◌, length, Option, Some, None, refl, sym, ap, ◌∙◌, subst, arith, ◌⊎◌, inl, inr}
-use Rattle.std.specs.Prelude.{slice_get, codes, if◌then◌else◌}
-use Rattle.std.specs.Str.{bytes_eq}
+use Rattle.std.proofs.Common.{◌≡◌, ℕ, zero, suc, ◌+◌, ◌≤◌, true, not, ◌&&◌, eqb, leb, List, length, Option, Some, None, refl, sym, ap, ◌∙◌, subst, arith, inl, inr}
+use Rattle.std.specs.Prelude.{codes}
 use Rattle.std.proofs.lemmas.Bool.{eqb-true, leb-true}
-use Rattle.std.proofs.lemmas.Slice.Eq.{bytes_eq-Decides}
 use Rattle.mj_lexer.specs.declared.token.Terminal.{Terminal}
 use Rattle.mj_lexer.specs.declared.token.Token.{Token}
 use Rattle.mj_lexer.specs.declared.token.Terminal.TheVariants as terminals
 use Rattle.mj_lexer.specs.declared.token.Kind.{Kind}
 use Rattle.mj_lexer.specs.declared.token.Kind.TheVariants as kinds
 use Rattle.mj_parser.specs.declared.tree.Operator.{Operator}
-use Rattle.mj_parser.specs.declared.tree.Operator.TheVariants.{And, Less, Plus, Minus, Times}
-use Rattle.mj_parser.specs.Tokens.{number_of, same_terminal, is_terminal, name_of, value_of, kind_at, has, name_at, value_at, says}
-use Rattle.mj_parser.specs.Trees.{Expression, Expressions, Binary, Index, Length, Call, Literal, Boolean, Named, This, NewArray, NewObject, Not, Parenthesized, none, more}
-use Rattle.mj_parser.specs.Expressions.{tier_of, terminal_of, terminal_of_bool, size, sizes, sizes_more, height, heights, is_new_array, IsExp, AreArguments, AreMore}
+use Rattle.mj_parser.specs.Tokens.{same_terminal, is_terminal, name_of, value_of, kind_at, has, name_at, value_at, says}
+use Rattle.mj_parser.specs.Trees.{Expression, Binary, Index, Length, Call, Literal, Boolean, Named, This, NewArray, NewObject, Not, Parenthesized}
+use Rattle.mj_parser.specs.Expressions.{tier_of, terminal_of, size, sizes, sizes_more, height, heights, is_new_array, IsExp, AreArguments, AreMore}
 use Rattle.mj_parser.specs.Views.{expressions_of}
-use Rattle.mj_parser.specs.Steps.{◌>>=◌, when, items_from, behind_comma, at_comma, listed_at}
+use Rattle.mj_parser.specs.Steps.{◌>>=◌, items_from, behind_comma, at_comma, listed_at}
 use Rattle.mj_parser.proofs.Binds.{bind_some, when_some, if_some, some_or_none, some_is, and_both, not_false}
-use Rattle.mj_parser.specs.ExpressionReading.{Found, Reader, closed, operator_here, of_tier, operator_at, takes_index, new_at, terminal_at, prim_of, prim_at, index_at, member_at, post_from, post_at, binary_from, tier_at, exp_at}
+use Rattle.mj_parser.specs.ExpressionReading.{Reader, closed, operator_here, of_tier, operator_at, takes_index, new_at, terminal_at, prim_of, prim_at, index_at, member_at, post_from, post_at, binary_from, tier_at, exp_at}
 
 -- a tree that was read up to a place
 pub record Sound (ts : List Token) (d i room : ℕ) (x : Expression × ℕ) : Type 0 where
@@ -83,19 +80,19 @@ module _ (part : Reader) (ts : List Token) (room : ℕ) (sound : (d i : ℕ) (x 
   more_found (suc gas) k x e =
       elim (if_some (has ts k terminals.Comma) _ _ x e) [
         | inl a ↦
-          let b = bind_some (part 5 (k + 1)) _ x a.1 in
-          let c = bind_some (items_from gas (behind_comma (part 5)) (at_comma ts) b.0.1) _ x b.2 in
-          let s = sound 5 (k + 1) b.0 b.1 in
-          let t = more_found gas b.0.1 c.0 c.1 in
-          let place = s.at in
-          let low = s.low in
-          let low2 = t.low in
-          let at2 = t.at in
-          subst (MoreSound k) (some_is _ x c.2) (record {
-            are = (a.0, s.is, subst (λ (i : ℕ). AreMore ts i (expressions_of c.0.0)) s.at t.are);
-            at = omega arith;
-            low = omega arith;
-          })
+            let b = bind_some (part 5 (k + 1)) _ x a.1 in
+            let c = bind_some (items_from gas (behind_comma (part 5)) (at_comma ts) b.0.1) _ x b.2 in
+            let s = sound 5 (k + 1) b.0 b.1 in
+            let t = more_found gas b.0.1 c.0 c.1 in
+            let place = s.at in
+            let low = s.low in
+            let low2 = t.low in
+            let at2 = t.at in
+            subst (MoreSound k) (some_is _ x c.2) (record {
+              are = (a.0, s.is, subst (λ (i : ℕ). AreMore ts i (expressions_of c.0.0)) s.at t.are);
+              at = omega arith;
+              low = omega arith;
+            })
         | inr a ↦ subst (MoreSound k) (some_is _ x a.1) (record { are = tt; at = omega arith; low = omega arith })
       ]
 
@@ -110,25 +107,25 @@ module _ (part : Reader) (ts : List Token) (room : ℕ) (sound : (d i : ℕ) (x 
   args_found i x e =
       elim (if_some (has ts i terminals.RightParenthesis) _ _ x e) [
         | inl a ↦
-          let same : i + 0 ≡ i = omega arith in
-          subst (ArgsSound i) (some_is _ x a.1) (record { are = tt; at = omega arith; low = omega arith; close = rw same a.0 })
+            let same : i + 0 ≡ i = omega arith in
+            subst (ArgsSound i) (some_is _ x a.1) (record { are = tt; at = omega arith; low = omega arith; close = rw same a.0 })
         | inr a ↦
-          let b = bind_some (part 5 i) _ x a.1 in
-          let c = bind_some (items_from (suc (length ts)) (behind_comma (part 5)) (at_comma ts) b.0.1) _ x b.2 in
-          let f = when_some (has ts c.0.1 terminals.RightParenthesis) _ x c.2 in
-          let s = sound 5 i b.0 b.1 in
-          let t = more_found (suc (length ts)) b.0.1 c.0 c.1 in
-          let place = s.at in
-          let low = s.low in
-          let low2 = t.low in
-          let at2 = t.at in
-          let closes : i + (size b.0.0 + sizes_more (expressions_of c.0.0)) ≡ c.0.1 = omega arith in
-          subst (ArgsSound i) (some_is _ x f.1) (record {
-            are = (s.is, subst (λ (k : ℕ). AreMore ts k (expressions_of c.0.0)) s.at t.are);
-            at = omega arith;
-            low = omega arith;
-            close = rw closes f.0;
-          })
+            let b = bind_some (part 5 i) _ x a.1 in
+            let c = bind_some (items_from (suc (length ts)) (behind_comma (part 5)) (at_comma ts) b.0.1) _ x b.2 in
+            let f = when_some (has ts c.0.1 terminals.RightParenthesis) _ x c.2 in
+            let s = sound 5 i b.0 b.1 in
+            let t = more_found (suc (length ts)) b.0.1 c.0 c.1 in
+            let place = s.at in
+            let low = s.low in
+            let low2 = t.low in
+            let at2 = t.at in
+            let closes : i + (size b.0.0 + sizes_more (expressions_of c.0.0)) ≡ c.0.1 = omega arith in
+            subst (ArgsSound i) (some_is _ x f.1) (record {
+              are = (s.is, subst (λ (k : ℕ). AreMore ts k (expressions_of c.0.0)) s.at t.are);
+              at = omega arith;
+              low = omega arith;
+              close = rw closes f.0;
+            })
       ]
 
   -- ---- primaries
@@ -153,22 +150,22 @@ module _ (part : Reader) (ts : List Token) (room : ℕ) (sound : (d i : ℕ) (x 
   new_found i x h e =
       elim (if_some (has ts (i + 1) terminals.Int) _ _ x e) [
         | inl a ↦
-          let b = when_some (has ts (i + 2) terminals.LeftBracket) _ x a.1 in
-          let c = bind_some (part 5 (i + 3)) _ x b.1 in
-          let s = sound 5 (i + 3) c.0 c.1 in
-          let d = when_some (has ts c.0.1 terminals.RightBracket) _ x c.2 in
-          let place = s.at in
-          let low = s.low in
-          subst (Sound ts 0 i (suc room)) (some_is _ x d.1) (record {
-            is = (refl, h, a.0, b.0, s.is, rw (← s.at) d.0);
-            at = omega arith;
-            low = omega arith;
-          })
+            let b = when_some (has ts (i + 2) terminals.LeftBracket) _ x a.1 in
+            let c = bind_some (part 5 (i + 3)) _ x b.1 in
+            let s = sound 5 (i + 3) c.0 c.1 in
+            let d = when_some (has ts c.0.1 terminals.RightBracket) _ x c.2 in
+            let place = s.at in
+            let low = s.low in
+            subst (Sound ts 0 i (suc room)) (some_is _ x d.1) (record {
+              is = (refl, h, a.0, b.0, s.is, rw (← s.at) d.0);
+              at = omega arith;
+              low = omega arith;
+            })
         | inr a ↦
-          let b = bind_some (name_at ts (i + 1)) _ x a.1 in
-          let c = when_some (has ts (i + 2) terminals.LeftParenthesis && has ts (i + 3) terminals.RightParenthesis) _ x b.2 in
-          let both = and_both (has ts (i + 2) terminals.LeftParenthesis) (has ts (i + 3) terminals.RightParenthesis) c.0 in
-          subst (Sound ts 0 i (suc room)) (some_is _ x c.1) (record { is = (refl, h, b.1, both.0, both.1); at = refl; low = omega arith })
+            let b = bind_some (name_at ts (i + 1)) _ x a.1 in
+            let c = when_some (has ts (i + 2) terminals.LeftParenthesis && has ts (i + 3) terminals.RightParenthesis) _ x b.2 in
+            let both = and_both (has ts (i + 2) terminals.LeftParenthesis) (has ts (i + 3) terminals.RightParenthesis) c.0 in
+            subst (Sound ts 0 i (suc room)) (some_is _ x c.1) (record { is = (refl, h, b.1, both.0, both.1); at = refl; low = omega arith })
       ]
 
   paren_found : (i : ℕ) (x : Expression × ℕ) → has ts i terminals.LeftParenthesis ≡ true → (part 5 (i + 1) >>= closed ts terminals.RightParenthesis (Parenthesized i)) ≡ Some x → Primary i x
@@ -222,14 +219,14 @@ module _ (part : Reader) (ts : List Token) (room : ℕ) (sound : (d i : ℕ) (x 
       let dot : has ts (i + size a) terminals.Dot ≡ true = rw (← at) t in
       elim (if_some (has ts (m + 1) terminals.LeftParenthesis) _ _ x b.2) [
         | inl c ↦
-          let d = bind_some (listed_at (part 5) ts (m + 2)) _ x c.1 in
-          let s = args_found (m + 2) d.0 d.1 in
-          let place = s.at in
-          let low2 = s.low in
-          subst (Sound ts 0 i (suc room)) (some_is _ x d.2) (record { is = (h, m-at, dot, b.1, c.0, s.are, s.close); at = omega arith; low = omega arith })
+            let d = bind_some (listed_at (part 5) ts (m + 2)) _ x c.1 in
+            let s = args_found (m + 2) d.0 d.1 in
+            let place = s.at in
+            let low2 = s.low in
+            subst (Sound ts 0 i (suc room)) (some_is _ x d.2) (record { is = (h, m-at, dot, b.1, c.0, s.are, s.close); at = omega arith; low = omega arith })
         | inr c ↦
-          let d = when_some (says ts m (codes "length")) _ x c.1 in
-          subst (Sound ts 0 i (suc room)) (some_is _ x d.1) (record { is = (h, m-at, dot, d.0); at = omega arith; low = omega arith })
+            let d = when_some (says ts m (codes "length")) _ x c.1 in
+            subst (Sound ts 0 i (suc room)) (some_is _ x d.1) (record { is = (h, m-at, dot, d.0); at = omega arith; low = omega arith })
       ]
 
   post_found : (gas i j : ℕ) (left : Expression) (x : Expression × ℕ) → Primary i (left, j) → post_from gas part ts room left j ≡ Some x → Primary i x
@@ -238,14 +235,14 @@ module _ (part : Reader) (ts : List Token) (room : ℕ) (sound : (d i : ℕ) (x 
   post_found (suc gas) i j left x s e =
       elim (if_some (takes_index ts left j) _ _ x e) [
         | inl a ↦
-          let b = when_some (leb (height left) room) _ x a.1 in
-          let c = bind_some (index_at part ts left j) _ x b.1 in
-          post_found gas i c.0.1 c.0.0 x (index_found i j left c.0 s.is s.at (leb-true _ _ b.0) a.0 c.1) c.2
+            let b = when_some (leb (height left) room) _ x a.1 in
+            let c = bind_some (index_at part ts left j) _ x b.1 in
+            post_found gas i c.0.1 c.0.0 x (index_found i j left c.0 s.is s.at (leb-true _ _ b.0) a.0 c.1) c.2
         | inr a ↦ elim (if_some (has ts j terminals.Dot) _ _ x a.1) [
           | inl d ↦
-            let b = when_some (leb (height left) room) _ x d.1 in
-            let c = bind_some (member_at part ts left (j + 1)) _ x b.1 in
-            post_found gas i c.0.1 c.0.0 x (member_found i j (j + 1) left c.0 s.is s.at refl (leb-true _ _ b.0) d.0 c.1) c.2
+              let b = when_some (leb (height left) room) _ x d.1 in
+              let c = bind_some (member_at part ts left (j + 1)) _ x b.1 in
+              post_found gas i c.0.1 c.0.0 x (member_found i j (j + 1) left c.0 s.is s.at refl (leb-true _ _ b.0) d.0 c.1) c.2
           | inr d ↦ subst (Sound ts 0 i (suc room)) (some_is _ x d.1) s
         ]
       ]
@@ -265,22 +262,22 @@ module _ (part : Reader) (ts : List Token) (room : ℕ) (sound : (d i : ℕ) (x 
       elim (some_or_none (operator_at ts j d)) [
         | inl n ↦ let f = rw (binary_from, n) at e in subst (Sound ts (suc d) i (suc room)) (some_is _ x f) s
         | inr q ↦
-          let o = q.0 in
-          let f = rw (binary_from, q.1) at e in
-          let b = when_some (leb (height left) room) _ x f in
-          let c = bind_some (part d (j + 1)) _ x b.1 in
-          let r = sound d (j + 1) c.0 c.1 in
-          let t = tier_marks d (operator_here ts j) o q.1 in
-          let low = leb-true _ _ b.0 in
-          let at = s.at in
-          let at2 = r.at in
-          let low2 = r.low in
-          let tier_of-is = t.1 in
-          binary_found gas d i c.0.1 (Binary o j left c.0.0) x (record {
-            is = (omega arith, subst (λ (k : ℕ). IsExp ts (suc k) i left) (sym t.1) s.is, s.at, here_marks ts j o t.0, subst (λ (k : ℕ). IsExp ts k (j + 1) c.0.0) (sym t.1) r.is);
-            at = omega arith;
-            low = omega arith;
-          }) c.2
+            let o = q.0 in
+            let f = rw (binary_from, q.1) at e in
+            let b = when_some (leb (height left) room) _ x f in
+            let c = bind_some (part d (j + 1)) _ x b.1 in
+            let r = sound d (j + 1) c.0 c.1 in
+            let t = tier_marks d (operator_here ts j) o q.1 in
+            let low = leb-true _ _ b.0 in
+            let at = s.at in
+            let at2 = r.at in
+            let low2 = r.low in
+            let tier_of-is = t.1 in
+            binary_found gas d i c.0.1 (Binary o j left c.0.0) x (record {
+              is = (omega arith, subst (λ (k : ℕ). IsExp ts (suc k) i left) (sym t.1) s.is, s.at, here_marks ts j o t.0, subst (λ (k : ℕ). IsExp ts k (j + 1) c.0.0) (sym t.1) r.is);
+              at = omega arith;
+              low = omega arith;
+            }) c.2
       ]
 
   tier_found : (d i : ℕ) (x : Expression × ℕ) → tier_at part ts room d i ≡ Some x → Sound ts d i (suc room) x
@@ -289,11 +286,11 @@ module _ (part : Reader) (ts : List Token) (room : ℕ) (sound : (d i : ℕ) (x 
   tier_found (suc zero) i x e =
       elim (if_some (has ts i terminals.Not) _ _ x e) [
         | inl a ↦
-          let c = bind_some (part 1 (i + 1)) _ x a.1 in
-          let s = sound 1 (i + 1) c.0 c.1 in
-          let at = s.at in
-          let low = s.low in
-          subst (Sound ts 1 i (suc room)) (some_is _ x c.2) (record { is = (omega arith, refl, a.0, s.is); at = omega arith; low = omega arith })
+            let c = bind_some (part 1 (i + 1)) _ x a.1 in
+            let s = sound 1 (i + 1) c.0 c.1 in
+            let at = s.at in
+            let low = s.low in
+            subst (Sound ts 1 i (suc room)) (some_is _ x c.2) (record { is = (omega arith, refl, a.0, s.is); at = omega arith; low = omega arith })
         | inr a ↦ let s = post_at_found i x a.1 in record { is = weaker ts 0 1 i x.0 (omega arith) s.is; at = s.at; low = s.low }
       ]
   tier_found (suc (suc d)) i x e =

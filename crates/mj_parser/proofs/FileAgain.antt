@@ -1,6 +1,6 @@
 -- What is a declaration or a file by the grammar is read as that.
-use Rattle.std.proofs.Common.{◌≡◌, ℕ, zero, suc, ◌+◌, ◌<◌, ◌≤◌, max, Bool, true, false, not, ◌&&◌, List, [], ◌∷◌, length, drop, Option, Some, None, refl, sym, ap, ◌∙◌, subst, arith, zero-add}
-use Rattle.std.specs.Prelude.{slice_get, is_some, ◌||◌, codes}
+use Rattle.std.proofs.Common.{◌≡◌, ℕ, zero, suc, ◌+◌, ◌≤◌, Bool, true, false, not, ◌&&◌, List, [], ◌∷◌, length, drop, Option, Some, None, refl, sym, ap, ◌∙◌, subst, arith, zero-add}
+use Rattle.std.specs.Prelude.{slice_get, codes}
 use Rattle.std.proofs.lemmas.Bool.{lt-ltb, le-ltb}
 use Rattle.mj_lexer.specs.declared.token.Token.{Token}
 use Rattle.mj_lexer.specs.declared.token.Kind.{Kind}
@@ -11,23 +11,21 @@ use Rattle.mj_parser.specs.declared.tree.Ty.{Ty}
 use Rattle.mj_parser.specs.declared.tree.Ty.TheVariants as types
 use Rattle.mj_parser.specs.declared.tree.Field.{Field}
 use Rattle.mj_parser.specs.declared.tree.Variable.{Variable}
-use Rattle.mj_parser.specs.Tokens.{same_terminal, kind_of, kind_at, is_terminal, name_of, has, says, name_at}
+use Rattle.mj_parser.specs.Tokens.{same_terminal, kind_of, kind_at, is_terminal, name_of, has, name_at}
 use Rattle.mj_parser.specs.Trees.{Name, Statement, Statements, Block, If, While, Print, Assign, Store, done, next, Method, Main, Class, File}
-use Rattle.mj_parser.specs.Views.{statements_of}
-use Rattle.mj_parser.specs.Expressions.{size, height, IsExp}
-use Rattle.mj_parser.specs.Statements.{stmt_size, stmts_size, stmt_height, stmts_height, opens_print, IsStmt, AreStmts}
+use Rattle.mj_parser.specs.Expressions.{size}
+use Rattle.mj_parser.specs.Statements.{stmt_size, stmts_size, stmt_height, IsStmt, AreStmts}
 use Rattle.mj_parser.specs.Rows.{row_size, row_height, InRow}
-use Rattle.mj_parser.specs.Declarations.{type_size, IsType, IsVariable, variable_size, IsMoreFormal, more_formal_size, formals_size, AreFormals, IsLocal, local_size, formals_place, locals_place, body_place, return_place, method_size, method_height, IsMethod, main_head, main_parameter, field_size, IsField, IsMethodAt, superclass_size, IsSuperclass, head_size, class_size, IsClass, class_height, IsMain, main_size, IsMainPart, main_part_size, main_part_height, file_size, file_height, Derives}
-use Rattle.mj_parser.specs.Steps.{PartReader, items_from, behind_comma, at_comma, more_listed, listed_at}
-use Rattle.mj_parser.specs.ExpressionReading.{exp_at}
+use Rattle.mj_parser.specs.Declarations.{type_size, IsType, IsVariable, variable_size, IsMoreFormal, more_formal_size, formals_size, AreFormals, IsLocal, local_size, formals_place, locals_place, body_place, return_place, method_size, method_height, IsMethod, main_head, main_parameter, field_size, IsField, IsMethodAt, superclass_size, IsSuperclass, head_size, class_size, IsClass, class_height, IsMain, main_size, IsMainPart, main_part_size, main_part_height, Derives}
+use Rattle.mj_parser.specs.Steps.{behind_comma, at_comma, listed_at}
 use Rattle.mj_parser.specs.StatementReading.{stmt_at}
-use Rattle.mj_parser.specs.FileReading.{type_at, variable_at, local_at, field_at, begins_type, begins_local, Signature, signature_at, not_return, method_of, method_at, method_from, superclass_at, at_public, class_at, begins_main, main_method_at, main_from, main_at, main_part_at, before_end, tree_of}
+use Rattle.mj_parser.specs.FileReading.{type_at, variable_at, local_at, field_at, begins_type, begins_local, signature_at, not_return, method_of, method_at, method_from, superclass_at, at_public, class_at, begins_main, main_method_at, main_from, main_at, main_part_at, before_end, tree_of}
 use Rattle.mj_parser.proofs.Binds.{and_both}
-use Rattle.mj_parser.proofs.Lists.{stmts_list, list_stmts}
-use Rattle.mj_parser.proofs.Marks.{has_other, has_named, has_within, name_within, says_name}
+use Rattle.mj_parser.proofs.Lists.{list_stmts}
+use Rattle.mj_parser.proofs.Marks.{has_other, has_named, has_within}
 use Rattle.mj_parser.proofs.Rows.{row_again}
 use Rattle.mj_parser.proofs.ExpressionAgain.{closer_semicolon}
-use Rattle.mj_parser.proofs.StatementAgain.{stmt_some, print_name, print_dot, no_statement, exp_before, stmts_again, stmt_again}
+use Rattle.mj_parser.proofs.StatementAgain.{print_name, print_dot, no_statement, exp_before, stmts_again, stmt_again}
 
 -- ---- tokens
 
@@ -135,7 +133,7 @@ formals_again ts i j (v ∷ vs) h at e =
     let w = has_within ts j terminals.RightParenthesis e in
     let v-is = h.0 in
     let r = row_again (IsMoreFormal ts) more_formal_size flat 0 (behind_comma (variable_at ts)) (at_comma ts) (length ts) (λ k x g low. variable_again ts (k + 1) (k + more_formal_size x) x g.1 (omega arith)) (λ k x g. g.0) (λ x. omega arith) vs (suc (length ts)) (i + variable_size v) j h.1 (flat_row vs)
-      (omega arith) (has_other ts j terminals.RightParenthesis terminals.Comma e refl) (omega arith) (omega arith) in
+    (omega arith) (has_other ts j terminals.RightParenthesis terminals.Comma e refl) (omega arith) (omega arith) in
     rw (listed_at, no_type ts terminals.RightParenthesis refl refl i v.ty v-is.1, variable_again ts i (i + variable_size v) v h.0 refl, r, e) refl
 
 -- ---- methods
@@ -151,7 +149,7 @@ unfolding method_at method_of
 method_again ts m h low =
     let w = has_within ts (return_place m) terminals.Return h.return_word in
     let ls = row_again (IsLocal ts) local_size flat 0 (local_at ts) (begins_local ts) (length ts) (λ k x g lw. local_again ts k (k + local_size x) x g refl) (λ k x g. local_begins ts k x.ty x.name g.0.1 g.0.2) (λ x. omega arith) m.locals (suc (length ts)) (locals_place m) (body_place m) h.locals (flat_row m.locals)
-      refl (no_local_behind ts (body_place m) m.body h.body h.return_word) (omega arith) (omega arith) in
+    refl (no_local_behind ts (body_place m) m.body h.body h.return_word) (omega arith) (omega arith) in
     let bs = stmts_again ts 500 (stmt_at 500 ts) (λ i j s. stmt_again ts 500 i j s) (not_return ts) (λ i s g. ap not (no_statement ts terminals.Return refl refl refl s i g)) m.body (suc (length ts)) (body_place m) (return_place m) h.body (omega arith) refl (ap not h.return_word) (omega arith) (omega arith) in
     let v = exp_before ts 500 terminals.Semicolon closer_semicolon (return_place m + 1) (return_place m + 1 + size m.returned) m.returned h.returned (omega arith) refl h.semicolon in
     let make : ℕ → Option (Method × ℕ) = λ k. Some (record { name = m.name; returns = m.returns; formals = m.formals; locals = m.locals; body = m.body; returned = m.returned; return_mark = k }, method_size m) in
@@ -190,9 +188,9 @@ class_again ts i j c h low at =
     let head-is : i + (2 + superclass_size c.superclass) + 1 ≡ i + head_size c = omega arith in
     let ss = superclass_again ts (i + 2) (i + (2 + superclass_size c.superclass)) c.superclass h.superclass h.brace (omega arith) in
     let fs = row_again (IsField ts) field_size flat 0 (field_at ts) (begins_type ts) (length ts) (λ k x g lw. field_again ts k (k + field_size x) x g refl) (λ k x g. type_begins ts k x.ty g.0) (λ x. omega arith) c.fields (suc (length ts)) (i + head_size c) (i + head_size c + row_size field_size c.fields) h.fields (flat_row c.fields)
-      refl (no_field_behind ts (i + head_size c + row_size field_size c.fields) c.methods h.methods h.end_brace) (omega arith) (omega arith) in
+    refl (no_field_behind ts (i + head_size c + row_size field_size c.fields) c.methods h.methods h.end_brace) (omega arith) (omega arith) in
     let ms = row_again (IsMethodAt ts) method_size method_height 500 (method_from ts) (at_public ts) (length ts) (method_from_again ts) (method_begins ts) (λ x. omega arith) c.methods (suc (length ts)) (i + head_size c + row_size field_size c.fields) (i + head_size c + row_size field_size c.fields + row_size method_size c.methods) h.methods low
-      refl (has_other ts _ terminals.RightBrace terminals.Public h.end_brace refl) (omega arith) (omega arith) in
+    refl (has_other ts _ terminals.RightBrace terminals.Public h.end_brace refl) (omega arith) (omega arith) in
     rw (class_at, j-is, h.class_word, h.name, ss, h.brace, head-is, fs, ms, h.end_brace) refl
 
 class_begins : (ts : List Token) (i : ℕ) (c : Class) → IsClass ts i c → before_end ts i ≡ true
@@ -257,5 +255,5 @@ file_again ts f d =
     let whole = d.whole in
     let low = d.low in
     let cs = row_again (IsClass ts) class_size class_height 500 (class_at ts) (before_end ts) (length ts) (λ k x g lw. class_again ts k (k + class_size x) x g lw refl) (class_begins ts) (λ x. omega arith) f.classes (suc (length ts)) (main_part_size f.main) (length ts) d.classes (omega arith)
-      (omega arith) (le-ltb (length ts) (length ts) (omega arith)) (omega arith) (omega arith) in
+    (omega arith) (le-ltb (length ts) (length ts) (omega arith)) (omega arith) (omega arith) in
     rw (tree_of, main_part_again ts f.main f.classes d.main d.classes d.whole (omega arith), cs) refl

@@ -1,30 +1,28 @@
 -- What is read as a declaration or a file is that by the grammar.
-use Rattle.std.proofs.Common.{◌≡◌, ℕ, zero, suc, ◌+◌, ◌<◌, ◌≤◌, max, Bool, true, false, not, ◌&&◌, List, [], ◌∷◌, length, drop, Option, Some, None, refl, sym, ap, ◌∙◌, subst, arith, inl, inr}
-use Rattle.std.specs.Prelude.{if◌then◌else◌}
+use Rattle.std.proofs.Common.{◌≡◌, ℕ, suc, ◌+◌, ◌≤◌, true, ◌&&◌, List, [], ◌∷◌, length, drop, Option, Some, None, refl, ap, subst, arith, inl, inr}
 use Rattle.std.proofs.lemmas.Bool.{ltb-false}
 use Rattle.std.proofs.lemmas.List.{length-drop}
 use Rattle.mj_parser.proofs.Marks.{has_within}
 use Rattle.mj_lexer.specs.declared.token.Token.{Token}
 use Rattle.mj_lexer.specs.declared.token.Terminal.TheVariants as terminals
 use Rattle.mj_parser.specs.declared.tree.Ty.{Ty}
-use Rattle.mj_parser.specs.declared.tree.Ty.TheVariants as types
 use Rattle.mj_parser.specs.declared.tree.Field.{Field}
 use Rattle.mj_parser.specs.declared.tree.Variable.{Variable}
 use Rattle.mj_parser.specs.Tokens.{has, name_at}
 use Rattle.mj_parser.specs.Trees.{Name, Statement, Method, Main, Class, File}
 use Rattle.mj_parser.specs.Views.{statements_of}
-use Rattle.mj_parser.specs.Expressions.{size, height, IsExp}
-use Rattle.mj_parser.specs.Statements.{stmt_size, stmts_size, stmt_height, stmts_height, IsStmt, AreStmts}
-use Rattle.mj_parser.specs.Rows.{row_size, row_height, InRow}
-use Rattle.mj_parser.specs.Declarations.{type_size, IsType, IsVariable, variable_size, IsMoreFormal, more_formal_size, formals_size, AreFormals, IsLocal, local_size, formals_place, locals_place, body_place, return_place, method_size, method_height, IsMethod, main_head, main_parameter, field_size, IsField, IsMethodAt, superclass_size, IsSuperclass, head_size, class_size, IsClass, class_height, IsMain, main_size, IsMainPart, main_part_size, main_part_height, file_size, file_height, Derives}
-use Rattle.mj_parser.specs.Steps.{◌>>=◌, when, PartReader, items_from, behind_comma, at_comma, more_listed, listed_at}
+use Rattle.mj_parser.specs.Expressions.{size, IsExp}
+use Rattle.mj_parser.specs.Statements.{stmt_size, stmts_size, stmt_height, IsStmt, AreStmts}
+use Rattle.mj_parser.specs.Rows.{row_size, InRow}
+use Rattle.mj_parser.specs.Declarations.{type_size, IsType, IsVariable, variable_size, IsMoreFormal, more_formal_size, formals_size, AreFormals, IsLocal, local_size, method_size, method_height, IsMethod, main_head, main_parameter, field_size, IsField, IsMethodAt, superclass_size, IsSuperclass, class_size, IsClass, class_height, IsMain, main_size, IsMainPart, main_part_size, main_part_height, Derives}
+use Rattle.mj_parser.specs.Steps.{items_from, behind_comma, at_comma, listed_at}
 use Rattle.mj_parser.specs.ExpressionReading.{exp_at}
 use Rattle.mj_parser.specs.StatementReading.{stmt_at}
 use Rattle.mj_parser.specs.FileReading.{type_at, variable_at, local_at, field_at, begins_type, begins_local, Signature, signature_at, not_return, method_of, method_at, method_from, superclass_at, at_public, class_at, begins_main, main_method_at, main_from, main_at, main_part_at, before_end, tree_of}
 use Rattle.mj_parser.proofs.Binds.{bind_some, when_some, if_some, some_is, and_both}
-use Rattle.mj_parser.proofs.Rows.{PartSound, RowSound, row_found}
-use Rattle.mj_parser.proofs.ExpressionFound.{Sound, exp_found}
-use Rattle.mj_parser.proofs.StatementFound.{not_is_false, SoundStmt, SoundStmts, stmts_found, stmt_found}
+use Rattle.mj_parser.proofs.Rows.{PartSound, row_found}
+use Rattle.mj_parser.proofs.ExpressionFound.{exp_found}
+use Rattle.mj_parser.proofs.StatementFound.{not_is_false, stmts_found, stmt_found}
 
 abbrev flat : {A : Type 0} → A → ℕ
 flat x = 0
@@ -40,15 +38,15 @@ type_found ts i x e =
     elim (if_some (has ts i terminals.Int) _ _ x e) [
       | inl a ↦ elim (if_some (has ts (i + 1) terminals.LeftBracket) _ _ x a.1) [
         | inl b ↦
-          let c = when_some (has ts (i + 2) terminals.RightBracket) _ x b.1 in
-          subst (SoundType ts i) (some_is _ x c.1) (record { is = (a.0, b.0, c.0); at = refl; low = omega arith })
+            let c = when_some (has ts (i + 2) terminals.RightBracket) _ x b.1 in
+            subst (SoundType ts i) (some_is _ x c.1) (record { is = (a.0, b.0, c.0); at = refl; low = omega arith })
         | inr b ↦ subst (SoundType ts i) (some_is _ x b.1) (record { is = a.0; at = refl; low = omega arith })
       ]
       | inr a ↦ elim (if_some (has ts i terminals.Boolean) _ _ x a.1) [
         | inl b ↦ subst (SoundType ts i) (some_is _ x b.1) (record { is = b.0; at = refl; low = omega arith })
         | inr b ↦
-          let c = bind_some (name_at ts i) _ x b.1 in
-          subst (SoundType ts i) (some_is _ x c.2) (record { is = c.1; at = refl; low = omega arith })
+            let c = bind_some (name_at ts i) _ x b.1 in
+            subst (SoundType ts i) (some_is _ x c.2) (record { is = c.1; at = refl; low = omega arith })
       ]
     ]
 
@@ -102,22 +100,22 @@ unfolding listed_at
 formals_found ts i x e =
     elim (if_some (has ts i terminals.RightParenthesis) _ _ x e) [
       | inl a ↦
-        let same : i ≡ i + 0 = omega arith in
-        subst (SoundFormals ts i) (some_is _ x a.1) (record { are = tt; at = omega arith; close = subst (λ (k : ℕ). has ts k terminals.RightParenthesis ≡ true) same a.0 })
+          let same : i ≡ i + 0 = omega arith in
+          subst (SoundFormals ts i) (some_is _ x a.1) (record { are = tt; at = omega arith; close = subst (λ (k : ℕ). has ts k terminals.RightParenthesis ≡ true) same a.0 })
       | inr a ↦
-        let b = bind_some (variable_at ts i) _ x a.1 in
-        let c = bind_some (items_from (suc (length ts)) (behind_comma (variable_at ts)) (at_comma ts) b.0.1) _ x b.2 in
-        let f = when_some (has ts c.0.1 terminals.RightParenthesis) _ x c.2 in
-        let v = variable_found ts i b.0 b.1 in
-        let r = row_found (IsMoreFormal ts) more_formal_size flat 0 (behind_comma (variable_at ts)) (at_comma ts) (more_formal_found ts) (suc (length ts)) b.0.1 c.0 c.1 in
-        let v-at = v.at in
-        let r-at = r.at in
-        let there : c.0.1 ≡ i + (variable_size b.0.0 + row_size more_formal_size c.0.0) = omega arith in
-        subst (SoundFormals ts i) (some_is _ x f.1) (record {
-          are = (v.is, subst (λ (k : ℕ). InRow (IsMoreFormal ts) more_formal_size k c.0.0) v.at r.are);
-          at = omega arith;
-          close = subst (λ (k : ℕ). has ts k terminals.RightParenthesis ≡ true) there f.0;
-        })
+          let b = bind_some (variable_at ts i) _ x a.1 in
+          let c = bind_some (items_from (suc (length ts)) (behind_comma (variable_at ts)) (at_comma ts) b.0.1) _ x b.2 in
+          let f = when_some (has ts c.0.1 terminals.RightParenthesis) _ x c.2 in
+          let v = variable_found ts i b.0 b.1 in
+          let r = row_found (IsMoreFormal ts) more_formal_size flat 0 (behind_comma (variable_at ts)) (at_comma ts) (more_formal_found ts) (suc (length ts)) b.0.1 c.0 c.1 in
+          let v-at = v.at in
+          let r-at = r.at in
+          let there : c.0.1 ≡ i + (variable_size b.0.0 + row_size more_formal_size c.0.0) = omega arith in
+          subst (SoundFormals ts i) (some_is _ x f.1) (record {
+            are = (v.is, subst (λ (k : ℕ). InRow (IsMoreFormal ts) more_formal_size k c.0.0) v.at r.are);
+            at = omega arith;
+            close = subst (λ (k : ℕ). has ts k terminals.RightParenthesis ≡ true) there f.0;
+          })
     ]
 
 -- ---- methods
@@ -220,8 +218,8 @@ unfolding superclass_at
 superclass_found ts i x e =
     elim (if_some (has ts i terminals.Extends) _ _ x e) [
       | inl a ↦
-        let b = bind_some (name_at ts (i + 1)) _ x a.1 in
-        subst (PartSound (IsSuperclass ts) superclass_size flat 0 i) (some_is _ x b.2) (record { is = (a.0, b.1); at = refl; low = omega arith })
+          let b = bind_some (name_at ts (i + 1)) _ x a.1 in
+          subst (PartSound (IsSuperclass ts) superclass_size flat 0 i) (some_is _ x b.2) (record { is = (a.0, b.1); at = refl; low = omega arith })
       | inr a ↦ subst (PartSound (IsSuperclass ts) superclass_size flat 0 i) (some_is _ x a.1) (record { is = tt; at = omega arith; low = omega arith })
     ]
 
@@ -325,9 +323,9 @@ unfolding main_part_at
 main_part_found ts x e =
     elim (if_some (begins_main ts) _ _ x e) [
       | inl a ↦
-        let b = bind_some (main_at ts) _ x a.1 in
-        let m = main_found ts b.0 b.1 in
-        subst (SoundMainPart ts) (some_is _ x b.2) (record { is = m.is; at = m.at; low = m.low })
+          let b = bind_some (main_at ts) _ x a.1 in
+          let m = main_found ts b.0 b.1 in
+          subst (SoundMainPart ts) (some_is _ x b.2) (record { is = m.is; at = m.at; low = m.low })
       | inr a ↦ subst (SoundMainPart ts) (some_is _ x a.1) (record { is = tt; at = refl; low = omega arith })
     ]
 

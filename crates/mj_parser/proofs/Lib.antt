@@ -12,3 +12,4 @@ pub mod StatementAgain
 pub mod FileFound
 pub mod FileAgain
 pub mod Whole
+pub mod Bounds

@@ -1,5 +1,5 @@
 -- Parts as a list.
-use Rattle.std.proofs.Common.{◌≡◌, ℕ, List, [], ◌∷◌, refl, ap}
+use Rattle.std.proofs.Common.{◌≡◌, List, [], ◌∷◌, refl, ap}
 use Rattle.mj_parser.specs.Trees.{Expression, Expressions, Statement, Statements, none, more, done, next}
 use Rattle.mj_parser.specs.Views.{expressions_of, statements_of}
 

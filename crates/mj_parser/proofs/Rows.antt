@@ -1,6 +1,5 @@
 -- Items that are read one after the other.
-use Rattle.std.proofs.Common.{◌≡◌, ℕ, zero, suc, ◌+◌, ◌<◌, ◌≤◌, max, Bool, true, false, List, [], ◌∷◌, length, Option, Some, None, refl, subst, arith, inl, inr}
-use Rattle.mj_lexer.specs.declared.token.Token.{Token}
+use Rattle.std.proofs.Common.{◌≡◌, ℕ, zero, suc, ◌+◌, ◌<◌, ◌≤◌, Bool, true, false, List, [], ◌∷◌, Some, refl, subst, arith, inl, inr}
 use Rattle.mj_parser.specs.Rows.{row_size, row_height, InRow}
 use Rattle.mj_parser.specs.Steps.{PartReader, items_from}
 use Rattle.mj_parser.proofs.Binds.{bind_some, if_some, some_is}
@@ -25,20 +24,20 @@ module _ {A : Type 0} (Is : ℕ → A → Type 0) (size height : A → ℕ) (mos
   row_found sound (suc gas) i x e =
       elim (if_some (goes_on i) _ _ x e) [
         | inl a ↦
-          let b = bind_some (part i) _ x a.1 in
-          let c = bind_some (items_from gas part goes_on b.0.1) _ x b.2 in
-          let s = sound i b.0 a.0 b.1 in
-          let t = row_found sound gas b.0.1 c.0 c.1 in
-          let low = s.low in
-          let low2 = t.low in
-          let place = s.at in
-          let at2 = t.at in
-          subst (RowSound Is size height most goes_on i) (some_is _ x c.2) (record {
-            are = (s.is, subst (λ (k : ℕ). InRow Is size k c.0.0) s.at t.are);
-            at = omega arith;
-            low = omega arith;
-            ends = t.ends;
-          })
+            let b = bind_some (part i) _ x a.1 in
+            let c = bind_some (items_from gas part goes_on b.0.1) _ x b.2 in
+            let s = sound i b.0 a.0 b.1 in
+            let t = row_found sound gas b.0.1 c.0 c.1 in
+            let low = s.low in
+            let low2 = t.low in
+            let place = s.at in
+            let at2 = t.at in
+            subst (RowSound Is size height most goes_on i) (some_is _ x c.2) (record {
+              are = (s.is, subst (λ (k : ℕ). InRow Is size k c.0.0) s.at t.are);
+              at = omega arith;
+              low = omega arith;
+              ends = t.ends;
+            })
         | inr a ↦ subst (RowSound Is size height most goes_on i) (some_is _ x a.1) (record { are = tt; at = omega arith; low = omega arith; ends = a.0 })
       ]
 

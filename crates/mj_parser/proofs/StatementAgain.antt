@@ -1,20 +1,18 @@
 -- What is a statement by the grammar is read as that statement.
-use Rattle.std.proofs.Common.{◌≡◌, ℕ, zero, suc, ◌+◌, ◌<◌, ◌≤◌, max, Bool, true, false, not, ◌&&◌, cond, List, [], ◌∷◌, length, Option, Some, None, refl, sym, ap, ◌∙◌, subst, arith}
+use Rattle.std.proofs.Common.{◌≡◌, ℕ, zero, suc, ◌+◌, ◌<◌, ◌≤◌, Bool, true, false, not, ◌&&◌, List, length, Option, Some, refl, ap, subst, arith}
 use Rattle.std.specs.Prelude.{codes}
 use Rattle.mj_lexer.specs.declared.token.Token.{Token}
 use Rattle.mj_lexer.specs.declared.token.Terminal.{Terminal}
 use Rattle.mj_lexer.specs.declared.token.Terminal.TheVariants as terminals
 use Rattle.mj_parser.specs.Tokens.{same_terminal, has, says, name_at}
 use Rattle.mj_parser.specs.Trees.{Name, Expression, Statement, Statements, Block, If, While, Print, Assign, Store, done, next}
-use Rattle.mj_parser.specs.Views.{statements_of}
 use Rattle.mj_parser.specs.Expressions.{size, height, IsExp}
 use Rattle.mj_parser.specs.Statements.{stmt_size, stmts_size, stmt_height, stmts_height, opens_print, IsStmt, AreStmts}
 use Rattle.mj_parser.specs.Steps.{PartReader, items_from}
 use Rattle.mj_parser.specs.ExpressionReading.{exp_at}
 use Rattle.mj_parser.specs.StatementReading.{not_brace, block_at, condition_at, if_at, while_at, print_at, assign_at, store_at, named_at, stmt_of, stmt_at}
-use Rattle.mj_parser.proofs.Binds.{and_both}
 use Rattle.mj_parser.proofs.Lists.{stmts_list, list_stmts}
-use Rattle.mj_parser.proofs.Marks.{has_other, has_named, has_within, name_within, says_name, IsCloser, stops_closer}
+use Rattle.mj_parser.proofs.Marks.{has_other, has_named, has_within, says_name, IsCloser, stops_closer}
 use Rattle.mj_parser.proofs.ExpressionAgain.{exp_again, closer_paren, closer_bracket, closer_semicolon}
 
 pub stmt_some : (s : Statement) → 0 < stmt_size s
@@ -93,8 +91,14 @@ module _ (ts : List Token) (room : ℕ) (part : PartReader Statement) (reads : (
       → has ts (i + 2 + size e + 1 + stmt_size s) terminals.Else ≡ true → IsStmt ts (i + 2 + size e + 1 + stmt_size s + 1) t → stmt_height t ≤ room → j ≡ i + 2 + size e + 1 + stmt_size s + 1 + stmt_size t → if_at (exp_at room ts 5) part ts i ≡ Some (If i e s t, j)
   unfolding if_at
   if_again i j e s t p h low c hs lows o ht lowt at =
-      rw (if_at, at, condition_again ts room i (i + 2 + size e + 1) e p h low c refl, reads (i + 2 + size e + 1) (i + 2 + size e + 1 + stmt_size s) s hs lows refl, o,
-        reads (i + 2 + size e + 1 + stmt_size s + 1) (i + 2 + size e + 1 + stmt_size s + 1 + stmt_size t) t ht lowt refl) refl
+      rw (
+        if_at,
+        at,
+        condition_again ts room i (i + 2 + size e + 1) e p h low c refl,
+        reads (i + 2 + size e + 1) (i + 2 + size e + 1 + stmt_size s) s hs lows refl,
+        o,
+        reads (i + 2 + size e + 1 + stmt_size s + 1) (i + 2 + size e + 1 + stmt_size s + 1 + stmt_size t) t ht lowt refl,
+      ) refl
 
   while_again : (i j : ℕ) (e : Expression) (s : Statement) → has ts (i + 1) terminals.LeftParenthesis ≡ true → IsExp ts 5 (i + 2) e → height e ≤ room → has ts (i + 2 + size e) terminals.RightParenthesis ≡ true → IsStmt ts (i + 2 + size e + 1) s → stmt_height s ≤ room
       → j ≡ i + 2 + size e + 1 + stmt_size s → while_at (exp_at room ts 5) part ts i ≡ Some (While i e s, j)

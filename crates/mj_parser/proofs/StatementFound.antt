@@ -1,18 +1,17 @@
 -- What is read as a statement is that statement by the grammar.
-use Rattle.std.proofs.Common.{◌≡◌, ℕ, zero, suc, ◌+◌, ◌<◌, ◌≤◌, max, Bool, true, false, not, ◌&&◌, List, [], ◌∷◌, length, Option, Some, None, refl, sym, ap, ◌∙◌, subst, arith, inl, inr}
-use Rattle.std.specs.Prelude.{if◌then◌else◌}
+use Rattle.std.proofs.Common.{◌≡◌, ℕ, zero, suc, ◌+◌, ◌≤◌, Bool, true, false, not, ◌&&◌, List, length, Some, refl, subst, arith, inl, inr}
 use Rattle.mj_lexer.specs.declared.token.Token.{Token}
 use Rattle.mj_lexer.specs.declared.token.Terminal.TheVariants as terminals
 use Rattle.mj_parser.specs.Tokens.{has, name_at}
-use Rattle.mj_parser.specs.Trees.{Name, Expression, Statement, Statements, Block, If, While, Print, Assign, Store, done, next}
+use Rattle.mj_parser.specs.Trees.{Name, Expression, Statement}
 use Rattle.mj_parser.specs.Views.{statements_of}
 use Rattle.mj_parser.specs.Expressions.{size, height, IsExp}
 use Rattle.mj_parser.specs.Statements.{stmt_size, stmts_size, stmt_height, stmts_height, opens_print, IsStmt, AreStmts}
-use Rattle.mj_parser.specs.Steps.{◌>>=◌, when, PartReader, items_from}
+use Rattle.mj_parser.specs.Steps.{PartReader, items_from}
 use Rattle.mj_parser.specs.ExpressionReading.{exp_at}
 use Rattle.mj_parser.specs.StatementReading.{not_brace, block_at, condition_at, if_at, while_at, print_at, assign_at, store_at, named_at, stmt_of, stmt_at}
 use Rattle.mj_parser.proofs.Binds.{bind_some, when_some, if_some, some_is, and_both}
-use Rattle.mj_parser.proofs.ExpressionFound.{Sound, exp_found}
+use Rattle.mj_parser.proofs.ExpressionFound.{exp_found}
 
 pub not_is_false : (b : Bool) → not b ≡ false → b ≡ true
 not_is_false true e = refl
@@ -45,20 +44,20 @@ stmts_found ts room part sound goes_on zero i x e = absurd cc
 stmts_found ts room part sound goes_on (suc gas) i x e =
     elim (if_some (goes_on i) _ _ x e) [
       | inl a ↦
-        let b = bind_some (part i) _ x a.1 in
-        let c = bind_some (items_from gas part goes_on b.0.1) _ x b.2 in
-        let s = sound i b.0 b.1 in
-        let t = stmts_found ts room part sound goes_on gas b.0.1 c.0 c.1 in
-        let low = s.low in
-        let low2 = t.low in
-        let place = s.at in
-        let at2 = t.at in
-        subst (SoundStmts ts goes_on i room) (some_is _ x c.2) (record {
-          are = (s.is, subst (λ (k : ℕ). AreStmts ts k (statements_of c.0.0)) s.at t.are);
-          at = omega arith;
-          low = omega arith;
-          ends = t.ends;
-        })
+          let b = bind_some (part i) _ x a.1 in
+          let c = bind_some (items_from gas part goes_on b.0.1) _ x b.2 in
+          let s = sound i b.0 b.1 in
+          let t = stmts_found ts room part sound goes_on gas b.0.1 c.0 c.1 in
+          let low = s.low in
+          let low2 = t.low in
+          let place = s.at in
+          let at2 = t.at in
+          subst (SoundStmts ts goes_on i room) (some_is _ x c.2) (record {
+            are = (s.is, subst (λ (k : ℕ). AreStmts ts k (statements_of c.0.0)) s.at t.are);
+            at = omega arith;
+            low = omega arith;
+            ends = t.ends;
+          })
       | inr a ↦ subst (SoundStmts ts goes_on i room) (some_is _ x a.1) (record { are = tt; at = omega arith; low = omega arith; ends = a.0 })
     ]
 
@@ -180,8 +179,17 @@ module _ (ts : List Token) (room : ℕ) (part : PartReader Statement) (sound : (
       let t-low = t.low in
       let there : d.0.1 ≡ i + 2 + size b.0.0 + 2 + size d.0.0 = omega arith in
       subst (SoundStmt ts i (suc room)) (some_is _ x f.1) (record {
-        is = (omega arith, refl, n, h, s.is, subst (λ (k : ℕ). has ts k terminals.RightBracket ≡ true) s.at both.0, subst (λ (k : ℕ). has ts (k + 1) terminals.Assign ≡ true) s.at both.1, subst (λ (k : ℕ). IsExp ts 5 (k + 2) d.0.0) s.at t.is,
-          subst (λ (k : ℕ). has ts k terminals.Semicolon ≡ true) there f.0);
+        is = (
+          omega arith,
+          refl,
+          n,
+          h,
+          s.is,
+          subst (λ (k : ℕ). has ts k terminals.RightBracket ≡ true) s.at both.0,
+          subst (λ (k : ℕ). has ts (k + 1) terminals.Assign ≡ true) s.at both.1,
+          subst (λ (k : ℕ). IsExp ts 5 (k + 2) d.0.0) s.at t.is,
+          subst (λ (k : ℕ). has ts k terminals.Semicolon ≡ true) there f.0,
+        );
         at = omega arith;
         low = omega arith;
       })

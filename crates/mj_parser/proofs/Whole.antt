@@ -1,6 +1,6 @@
 -- The answer of the parser.
-use Rattle.std.proofs.Common.{◌≡◌, List, Option, Some, None, Result, Ok, Err, refl, sym, ◌∙◌}
-use Rattle.std.specs.Prelude.{IfOk, MatchResult, ◌↔◌}
+use Rattle.std.proofs.Common.{◌≡◌, List, Result, Ok, Err, refl, sym, ◌∙◌}
+use Rattle.std.specs.Prelude.{IfOk, MatchResult}
 use Rattle.mj_lexer.specs.declared.token.Token.{Token}
 use Rattle.mj_parser.specs.declared.fault.ParseFault.{ParseFault}
 use Rattle.mj_parser.specs.declared.fault.ParseFault.TheVariants.{NotAFile, TooDeep, OutOfMemory}

@@ -102,4 +102,3 @@ abbrev mutual
   pub AreMore : List Token → ℕ → Expressions → Type 0
   AreMore ts i none = Unit {0}
   AreMore ts i (more first others) = (has ts i terminals.Comma ≡ true) × IsExp ts 5 (i + 1) first × AreMore ts (i + 1 + size first) others
-

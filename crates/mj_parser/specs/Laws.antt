@@ -1,10 +1,15 @@
 -- Laws of the grammar.
-use Rattle.std.specs.Prelude.{◌≡◌, ◌↔◌, List, Some}
+use Rattle.std.specs.Prelude.{◌≡◌, ◌↔◌, List, length, Some}
 use Rattle.mj_lexer.specs.declared.token.Token.{Token}
 use Rattle.mj_parser.specs.Trees.{File}
 use Rattle.mj_parser.specs.Declarations.{Derives}
 use Rattle.mj_parser.specs.FileReading.{tree_of}
+use Rattle.mj_parser.specs.MarkBounds.{FileMarksBelow}
 
 -- The tokens of a file are those that reading finds it in; so they have one file at most.
 abbrev pub GrammarLaws : Type 0
 GrammarLaws = (ts : List Token) (f : File) → Derives ts f ↔ (tree_of ts ≡ Some f)
+
+-- Every mark of a file's tree is less than the number of its tokens.
+abbrev pub MarkLaws : Type 0
+MarkLaws = (ts : List Token) (f : File) → Derives ts f → FileMarksBelow (length ts) f

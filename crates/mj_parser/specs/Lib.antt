@@ -10,3 +10,4 @@ pub mod ExpressionReading
 pub mod StatementReading
 pub mod FileReading
 pub mod Laws
+pub mod MarkBounds

@@ -1,5 +1,5 @@
 -- What contracts see of the trees that the code has.
-use Rattle.std.specs.Prelude.{ℕ, List, [], ◌∷◌, map, option_map}
+use Rattle.std.specs.Prelude.{List, [], ◌∷◌, map, option_map}
 use Rattle.mj_parser.specs.Trees.{Expression, Expressions, none, more, Statement, Statements, done, next, Method, Main, Class, File}
 use Rattle.mj_parser.specs.Trees as trees
 use Rattle.mj_parser.specs.declared.tree.Exp.{Exp, fold-Exp}

@@ -5,15 +5,13 @@ ghost use Rattle.mj_parser.specs.Steps.{Gives, items_from, listed_at};
 ghost use Rattle.mj_parser.specs.StatementReading.{stmt_at};
 ghost use Rattle.mj_parser.specs.FileReading.{type_at, variable_at, local_at, begins_local, signature_view, signature_at, not_return, method_at};
 
-use std::alloc::Global;
-
-use mj_lexer::{Name, Terminal, Token};
-
 use crate::expressions::read;
 use crate::fault::ParseFault;
 use crate::statements::statement;
 use crate::tokens::{Parsed, expect, expect_name, has, name};
 use crate::tree::{MethodTree, Stmt, Ty, Variable};
+use mj_lexer::{Name, Terminal, Token};
+use std::alloc::Global;
 
 /// A declared type.
 #[tactic(auto, unfolding(crate::specs::FileReading::type_at))]
@@ -24,10 +22,16 @@ fn declared_type(alloc: Global, tokens: &[Token], at: usize) -> Result<Parsed<Ty
 {
     if has(tokens, at, Terminal::Int) {
         if !has(tokens, at + 1, Terminal::LeftBracket) {
-            return Ok(Parsed { tree: Ty::Int, after: at + 1 });
+            return Ok(Parsed {
+                tree: Ty::Int,
+                after: at + 1,
+            });
         }
         let after = expect(tokens, at + 2, Terminal::RightBracket)?;
-        return Ok(Parsed { tree: Ty::IntArray, after });
+        return Ok(Parsed {
+            tree: Ty::IntArray,
+            after,
+        });
     }
     if has(tokens, at, Terminal::Boolean) {
         return Ok(Parsed {
@@ -81,7 +85,9 @@ fn begins_local(tokens: &[Token], at: usize) -> bool
     requires { at ≤ length tokens.now }
     ensures { result ≡ begins_local tokens.now at }
 {
-    has(tokens, at, Terminal::Int) || has(tokens, at, Terminal::Boolean) || (name(tokens, at).is_some() && name(tokens, at + 1).is_some())
+    has(tokens, at, Terminal::Int)
+        || has(tokens, at, Terminal::Boolean)
+        || (name(tokens, at).is_some() && name(tokens, at + 1).is_some())
 }
 
 /// Formals between commas, up to the parenthesis that closes them.

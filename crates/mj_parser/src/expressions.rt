@@ -5,14 +5,12 @@ ghost use Rattle.mj_parser.specs.Expressions.{height, heights, is_new_array, tie
 ghost use Rattle.mj_parser.specs.Steps.{Gives, listed_at};
 ghost use Rattle.mj_parser.specs.ExpressionReading.{new_at, prim_at, takes_index, index_at, member_at, post_from, post_at, operator_here, operator_at, binary_from, tier_at, exp_at};
 
-use std::alloc::Global;
-
-use mj_lexer::{Kind, Terminal, Token};
-
 use crate::fault::ParseFault;
 use crate::nodes;
 use crate::tokens::{expect, expect_name, has, kind, says};
 use crate::tree::{Exp, Operator};
+use mj_lexer::{Kind, Terminal, Token};
+use std::alloc::Global;
 
 /// An expression, the place after it, and how many levels it has.
 #[derive(Debug, Drop)]
@@ -59,14 +57,24 @@ fn operator(tokens: &[Token], at: usize, tier: usize) -> Option<Operator>
     ensures within { IsSome result → at < length tokens.now }
 {
     let operator = operator_here(tokens, at)?;
-    if tier_of(operator) == tier { Some(operator) } else { None }
+    if tier_of(operator) == tier {
+        Some(operator)
+    } else {
+        None
+    }
 }
 
 /// An expression of a tier, of no more than so many levels.
 #[cycle(expressions)]
 #[tactic(auto, unfolding(crate::specs::ExpressionReading::exp_at))]
 #[inline(never)]
-pub fn read(alloc: Global, tokens: &[Token], at: usize, room: usize, tier: usize) -> Result<Measured, ParseFault>
+pub fn read(
+    alloc: Global,
+    tokens: &[Token],
+    at: usize,
+    room: usize,
+    tier: usize,
+) -> Result<Measured, ParseFault>
     requires tiers { tier ≤ 5 }
     requires deep { room ≤ 500 }
     requires within { at ≤ length tokens.now }
@@ -85,7 +93,13 @@ pub fn read(alloc: Global, tokens: &[Token], at: usize, room: usize, tier: usize
 #[cycle(expressions)]
 #[tactic(auto, using(crate::proofs::Loops::no_room), unfolding(crate::specs::ExpressionReading::tier_at))]
 #[inline(never)]
-fn tiered(alloc: Global, tokens: &[Token], at: usize, room: usize, tier: usize) -> Result<Measured, ParseFault>
+fn tiered(
+    alloc: Global,
+    tokens: &[Token],
+    at: usize,
+    room: usize,
+    tier: usize,
+) -> Result<Measured, ParseFault>
     requires tiers { tier ≤ 5 }
     requires deep { room ≤ 500 }
     requires within { at ≤ length tokens.now }
@@ -119,7 +133,13 @@ fn tiered(alloc: Global, tokens: &[Token], at: usize, room: usize, tier: usize) 
 #[cycle(expressions)]
 #[tactic(auto, unfolding(crate::specs::ExpressionReading::binary_from))]
 #[inline(never)]
-fn chain(alloc: Global, tokens: &[Token], first: Measured, room: usize, tier: usize) -> Result<Measured, ParseFault>
+fn chain(
+    alloc: Global,
+    tokens: &[Token],
+    first: Measured,
+    room: usize,
+    tier: usize,
+) -> Result<Measured, ParseFault>
     requires tiers { tier ≤ 4 }
     requires deep { room ≤ 500 }
     requires within { first.after ≤ length tokens.now }
@@ -164,7 +184,12 @@ fn post(alloc: Global, tokens: &[Token], at: usize, room: usize) -> Result<Measu
 /// The expression with the indices and members that follow it.
 #[cycle(expressions)]
 #[inline(never)]
-fn followed(alloc: Global, tokens: &[Token], first: Measured, room: usize) -> Result<Measured, ParseFault>
+fn followed(
+    alloc: Global,
+    tokens: &[Token],
+    first: Measured,
+    room: usize,
+) -> Result<Measured, ParseFault>
     requires deep { room ≤ 500 }
     requires within { first.after ≤ length tokens.now }
     requires height { first.height ≡ height (exp_view first.exp) }
@@ -209,7 +234,12 @@ fn is_new_array(exp: &Exp) -> bool
 #[cycle(expressions)]
 #[tactic(auto, unfolding(crate::specs::ExpressionReading::index_at))]
 #[inline(never)]
-fn index(alloc: Global, tokens: &[Token], left: Measured, room: usize) -> Result<Measured, ParseFault>
+fn index(
+    alloc: Global,
+    tokens: &[Token],
+    left: Measured,
+    room: usize,
+) -> Result<Measured, ParseFault>
     requires deep { room ≤ 500 }
     requires within { left.after < length tokens.now }
     requires height { left.height ≡ height (exp_view left.exp) }
@@ -232,7 +262,12 @@ fn index(alloc: Global, tokens: &[Token], left: Measured, room: usize) -> Result
 #[cycle(expressions)]
 #[tactic(auto, unfolding(crate::specs::ExpressionReading::member_at))]
 #[inline(never)]
-fn member(alloc: Global, tokens: &[Token], left: Measured, room: usize) -> Result<Measured, ParseFault>
+fn member(
+    alloc: Global,
+    tokens: &[Token],
+    left: Measured,
+    room: usize,
+) -> Result<Measured, ParseFault>
     requires deep { room ≤ 500 }
     requires within { left.after < length tokens.now }
     requires height { left.height ≡ height (exp_view left.exp) }
@@ -272,7 +307,12 @@ struct ArgumentList {
 
 #[cycle(expressions)]
 #[inline(never)]
-fn arguments(alloc: Global, tokens: &[Token], at: usize, room: usize) -> Result<ArgumentList, ParseFault>
+fn arguments(
+    alloc: Global,
+    tokens: &[Token],
+    at: usize,
+    room: usize,
+) -> Result<ArgumentList, ParseFault>
     requires deep { room ≤ 500 }
     requires within { at ≤ length tokens.now }
     ensures exact { Gives (λ x. (map exp_view x.exps.items, x.after)) result (listed_at (exp_at room tokens.now 5) tokens.now at) }
@@ -282,7 +322,11 @@ fn arguments(alloc: Global, tokens: &[Token], at: usize, room: usize) -> Result<
 {
     let mut exps = Vec::new(alloc);
     if has(tokens, at, Terminal::RightParenthesis) {
-        return Ok(ArgumentList { exps, after: at + 1, height: 0 });
+        return Ok(ArgumentList {
+            exps,
+            after: at + 1,
+            height: 0,
+        });
     }
     let first = read(alloc, tokens, at, room, 5)?;
     exps.push(first.exp)?;
@@ -295,7 +339,11 @@ fn arguments(alloc: Global, tokens: &[Token], at: usize, room: usize) -> Result<
         height = height.max(next.height);
     }
     let after = expect(tokens, after, Terminal::RightParenthesis)?;
-    Ok(ArgumentList { exps, after, height })
+    Ok(ArgumentList {
+        exps,
+        after,
+        height,
+    })
 }
 
 #[cycle(expressions)]

@@ -2,15 +2,20 @@
 ghost use Rattle.std.specs.Prelude.{◌≡◌, ◌↔◌};
 
 use std::alloc::{AllocError, AllocFailed};
+use thiserror::Error;
 
 /// Why tokens are no file.
-#[derive(Clone, Copy, Debug, PartialEq, Eq)]
+#[derive(Clone, Copy, Debug, PartialEq, Eq, Error)]
 pub enum ParseFault {
     /// The least number k such that no file begins with tokens 0 to k; the number of tokens where a file begins with
     /// all of them.
+    #[error("no file begins with the tokens up to token {0}")]
     NotAFile(usize),
     /// A phrase has a level over 500.
+    #[error("a phrase has a level over 500")]
     TooDeep,
+    /// An allocation was refused.
+    #[error("out of memory")]
     OutOfMemory,
 }
 

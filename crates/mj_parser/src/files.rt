@@ -6,15 +6,13 @@ ghost use Rattle.mj_parser.specs.Steps.{Gives, items_from};
 ghost use Rattle.mj_parser.specs.FileReading.{field_at, begins_type, method_from, at_public, superclass_at, class_at, begins_main, main_method_at, main_from, main_at, main_part_at, before_end, tree_of};
 ghost use Rattle.mj_parser.specs.declared.fault.ParseFault.TheVariants.{OutOfMemory};
 
-use std::alloc::Global;
-
-use mj_lexer::{Name, Terminal, Token};
-
 use crate::declarations::{local, method};
 use crate::fault::ParseFault;
 use crate::statements::statement;
 use crate::tokens::{Parsed, expect, expect_name, expect_word, has, name};
 use crate::tree::{ClassTree, Field, FileTree, MainTree, MethodTree, Stmt};
+use mj_lexer::{Name, Terminal, Token};
+use std::alloc::Global;
 
 #[tactic(auto, unfolding(crate::specs::FileReading::field_at))]
 fn field(alloc: Global, tokens: &[Token], at: usize) -> Result<Parsed<Field>, ParseFault>
@@ -36,7 +34,9 @@ fn field(alloc: Global, tokens: &[Token], at: usize) -> Result<Parsed<Field>, Pa
 fn begins_type(tokens: &[Token], at: usize) -> bool
     ensures { result ≡ begins_type tokens.now at }
 {
-    has(tokens, at, Terminal::Int) || has(tokens, at, Terminal::Boolean) || name(tokens, at).is_some()
+    has(tokens, at, Terminal::Int)
+        || has(tokens, at, Terminal::Boolean)
+        || name(tokens, at).is_some()
 }
 
 /// The fields of a class.
@@ -71,7 +71,11 @@ fn method_at(alloc: Global, tokens: &[Token], at: usize) -> Result<Parsed<Method
 }
 
 /// The methods of a class.
-fn methods(alloc: Global, tokens: &[Token], at: usize) -> Result<Parsed<Vec<MethodTree>>, ParseFault>
+fn methods(
+    alloc: Global,
+    tokens: &[Token],
+    at: usize,
+) -> Result<Parsed<Vec<MethodTree>>, ParseFault>
     requires { at ≤ length tokens.now }
     ensures exact { Gives (λ x. (map method_view x.tree.items, x.after)) result (items_from (suc (length tokens.now)) (method_from tokens.now) (at_public tokens.now) at) }
     ensures within { IfOk result (λ x. (at ≤ x.after) × (x.after ≤ length tokens.now)) }
@@ -88,13 +92,20 @@ fn methods(alloc: Global, tokens: &[Token], at: usize) -> Result<Parsed<Vec<Meth
 
 /// `extends` and a name, or nothing.
 #[tactic(auto, unfolding(crate::specs::FileReading::superclass_at))]
-fn superclass(alloc: Global, tokens: &[Token], at: usize) -> Result<Parsed<Option<Name>>, ParseFault>
+fn superclass(
+    alloc: Global,
+    tokens: &[Token],
+    at: usize,
+) -> Result<Parsed<Option<Name>>, ParseFault>
     requires { at ≤ length tokens.now }
     ensures exact { Gives (λ x. (x.tree, x.after)) result (superclass_at tokens.now at) }
     ensures within { IfOk result (λ x. (at ≤ x.after) × (x.after ≤ length tokens.now)) }
 {
     if !has(tokens, at, Terminal::Extends) {
-        return Ok(Parsed { tree: None, after: at });
+        return Ok(Parsed {
+            tree: None,
+            after: at,
+        });
     }
     let name = expect_name(tokens, at + 1)?;
     Ok(Parsed {
@@ -222,7 +233,9 @@ fn main_class(alloc: Global, tokens: &[Token]) -> Result<Parsed<MainTree>, Parse
 fn begins_main(tokens: &[Token]) -> bool
     ensures { result ≡ begins_main tokens.now }
 {
-    has(tokens, 2, Terminal::LeftBrace) && has(tokens, 3, Terminal::Public) && has(tokens, 4, Terminal::Static)
+    has(tokens, 2, Terminal::LeftBrace)
+        && has(tokens, 3, Terminal::Public)
+        && has(tokens, 4, Terminal::Static)
 }
 
 #[tactic(auto, unfolding(crate::specs::FileReading::main_part_at))]
@@ -231,7 +244,10 @@ fn main_part(alloc: Global, tokens: &[Token]) -> Result<Parsed<Option<MainTree>>
     ensures within { IfOk result (λ x. x.after ≤ length tokens.now) }
 {
     if !begins_main(tokens) {
-        return Ok(Parsed { tree: None, after: 0 });
+        return Ok(Parsed {
+            tree: None,
+            after: 0,
+        });
     }
     let main = main_class(alloc, tokens)?;
     Ok(Parsed {

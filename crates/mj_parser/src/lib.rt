@@ -11,11 +11,13 @@ mod nodes;
 mod parser;
 mod place;
 mod statements;
+#[cfg(test)]
+mod tests;
 mod tokens;
 mod tree;
 
 pub use fault::ParseFault;
-pub use laws::grammar_laws;
+pub use laws::{grammar_laws, mark_laws};
 pub use location::locate;
 pub use parser::parse;
 pub use place::Place;

@@ -1,13 +1,18 @@
 //! The tokens of places.
 ghost use Rattle.std.specs.Prelude.{◌<◌, ◌≤◌, ◌+◌, length, IfSome};
 
-use mj_lexer::{Name, Terminal, Token};
-
 use crate::place::Place;
 use crate::tokens::{has, name};
+use mj_lexer::{Name, Terminal, Token};
 
 /// The place of a terminal, the one with this number among those from `start` to before `end`.
-fn nth(tokens: &[Token], start: usize, end: usize, terminal: Terminal, number: usize) -> Option<usize>
+fn nth(
+    tokens: &[Token],
+    start: usize,
+    end: usize,
+    terminal: Terminal,
+    number: usize,
+) -> Option<usize>
     ensures { IfSome result (λ at. at < length tokens.now) }
 {
     let mut left = number;

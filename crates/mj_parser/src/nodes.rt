@@ -3,13 +3,17 @@ ghost use Rattle.std.specs.Prelude.{◌≡◌, IfOk};
 ghost use Rattle.mj_parser.specs.Trees as trees;
 ghost use Rattle.mj_parser.specs.Views.{exp_view, exps_view, stmt_view, stmts_view};
 
+use crate::tree::{Exp, Operator, Stmt};
+use mj_lexer::Name;
 use std::alloc::{AllocError, Global};
 
-use mj_lexer::Name;
-
-use crate::tree::{Exp, Operator, Stmt};
-
-pub fn binary(alloc: Global, operator: Operator, mark: usize, left: Exp, right: Exp) -> Result<Exp, AllocError>
+pub fn binary(
+    alloc: Global,
+    operator: Operator,
+    mark: usize,
+    left: Exp,
+    right: Exp,
+) -> Result<Exp, AllocError>
     ensures { IfOk result (λ e. exp_view e ≡ trees.Binary operator mark (exp_view left) (exp_view right)) }
 {
     Ok(Exp::Binary {
@@ -39,7 +43,13 @@ pub fn length(alloc: Global, mark: usize, array: Exp) -> Result<Exp, AllocError>
     })
 }
 
-pub fn call(alloc: Global, mark: usize, receiver: Exp, method: &Name, arguments: Vec<Exp>) -> Result<Exp, AllocError>
+pub fn call(
+    alloc: Global,
+    mark: usize,
+    receiver: Exp,
+    method: &Name,
+    arguments: Vec<Exp>,
+) -> Result<Exp, AllocError>
     ensures { IfOk result (λ e. exp_view e ≡ trees.Call mark (exp_view receiver) method.now (exps_view arguments.items)) }
 {
     Ok(Exp::Call {
@@ -119,7 +129,13 @@ pub fn block(mark: usize, body: Vec<Stmt>) -> Stmt
     Stmt::Block { mark, body }
 }
 
-pub fn choice(alloc: Global, mark: usize, condition: Exp, then_branch: Stmt, else_branch: Stmt) -> Result<Stmt, AllocError>
+pub fn choice(
+    alloc: Global,
+    mark: usize,
+    condition: Exp,
+    then_branch: Stmt,
+    else_branch: Stmt,
+) -> Result<Stmt, AllocError>
     ensures { IfOk result (λ s. stmt_view s ≡ trees.If mark (exp_view condition) (stmt_view then_branch) (stmt_view else_branch)) }
 {
     Ok(Stmt::If {
@@ -130,7 +146,12 @@ pub fn choice(alloc: Global, mark: usize, condition: Exp, then_branch: Stmt, els
     })
 }
 
-pub fn repetition(alloc: Global, mark: usize, condition: Exp, body: Stmt) -> Result<Stmt, AllocError>
+pub fn repetition(
+    alloc: Global,
+    mark: usize,
+    condition: Exp,
+    body: Stmt,
+) -> Result<Stmt, AllocError>
     ensures { IfOk result (λ s. stmt_view s ≡ trees.While mark (exp_view condition) (stmt_view body)) }
 {
     Ok(Stmt::While {
@@ -146,7 +167,13 @@ pub fn print(mark: usize, value: Exp) -> Stmt
     Stmt::Print { mark, value }
 }
 
-pub fn assign(alloc: Global, mark: usize, name: &Name, name_mark: usize, value: Exp) -> Result<Stmt, AllocError>
+pub fn assign(
+    alloc: Global,
+    mark: usize,
+    name: &Name,
+    name_mark: usize,
+    value: Exp,
+) -> Result<Stmt, AllocError>
     ensures { IfOk result (λ s. stmt_view s ≡ trees.Assign mark name.now name_mark (exp_view value)) }
 {
     Ok(Stmt::Assign {
@@ -157,7 +184,14 @@ pub fn assign(alloc: Global, mark: usize, name: &Name, name_mark: usize, value: 
     })
 }
 
-pub fn store(alloc: Global, mark: usize, name: &Name, name_mark: usize, index: Exp, value: Exp) -> Result<Stmt, AllocError>
+pub fn store(
+    alloc: Global,
+    mark: usize,
+    name: &Name,
+    name_mark: usize,
+    index: Exp,
+    value: Exp,
+) -> Result<Stmt, AllocError>
     ensures { IfOk result (λ s. stmt_view s ≡ trees.Store mark name.now name_mark (exp_view index) (exp_view value)) }
 {
     Ok(Stmt::Store {

@@ -5,13 +5,11 @@ ghost use Rattle.mj_parser.specs.Views.{file_view};
 ghost use Rattle.mj_parser.specs.Declarations.{Derives};
 ghost use Rattle.mj_parser.specs.declared.fault.ParseFault.TheVariants.{OutOfMemory};
 
-use std::alloc::Global;
-
-use mj_lexer::Token;
-
 use crate::fault::ParseFault;
 use crate::files::file;
 use crate::tree::FileTree;
+use mj_lexer::Token;
+use std::alloc::Global;
 
 /// The file that the tokens are.
 pub fn parse(alloc: Global, tokens: &[Token]) -> Result<FileTree, ParseFault>

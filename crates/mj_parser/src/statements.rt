@@ -9,19 +9,22 @@ ghost use Rattle.mj_parser.specs.StatementReading.{not_brace, block_at, conditio
 ghost use Rattle.mj_parser.specs.declared.fault.ParseFault.{ParseFault};
 ghost use Rattle.mj_parser.specs.declared.fault.ParseFault.TheVariants.{NotAFile, OutOfMemory};
 
-use std::alloc::Global;
-
-use mj_lexer::{Name, Terminal, Token};
-
 use crate::expressions::{Measured, read};
 use crate::fault::ParseFault;
 use crate::nodes;
-use crate::tokens::{Parsed, expect, expect_name, expect_word, has, name};
+use crate::tokens::{Parsed, expect, expect_name, expect_word, has, name, says};
 use crate::tree::Stmt;
+use mj_lexer::{Name, Terminal, Token};
+use std::alloc::Global;
 
 /// An expression between `if` or `while` and the statement.
 #[tactic(auto, unfolding(crate::specs::StatementReading::condition_at))]
-fn condition(alloc: Global, tokens: &[Token], at: usize, room: usize) -> Result<Measured, ParseFault>
+fn condition(
+    alloc: Global,
+    tokens: &[Token],
+    at: usize,
+    room: usize,
+) -> Result<Measured, ParseFault>
     requires deep { room ≤ 500 }
     requires within { at ≤ length tokens.now }
     ensures exact { Gives (λ x. (exp_view x.exp, x.after)) result (condition_at (exp_at room tokens.now 5) tokens.now at) }
@@ -33,14 +36,17 @@ fn condition(alloc: Global, tokens: &[Token], at: usize, room: usize) -> Result<
     Ok(Measured { after, ..exp })
 }
 
-/// The place after `System . out . println (`.
+/// The place after `System . out . println (`. Another name than `System` begins a statement too, so that the fault
+/// stands behind it.
 fn print_opening(tokens: &[Token], at: usize) -> Result<usize, ParseFault>
     requires { at < length tokens.now }
     ensures found { IfOk result (λ after. (opens_print tokens.now at ≡ true) × (after ≡ at + 6) × (after ≤ length tokens.now)) }
     ensures fault { IfErr result (λ e. (opens_print tokens.now at ≡ false) × (e ≢ OutOfMemory)) }
 {
-    let after = expect_word(tokens, at, b"System".as_slice())?;
-    let after = expect(tokens, after, Terminal::Dot)?;
+    if !says(tokens, at, b"System".as_slice()) {
+        return Err(ParseFault::NotAFile(at + 1));
+    }
+    let after = expect(tokens, at + 1, Terminal::Dot)?;
     let after = expect_word(tokens, after, b"out".as_slice())?;
     let after = expect(tokens, after, Terminal::Dot)?;
     let after = expect_word(tokens, after, b"println".as_slice())?;
@@ -48,7 +54,12 @@ fn print_opening(tokens: &[Token], at: usize) -> Result<usize, ParseFault>
 }
 
 #[tactic(auto, unfolding(crate::specs::StatementReading::print_at))]
-fn print(alloc: Global, tokens: &[Token], at: usize, room: usize) -> Result<Parsed<Stmt>, ParseFault>
+fn print(
+    alloc: Global,
+    tokens: &[Token],
+    at: usize,
+    room: usize,
+) -> Result<Parsed<Stmt>, ParseFault>
     requires deep { room ≤ 500 }
     requires within { at < length tokens.now }
     ensures exact { Gives (λ x. (stmt_view x.tree, x.after)) result (print_at (exp_at room tokens.now 5) tokens.now at) }
@@ -65,7 +76,13 @@ fn print(alloc: Global, tokens: &[Token], at: usize, room: usize) -> Result<Pars
 }
 
 #[tactic(auto, unfolding(crate::specs::StatementReading::assign_at))]
-fn assign(alloc: Global, tokens: &[Token], name: &Name, at: usize, room: usize) -> Result<Parsed<Stmt>, ParseFault>
+fn assign(
+    alloc: Global,
+    tokens: &[Token],
+    name: &Name,
+    at: usize,
+    room: usize,
+) -> Result<Parsed<Stmt>, ParseFault>
     requires deep { room ≤ 500 }
     requires within { at + 1 < length tokens.now }
     ensures exact { Gives (λ x. (stmt_view x.tree, x.after)) result (assign_at (exp_at room tokens.now 5) tokens.now name.now at) }
@@ -80,7 +97,13 @@ fn assign(alloc: Global, tokens: &[Token], name: &Name, at: usize, room: usize) 
 }
 
 #[tactic(auto, unfolding(crate::specs::StatementReading::store_at))]
-fn store(alloc: Global, tokens: &[Token], name: &Name, at: usize, room: usize) -> Result<Parsed<Stmt>, ParseFault>
+fn store(
+    alloc: Global,
+    tokens: &[Token],
+    name: &Name,
+    at: usize,
+    room: usize,
+) -> Result<Parsed<Stmt>, ParseFault>
     requires deep { room ≤ 500 }
     requires within { at + 1 < length tokens.now }
     ensures exact { Gives (λ x. (stmt_view x.tree, x.after)) result (store_at (exp_at room tokens.now 5) tokens.now name.now at) }
@@ -99,7 +122,12 @@ fn store(alloc: Global, tokens: &[Token], name: &Name, at: usize, room: usize) -
 
 /// A statement that begins with a name.
 #[tactic(auto, unfolding(crate::specs::StatementReading::named_at))]
-fn named(alloc: Global, tokens: &[Token], at: usize, room: usize) -> Result<Parsed<Stmt>, ParseFault>
+fn named(
+    alloc: Global,
+    tokens: &[Token],
+    at: usize,
+    room: usize,
+) -> Result<Parsed<Stmt>, ParseFault>
     requires deep { room ≤ 500 }
     ensures exact { Gives (λ x. (stmt_view x.tree, x.after)) result (named_at (exp_at room tokens.now 5) tokens.now at) }
     ensures within { IfOk result (λ x. (at < x.after) × (x.after ≤ length tokens.now)) }
@@ -116,14 +144,21 @@ fn named(alloc: Global, tokens: &[Token], at: usize, room: usize) -> Result<Pars
 
 /// Whether a statement begins here.
 fn begins_statement(tokens: &[Token], at: usize) -> bool {
-    has(tokens, at, Terminal::LeftBrace) || has(tokens, at, Terminal::If) || has(tokens, at, Terminal::While) || name(tokens, at).is_some()
+    has(tokens, at, Terminal::LeftBrace)
+        || has(tokens, at, Terminal::If)
+        || has(tokens, at, Terminal::While)
+        || name(tokens, at).is_some()
 }
 
 /// Why no statement is read where its levels don't suffice.
 fn refused(tokens: &[Token], at: usize) -> ParseFault
     ensures { result ≢ OutOfMemory }
 {
-    if begins_statement(tokens, at) { ParseFault::TooDeep } else { ParseFault::NotAFile(at) }
+    if begins_statement(tokens, at) {
+        ParseFault::TooDeep
+    } else {
+        ParseFault::NotAFile(at)
+    }
 }
 
 /// Whether no statement that begins here has so few levels.
@@ -138,7 +173,12 @@ fn lacks_levels(tokens: &[Token], at: usize, room: usize) -> bool
 /// Statements up to a closing brace.
 #[cycle(statements)]
 #[inline(never)]
-fn braced(alloc: Global, tokens: &[Token], at: usize, room: usize) -> Result<Parsed<Vec<Stmt>>, ParseFault>
+fn braced(
+    alloc: Global,
+    tokens: &[Token],
+    at: usize,
+    room: usize,
+) -> Result<Parsed<Vec<Stmt>>, ParseFault>
     requires deep { room ≤ 500 }
     requires within { at ≤ length tokens.now }
     ensures exact { Gives (λ x. (map stmt_view x.tree.items, x.after)) result (items_from (suc (length tokens.now)) (stmt_at room tokens.now) (not_brace tokens.now) at) }
@@ -157,7 +197,12 @@ fn braced(alloc: Global, tokens: &[Token], at: usize, room: usize) -> Result<Par
 #[cycle(statements)]
 #[tactic(auto, unfolding(crate::specs::StatementReading::block_at))]
 #[inline(never)]
-fn block(alloc: Global, tokens: &[Token], at: usize, room: usize) -> Result<Parsed<Stmt>, ParseFault>
+fn block(
+    alloc: Global,
+    tokens: &[Token],
+    at: usize,
+    room: usize,
+) -> Result<Parsed<Stmt>, ParseFault>
     requires deep { room ≤ 500 }
     requires within { at < length tokens.now }
     ensures exact { Gives (λ x. (stmt_view x.tree, x.after)) result (block_at (stmt_at room tokens.now) tokens.now at) }
@@ -173,7 +218,12 @@ fn block(alloc: Global, tokens: &[Token], at: usize, room: usize) -> Result<Pars
 #[cycle(statements)]
 #[tactic(auto, unfolding(crate::specs::StatementReading::if_at))]
 #[inline(never)]
-fn choice(alloc: Global, tokens: &[Token], at: usize, room: usize) -> Result<Parsed<Stmt>, ParseFault>
+fn choice(
+    alloc: Global,
+    tokens: &[Token],
+    at: usize,
+    room: usize,
+) -> Result<Parsed<Stmt>, ParseFault>
     requires deep { room ≤ 500 }
     requires within { at < length tokens.now }
     ensures exact { Gives (λ x. (stmt_view x.tree, x.after)) result (if_at (exp_at room tokens.now 5) (stmt_at room tokens.now) tokens.now at) }
@@ -192,7 +242,12 @@ fn choice(alloc: Global, tokens: &[Token], at: usize, room: usize) -> Result<Par
 #[cycle(statements)]
 #[tactic(auto, unfolding(crate::specs::StatementReading::while_at))]
 #[inline(never)]
-fn repetition(alloc: Global, tokens: &[Token], at: usize, room: usize) -> Result<Parsed<Stmt>, ParseFault>
+fn repetition(
+    alloc: Global,
+    tokens: &[Token],
+    at: usize,
+    room: usize,
+) -> Result<Parsed<Stmt>, ParseFault>
     requires deep { room ≤ 500 }
     requires within { at < length tokens.now }
     ensures exact { Gives (λ x. (stmt_view x.tree, x.after)) result (while_at (exp_at room tokens.now 5) (stmt_at room tokens.now) tokens.now at) }
@@ -210,7 +265,12 @@ fn repetition(alloc: Global, tokens: &[Token], at: usize, room: usize) -> Result
 #[cycle(statements)]
 #[tactic(auto, using(crate::proofs::Rooms::fails), unfolding(crate::specs::StatementReading::stmt_at, crate::specs::StatementReading::stmt_of))]
 #[inline(never)]
-pub fn statement(alloc: Global, tokens: &[Token], at: usize, room: usize) -> Result<Parsed<Stmt>, ParseFault>
+pub fn statement(
+    alloc: Global,
+    tokens: &[Token],
+    at: usize,
+    room: usize,
+) -> Result<Parsed<Stmt>, ParseFault>
     requires deep { room ≤ 500 }
     requires within { at ≤ length tokens.now }
     ensures exact { Gives (λ x. (stmt_view x.tree, x.after)) result (stmt_at room tokens.now at) }

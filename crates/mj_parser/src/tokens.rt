@@ -3,9 +3,8 @@ ghost use Rattle.std.specs.Prelude.{◌≡◌, ◌+◌, ◌<◌, ◌≤◌, ◌�
 ghost use Rattle.mj_parser.specs.Tokens.{same_terminal, kind_at, has, name_at, says};
 ghost use Rattle.mj_parser.specs.declared.fault.ParseFault.TheVariants.{NotAFile};
 
-use mj_lexer::{Kind, Name, Terminal, Token};
-
 use crate::fault::ParseFault;
+use mj_lexer::{Kind, Name, Terminal, Token};
 
 /// What was read, and the place after it.
 #[derive(Debug, Drop)]
@@ -73,7 +72,11 @@ pub fn expect(tokens: &[Token], at: usize, terminal: Terminal) -> Result<usize, 
     ensures found { IfOk result (λ after. (has tokens.now at terminal ≡ true) × (after ≡ at + 1) × (after ≤ length tokens.now)) }
     ensures fault { IfErr result (λ e. (e ≡ NotAFile at) × (has tokens.now at terminal ≡ false)) }
 {
-    if has(tokens, at, terminal) { Ok(at + 1) } else { Err(ParseFault::NotAFile(at)) }
+    if has(tokens, at, terminal) {
+        Ok(at + 1)
+    } else {
+        Err(ParseFault::NotAFile(at))
+    }
 }
 
 /// The place after a word that has to stand here.
@@ -82,7 +85,11 @@ pub fn expect_word(tokens: &[Token], at: usize, word: &[u8]) -> Result<usize, Pa
     ensures found { IfOk result (λ after. (says tokens.now at word.now ≡ true) × (after ≡ at + 1) × (after ≤ length tokens.now)) }
     ensures fault { IfErr result (λ e. (e ≡ NotAFile at) × (says tokens.now at word.now ≡ false)) }
 {
-    if says(tokens, at, word) { Ok(at + 1) } else { Err(ParseFault::NotAFile(at)) }
+    if says(tokens, at, word) {
+        Ok(at + 1)
+    } else {
+        Err(ParseFault::NotAFile(at))
+    }
 }
 
 /// The name that has to stand here.

@@ -1,4 +1,4 @@
-use Rattle.std.proofs.Common.{◌≡◌, ◌∙◌, sym, refl, arith}
+use Rattle.std.proofs.Common.{◌∙◌, sym, refl, arith}
 use Rattle.mj_classes.specs.Classes.{field_member_view}
 use Rattle.mj_classes.specs.Rows.{field_rows}
 use Rattle.mj_classes.proofs.Rows.{row_kept, row_added, all_rows, map_same}

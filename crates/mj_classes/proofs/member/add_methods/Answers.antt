@@ -1,4 +1,4 @@
-use Rattle.std.proofs.Common.{◌≡◌, ◌∙◌, sym, refl, arith}
+use Rattle.std.proofs.Common.{◌∙◌, sym, refl, arith}
 use Rattle.mj_parser.specs.Views.{method_view}
 use Rattle.mj_classes.specs.Classes.{method_member_view}
 use Rattle.mj_classes.specs.Rows.{method_rows}

@@ -1,4 +1,4 @@
-use Rattle.std.proofs.Common.{◌≡◌, ◌≤◌, List, length, take, ap, subst, arith}
+use Rattle.std.proofs.Common.{◌≡◌, ◌≤◌, List, length, ap, subst, arith}
 use Rattle.std.specs.BTreeMap.{values}
 use Rattle.std.proofs.lemmas.List.{take_all}
 use Rattle.std.proofs.lemmas.Result.{IfOk-weaker}

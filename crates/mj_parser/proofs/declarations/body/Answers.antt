@@ -1,6 +1,5 @@
-use Rattle.std.proofs.Common.{◌≡◌, sym, ◌∙◌, ap, None, Some, arith, map, length, not}
+use Rattle.std.proofs.Common.{sym, ◌∙◌, ap, None, Some, arith, map, length, not}
 use Rattle.std.proofs.lemmas.List.{map-append}
-use Rattle.std.proofs.lemmas.Bool.{lt-ltb, le-ltb}
 use Rattle.std.proofs.lemmas.Result.{err_from_is_err_and}
 use Rattle.mj_parser.specs.Views.{stmt_view}
 use Rattle.mj_parser.specs.FileReading.{not_return}

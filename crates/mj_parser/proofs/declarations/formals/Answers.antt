@@ -36,7 +36,7 @@ list-preserved c =
       within = w.1;
       onward = omega (arith, w.0);
       so_far = λ total leads. c.list.invariant.so_far total (list_go_on (variable_at c.args.tokens.now) c.args.tokens.now c.list.formals.items c.list.after c.list.invariant.within c.in_ok-next.next.tree c.in_ok-next.next.after total
-        (sym c.has-in-list.ensures.value ∙ c.list-test.true) c.in_ok-next.ensures.exact (omega (arith, w.0)) (rw pushed at leads));
+          (sym c.has-in-list.ensures.value ∙ c.list-test.true) c.in_ok-next.ensures.exact (omega (arith, w.0)) (rw pushed at leads));
     }
 
 pub returns-in_err-after-clause-exact : goal.returns-in_err-after-clause-exact

@@ -1,6 +1,4 @@
-use Rattle.std.proofs.Common.{◌≡◌, sym, ◌∙◌, ap, None, Some, arith, map, length, not}
-use Rattle.std.proofs.lemmas.List.{map-append}
-use Rattle.std.proofs.lemmas.Bool.{lt-ltb, le-ltb}
+use Rattle.std.proofs.Common.{sym, ◌∙◌, None, Some, arith, length}
 use Rattle.std.proofs.lemmas.Result.{err_from_is_err_and}
 use Rattle.mj_parser.specs.FileReading.{local_at, begins_local}
 use Rattle.mj_parser.proofs.Items.{items_begin, items_end, items_fail, items_go_on, fails_on}

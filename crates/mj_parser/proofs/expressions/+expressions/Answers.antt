@@ -12,12 +12,12 @@ pub chain-returns-then-left-room-clause-exact : goal.chain-returns-then-left-roo
 chain-returns-then-left-room-clause-exact t c = c.chain.invariant.so_far None (chain_too_deep _ _ _ _ _ _ c.chain.invariant.within c.in-Some.operator (sym c.in-Some.ensures.value) (omega arith))
 
 pub chain-returns-in_err-right-clause-exact : goal.chain-returns-in_err-right-clause-exact
-chain-returns-in_err-right-clause-exact t c = 
+chain-returns-in_err-right-clause-exact t c =
     let p = err_from_is_err_and c.from_residual.result c.from_residual.ensures.1 in
     λ gas enough. rw (p.1, p.2) (fails_on _ _ _ (λ n. c.chain.invariant.so_far None (chain_no_part _ _ _ _ _ _ c.chain.invariant.within c.in-Some.operator (sym c.in-Some.ensures.value) (omega arith) n) gas enough) c.in_err-right.ensures.exact)
 
 pub chain-chain-preserved : goal.chain-chain-preserved
-chain-chain-preserved t c = 
+chain-chain-preserved t c =
     let w = c.in_ok-right.ensures.within in
     let o = c.in_ok-right.ensures.low in
     let h = c.in_ok-right.ensures.height in
@@ -37,12 +37,12 @@ pub followed-returns-then-left-room-clause-exact : goal.followed-returns-then-le
 followed-returns-then-left-room-clause-exact t c = c.items.invariant.so_far None (index_too_deep _ _ _ _ _ c.items.invariant.within (sym c.takes_index.ensures.value ∙ c.if-takes_index.true) (omega arith))
 
 pub followed-returns-in_err-left-clause-exact : goal.followed-returns-in_err-left-clause-exact
-followed-returns-in_err-left-clause-exact t c = 
+followed-returns-in_err-left-clause-exact t c =
     let p = err_from_is_err_and c.from_residual.result c.from_residual.ensures.1 in
     λ gas enough. rw (p.1, p.2) (fails_on _ _ _ (λ n. c.items.invariant.so_far None (no_index _ _ _ _ _ c.items.invariant.within (sym c.takes_index.ensures.value ∙ c.if-takes_index.true) (omega arith) n) gas enough) c.in_err-left.ensures.exact)
 
 pub followed-items-preserved-then-takes_index : goal.followed-items-preserved-then-takes_index
-followed-items-preserved-then-takes_index t c = 
+followed-items-preserved-then-takes_index t c =
     let w = c.in_ok-left.ensures.within in
     record {
       within = w.1;
@@ -56,12 +56,12 @@ pub followed-returns-then-left-room-2-clause-exact : goal.followed-returns-then-
 followed-returns-then-left-room-2-clause-exact t c = c.items.invariant.so_far None (member_too_deep _ _ _ _ _ c.items.invariant.within (sym c.takes_index.ensures.value ∙ c.if-takes_index.false) (sym c.has.ensures.value ∙ c.if-has.true) (omega arith))
 
 pub followed-returns-in_err-left-2-clause-exact : goal.followed-returns-in_err-left-2-clause-exact
-followed-returns-in_err-left-2-clause-exact t c = 
+followed-returns-in_err-left-2-clause-exact t c =
     let p = err_from_is_err_and c.from_residual-in_err-left-2.result c.from_residual-in_err-left-2.ensures.1 in
     λ gas enough. rw (p.1, p.2) (fails_on _ _ _ (λ n. c.items.invariant.so_far None (no_member _ _ _ _ _ c.items.invariant.within (sym c.takes_index.ensures.value ∙ c.if-takes_index.false) (sym c.has.ensures.value ∙ c.if-has.true) (omega arith) n) gas enough) c.in_err-left-2.ensures.exact)
 
 pub followed-items-preserved : goal.followed-items-preserved
-followed-items-preserved t c = 
+followed-items-preserved t c =
     let w = c.in_ok-left-2.ensures.within in
     record {
       within = w.1;
@@ -113,7 +113,7 @@ arguments-list-preserved t c =
       height_is = rw pushed (omega (arith, heights_push c.list.exps.items c.in_ok-next.next.exp, h, i, c.max-height.ensures));
       low = omega (arith, o, c.max-height.ensures);
       so_far = λ total leads. c.list.invariant.so_far total (list_go_on (exp_at c.args.room c.args.tokens.now 5) c.args.tokens.now (map exp_view c.list.exps.items) c.list.after c.list.invariant.within (exp_view c.in_ok-next.next.exp) c.in_ok-next.next.after total
-        (sym c.has-in-list.ensures.value ∙ c.list-test.true) c.in_ok-next.ensures.exact (omega (arith, w.0)) (rw (pushed, map-append) at leads));
+          (sym c.has-in-list.ensures.value ∙ c.list-test.true) c.in_ok-next.ensures.exact (omega (arith, w.0)) (rw (pushed, map-append) at leads));
     }
 
 pub arguments-returns-in_err-after-clause-exact : goal.arguments-returns-in_err-after-clause-exact

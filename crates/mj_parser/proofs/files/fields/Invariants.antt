@@ -1,4 +1,4 @@
-use Rattle.std.proofs.Common.{◌≡◌, ℕ, suc, Option, List, ◌-◌, ◌≤◌, length, map}
+use Rattle.std.proofs.Common.{◌≡◌, ℕ, suc, Option, List, ◌-◌, ◌≤◌, length}
 use Rattle.mj_parser.specs.declared.tree.Field.{Field}
 use Rattle.mj_parser.specs.Steps.{items_from}
 use Rattle.mj_parser.specs.FileReading.{field_at, begins_type}

@@ -1,4 +1,4 @@
-use Rattle.std.proofs.Common.{◌≡◌, sym, ◌∙◌, ap, None, Some, arith, map, length, not}
+use Rattle.std.proofs.Common.{sym, ◌∙◌, ap, None, Some, arith, map, length, not}
 use Rattle.std.proofs.lemmas.List.{map-append}
 use Rattle.std.proofs.lemmas.Result.{err_from_is_err_and}
 use Rattle.mj_parser.specs.Views.{stmt_view}
@@ -17,7 +17,7 @@ pub braced-returns-in_err-next-clause-exact : goal.braced-returns-in_err-next-cl
 braced-returns-in_err-next-clause-exact t c =
     let p = err_from_is_err_and c.from_residual.result c.from_residual.ensures.1 in
     rw (p.1, p.2) (fails_on _ _ _ (λ n. c.items.invariant.so_far None (items_fail (stmt_at c.args.room c.args.tokens.now) (not_brace c.args.tokens.now) (length c.args.tokens.now) (map stmt_view c.items.stmts.items) c.items.after c.items.invariant.within
-      (ap not (sym c.has.ensures.value ∙ c.items-test.true)) n)) c.in_err-next.ensures.exact)
+    (ap not (sym c.has.ensures.value ∙ c.items-test.true)) n)) c.in_err-next.ensures.exact)
 
 pub braced-items-preserved : goal.braced-items-preserved
 braced-items-preserved t c =
@@ -27,7 +27,7 @@ braced-items-preserved t c =
       within = w.1;
       onward = omega (arith, w.0);
       so_far = λ total leads. c.items.invariant.so_far total (items_go_on (stmt_at c.args.room c.args.tokens.now) (not_brace c.args.tokens.now) (length c.args.tokens.now) (map stmt_view c.items.stmts.items) c.items.after (stmt_view c.in_ok-next.next.tree) c.in_ok-next.next.after total
-        c.items.invariant.within (ap not (sym c.has.ensures.value ∙ c.items-test.true)) c.in_ok-next.ensures.exact w.0 (rw (pushed, map-append) at leads));
+          c.items.invariant.within (ap not (sym c.has.ensures.value ∙ c.items-test.true)) c.in_ok-next.ensures.exact w.0 (rw (pushed, map-append) at leads));
     }
 
 pub braced-returns-clause-exact : goal.braced-returns-clause-exact

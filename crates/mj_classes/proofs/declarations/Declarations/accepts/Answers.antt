@@ -1,4 +1,4 @@
-use Rattle.std.proofs.Common.{◌≡◌, ◌∙◌, sym, ap}
+use Rattle.std.proofs.Common.{◌∙◌, sym, ap}
 use Rattle.std.specs.Prelude.{is_some}
 use Rattle.mj_classes.specs.Classes.{classes_view, class_ref_view}
 use Rattle.mj_classes.proofs.Walks.{is_some_mapped, accepts_above}

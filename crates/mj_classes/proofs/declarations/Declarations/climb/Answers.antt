@@ -1,4 +1,4 @@
-use Rattle.std.proofs.Common.{◌≡◌, ◌∙◌, sym, ap}
+use Rattle.std.proofs.Common.{◌∙◌, sym}
 use Rattle.mj_classes.specs.Chains.{Top, Undeclared, Repeated}
 use Rattle.mj_classes.proofs.Distinct.{is_listed}
 use Rattle.mj_classes.proofs.Climbing.{starts, chain_after, classes_after, seen_after, climbs_up, fewer}

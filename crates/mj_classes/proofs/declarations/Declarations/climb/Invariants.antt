@@ -1,5 +1,4 @@
-use Rattle.std.proofs.Common.{◌≡◌, ℕ, ◌-◌, length, map}
-use Rattle.mj_classes.specs.Classes.{classes_view, class_ref_view}
+use Rattle.std.proofs.Common.{◌-◌, length}
 use Rattle.mj_classes.proofs.Climbing.{Climbing}
 use Rattle.mj_classes.proofs.declarations.Declarations.climb.Given as goal
 

@@ -1,4 +1,4 @@
-use Rattle.std.proofs.Common.{◌≡◌, ◌∙◌, sym, arith}
+use Rattle.std.proofs.Common.{◌∙◌, sym, arith}
 use Rattle.mj_classes.proofs.Index.{decl_none, decl_some, place_below}
 use Rattle.mj_classes.proofs.declarations.Declarations.find.Goals as goal
 

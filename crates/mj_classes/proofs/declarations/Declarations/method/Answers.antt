@@ -1,4 +1,4 @@
-use Rattle.std.proofs.Common.{◌≡◌, ◌∙◌, sym, ap, Some, List, ℕ}
+use Rattle.std.proofs.Common.{sym}
 use Rattle.mj_classes.specs.Chains.{ancestry}
 use Rattle.mj_classes.specs.Members.{own_method}
 use Rattle.mj_classes.specs.Classes.{classes_view, class_ref_view}

@@ -3,7 +3,7 @@ use Rattle.std.proofs.lemmas.List.{length-map}
 use Rattle.mj_classes.specs.Walks.{is_sought}
 use Rattle.mj_classes.specs.Classes.{classes_view, class_ref_view}
 use Rattle.mj_classes.proofs.Positions.{same_name}
-use Rattle.mj_classes.proofs.Walks.{Walks, walk_starts, walk_marks, walk_on, walk_back, nothing_undeclared}
+use Rattle.mj_classes.proofs.Walks.{walk_starts, walk_marks, walk_on, walk_back, nothing_undeclared}
 use Rattle.mj_classes.proofs.declarations.Declarations.nearest.Goals as goal
 use Rattle.mj_classes.proofs.declarations.Declarations.nearest.Goals.{then-is_power_of_two, else-is_power_of_two}
 

@@ -1,0 +1,34 @@
+//! The program `mjrg`.
+#![tactic(auto)]
+
+mod failure;
+mod lines;
+mod report;
+mod running;
+#[cfg(test)]
+mod tests;
+
+pub use running::run;
+use std::process::ExitCode;
+use std::rt::Env;
+use std::{env, io};
+
+fn main(rt: HostRuntime) -> ExitCode {
+    let mut out = rt.stdout();
+    let mut err = rt.stderr();
+    let status = match given(&rt) {
+        Ok(list) => run(&rt, list, &mut out, &mut err),
+        Err(error) => report::no_words(&error, &mut err) as u8,
+    };
+    ExitCode::from(status)
+}
+
+// The words of the command line. They are pushed one by one, since `collect` goes on where the room
+// that it asks for first is refused.
+fn given<R: Env + AllocGlobal>(rt: &R) -> io::Result<Vec<String>> {
+    let mut list = Vec::new(rt.alloc());
+    for word in env::args(rt)? {
+        list.push(word)?;
+    }
+    Ok(list)
+}

@@ -1,0 +1,81 @@
+//! What a run writes, all of it made before the first byte is written.
+use std::alloc::Global;
+use std::io;
+use std::io::Write;
+
+/// How a run ends. The numbers are the program's exit statuses.
+#[derive(Clone, Copy, Debug, PartialEq, Eq)]
+pub enum Status {
+    /// There is no diagnostic, or help was asked for.
+    Clean = 0,
+    /// The answer has diagnostics.
+    Diagnostics = 1,
+    /// The words or the project are refused, or a file or a stream can't be used.
+    Refused = 2,
+    /// Memory ran out.
+    OutOfMemory = 4,
+}
+
+/// The texts of a run and its end.
+#[derive(Debug, Drop)]
+pub struct Report {
+    /// What goes to standard error.
+    pub notes: String,
+    /// What goes to standard output.
+    pub answer: String,
+    pub status: Status,
+}
+
+impl Report {
+    /// The help that was asked for.
+    pub fn help(alloc: Global, text: String) -> Self {
+        Report {
+            notes: String::new(alloc),
+            answer: text,
+            status: Status::Clean,
+        }
+    }
+
+    /// Why there is no answer.
+    pub fn refusal(alloc: Global, text: String) -> Self {
+        Report {
+            notes: text,
+            answer: String::new(alloc),
+            status: Status::Refused,
+        }
+    }
+}
+
+/// Writes the notes, and then the answer.
+pub fn deliver<W: Write, E: Write>(report: &Report, out: &mut W, err: &mut E) -> Status {
+    if write(err, report.notes.as_bytes()).is_err() {
+        return Status::Refused;
+    }
+    if write(out, report.answer.as_bytes()).is_err() {
+        let _ = write(err, b"cannot write standard output\n");
+        return Status::Refused;
+    }
+    report.status
+}
+
+/// Says that memory ran out, and takes none for it.
+pub fn no_memory<E: Write>(err: &mut E) -> Status {
+    match write(err, b"out of memory\n") {
+        Ok(()) => Status::OutOfMemory,
+        Err(_) => Status::Refused,
+    }
+}
+
+/// Says why the system gave no words.
+pub fn no_words<E: Write>(error: &io::Error, err: &mut E) -> Status {
+    if error.kind() == io::ErrorKind::OutOfMemory {
+        return no_memory(err);
+    }
+    let _ = write(err, b"error: a word of the command line isn't UTF-8\n");
+    Status::Refused
+}
+
+fn write<W: Write>(writer: &mut W, bytes: &[u8]) -> io::Result<()> {
+    writer.write_all(bytes)?;
+    writer.flush()
+}

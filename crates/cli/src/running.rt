@@ -1,0 +1,88 @@
+//! One run of the program.
+ghost use Rattle.cli.specs.Statuses.{IsStatus};
+
+use crate::failure::Failure;
+use crate::lines::{fault_text, refusal_text};
+use crate::report::{Report, Status, deliver, no_memory};
+use command_line::{Words, WordsFault, words};
+use mj_rules::{Project, render};
+use std::alloc::{AllocError, Global};
+use std::fs;
+use std::io::{ErrorKind, Write};
+use std::rt::Files;
+
+/// Does what the words ask for, of which the first is the program's name. It writes standard error,
+/// then standard output, and gives the exit status.
+pub fn run<R: Files + AllocGlobal, W: Write, E: Write>(
+    rt: &R,
+    list: Vec<String>,
+    out: &mut W,
+    err: &mut E,
+) -> u8
+    ensures { IsStatus result }
+{
+    let report = match perform(rt, list) {
+        Ok(report) => Ok(report),
+        Err(failure) => explained(rt.alloc(), failure),
+    };
+    let status = match report {
+        Ok(report) => deliver(&report, out, err),
+        Err(AllocError) => no_memory(err),
+    };
+    status as u8
+}
+
+fn perform<R: Files + AllocGlobal>(rt: &R, list: Vec<String>) -> Result<Report, Failure> {
+    match words(rt.alloc(), list)? {
+        Words::Scratch(names) => scratch(rt, names),
+    }
+}
+
+fn scratch<R: Files + AllocGlobal>(rt: &R, names: Vec<String>) -> Result<Report, Failure> {
+    let alloc = rt.alloc();
+    let project = Project::new(alloc, read_files(rt, names)?)?;
+    let answer = mj_rules::scratch(alloc, &project)?;
+    let notes = fault_text(alloc, &project, &answer)?;
+    let status = if notes.is_empty() {
+        Status::Clean
+    } else {
+        Status::Diagnostics
+    };
+    Ok(Report {
+        notes,
+        answer: render(alloc, &answer)?,
+        status,
+    })
+}
+
+// The files with their bytes, in the order given.
+fn read_files<R: Files + AllocGlobal>(
+    rt: &R,
+    names: Vec<String>,
+) -> Result<Vec<(String, Vec<u8>)>, Failure> {
+    let mut files = Vec::new(rt.alloc());
+    for name in names {
+        match fs::read(rt, name.as_str()) {
+            Ok(bytes) => files.push((name, bytes))?,
+            Err(error) if error.kind() == ErrorKind::OutOfMemory => {
+                return Err(Failure::OutOfMemory);
+            }
+            Err(_) => return Err(Failure::CannotRead(name)),
+        }
+    }
+    Ok(files)
+}
+
+// What is written of a failure. Want of memory has no text, which would take memory.
+fn explained(alloc: Global, failure: Failure) -> Result<Report, AllocError> {
+    match failure {
+        Failure::Words(WordsFault::Help(text)) => Ok(Report::help(alloc, text)),
+        Failure::Words(WordsFault::Refused(text)) => Ok(Report::refusal(alloc, text)),
+        Failure::CannotRead(name) => {
+            let text = format!(in alloc; "cannot read {name}\n")?;
+            Ok(Report::refusal(alloc, text))
+        }
+        Failure::Project(fault) => Ok(Report::refusal(alloc, refusal_text(alloc, fault)?)),
+        Failure::Words(WordsFault::OutOfMemory) | Failure::OutOfMemory => Err(AllocError),
+    }
+}

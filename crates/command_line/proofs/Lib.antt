@@ -1,0 +1,4 @@
+pub mod Faults
+pub mod Options
+pub mod ScratchWords
+pub mod ProgramWords

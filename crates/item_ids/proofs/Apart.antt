@@ -1,0 +1,42 @@
+-- Keys that the order doesn't tell apart are one key.
+use Rattle.std.proofs.Common.{◌≡◌, refl, sym, ap, ◌∙◌}
+use Rattle.std.specs.Ordering.{nat_cmp, ordering_then}
+use Rattle.std.specs.declared.cmp.Ordering.{Ordering}
+use Rattle.std.specs.declared.cmp.Ordering.TheVariants.{Less, Equal, Greater}
+use Rattle.std.specs.Cmp.Lexicographic.{slice_cmp}
+use Rattle.std.proofs.lemmas.Cmp.{tied_itself}
+use Rattle.std.proofs.lemmas.Map.Lookups.{exact_unsigned, exact_bytes}
+use Rattle.item_ids.specs.declared.key.Key.{Key}
+use Rattle.item_ids.specs.declared.key.Key.TheVariants.{Files, Source, Tree, Index, Header, Method, Sig, Supers, Members, CheckClass, CheckBody, Diags, Answer}
+use Rattle.item_ids.specs.Keys.{class_text, member_text, number, key_cmp, key_total}
+
+both_equal : (a b : Ordering) → ordering_then a b ≡ Equal → (a ≡ Equal) × (b ≡ Equal)
+both_equal Less b h = absurd cc
+both_equal Equal b h = (refl, h)
+both_equal Greater b h = absurd cc
+
+-- by number and by the names' texts
+same_parts : (a b : Key) → number a ≡ number b → class_text a ≡ class_text b → member_text a ≡ member_text b → a ≡ b
+same_parts Files Files n c m = refl
+same_parts (Source f) (Source g) n c m = ap Source c
+same_parts (Tree f) (Tree g) n c m = ap Tree c
+same_parts Index Index n c m = refl
+same_parts (Header f) (Header g) n c m = ap Header c
+same_parts (Method f p) (Method g q) n c m = ap (λ x. Method x p) c ∙ ap (Method g) m
+same_parts (Sig f p) (Sig g q) n c m = ap (λ x. Sig x p) c ∙ ap (Sig g) m
+same_parts (Supers f) (Supers g) n c m = ap Supers c
+same_parts (Members f) (Members g) n c m = ap Members c
+same_parts (CheckClass f) (CheckClass g) n c m = ap CheckClass c
+same_parts (CheckBody f p) (CheckBody g q) n c m = ap (λ x. CheckBody x p) c ∙ ap (CheckBody g) m
+same_parts (Diags f) (Diags g) n c m = ap Diags c
+same_parts Answer Answer n c m = refl
+same_parts _ _ n c m = absurd cc
+
+pub key_exact : (a b : Key) → key_cmp a b ≡ Equal → a ≡ b
+key_exact a b h =
+    let outer = both_equal (ordering_then (nat_cmp (number a) (number b)) (slice_cmp nat_cmp (class_text a) (class_text b))) (slice_cmp nat_cmp (member_text a) (member_text b)) h in
+    let inner = both_equal (nat_cmp (number a) (number b)) (slice_cmp nat_cmp (class_text a) (class_text b)) outer.0 in
+    same_parts a b (exact_unsigned _ _ inner.0) (exact_bytes _ _ inner.1) (exact_bytes _ _ outer.1)
+
+pub key_itself : (a b : Key) → a ≡ b → key_cmp a b ≡ Equal
+key_itself a b e = ap (key_cmp a) (sym e) ∙ tied_itself key_total a

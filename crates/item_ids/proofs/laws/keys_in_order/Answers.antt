@@ -1,0 +1,9 @@
+use Rattle.item_ids.specs.Keys.{key_total}
+use Rattle.item_ids.proofs.Apart.{key_exact, key_itself}
+use Rattle.item_ids.proofs.laws.keys_in_order.Goals as goal
+
+pub returns-clause-total : goal.returns-clause-total
+returns-clause-total c = key_total
+
+pub returns-clause-exact : goal.returns-clause-exact
+returns-clause-exact c = λ a b. (key_exact a b, key_itself a b)

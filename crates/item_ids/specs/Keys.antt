@@ -1,0 +1,66 @@
+-- What a key asks for, and the order of keys.
+use Rattle.std.specs.Prelude.{ℕ, List, Option, Some, None}
+use Rattle.std.specs.Ordering.{nat_cmp, on, then_cmp}
+use Rattle.std.specs.declared.cmp.Ordering.{Ordering}
+use Rattle.std.specs.Cmp.{IsTotalOrder}
+use Rattle.std.specs.Cmp.Lexicographic.{slice_cmp, on_texts}
+use Rattle.std.proofs.lemmas.Cmp.{then_total, on_total, nat_cmp_total}
+use Rattle.item_ids.specs.declared.kind.Kind.{Kind}
+use Rattle.item_ids.specs.declared.kind.Kind.TheVariants as kinds
+use Rattle.item_ids.specs.declared.key.Key.{Key}
+use Rattle.item_ids.specs.declared.key.Key.TheVariants.{Files, Source, Tree, Index, Header, Method, Sig, Supers, Members, CheckClass, CheckBody, Diags, Answer}
+use Rattle.item_ids.specs.Kinds.{number_of, text_of}
+
+abbrev pub kind_of : Key → Kind
+kind_of Files = kinds.Files
+kind_of (Source file) = kinds.Source
+kind_of (Tree file) = kinds.Tree
+kind_of Index = kinds.Index
+kind_of (Header class) = kinds.Header
+kind_of (Method class member) = kinds.Method
+kind_of (Sig class member) = kinds.Sig
+kind_of (Supers class) = kinds.Supers
+kind_of (Members class) = kinds.Members
+kind_of (CheckClass class) = kinds.CheckClass
+kind_of (CheckBody class member) = kinds.CheckBody
+kind_of (Diags class) = kinds.Diags
+kind_of Answer = kinds.Answer
+
+-- the class, or the file
+abbrev pub class_of : Key → Option (List ℕ)
+class_of Files = None
+class_of (Source file) = Some file
+class_of (Tree file) = Some file
+class_of Index = None
+class_of (Header class) = Some class
+class_of (Method class member) = Some class
+class_of (Sig class member) = Some class
+class_of (Supers class) = Some class
+class_of (Members class) = Some class
+class_of (CheckClass class) = Some class
+class_of (CheckBody class member) = Some class
+class_of (Diags class) = Some class
+class_of Answer = None
+
+-- the method
+abbrev pub member_of : Key → Option (List ℕ)
+member_of (Method class member) = Some member
+member_of (Sig class member) = Some member
+member_of (CheckBody class member) = Some member
+member_of _ = None
+
+abbrev pub number : Key → ℕ
+number key = number_of (kind_of key)
+
+abbrev pub class_text : Key → List ℕ
+class_text key = text_of (class_of key)
+
+abbrev pub member_text : Key → List ℕ
+member_text key = text_of (member_of key)
+
+-- by the number of the kind, then by class, then by member
+abbrev pub key_cmp : Key → Key → Ordering
+key_cmp = then_cmp (then_cmp (on number nat_cmp) (on class_text (slice_cmp nat_cmp))) (on member_text (slice_cmp nat_cmp))
+
+pub key_total : IsTotalOrder key_cmp
+key_total = then_total (then_total (on_total number nat_cmp_total) (on_texts class_text)) (on_texts member_text)

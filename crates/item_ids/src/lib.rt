@@ -1,0 +1,13 @@
+//! Keys of queries: a kind, and the names that a query of this kind is about.
+#![tactic(auto)]
+
+mod key;
+mod kind;
+mod laws;
+
+pub use key::Key;
+pub use kind::{Kind, rank};
+pub use laws::{keys_in_order, ranks_in_order};
+
+#[cfg(test)]
+mod tests;
