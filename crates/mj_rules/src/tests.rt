@@ -9,6 +9,10 @@ use std::test::Fail;
 
 const M: &str = "class M { public static void main(String[] a) { System.out.println(1); } }";
 
+/// A name of 256 bytes.
+const LONG: &str =
+    "aaaaaaaaaaaaaaaaaaaaaaaaaaaaaaaaaaaaaaaaaaaaaaaaaaaaaaaaaaaaaaaaaaaaaaaaaaaaaaaaaaaaaaaaaaaaaaaaaaaaaaaaaaaaaaaaaaaaaaaaaaaaaaaaaaaaaaaaaaaaaaaaaaaaaaaaaaaaaaaaaaaaaaaaaaaaaaaaaaaaaaaaaaaaaaaaaaaaaaaaaaaaaaaaaaaaaaaaaaaaaaaaaaaaaaaaaaaaaaaaaaaaaaaaaaaaaaaa";
+
 fn owned(alloc: Global, files: &[(&str, &str)]) -> Result<Vec<(String, Vec<u8>)>, AllocError> {
     let mut list = Vec::new(alloc);
     for (name, text) in files {
@@ -97,7 +101,10 @@ fn worked_examples(rt: HostRuntime) -> Result<(), Fail> {
         (
             &[
                 ("M.java", M),
-                ("a.java", "class A { int x; } class B extends A { boolean x; }"),
+                (
+                    "a.java",
+                    "class A { int x; } class B extends A { boolean x; }",
+                ),
             ],
             "class A\n  field x: int from A\nclass B\n  field x: boolean from B\nclass M\n",
         ),
@@ -156,22 +163,33 @@ fn worked_examples(rt: HostRuntime) -> Result<(), Fail> {
     Ok(())
 }
 
+/// The fault of files that are no project.
+fn refusal(alloc: Global, files: &[(&str, &str)]) -> Result<Option<ProjectFault>, AllocError> {
+    match Project::new(alloc, owned(alloc, files)?) {
+        Ok(_) => Ok(None),
+        Err(fault) => Ok(Some(fault)),
+    }
+}
+
 #[test]
 fn projects_are_refused(rt: HostRuntime) -> Result<(), Fail> {
     let alloc = rt.alloc();
-    let long = "a".repeat(alloc, 256)?;
-    let rows: [(&[(&str, &str)], ProjectFault); 5] = [
-        (&[], ProjectFault::NoFiles),
-        (&[("a", ""), ("", "")], ProjectFault::BadFileName(1)),
-        (&[("a", ""), (long.as_str(), "")], ProjectFault::BadFileName(1)),
-        (&[("a", ""), ("b", ""), ("a", ""), ("b", "")], ProjectFault::RepeatedFile(2)),
-        (&[("a", ""), ("a", ""), ("", "")], ProjectFault::BadFileName(2)),
+    let rows: [(&[(&str, &str)], Option<ProjectFault>); 6] = [
+        (&[("a", ""), ("b", "")], None),
+        (&[], Some(ProjectFault::NoFiles)),
+        (&[("a", ""), ("", "")], Some(ProjectFault::BadFileName(1))),
+        (&[("a", ""), (LONG, "")], Some(ProjectFault::BadFileName(1))),
+        (
+            &[("a", ""), ("b", ""), ("a", ""), ("b", "")],
+            Some(ProjectFault::RepeatedFile(2)),
+        ),
+        (
+            &[("a", ""), ("a", ""), ("", "")],
+            Some(ProjectFault::BadFileName(2)),
+        ),
     ];
     for (files, fault) in rows {
-        match Project::new(alloc, owned(alloc, files)?) {
-            Ok(_) => assert!(rt; false, "a project"),
-            Err(found) => assert_eq!(rt; found, fault),
-        }
+        assert_eq!(rt; refusal(alloc, files)?, fault);
     }
     Ok(())
 }
@@ -187,7 +205,10 @@ fn faults_have_places(rt: HostRuntime) -> Result<(), Fail> {
             )],
             "M.java:1:97: E206\nM.java:1:104: E203\n",
         ),
-        (&[("M.java", M), ("bad.java", "class {")], "bad.java:1:7: E101\n"),
+        (
+            &[("M.java", M), ("bad.java", "class {")],
+            "bad.java:1:7: E101\n",
+        ),
         (
             &[(
                 "M.java",
@@ -195,7 +216,10 @@ fn faults_have_places(rt: HostRuntime) -> Result<(), Fail> {
             )],
             "project: E102\nM.java:1:78: E101\n",
         ),
-        (&[("e.java", "/* /* */")], "project: E102\ne.java:1:1: E101\n"),
+        (
+            &[("e.java", "/* /* */")],
+            "project: E102\ne.java:1:1: E101\n",
+        ),
     ];
     for (files, text) in rows {
         assert_eq!(rt; located(alloc, files)?.as_str(), text);
