@@ -37,11 +37,7 @@ fn method_mistakes(
 }
 
 /// The mistakes in main.
-fn main_mistakes(
-    alloc: Global,
-    world: &World,
-    main: &MainTree,
-) -> Result<Vec<Mistake>, AllocError>
+fn main_mistakes(alloc: Global, world: &World, main: &MainTree) -> Result<Vec<Mistake>, AllocError>
     ensures { IfOk result (λ mistakes. mistakes.items ≡ main_faults (world_of (declared_in world.now.declarations.now)) (main_view main.now)) }
 {
     let mut asking = Plain {

@@ -18,6 +18,8 @@ mod world;
 
 pub use checker::scratch;
 pub use laws::{answer_laws, class_fault_laws, project_fault_laws, sentence_laws, world_laws};
-pub use mj_answer::{Answer, ClassAnswer, ClassTable, Code, Diagnostic, FieldRow, MethodRow, render};
+pub use mj_answer::{
+    Answer, ClassAnswer, ClassTable, Code, Diagnostic, FieldRow, MethodRow, render,
+};
 pub use places::{FaultLine, fault_lines};
 pub use project::{Project, ProjectFault};

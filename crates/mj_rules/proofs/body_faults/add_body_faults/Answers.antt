@@ -18,9 +18,9 @@ returns c =
     let k = class_ref_view c.args.class.now in
     let bodies = each_numbered (body_faults_of cs k.name) 0 k.methods (repeats (method_names k)) in
     let listed : c.add_bodies.new.faults.items ≡ c.args.faults.now.items ++ bodies =
-        c.in_ok-add_bodies.ensures
-        ∙ (ap (λ (ms : List Method). c.args.faults.now.items ++ each_numbered (body_faults_of cs c.name.result.now) 0 ms (repeats (map (λ (m : Method). m.name) ms))) c.methods.ensures
-        ∙ ap (λ (n : List ℕ). c.args.faults.now.items ++ each_numbered (body_faults_of cs n) 0 k.methods (repeats (method_names k))) c.name.ensures) in
+    c.in_ok-add_bodies.ensures
+    ∙ (ap (λ (ms : List Method). c.args.faults.now.items ++ each_numbered (body_faults_of cs c.name.result.now) 0 ms (repeats (map (λ (m : Method). m.name) ms))) c.methods.ensures
+    ∙ ap (λ (n : List ℕ). c.args.faults.now.items ++ each_numbered (body_faults_of cs n) 0 k.methods (repeats (method_names k))) c.name.ensures) in
     follows _ _ c.add_main.result
     (λ e. e ∙ (ap (λ (ds : List Diagnostic). ds ++ main_method_faults cs k k.main) listed ∙ append_assoc c.args.faults.now.items bodies (main_method_faults cs k k.main)))
     c.add_main.ensures
