@@ -1,8 +1,8 @@
 -- What is read is spelled so, and what is spelled so is read: for each of the readers that others are made of.
-use Rattle.std.proofs.Common.{◌≡◌, ℕ, zero, suc, ◌+◌, ◌^◌, ◌<◌, ◌≤◌, Bool, true, false, cond, ltb, eqb, List, [], ◌∷◌, ◌++◌, length, take, drop, Option, Some, None, Result, Ok, Err, refl, sym, ap, subst, ◌∙◌, append_assoc, arith, inl, inr}
+use Rattle.std.proofs.Common.{◌≡◌, ℕ, zero, suc, ◌+◌, ◌^◌, ◌<◌, ◌≤◌, Bool, true, false, cond, ltb, eqb, List, [], ◌∷◌, ◌++◌, length, take, drop, Option, Some, None, Result, Ok, Err, refl, sym, ap, subst, ◌∙◌, append_assoc, arith, ◌⊎◌, inl, inr}
 use Rattle.std.specs.Prelude.{IfSome}
 use Rattle.std.specs.Str.{is_utf8}
-use Rattle.std.specs.List.{flat_map, AllByRecursion}
+use Rattle.std.specs.List.{flat_map, find, AllByRecursion}
 use Rattle.std.specs.Int.{Width, w16, w32, w64, byte_len, from_be_bytes, to_be_bytes}
 use Rattle.std.proofs.lemmas.Bool.{cases_lt, ltb-false, le-ltb, eqb-false, ne_eqb}
 use Rattle.std.proofs.lemmas.List.{take_at, drop_at, take-append-drop, length-append, length-take, get_or-drop, get_or-take, get_or_past, append-nil}
@@ -212,7 +212,7 @@ pub record Listed {A : Type 0} (sp : A → List ℕ) (P : A → Type 0) (admits 
   pub fit : AllByRecursion P items
   pub admitted : Admitted admits front items
 
-list_takes : {A : Type 0} {p : Reader A} {sp : A → List ℕ} {P : A → Type 0} (law : Lawful p sp P) (admits : List A → A → Bool) (n : ℕ) (front : List A) (bytes : List ℕ) (whole : List A) (rest : List ℕ) → IsBytes bytes → list_from p admits front n bytes ≡ Ok (whole, rest) → Listed sp P admits front n bytes whole rest
+pub list_takes : {A : Type 0} {p : Reader A} {sp : A → List ℕ} {P : A → Type 0} (law : Lawful p sp P) (admits : List A → A → Bool) (n : ℕ) (front : List A) (bytes : List ℕ) (whole : List A) (rest : List ℕ) → IsBytes bytes → list_from p admits front n bytes ≡ Ok (whole, rest) → Listed sp P admits front n bytes whole rest
 unfolding list_from
 list_takes {A} {p} {sp} {P} law admits zero front bytes whole rest fits e =
     let is = ok_is (front, bytes) (whole, rest) e in
@@ -238,7 +238,7 @@ list_takes {A} {p} {sp} {P} law admits (suc n) front bytes whole rest fits e =
       admitted = (g.0, u.admitted);
     }
 
-list_again : {A : Type 0} {p : Reader A} {sp : A → List ℕ} {P : A → Type 0} (law : Lawful p sp P) (admits : List A → A → Bool) (as1 front : List A) (rest : List ℕ) → AllByRecursion P as1 → Admitted admits front as1 → list_from p admits front (length as1) (flat_map sp as1 ++ rest) ≡ Ok (front ++ as1, rest)
+pub list_again : {A : Type 0} {p : Reader A} {sp : A → List ℕ} {P : A → Type 0} (law : Lawful p sp P) (admits : List A → A → Bool) (as1 front : List A) (rest : List ℕ) → AllByRecursion P as1 → Admitted admits front as1 → list_from p admits front (length as1) (flat_map sp as1 ++ rest) ≡ Ok (front ++ as1, rest)
 unfolding list_from
 list_again {A} {p} {sp} {P} law admits [] front rest fit h = ap (λ (x : List A). done (x, rest)) (sym (append-nil front))
 list_again {A} {p} {sp} {P} law admits (a ∷ as1) front rest fit h =
@@ -247,7 +247,7 @@ list_again {A} {p} {sp} {P} law admits (a ∷ as1) front rest fit h =
     ∙ rw (law.again a (flat_map sp as1 ++ rest) fit.0, h.0) (list_again law admits as1 (front ++ a ∷ []) rest fit.1 h.1)
     ∙ ap (λ (x : List A). done (x, rest)) (append_assoc front (a ∷ []) as1)
 
-whole_list : {A : Type 0} {p : Reader A} {sp : A → List ℕ} {P : A → Type 0} (law : Lawful p sp P) (admits : List A → A → Bool) (bytes : List ℕ) (n : ℕ) (after : List ℕ) (as1 : List A) (rest : List ℕ) → Takes bytes (eight n) after → n < 2 ^ 64 → Listed sp P admits [] n after as1 rest → Takes bytes (eight (length as1) ++ flat_map sp as1) rest × FitsList P admits as1
+pub whole_list : {A : Type 0} {p : Reader A} {sp : A → List ℕ} {P : A → Type 0} (law : Lawful p sp P) (admits : List A → A → Bool) (bytes : List ℕ) (n : ℕ) (after : List ℕ) (as1 : List A) (rest : List ℕ) → Takes bytes (eight n) after → n < 2 ^ 64 → Listed sp P admits [] n after as1 rest → Takes bytes (eight (length as1) ++ flat_map sp as1) rest × FitsList P admits as1
 whole_list {A} {p} {sp} {P} law admits bytes n after as1 rest t lt u =
     let both : Takes bytes (eight (length u.items) ++ flat_map sp u.items) rest = subst (λ (k : ℕ). Takes bytes (eight k ++ flat_map sp u.items) rest) (sym u.count_is) (Takes-then bytes (eight n) after (flat_map sp u.items) rest t u.takes) in
     let fit : FitsList P admits u.items = record { few = omega (arith, u.count_is, lt); fit = u.fit; admitted = u.admitted } in
@@ -277,3 +277,49 @@ lawful_where {A} {p} {sp} {P} {Q} law to from = record {
   takes = λ bytes a rest fits e. let t = law.takes bytes a rest fits e in (t.0, to a t.1);
   again = λ a rest h. law.again a rest (from a h);
 }
+
+-- where nothing is asked of the items
+pub all_storable : {A : Type 0} (items : List A) → AllByRecursion (λ (a : A). Unit {0}) items
+all_storable [] = tt
+all_storable (a ∷ items) = (tt, all_storable items)
+
+-- a law for a spelling in other words
+pub lawful_as : {A : Type 0} {p : Reader A} {sp : A → List ℕ} {P : A → Type 0} → Lawful p sp P → (sq : A → List ℕ) → ((a : A) → sq a ≡ sp a) → Lawful p sq P
+lawful_as {A} {p} {sp} {P} law sq same = record {
+  takes = λ bytes a rest fits e. let t = law.takes bytes a rest fits e in (subst (λ (x : List ℕ). Takes bytes x rest) (sym (same a)) t.0, t.1);
+  again = λ a rest h. ap (λ (x : List ℕ). p (x ++ rest)) (same a) ∙ law.again a rest h;
+}
+
+-- what is made of an item, and can be taken apart again
+pub lawful_made : {A B : Type 0} {p : Reader A} {sp : A → List ℕ} {P : A → Type 0} → Lawful p sp P → (make : A → B) (parts : B → A) → ((a : A) → parts (make a) ≡ a) → ((b : B) → make (parts b) ≡ b) → Lawful (made_at make p) (λ b. sp (parts b)) (λ b. P (parts b))
+lawful_made {A} {B} {p} {sp} {P} law make parts there back = record {
+  takes = λ bytes b rest fits e.
+      let m = made_takes law make bytes b rest fits e in
+      let same : m.0 ≡ parts b = sym (there m.0) ∙ ap parts m.1 in
+      subst (λ (a : A). Takes bytes (sp a) rest × P a) same (m.2, m.3);
+  again = λ b rest h. made_again law make (parts b) rest h ∙ ap (λ (x : B). done (x, rest)) (back b);
+}
+
+-- behind one more byte
+pub takes_behind : (b : ℕ) (bytes text rest : List ℕ) → Takes bytes text rest → Takes (b ∷ bytes) (b ∷ text) rest
+takes_behind b bytes text rest t = record { parts = ap (λ (x : List ℕ). b ∷ x) t.parts; rest_fits = t.rest_fits }
+
+-- nothing was read
+pub takes_nothing : (bytes : List ℕ) → IsBytes bytes → Takes bytes [] bytes
+takes_nothing bytes fits = record { parts = refl; rest_fits = fits }
+
+chosen : {A : Type 0} (b : Bool) (x y z : A) → cond b x y ≡ z → ((b ≡ true) × (x ≡ z)) ⊎ ((b ≡ false) × (y ≡ z))
+chosen true x y z e = inl (refl, e)
+chosen false x y z e = inr (refl, e)
+
+some_is : {A : Type 0} (x y : A) → Some x ≡ Some y → x ≡ y
+some_is x y e = cc
+
+-- what is found passes the test
+pub found_passes : {A : Type 0} (test : A → Bool) (items : List A) (x : A) → find test items ≡ Some x → test x ≡ true
+found_passes test [] x e = absurd cc
+found_passes {A} test (y ∷ items) x e =
+    elim (chosen (test y) (Some y) (find test items) (Some x) e) [
+      | inl h ↦ subst (λ (z : A). test z ≡ true) (some_is y x h.1) h.0
+      | inr h ↦ found_passes test items x h.1
+    ]

@@ -12,14 +12,17 @@ pub trait Format {
     /// What is spelled.
     type Item: Drop;
 
+    ghost is_storable: { Self.Item → Type 0 };
+
     ghost has_spelling: { Self.Item → Type 0 };
 
     ghost spelling: { Self.Item → List ℕ };
 
     ghost reading: { List ℕ → Result (Self.Item × List ℕ) Breach };
 
-    /// Each item of the type has a spelling.
+    /// An item has a spelling where it meets what its type doesn't tell.
     fn check(item: &Self::Item)
+        requires { is_storable item.now }
         ensures { has_spelling item.now };
 
     /// Writes an item behind what is written.

@@ -6,6 +6,7 @@ mod fields;
 mod format;
 mod lists;
 mod names;
+mod options;
 
 pub use breach::{Breach, ReadError};
 pub use fields::{
@@ -13,4 +14,5 @@ pub use fields::{
 };
 pub use format::{Format, Ordered};
 pub use lists::{check_list, put_list, read_ascending, read_list};
-pub use names::{NameFormat, put_name, read_name};
+pub use names::{NameFormat, check_name, put_name, read_name};
+pub use options::{check_option, put_option, read_option};

@@ -10,8 +10,9 @@ use crate::fields::{put_eight, read_eight, refused};
 use crate::format::{Format, Ordered};
 use std::alloc::{AllocError, Global};
 
-/// Each item has a spelling, and their number has one.
+/// The number of items has a spelling, and each item where it meets what its type doesn't tell.
 pub fn check_list<F: Format>(items: &[F::Item])
+    requires { AllByRecursion F.is_storable items.now }
     ensures few { length items.now < 2 ^ 64 }
     ensures each { AllByRecursion F.has_spelling items.now }
 {

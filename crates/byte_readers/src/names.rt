@@ -70,6 +70,8 @@ impl Format for NameFormat {
 
     type Item = Name;
 
+    ghost is_storable = { λ _. Unit {0} };
+
     ghost has_spelling = { IsName };
 
     ghost spelling = { name };

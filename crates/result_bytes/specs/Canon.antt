@@ -8,8 +8,8 @@ use Rattle.mj_answer.specs.Codes.{number_of}
 use Rattle.mj_answer.specs.Answers.{MethodRowValue, ClassTableValue, ClassAnswerValue, AnswerValue}
 use Rattle.byte_readers.specs.Spelling.{two, four, eight, name, option, list}
 use Rattle.tree_bytes.specs.Spelling.{ty, field}
-use Rattle.result_bytes.specs.declared.class.ChainEnd.{ChainEnd}
-use Rattle.result_bytes.specs.declared.class.ChainEnd.TheVariants.{Top, Undeclared, Repeated}
+use Rattle.result_bytes.specs.declared.parts.ChainEnd.{ChainEnd}
+use Rattle.result_bytes.specs.declared.parts.ChainEnd.TheVariants.{Top, Undeclared, Repeated}
 use Rattle.result_bytes.specs.declared.files.IndexRow.{IndexRow}
 use Rattle.result_bytes.specs.Payloads.{HeaderValue, SignatureValue, ChainValue}
 

@@ -6,11 +6,11 @@ use Rattle.mj_parser.specs.declared.place.Place.TheVariants.{Project, File, Clas
 use Rattle.mj_answer.specs.declared.diagnostic.Diagnostic.{Diagnostic}
 use Rattle.mj_answer.specs.declared.table.FieldRow.{FieldRow}
 use Rattle.mj_answer.specs.Answers.{MethodRowValue, ClassTableValue, ClassAnswerValue, AnswerValue}
-use Rattle.mj_answer.specs.Order.{IsAscending, IsAscendingByName}
+use Rattle.mj_answer.specs.Order.{NameBefore, Before, IsAscendingBy, IsTableInOrder, IsClassInOrder}
 use Rattle.byte_readers.specs.Names.{IsName}
 use Rattle.tree_bytes.specs.Fits.{TyFits, FieldFits}
-use Rattle.result_bytes.specs.declared.class.ChainEnd.{ChainEnd}
-use Rattle.result_bytes.specs.declared.class.ChainEnd.TheVariants.{Top, Undeclared, Repeated}
+use Rattle.result_bytes.specs.declared.parts.ChainEnd.{ChainEnd}
+use Rattle.result_bytes.specs.declared.parts.ChainEnd.TheVariants.{Top, Undeclared, Repeated}
 use Rattle.result_bytes.specs.declared.files.IndexRow.{IndexRow}
 use Rattle.result_bytes.specs.Payloads.{HeaderValue, SignatureValue, ChainValue}
 
@@ -38,10 +38,17 @@ TextFits bytes = IsCount (length bytes)
 abbrev pub IndexRowFits : IndexRow → Type 0
 IndexRowFits row = IsName row.class × IsName row.file
 
-pub record IndexFits (rows : List IndexRow) : Type 0 where
-  pub few : IsCount (length rows)
-  pub each : AllByRecursion IndexRowFits rows
-  pub order : IsAscendingByName (λ row. row.class) rows
+-- items that fit, in ascending order, and not too many of them
+pub record OrderedFits {A : Type 0} (P : A → Type 0) (B : A → A → Type 0) (items : List A) : Type 0 where
+  pub few : IsCount (length items)
+  pub each : AllByRecursion P items
+  pub order : IsAscendingBy B items
+
+abbrev pub ByName : {A : Type 0} → (A → List ℕ) → A → A → Type 0
+ByName name_of a b = NameBefore (name_of a) (name_of b)
+
+abbrev pub IndexFits : List IndexRow → Type 0
+IndexFits rows = OrderedFits IndexRowFits (ByName (λ row. row.class)) rows
 
 pub record HeaderFits (h : HeaderValue) : Type 0 where
   pub superclass : IfSome h.superclass IsName
@@ -76,12 +83,8 @@ pub record MethodRowFits (row : MethodRowValue) : Type 0 where
   pub returns : TyFits row.returns
 
 pub record TableFits (t : ClassTableValue) : Type 0 where
-  pub few_fields : IsCount (length t.fields)
-  pub fields : AllByRecursion FieldRowFits t.fields
-  pub fields_order : IsAscendingByName (λ row. row.name) t.fields
-  pub few_methods : IsCount (length t.methods)
-  pub methods : AllByRecursion MethodRowFits t.methods
-  pub methods_order : IsAscendingByName (λ row. row.name) t.methods
+  pub fields : OrderedFits FieldRowFits (ByName (λ row. row.name)) t.fields
+  pub methods : OrderedFits MethodRowFits (ByName (λ row. row.name)) t.methods
 
 -- the places of faults of the project, with numbers that can be written
 abbrev pub IsProjectPlace : Place → Type 0
@@ -111,15 +114,11 @@ ProjectFaultFits fault = IsProjectPlace fault.place × PlaceNameFits fault.place
 abbrev pub ClassFaultFits : Diagnostic → Type 0
 ClassFaultFits fault = IsClassPlace fault.place × PlaceNameFits fault.place
 
-pub record ProjectFaultsFit (faults : List Diagnostic) : Type 0 where
-  pub few : IsCount (length faults)
-  pub each : AllByRecursion ProjectFaultFits faults
-  pub order : IsAscending faults
+abbrev pub ProjectFaultsFit : List Diagnostic → Type 0
+ProjectFaultsFit faults = OrderedFits ProjectFaultFits Before faults
 
-pub record ClassFaultsFit (faults : List Diagnostic) : Type 0 where
-  pub few : IsCount (length faults)
-  pub each : AllByRecursion ClassFaultFits faults
-  pub order : IsAscending faults
+abbrev pub ClassFaultsFit : List Diagnostic → Type 0
+ClassFaultsFit faults = OrderedFits ClassFaultFits Before faults
 
 pub record ClassAnswerFits (c : ClassAnswerValue) : Type 0 where
   pub name : IsName c.name
@@ -128,6 +127,14 @@ pub record ClassAnswerFits (c : ClassAnswerValue) : Type 0 where
 
 pub record AnswerFits (a : AnswerValue) : Type 0 where
   pub faults : ProjectFaultsFit a.faults
-  pub few : IsCount (length a.classes)
-  pub classes : AllByRecursion ClassAnswerFits a.classes
-  pub order : IsAscendingByName (λ class. class.name) a.classes
+  pub classes : OrderedFits ClassAnswerFits (ByName (λ class. class.name)) a.classes
+
+-- what the types of an answer's parts don't tell: where the faults stand, and the orders
+abbrev pub AreProjectFaults : List Diagnostic → Type 0
+AreProjectFaults faults = AllByRecursion (λ fault. IsProjectPlace fault.place) faults
+
+abbrev pub AreClassFaults : List Diagnostic → Type 0
+AreClassFaults faults = AllByRecursion (λ fault. IsClassPlace fault.place) faults
+
+abbrev pub IsClassStorable : ClassAnswerValue → Type 0
+IsClassStorable c = IsClassInOrder c × AreClassFaults c.faults

@@ -2,7 +2,7 @@
 use Rattle.std.specs.Prelude.{ℕ, Bool, List, Option}
 use Rattle.mj_parser.specs.declared.tree.Ty.{Ty}
 use Rattle.mj_parser.specs.declared.tree.Field.{Field}
-use Rattle.result_bytes.specs.declared.class.ChainEnd.{ChainEnd}
+use Rattle.result_bytes.specs.declared.parts.ChainEnd.{ChainEnd}
 
 pub record HeaderValue : Type 0 where
   pub is_main : Bool

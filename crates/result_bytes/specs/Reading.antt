@@ -18,8 +18,8 @@ use Rattle.byte_readers.specs.declared.breach.Breach.TheVariants.{Short}
 use Rattle.byte_readers.specs.Reading.{◌>>=◌, Reader, refused, any, byte_at, two_at, four_at, eight_at, name_at, pair_at, made_at, option_at, list_from, list_at}
 use Rattle.byte_readers.specs.Orders.{is_after}
 use Rattle.tree_bytes.specs.Reading.{ty_at, field_at}
-use Rattle.result_bytes.specs.declared.class.ChainEnd.{ChainEnd}
-use Rattle.result_bytes.specs.declared.class.ChainEnd.TheVariants.{Top, Undeclared, Repeated}
+use Rattle.result_bytes.specs.declared.parts.ChainEnd.{ChainEnd}
+use Rattle.result_bytes.specs.declared.parts.ChainEnd.TheVariants.{Top, Undeclared, Repeated}
 use Rattle.result_bytes.specs.declared.files.IndexRow.{IndexRow}
 use Rattle.result_bytes.specs.Payloads.{HeaderValue, SignatureValue, ChainValue}
 use Rattle.result_bytes.specs.Fits.{most_files}

@@ -2,9 +2,17 @@
 ghost use Rattle.std.specs.Prelude.{◌≡◌, List, ℕ};
 ghost use Rattle.std.specs.Option.{option_copied};
 
+use crate::parts::{
+    ChainEnd, check_end, check_perhaps_name, put_boolean, put_end, read_boolean, read_end,
+};
+use byte_readers::{
+    Format, NameFormat, ReadError, check_list, put_list, put_option, read_list, read_option,
+};
 use mj_lexer::Name;
 use mj_parser::{Field, Ty};
+use std::alloc::{AllocError, Global};
 use std::marker::Model;
+use tree_bytes::{FieldFormat, TypeFormat, check_ty, put_ty, read_ty};
 
 /// A class without its bodies: whether it is the main class, its superclass, its fields with their types and the
 /// names of its methods, repeated ones too. The main class has no fields and no methods.
@@ -42,6 +50,9 @@ impl Header {
         requires { HeaderFits (header_of (is_main, (superclass, (fields.items, methods.items)))) }
         ensures { result ≡ header_of (is_main, (superclass, (fields.items, methods.items))) }
     {
+        check_perhaps_name(&superclass);
+        check_list::<FieldFormat>(&fields);
+        check_list::<NameFormat>(&methods);
         Header {
             is_main,
             superclass,
@@ -104,10 +115,12 @@ impl Signature {
     ghost use Rattle.result_bytes.specs.Reading.{signature_of};
 
     /// A signature of these types.
+    #[tactic(auto, using(byte_readers::specs::Laws::all_storable))]
     pub fn new(formals: Vec<Ty>, returns: Ty) -> Self
-        requires { SignatureFits (signature_of (formals.items, returns)) }
         ensures { result ≡ signature_of (formals.items, returns) }
     {
+        check_list::<TypeFormat>(&formals);
+        check_ty(&returns);
         Signature { formals, returns }
     }
 
@@ -125,17 +138,6 @@ impl Signature {
     {
         &self.returns
     }
-}
-
-/// How a chain of classes ends.
-#[derive(Debug, Drop)]
-pub enum ChainEnd {
-    /// The last class extends nothing.
-    Top,
-    /// The last class extends this name, which isn't declared.
-    Undeclared(Name),
-    /// The last class extends this class of the chain.
-    Repeated(Name),
 }
 
 /// The chain of classes that begins with a class, and its end.
@@ -162,10 +164,12 @@ impl Supers {
     ghost use Rattle.result_bytes.specs.Reading.{chain_of};
 
     /// A chain of these classes with this end.
+    #[tactic(auto, using(byte_readers::specs::Laws::all_storable))]
     pub fn new(classes: Vec<Name>, end: ChainEnd) -> Self
-        requires { ChainFits (chain_of (classes.items, end)) }
         ensures { result ≡ chain_of (classes.items, end) }
     {
+        check_list::<NameFormat>(&classes);
+        check_end(&end);
         Supers { classes, end }
     }
 
@@ -182,5 +186,123 @@ impl Supers {
         ensures { result.now ≡ self.now.end }
     {
         &self.end
+    }
+}
+
+/// Headers.
+pub struct HeaderFormat;
+
+impl Format for HeaderFormat {
+    ghost use Rattle.result_bytes.specs.Canon.{header};
+    ghost use Rattle.result_bytes.specs.Fits.{HeaderFits};
+    ghost use Rattle.result_bytes.specs.Reading.{header_at};
+    ghost use Rattle.result_bytes.specs.ItemLaws.{lawful_header};
+
+    type Item = Header;
+
+    ghost is_storable = { λ _. Unit {0} };
+
+    ghost has_spelling = { HeaderFits };
+
+    ghost spelling = { header };
+
+    ghost reading = { header_at };
+
+    ghost lawful = { lawful_header };
+
+    fn check(item: &Header) {
+        let _is_main = item.is_main();
+    }
+
+    fn write(out: &mut Vec<u8>, item: &Header) -> Result<(), AllocError> {
+        put_boolean(out, item.is_main)?;
+        put_option::<NameFormat>(out, &item.superclass)?;
+        put_list::<FieldFormat>(out, &item.fields)?;
+        put_list::<NameFormat>(out, &item.methods)
+    }
+
+    #[tactic(auto, unfolding(crate::specs::Reading::header_at))]
+    fn read(alloc: Global, bytes: &[u8]) -> Result<(Header, &[u8]), ReadError> {
+        let (is_main, rest) = read_boolean(bytes)?;
+        let (superclass, rest) = read_option::<NameFormat>(alloc, rest)?;
+        let (fields, rest) = read_list::<FieldFormat>(alloc, rest)?;
+        let (methods, rest) = read_list::<NameFormat>(alloc, rest)?;
+        Ok((Header::new(is_main, superclass, fields, methods), rest))
+    }
+}
+
+/// Signatures.
+pub struct SignatureFormat;
+
+impl Format for SignatureFormat {
+    ghost use Rattle.result_bytes.specs.Canon.{signature};
+    ghost use Rattle.result_bytes.specs.Fits.{SignatureFits};
+    ghost use Rattle.result_bytes.specs.Reading.{signature_at};
+    ghost use Rattle.result_bytes.specs.ItemLaws.{lawful_signature};
+
+    type Item = Signature;
+
+    ghost is_storable = { λ _. Unit {0} };
+
+    ghost has_spelling = { SignatureFits };
+
+    ghost spelling = { signature };
+
+    ghost reading = { signature_at };
+
+    ghost lawful = { lawful_signature };
+
+    fn check(item: &Signature) {
+        let _formals = item.formals();
+    }
+
+    fn write(out: &mut Vec<u8>, item: &Signature) -> Result<(), AllocError> {
+        put_list::<TypeFormat>(out, item.formals())?;
+        put_ty(out, item.returns())
+    }
+
+    #[tactic(auto, unfolding(crate::specs::Reading::signature_at))]
+    fn read(alloc: Global, bytes: &[u8]) -> Result<(Signature, &[u8]), ReadError> {
+        let (formals, rest) = read_list::<TypeFormat>(alloc, bytes)?;
+        let (returns, rest) = read_ty(alloc, rest)?;
+        Ok((Signature::new(formals, returns), rest))
+    }
+}
+
+/// Chains.
+pub struct SupersFormat;
+
+impl Format for SupersFormat {
+    ghost use Rattle.result_bytes.specs.Canon.{chain};
+    ghost use Rattle.result_bytes.specs.Fits.{ChainFits};
+    ghost use Rattle.result_bytes.specs.Reading.{chain_at};
+    ghost use Rattle.result_bytes.specs.ItemLaws.{lawful_chain};
+
+    type Item = Supers;
+
+    ghost is_storable = { λ _. Unit {0} };
+
+    ghost has_spelling = { ChainFits };
+
+    ghost spelling = { chain };
+
+    ghost reading = { chain_at };
+
+    ghost lawful = { lawful_chain };
+
+    fn check(item: &Supers) {
+        let _classes = item.classes();
+    }
+
+    fn write(out: &mut Vec<u8>, item: &Supers) -> Result<(), AllocError> {
+        put_list::<NameFormat>(out, item.classes())?;
+        put_end(out, item.end())
+    }
+
+    #[tactic(auto, unfolding(crate::specs::Reading::chain_at))]
+    fn read(alloc: Global, bytes: &[u8]) -> Result<(Supers, &[u8]), ReadError> {
+        let (classes, rest) = read_list::<NameFormat>(alloc, bytes)?;
+        let (end, rest) = read_end(alloc, rest)?;
+        Ok((Supers::new(classes, end), rest))
     }
 }

@@ -1,5 +1,7 @@
 //! What holds of all values.
-ghost use Rattle.result_bytes.specs.Values.{IsValue};
+ghost use Rattle.std.specs.Prelude.{◌≡◌};
+ghost use Rattle.result_bytes.specs.declared.value.Value.{Value};
+ghost use Rattle.result_bytes.specs.Values.{IsValue, canon};
 
 use crate::value::Value;
 
@@ -51,3 +53,8 @@ pub fn is_value(value: &Value)
         | Value::Members(None) => {}
     }
 }
+
+/// No spelling has two values.
+pub fn one_spelling()
+    ensures { (v w : Value) → IsValue v → IsValue w → canon v ≡ canon w → v ≡ w }
+{}

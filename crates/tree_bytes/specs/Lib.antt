@@ -5,3 +5,8 @@ pub mod Reading
 pub mod Codes
 pub mod Bodies
 pub mod BodyViews
+pub mod TagLaws
+pub mod TypeLaws
+pub mod ExpLaws
+pub mod StmtLaws
+pub mod FileLaws

@@ -4,7 +4,7 @@ use Rattle.mj_parser.specs.declared.tree.Ty.{Ty}
 use Rattle.mj_parser.specs.declared.tree.Ty.TheVariants.{Int, Boolean, IntArray, Class}
 use Rattle.mj_parser.specs.declared.tree.Field.{Field}
 use Rattle.mj_parser.specs.declared.tree.Variable.{Variable}
-use Rattle.mj_parser.specs.Trees.{Expression, Statement, Statements, Method, Main, File}
+use Rattle.mj_parser.specs.Trees.{Expression, Expressions, Statement, Statements, Method, Main, File}
 use Rattle.mj_parser.specs.Trees as trees
 use Rattle.mj_parser.specs.Views.{expressions_of, statements_of}
 use Rattle.byte_readers.specs.declared.breach.Breach.TheVariants.{Short}
@@ -55,11 +55,17 @@ one_of ones.NewArray mark part = trees.NewArray mark part
 one_of ones.Not mark part = trees.Not mark part
 one_of ones.Parenthesized mark part = trees.Parenthesized mark part
 
+abbrev pub exps_at : Reader Expression → Reader Expressions
+exps_at part bytes = made_at expressions_of (list_at part any) bytes
+
+abbrev pub stmts_at : Reader Statement → Reader Statements
+stmts_at part bytes = made_at statements_of (list_at part any) bytes
+
 -- what stands behind a tag and a mark
 abbrev pub exp_body_at : Reader Expression → ExpTag → ℕ → Reader Expression
 exp_body_at part (tags.Two two) mark bytes = made_at (λ x. two_of two mark x.0 x.1) (pair_at part part) bytes
 exp_body_at part (tags.One one) mark bytes = made_at (one_of one mark) part bytes
-exp_body_at part tags.Call mark bytes = made_at (λ x. trees.Call mark x.0 x.1.0 (expressions_of x.1.1)) (pair_at part (pair_at name_at (list_at part any))) bytes
+exp_body_at part tags.Call mark bytes = made_at (λ x. trees.Call mark x.0 x.1.0 x.1.1) (pair_at part (pair_at name_at (exps_at part))) bytes
 exp_body_at part tags.Literal mark bytes = made_at (trees.Literal mark) literal_at bytes
 exp_body_at part (tags.Boolean value) mark bytes = Ok (trees.Boolean mark value, bytes)
 exp_body_at part tags.Variable mark bytes = made_at (trees.Named mark) name_at bytes
@@ -79,7 +85,7 @@ exp_at (suc room) bytes = byte_at bytes >>= λ tag. exp_tagged (exp_at room) byt
 
 -- what stands behind a tag and a mark
 abbrev pub stmt_body_at : Reader Expression → Reader Statement → StmtTag → ℕ → Reader Statement
-stmt_body_at value part statements.Block mark bytes = made_at (λ x. trees.Block mark (statements_of x)) (list_at part any) bytes
+stmt_body_at value part statements.Block mark bytes = made_at (trees.Block mark) (stmts_at part) bytes
 stmt_body_at value part statements.If mark bytes = made_at (λ x. trees.If mark x.0 x.1.0 x.1.1) (pair_at value (pair_at part part)) bytes
 stmt_body_at value part statements.While mark bytes = made_at (λ x. trees.While mark x.0 x.1) (pair_at value part) bytes
 stmt_body_at value part statements.Print mark bytes = made_at (trees.Print mark) value bytes
@@ -102,7 +108,7 @@ unfoldable pub top_stmt_at : Reader Statement
 top_stmt_at bytes = stmt_at most_levels bytes
 
 unfoldable pub top_stmts_at : Reader Statements
-top_stmts_at bytes = made_at statements_of (list_at (stmt_at most_levels) any) bytes
+top_stmts_at bytes = stmts_at (stmt_at most_levels) bytes
 
 unfoldable pub top_exp_at : Reader Expression
 top_exp_at bytes = exp_at most_levels bytes
