@@ -1,0 +1,11 @@
+class Book extends Novel {
+    int pages;
+}
+
+class Novel extends Book {
+    boolean signed;
+}
+
+class Shelf {
+    int height;
+}

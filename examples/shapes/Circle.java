@@ -1,0 +1,8 @@
+class Circle extends Shape {
+    int radius;
+}
+
+class Ring extends Circle {
+    int hole;
+    int[] visible;
+}

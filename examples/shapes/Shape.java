@@ -1,0 +1,9 @@
+class Shape {
+    Point origin;
+    boolean visible;
+}
+
+class Point {
+    int x;
+    int y;
+}
