@@ -1,5 +1,5 @@
 -- A mark is the place of a token.
-use Rattle.std.proofs.Common.{◌≡◌, ℕ, suc, ◌+◌, ◌<◌, ◌≤◌, Bool, true, false, List, [], ◌∷◌, length, drop, Option, Some, None, refl, sym, ◌∙◌, subst, arith}
+use Rattle.std.proofs.Common.{◌≡◌, ℕ, ◌+◌, ◌<◌, ◌≤◌, true, List, [], ◌∷◌, length, drop, Option, Some, None, refl, arith}
 use Rattle.std.specs.Prelude.{All, slice_get, codes}
 use Rattle.std.proofs.lemmas.List.{length-drop}
 use Rattle.std.proofs.lemmas.List.Elements.{All-nil, All-cons}
@@ -7,12 +7,12 @@ use Rattle.std.proofs.lemmas.Option.{slice_get_within}
 use Rattle.mj_lexer.specs.declared.token.Token.{Token}
 use Rattle.mj_lexer.specs.declared.token.Terminal.TheVariants as terminals
 use Rattle.mj_parser.specs.declared.tree.Variable.{Variable}
-use Rattle.mj_parser.specs.Tokens.{kind_of, value_of, has, says, name_at, value_at}
+use Rattle.mj_parser.specs.Tokens.{kind_of, value_of, says, value_at}
 use Rattle.mj_parser.specs.Trees.{Expression, Expressions, Binary, Index, Length, Call, Literal, Boolean, Named, This, NewArray, NewObject, Not, Parenthesized, none, more, Statement, Statements, Block, If, While, Print, Assign, Store, done, next, Method, Main, Class, File}
 use Rattle.mj_parser.specs.Expressions.{terminal_of, terminal_of_bool, IsExp, AreArguments, AreMore}
 use Rattle.mj_parser.specs.Statements.{IsStmt, AreStmts}
 use Rattle.mj_parser.specs.Rows.{InRow}
-use Rattle.mj_parser.specs.Declarations.{type_size, IsVariable, variable_size, IsMoreFormal, more_formal_size, AreFormals, IsLocal, local_size, method_size, formals_place, locals_place, body_place, return_place, IsMethod, IsMethodAt, class_size, IsClass, IsMain, IsMainPart, Derives}
+use Rattle.mj_parser.specs.Declarations.{type_size, IsVariable, variable_size, IsMoreFormal, more_formal_size, AreFormals, IsLocal, local_size, method_size, formals_place, locals_place, body_place, return_place, IsMethod, IsMethodAt, class_size, IsClass, IsMainPart, Derives}
 use Rattle.mj_parser.specs.MarkBounds.{ExpMarksBelow, ExpsMarksBelow, StmtMarksBelow, StmtsMarksBelow, VariableBelow, MethodMarksBelow, ClassMarksBelow, MainMarksBelow, FileMarksBelow}
 use Rattle.mj_parser.proofs.Marks.{has_within, name_within, says_name}
 use Rattle.mj_parser.proofs.StatementAgain.{print_name}

@@ -1,5 +1,5 @@
 //! Why tokens are no file.
-ghost use Rattle.std.specs.Prelude.{◌≡◌, ◌↔◌};
+ghost use Rattle.std.specs.Prelude.{◌≡◌, ◌↔◌, ◌+◌, ◌<◌, ◌^◌, ℕ};
 
 use std::alloc::{AllocError, AllocFailed};
 use thiserror::Error;
@@ -22,7 +22,9 @@ pub enum ParseFault {
 impl ParseFault {
     /// The fault, where its place was counted from a later token.
     pub fn behind(self, start: usize) -> Self
-        ensures { (result ≡ ParseFault.OutOfMemory) ↔ (self ≡ ParseFault.OutOfMemory) }
+        ensures memory { (result ≡ ParseFault.OutOfMemory) ↔ (self ≡ ParseFault.OutOfMemory) }
+        ensures deep { (result ≡ ParseFault.TooDeep) ↔ (self ≡ ParseFault.TooDeep) }
+        ensures moved { (at : ℕ) → self ≡ ParseFault.NotAFile at → at + start < 2 ^ 64 → result ≡ ParseFault.NotAFile (at + start) }
     {
         match self {
             ParseFault::NotAFile(at) => ParseFault::NotAFile(at.saturating_add(start)),

@@ -155,12 +155,12 @@ module _ (chains : ChainLaws) (bodies : BodyLaws) (cs : List ClassDecl) (k : Cla
       elim (Contains-append_cases (superclass_faults cs k.superclass) _ d h) [
         | inl a ↦ from_superclass d k.superclass refl a
         | inr b ↦ elim (Contains-append_cases (chain_faults (chain_of cs k.name)) _ d b) [
-            | inl a ↦ from_chain d (chain_of cs k.name) refl a
-            | inr c ↦ elim (Contains-append_cases (each_numbered (field_faults cs) 0 k.fields (repeats (field_names k))) (each_numbered (method_faults_of (nearest_sig (rest_of cs k.name))) 0 k.methods (repeats (method_names k))) d c) [
-                | inl a ↦ from_field d (from_all (field_faults cs) k.fields (repeats (field_names k)) d a)
-                | inr e ↦ from_method d (from_all (method_faults_of (nearest_sig (rest_of cs k.name))) k.methods (repeats (method_names k)) d e)
-              ]
+          | inl a ↦ from_chain d (chain_of cs k.name) refl a
+          | inr c ↦ elim (Contains-append_cases (each_numbered (field_faults cs) 0 k.fields (repeats (field_names k))) (each_numbered (method_faults_of (nearest_sig (rest_of cs k.name))) 0 k.methods (repeats (method_names k))) d c) [
+            | inl a ↦ from_field d (from_all (field_faults cs) k.fields (repeats (field_names k)) d a)
+            | inr e ↦ from_method d (from_all (method_faults_of (nearest_sig (rest_of cs k.name))) k.methods (repeats (method_names k)) d e)
           ]
+        ]
       ]
 
   from_bodies : (d : Diagnostic) → Contains (body_faults cs k) d → Row d

@@ -31,7 +31,7 @@ class_answer chains members bodies cs k answer first name table ascending same =
     ascending = ascending;
     exactly = λ place code. (
       λ h. (class_fault_law chains bodies cs k first place code).0 ((same (fault place code)).0 h),
-      λ r. (same (fault place code)).1 ((class_fault_law chains bodies cs k first place code).1 r)
+      λ r. (same (fault place code)).1 ((class_fault_law chains bodies cs k first place code).1 r),
     );
   };
 }
@@ -54,7 +54,7 @@ project_answer sentences files answer ascending same classes = record {
     ascending = ascending;
     exactly = λ place code. (
       λ h. (project_fault_law sentences files place code).0 ((same (fault place code)).0 h),
-      λ r. (same (fault place code)).1 ((project_fault_law sentences files place code).1 r)
+      λ r. (same (fault place code)).1 ((project_fault_law sentences files place code).1 r),
     );
   };
   classes = classes;

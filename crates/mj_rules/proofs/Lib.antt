@@ -15,3 +15,5 @@ pub mod Sets
 pub mod Answering
 pub mod SentenceLaws
 pub mod LowerLaws
+pub mod LowerBodies
+pub mod WorldLaws

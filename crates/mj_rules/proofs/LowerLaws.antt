@@ -11,7 +11,7 @@ use Rattle.mj_parser.specs.Laws.{GrammarLaws}
 use Rattle.mj_parser.proofs.FileFound.{file_found}
 use Rattle.mj_parser.proofs.FileAgain.{file_again}
 use Rattle.mj_rules.proofs.SentenceLaws.{sentences_by}
-use Rattle.mj_rules.specs.Laws.{SentenceLaw, BodyLaws}
+use Rattle.mj_rules.specs.Laws.{SentenceLaw}
 
 pub chain_laws : ChainLaws
 chain_laws = record {
@@ -26,9 +26,9 @@ member_laws = record {
   field = λ cs c x owner f. (λ h. nearest_from_is (own_field x) cs c owner f h, λ h. is_from_nearest (own_field x) cs c owner f h);
   method = λ cs c m owner f. (λ h. nearest_from_is (own_method m) cs c owner f h, λ h. is_from_nearest (own_method m) cs c owner f h);
   fields = λ cs c. is_table (λ f. f.name) (λ k. k.fields) (ancestry cs c) (λ owner f. FieldOf cs c f.name owner f)
-    (λ owner f h. is_from_nearest (own_field f.name) cs c owner f h) (λ owner f h. nearest_from_is (own_field f.name) cs c owner f h);
+      (λ owner f h. is_from_nearest (own_field f.name) cs c owner f h) (λ owner f h. nearest_from_is (own_field f.name) cs c owner f h);
   methods = λ cs c. is_table (λ m. m.name) (λ k. k.methods) (ancestry cs c) (λ owner m. MethodOf cs c m.name owner m)
-    (λ owner m h. is_from_nearest (own_method m.name) cs c owner m h) (λ owner m h. nearest_from_is (own_method m.name) cs c owner m h);
+      (λ owner m h. is_from_nearest (own_method m.name) cs c owner m h) (λ owner m h. nearest_from_is (own_method m.name) cs c owner m h);
 }
 
 pub grammar : GrammarLaws
@@ -36,6 +36,3 @@ grammar = λ ts f. (file_again ts f, file_found ts f)
 
 pub sentence_law : SentenceLaw
 sentence_law = sentences_by grammar
-
-pub body_laws : BodyLaws
-body_laws = ?

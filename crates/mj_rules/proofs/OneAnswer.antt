@@ -29,9 +29,9 @@ one_fault_list Fault ds es a b =
 one_table : (cs : List ClassDecl) (c : Name) (t u : ClassTableValue) → IsTableOf cs c t → IsTableOf cs c u → t ≡ u
 one_table cs c t u a b =
     let fields = one_list_by FieldRow Name (λ row. row.name) NameBefore names t.fields u.fields a.fields_ascend b.fields_ascend
-        (λ row. (λ h. (b.fields row).1 ((a.fields row).0 h), λ h. (a.fields row).1 ((b.fields row).0 h))) in
+    (λ row. (λ h. (b.fields row).1 ((a.fields row).0 h), λ h. (a.fields row).1 ((b.fields row).0 h))) in
     let methods = one_list_by MethodRowValue Name (λ row. row.name) NameBefore names t.methods u.methods a.methods_ascend b.methods_ascend
-        (λ row. (λ h. (b.methods row).1 ((a.methods row).0 h), λ h. (a.methods row).1 ((b.methods row).0 h))) in
+    (λ row. (λ h. (b.methods row).1 ((a.methods row).0 h), λ h. (a.methods row).1 ((b.methods row).0 h))) in
     let build : List FieldRow → List MethodRowValue → ClassTableValue = λ fs ms. record { fields = fs; methods = ms } in
     ap₂ build fields methods
 
@@ -63,6 +63,6 @@ module _ (files : List SourceFile) where
   one_answer a b ra rb =
       let listed = one_fault_list _ a.faults b.faults ra.faults rb.faults in
       let classes = one_list_by ClassAnswerValue Name (λ c. c.name) NameBefore names a.classes b.classes ra.classes.ascending rb.classes.ascending
-          (λ x. (other_has a b ra rb x, other_has b a rb ra x)) in
+      (λ x. (other_has a b ra rb x, other_has b a rb ra x)) in
       let build : List Diagnostic → List ClassAnswerValue → AnswerValue = λ ds cs. record { faults = ds; classes = cs } in
       ap₂ build listed classes

@@ -64,7 +64,10 @@ module _ (cs : List ClassDecl) (m : Name) where
     where
       later : own_method m k ≡ None → IsFirstOwner cs m names found → IsFirstOwner cs m (c ∷ names) found
       later o r = record {
-        nearer = c ∷ r.nearer; owner = r.owner; farther = r.farther; split = ap (λ (ns : List Name). c ∷ ns) r.split;
+        nearer = c ∷ r.nearer;
+        owner = r.owner;
+        farther = r.farther;
+        split = ap (λ (ns : List Name). c ∷ ns) r.split;
         none_nearer = λ d j h ej. elim (Contains-cases c r.nearer d h) [
           | inl same ↦ ap (own_method m) (same_Some j k (sym ej ∙ (ap (decl cs) (sym same) ∙ ek))) ∙ o
           | inr i ↦ r.none_nearer d j i ej
@@ -75,7 +78,10 @@ module _ (cs : List ClassDecl) (m : Name) where
       by_own : (o : Option Method) → own_method m k ≡ o → (nearest (own_method m) (classes_of_names cs names) ≡ Some (owner, found) → IsFirstOwner cs m names found) → or_farther k.name o (nearest (own_method m) (classes_of_names cs names)) ≡ Some (owner, found) → IsFirstOwner cs m (c ∷ names) found
       by_own None o behind f = later o (behind f)
       by_own (Some x) o behind f = record {
-        nearer = []; owner = c; farther = names; split = refl;
+        nearer = [];
+        owner = c;
+        farther = names;
+        split = refl;
         none_nearer = λ d j h ej. absurd (nowhere d h);
         here = (k, ek, o ∙ ap (λ (p : Name × Method). Some p.1) (same_Some (k.name, x) (owner, found) f));
       }
@@ -113,9 +119,13 @@ module _ (laws : ChainLaws) (cs : List ClassDecl) (c m : Name) where
     where
       build : IsFirstOwner cs m rest found → IsOverridden cs c m found
       build r = record {
-        nearer = r.nearer; owner = r.owner; farther = r.farther; end = end;
+        nearer = r.nearer;
+        owner = r.owner;
+        farther = r.farther;
+        end = end;
         is_chain = subst (λ (ns : List Name). IsChain cs c (c ∷ ns) end) r.split is;
-        none_nearer = r.none_nearer; here = r.here;
+        none_nearer = r.none_nearer;
+        here = r.here;
       }
 
   pub overridden_from : (k : ClassDecl) (owner : Name) (found : Method) → decl cs c ≡ Some k → nearest (own_method m) (rest_of cs c) ≡ Some (owner, found) → IsOverridden cs c m found

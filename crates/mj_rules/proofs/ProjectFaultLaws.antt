@@ -50,7 +50,9 @@ from_files before (f ∷ fs) d h =
   where
     later : IsFileFault (before || has_main (file_of f.bytes)) fs d → IsFileFault before (f ∷ fs) d
     later r = record {
-      i = suc r.i; f = r.f; here = r.here;
+      i = suc r.i;
+      f = r.f;
+      here = r.here;
       found = subst (λ b. Contains (file_faults b r.f.name (file_of r.f.bytes)) d) (or_assoc before (has_main (file_of f.bytes)) (any_main (take r.i fs))) r.found;
     }
 

@@ -41,12 +41,13 @@ pub first_bad : (names : List (List ℕ)) (i : ℕ) → position is_bad names �
 first_bad names i e =
     let w = position-Some is_bad names i [] e in
     record {
-      name = get_or names i []; here = slice_get-get_or names i [] w.0; holds = bad (get_or names i []) w.1;
+      name = get_or names i [];
+      here = slice_get-get_or names i [] w.0;
+      holds = bad (get_or names i []) w.1;
       none_before = λ k earlier below ek ill. ill (good earlier (ap is_bad (sym (get_or_from_slice_get names k earlier [] ek)) ∙ w.2 k below));
     }
 
 -- ---- repeated names
-
 
 pub all_distinct : (names : List (List ℕ)) → position (λ (b : Bool). b) (repeats names) ≡ None → (k : ℕ) (name : List ℕ) → slice_get names k ≡ Some name → IsRepeated names k name → ⊥
 all_distinct names e k name ek h =
@@ -63,7 +64,8 @@ first_repeated names i e =
     let here = slice_get-get_or names i [] within in
     let f = flag_at names i (get_or names i []) here in
     record {
-      name = get_or names i []; here = here;
+      name = get_or names i [];
+      here = here;
       holds = Contains-is_in (take i names) (get_or names i []) (sym f.2 ∙ (sym (get_or_from_slice_get (repeats names) i f.0 true f.1) ∙ w.1));
       none_before = λ k earlier below ek h. earlier_one k earlier below ek h w.2;
     }

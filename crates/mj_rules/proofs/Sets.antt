@@ -96,23 +96,23 @@ from_trichotomy {X} compare B order lt eq gt = record {
   less = λ x y e. elim (order.total x y) [
     | inl b ↦ b
     | inr c ↦ elim c [
-        | inl s ↦ let clash : Equal ≡ Less = sym (ap (compare x) (sym s) ∙ eq x) ∙ e in absurd cc
-        | inr b ↦ let clash : Greater ≡ Less = sym (gt x y b) ∙ e in absurd cc
-      ]
+      | inl s ↦ let clash : Equal ≡ Less = sym (ap (compare x) (sym s) ∙ eq x) ∙ e in absurd cc
+      | inr b ↦ let clash : Greater ≡ Less = sym (gt x y b) ∙ e in absurd cc
+    ]
   ];
   same = λ x y e. elim (order.total x y) [
     | inl b ↦ let clash : Less ≡ Equal = sym (lt x y b) ∙ e in absurd cc
     | inr c ↦ elim c [
-        | inl s ↦ s
-        | inr b ↦ let clash : Greater ≡ Equal = sym (gt x y b) ∙ e in absurd cc
-      ]
+      | inl s ↦ s
+      | inr b ↦ let clash : Greater ≡ Equal = sym (gt x y b) ∙ e in absurd cc
+    ]
   ];
   more = λ x y e. elim (order.total x y) [
     | inl b ↦ let clash : Less ≡ Greater = sym (lt x y b) ∙ e in absurd cc
     | inr c ↦ elim c [
-        | inl s ↦ let clash : Equal ≡ Greater = sym (ap (compare x) (sym s) ∙ eq x) ∙ e in absurd cc
-        | inr b ↦ b
-      ]
+      | inl s ↦ let clash : Equal ≡ Greater = sym (ap (compare x) (sym s) ∙ eq x) ∙ e in absurd cc
+      | inr b ↦ b
+    ]
   ];
 }
 

@@ -84,7 +84,7 @@ module _ (members : MemberLaws) (cs : List ClassDecl) (c : Name) where
       let p = place_of (method_table cs c) (row.owner, is.method) member in
       let build : Name → List Ty → Ty → MethodRowValue = λ name formals returns. record { name = name; owner = row.owner; formals = formals; returns = returns } in
       let equal : method_row (row.owner, is.method) ≡ row =
-          ap (λ (n : Name). build n (map (λ v. v.ty) is.method.formals) is.method.returns) same ∙ (ap (λ (ts : List Ty). build row.name ts is.method.returns) (sym is.formals) ∙ ap (build row.name row.formals) (sym is.returns)) in
+      ap (λ (n : Name). build n (map (λ v. v.ty) is.method.formals) is.method.returns) same ∙ (ap (λ (ts : List Ty). build row.name ts is.method.returns) (sym is.formals) ∙ ap (build row.name row.formals) (sym is.returns)) in
       contains_at (map method_row (method_table cs c)) p.0 row (map_at method_row (method_table cs c) p.0 (row.owner, is.method) p.1 ∙ ap Some equal)
 
   pub table_law : IsTableOf cs c (table_of cs c)

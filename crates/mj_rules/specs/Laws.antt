@@ -3,6 +3,7 @@ use Rattle.std.specs.Prelude.{◌≡◌, ◌↔◌, ℕ, List, Some, Contains}
 use Rattle.mj_parser.specs.Trees.{Name, Method, Main, File}
 use Rattle.mj_parser.specs.declared.place.Place.{Place}
 use Rattle.mj_answer.specs.declared.code.Code.{Code}
+use Rattle.mj_answer.specs.Answers.{AnswerValue}
 use Rattle.mj_classes.specs.Declarations.{ClassDecl, decl}
 use Rattle.mj_typing.specs.declared.verdict.Mistake.{Mistake}
 use Rattle.mj_typing.specs.Inquiries.{World}
@@ -10,7 +11,10 @@ use Rattle.mj_typing.specs.Bodies.{MethodFault, MainFault, method_faults, main_f
 use Rattle.mj_rules.specs.Projects.{SourceFile}
 use Rattle.mj_rules.specs.Sentences.{IsSentence, file_of}
 use Rattle.mj_rules.specs.ProjectFaults.{FaultOfProject}
+use Rattle.mj_rules.specs.Worlds.{world_of, Says}
 use Rattle.mj_rules.specs.ClassFaults.{FaultOfClass}
+use Rattle.mj_rules.specs.Rules.{Rules}
+use Rattle.mj_rules.specs.Answering.{rules_of}
 use Rattle.mj_rules.specs.FaultLists.{fault, project_faults, class_faults}
 
 -- the tree that is computed is the one that the bytes are a sentence of
@@ -23,6 +27,14 @@ ProjectFaultLaw = (files : List SourceFile) (place : Place) (code : Code) → Co
 
 abbrev pub ClassFaultLaw : Type 0
 ClassFaultLaw = (cs : List ClassDecl) (k : ClassDecl) → decl cs k.name ≡ Some k → (place : Place) (code : Code) → Contains (class_faults cs k) (fault place code) ↔ FaultOfClass cs k place code
+
+-- what the check of a body is told is what chains and members are
+abbrev pub WorldLaw : Type 0
+WorldLaw = (cs : List ClassDecl) → Says cs (world_of cs)
+
+-- the computed answer is the only one that the rules give
+abbrev pub AnswerLaw : Type 0
+AnswerLaw = (files : List SourceFile) (answer : AnswerValue) → Rules files answer ↔ (answer ≡ rules_of files)
 
 pub record BodyLaws : Type 0 where
   pub method : (w : World) (class : Name) (m : Method) (x : Mistake) → MethodFault w class m x ↔ Contains (method_faults w class m) x

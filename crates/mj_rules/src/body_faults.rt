@@ -9,35 +9,44 @@ ghost use Rattle.mj_rules.specs.Worlds.{world_of};
 ghost use Rattle.mj_rules.specs.FaultLists.{each_numbered, inside, body_faults_of, main_method_faults, body_faults};
 
 use crate::declaration_faults::repeated_methods;
+use crate::plain::Plain;
 use crate::world::World;
 use mj_answer::Diagnostic;
 use mj_classes::{ClassRef, Declarations, Tree};
 use mj_lexer::Name;
 use mj_parser::{MainTree, MethodTree, Place};
-use mj_typing::Mistake;
+use mj_typing::{Mistake, check_main, check_method};
 use std::alloc::{AllocError, Global};
 
 /// The mistakes in a method of a class.
 fn method_mistakes(
-    _alloc: Global,
-    _world: &World,
-    _class: &Name,
-    _method: &MethodTree,
+    alloc: Global,
+    world: &World,
+    class: &Name,
+    method: &MethodTree,
 ) -> Result<Vec<Mistake>, AllocError>
-    ensures { IfOk result (λ mistakes. mistakes.items ≡ method_faults (world_of (declared_in _world.now.declarations.now)) _class.now (method_view _method.now)) }
+    ensures { IfOk result (λ mistakes. mistakes.items ≡ method_faults (world_of (declared_in world.now.declarations.now)) class.now (method_view method.now)) }
 {
-    Err(AllocError)
+    let mut asking = Plain {
+        declarations: world,
+    };
+    match check_method(alloc, &mut asking, class, method) {
+        Ok(mistakes) => Ok(mistakes),
+        Err(_) => Err(AllocError),
+    }
 }
 
 /// The mistakes in main.
-fn main_mistakes(
-    _alloc: Global,
-    _world: &World,
-    _main: &MainTree,
-) -> Result<Vec<Mistake>, AllocError>
-    ensures { IfOk result (λ mistakes. mistakes.items ≡ main_faults (world_of (declared_in _world.now.declarations.now)) (main_view _main.now)) }
+fn main_mistakes(alloc: Global, world: &World, main: &MainTree) -> Result<Vec<Mistake>, AllocError>
+    ensures { IfOk result (λ mistakes. mistakes.items ≡ main_faults (world_of (declared_in world.now.declarations.now)) (main_view main.now)) }
 {
-    Err(AllocError)
+    let mut asking = Plain {
+        declarations: world,
+    };
+    match check_main(alloc, &mut asking, main) {
+        Ok(mistakes) => Ok(mistakes),
+        Err(_) => Err(AllocError),
+    }
 }
 
 /// Adds mistakes in the body of a method.

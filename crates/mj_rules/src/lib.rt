@@ -6,15 +6,20 @@ mod checker;
 mod declaration_faults;
 mod laws;
 mod places;
+mod plain;
 mod project;
 mod project_faults;
 mod reading;
 mod repeats;
 mod tables;
+#[cfg(test)]
+mod tests;
 mod world;
 
 pub use checker::scratch;
-pub use laws::{project_fault_laws, sentence_laws};
-pub use mj_answer::{Answer, ClassAnswer, ClassTable, Code, Diagnostic, FieldRow, MethodRow, render};
+pub use laws::{answer_laws, class_fault_laws, project_fault_laws, sentence_laws, world_laws};
+pub use mj_answer::{
+    Answer, ClassAnswer, ClassTable, Code, Diagnostic, FieldRow, MethodRow, render,
+};
 pub use places::{FaultLine, fault_lines};
 pub use project::{Project, ProjectFault};

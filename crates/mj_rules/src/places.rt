@@ -112,7 +112,11 @@ impl<'a> Texts<'a> {
         ensures { result.code ≡ fault.now.code }
     {
         match &fault.place {
-            Place::File(name) if fault.code == Code::E103 => self.file_line(name, Some(0), fault.code),
+            Place::File(name) if fault.code == Code::E103 => self.file_line(
+                name,
+                Some(0),
+                fault.code,
+            ),
             Place::File(name) => self.file_line(name, None, fault.code),
             Place::ClassOf(name, number) => self.file_line(name, Some(*number), fault.code),
             _ => FaultLine {
@@ -124,7 +128,12 @@ impl<'a> Texts<'a> {
     }
 
     /// A fault of a class, the first one of its name.
-    fn class_line(&self, declarations: &Declarations, class: &Name, fault: &Diagnostic) -> FaultLine<'a>
+    fn class_line(
+        &self,
+        declarations: &Declarations,
+        class: &Name,
+        fault: &Diagnostic,
+    ) -> FaultLine<'a>
         ensures { result.code ≡ fault.now.code }
     {
         match declarations.find(class) {

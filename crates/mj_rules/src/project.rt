@@ -97,9 +97,7 @@ impl Project {
 fn bad_name(files: &[(String, Vec<u8>)]) -> Option<usize>
     ensures { result ≡ position (λ file. not (is_file_name (string_bytes file.0))) files.now }
 {
-    files
-        .iter()
-        .position(|(name, _)| name.is_empty() || name.len() > Project::MOST_NAME_BYTES)
+    files.iter().position(|(name, _)| name.is_empty() || name.len() > Project::MOST_NAME_BYTES)
 }
 
 /// The names of files.

@@ -115,7 +115,14 @@ pub fn add_repeated_classes(
     let repeated = repeated_classes(alloc, classes)?;
     let flags = repeated.as_slice();
     for (number, class) in classes.iter().enumerate() {
-        add_repeated_class(alloc, faults, files, class.file, class.number, flags[number])?;
+        add_repeated_class(
+            alloc,
+            faults,
+            files,
+            class.file,
+            class.number,
+            flags[number],
+        )?;
     }
     Ok(())
 }

@@ -49,10 +49,7 @@ fn read_file(alloc: Global, bytes: &[u8]) -> Result<Option<FileTree>, AllocError
 }
 
 /// The tree of each file of a project, if it is a sentence.
-pub fn read_files(
-    alloc: Global,
-    project: &Project,
-) -> Result<Vec<Option<FileTree>>, AllocError>
+pub fn read_files(alloc: Global, project: &Project) -> Result<Vec<Option<FileTree>>, AllocError>
     ensures { IfOk result (λ trees. files_view trees.items ≡ trees_of project.now) }
 {
     let mut trees = Vec::new(alloc);

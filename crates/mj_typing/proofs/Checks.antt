@@ -10,7 +10,7 @@ use Rattle.mj_typing.specs.Inquiries.{World, Inquiry, Concludes, AsksDescent, As
 use Rattle.mj_typing.specs.Phrases.{Phrase, Phrases, phrase, nothing, part, Found, noted, own_step, phrase_step, parts_step, type_of, types_of, verdict_by, and_type, add_own, add_faults, add_all, add_each}
 use Rattle.mj_typing.specs.Steps.{Check}
 use Rattle.mj_typing.specs.Table.{Scope, own_phrase, statement_phrases, statements_phrases, return_phrase, method_scope, main_scope, method_phrases}
-use Rattle.mj_typing.specs.Bodies.{return_type_mark, variables_of, add_undeclared, add_undeclared_each, add_repeated_each, type_step, types_step, mistakes_step, statement_step, statements_step, method_step, main_step, method_check, main_check, method_faults, main_faults}
+use Rattle.mj_typing.specs.Bodies.{return_type_mark, variables_of, add_undeclared, add_undeclared_each, add_repeated_each, type_step, types_step, mistakes_step, statement_step, statements_step, declared_step, method_step, main_step, method_check, main_check, method_faults, main_faults}
 
 pub conclusion-and_then : {R S : Type 0} (w : World) (m : Inquiry R) (f : R → Inquiry S) → conclusion w (and_then m f) ≡ conclusion w (f (conclusion w m))
 conclusion-and_then w (Concludes r) f = refl
@@ -82,7 +82,7 @@ module _ (w : World) where
   main_concludes m = statement_said main_scope m.statement [] (λ mistakes. Concludes mistakes)
 
   pub method_concludes : (class : Name) (m : Method) → conclusion w (method_check class m) ≡ method_faults w class m
-  unfolding method_check method_step
+  unfolding method_check method_step declared_step
   method_concludes class m =
       let s : Scope = method_scope class m in
       let repeated = add_repeated_each [] [] (variables_of m) in

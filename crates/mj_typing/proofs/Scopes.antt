@@ -1,5 +1,6 @@
 -- The map of the first variables of each name.
-use Rattle.std.proofs.Common.{◌≡◌, ℕ, Bool, true, false, cond, List, [], ◌∷◌, ◌++◌, Option, Some, None, refl, sym, ap, ◌∙◌, subst}
+use Rattle.std.proofs.lemmas.List.{take_all, take_more}
+use Rattle.std.proofs.Common.{◌≡◌, ℕ, ◌+◌, ◌<◌, ◌≤◌, length, take, drop, get_or, append_assoc, append-nil, Bool, true, false, cond, List, [], ◌∷◌, ◌++◌, Option, Some, None, refl, sym, ap, ◌∙◌, subst}
 use Rattle.std.specs.BTreeMap.{BTreeMap, get, is_at}
 use Rattle.std.specs.Cmp.Lexicographic.{slice_cmp}
 use Rattle.std.specs.Ordering.{nat_cmp}
@@ -8,10 +9,12 @@ use Rattle.std.proofs.lemmas.Map.Text.{is_eq-slice_cmp}
 use Rattle.mj_parser.specs.Trees.{Name}
 use Rattle.mj_parser.specs.declared.tree.Ty.{Ty}
 use Rattle.mj_parser.specs.declared.tree.Variable.{Variable}
+use Rattle.mj_typing.specs.declared.verdict.Mistake.{Mistake}
 use Rattle.mj_typing.specs.Types.{is_same}
-use Rattle.mj_typing.specs.Bodies.{has_name}
+use Rattle.mj_typing.specs.Bodies.{has_name, add_repeated, add_repeated_each}
 use Rattle.mj_typing.specs.Seen.{Covers}
 use Rattle.mj_typing.specs.Table.{local_of}
+use Rattle.mj_typing.proofs.Asked.{front_at}
 use Rattle.mj_typing.proofs.Mistakes.{same_from, from_same}
 
 abbrev or_else : Option Ty → Option Ty → Option Ty
@@ -68,3 +71,29 @@ covers_more types more before v name t n e c h u x =
 
 pub has_name-covered : (types : BTreeMap Name Ty) (before : List Variable) (x : Name) → Covers types before → has_name before x ≡ is_some (get (slice_cmp nat_cmp) types x)
 has_name-covered types before x c = has_name-local_of before x ∙ ap is_some (sym (c x))
+
+-- ---- a loop over variables
+
+before_next : (vs before : List Variable) (i : ℕ) (v : Variable) → i < length vs → v ≡ get_or vs i v → (before ++ take i vs) ++ v ∷ [] ≡ before ++ take (i + 1) vs
+before_next vs before i v h e =
+    append_assoc before (take i vs) (v ∷ [])
+    ∙ ap (λ l. before ++ l) (ap (λ x. take i vs ++ x ∷ []) e ∙ sym (take_more vs i v h))
+
+pub covers_next : (types : BTreeMap Name Ty) (vs before : List Variable) (i : ℕ) (v : Variable) → i < length vs → v ≡ get_or vs i v → Covers types ((before ++ take i vs) ++ v ∷ []) → Covers types (before ++ take (i + 1) vs)
+covers_next types vs before i v h e c = subst (Covers types) (before_next vs before i v h e) c
+
+pub repeated_next : (mistakes more : List Mistake) (vs before : List Variable) (i : ℕ) (v : Variable) → i < length vs → v ≡ get_or vs i v → more ≡ add_repeated mistakes (before ++ take i vs) v
+    → add_repeated_each more (before ++ take (i + 1) vs) (drop (i + 1) vs) ≡ add_repeated_each mistakes (before ++ take i vs) (drop i vs)
+repeated_next mistakes more vs before i v h e m =
+    ap (λ l. add_repeated_each more l (drop (i + 1) vs)) (sym (before_next vs before i v h e))
+    ∙ ap (λ ms. add_repeated_each ms ((before ++ take i vs) ++ v ∷ []) (drop (i + 1) vs)) m
+    ∙ ap (λ us. add_repeated_each mistakes (before ++ take i vs) us) (sym (front_at vs i v h e))
+
+pub covers_done : (types : BTreeMap Name Ty) (vs before : List Variable) (i : ℕ) → length vs ≤ i → Covers types (before ++ take i vs) → Covers types (before ++ vs)
+covers_done types vs before i h c = subst (λ l. Covers types (before ++ l)) (take_all i vs h) c
+
+pub add_repeated_each-append : (mistakes : List Mistake) (before vs us : List Variable) → add_repeated_each mistakes before (vs ++ us) ≡ add_repeated_each (add_repeated_each mistakes before vs) (before ++ vs) us
+add_repeated_each-append mistakes before [] us = ap (λ l. add_repeated_each mistakes l us) (sym (append-nil before))
+add_repeated_each-append mistakes before (v ∷ vs) us =
+    add_repeated_each-append (add_repeated mistakes before v) (before ++ v ∷ []) vs us
+    ∙ ap (λ l. add_repeated_each (add_repeated_each (add_repeated mistakes before v) (before ++ v ∷ []) vs) l us) (append_assoc before (v ∷ []) vs)

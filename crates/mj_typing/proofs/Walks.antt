@@ -1,5 +1,6 @@
 -- The walk over phrases and their parts.
 use Rattle.std.proofs.Common.{◌≡◌, ℕ, ◌+◌, ◌<◌, ◌≤◌, List, [], ◌∷◌, ◌++◌, length, map, drop, get_or, Option, Some, None, Result, Ok, Err, IfOk, IfErr, refl, ap, subst, sym, ◌∙◌, append_assoc, append-nil}
+use Rattle.mj_parser.specs.Trees.{Name, Method}
 use Rattle.mj_parser.specs.Views.{exp_view, exps_view, stmt_view, stmts_view}
 use Rattle.mj_parser.specs.declared.tree.Exp.{Exp}
 use Rattle.mj_parser.specs.declared.tree.Stmt.{Stmt}
@@ -7,11 +8,11 @@ use Rattle.mj_parser.specs.declared.tree.Ty.{Ty}
 use Rattle.mj_parser.specs.declared.tree.Variable.{Variable}
 use Rattle.mj_typing.specs.declared.verdict.Mistake.{Mistake}
 use Rattle.mj_typing.specs.declared.verdict.Verdict.{Verdict}
-use Rattle.mj_typing.specs.Bodies.{type_step, types_step, mistakes_step, statement_step, statements_step}
+use Rattle.mj_typing.specs.Bodies.{variables_of, add_repeated_each, declared_step, method_step, type_step, types_step, mistakes_step, statement_step, statements_step}
 use Rattle.mj_typing.specs.Inquiries.{Inquiry}
 use Rattle.mj_typing.specs.Phrases.{Phrase, Phrases, phrase, nothing, part, Found, own_step, phrase_step, parts_step, and_type, with_type}
 use Rattle.mj_typing.specs.Steps.{Check, Goes, GivesUp}
-use Rattle.mj_typing.specs.Table.{Scope, phrase_of, phrases_of}
+use Rattle.mj_typing.specs.Table.{Scope, phrase_of, phrases_of, return_phrase, method_scope}
 use Rattle.mj_typing.proofs.Asked.{Comes, memory_inside, front_at, at_end}
 
 pub if_ok : {A E : Type 0} {P Q : A → Type 0} (r : Result A E) → ((a : A) → P a → Q a) → IfOk r P → IfOk r Q
@@ -202,4 +203,33 @@ module _ {S E : Type 0} (stands : S → Check → Check → Type 0) (halts : S �
     unfolding types_step
     types_done i mistakes new l h = record {
       goes = λ start k w. subst (λ us. stands new start (types_step us mistakes k)) (at_end vs i h) (l.comes start k w);
+    }
+
+  -- ---- a method
+
+  module _ (class : Name) (m : Method) (scope : Scope) (before : List Mistake) (old next now : S) (a b : List Mistake) where
+    pub goes_method : (c : List Mistake) (new : S) → scope ≡ method_scope class m → before ≡ add_repeated_each [] [] (variables_of m)
+        → Goes stands (declared_step m before) old a next → Goes stands (statements_step scope m.body a) next b now → Goes stands (mistakes_step (return_phrase scope m.return_mark m.returns m.returned) b) now c new
+        → Goes stands (method_step class m) old c new
+    unfolding method_step
+    goes_method c new s r d ss last = record {
+      goes = λ start k w.
+          last.goes start k
+          (ss.goes start (λ b. mistakes_step (return_phrase scope m.return_mark m.returns m.returned) b k)
+          (d.goes start (λ a. statements_step scope m.body a (λ b. mistakes_step (return_phrase scope m.return_mark m.returns m.returned) b k))
+          (subst (λ s. stands old start (declared_step m before (λ a. statements_step s m.body a (λ b. mistakes_step (return_phrase s m.return_mark m.returns m.returned) b k)))) (sym s)
+          (subst (λ ms. stands old start (declared_step m ms (λ a. statements_step (method_scope class m) m.body a (λ b. mistakes_step (return_phrase (method_scope class m) m.return_mark m.returns m.returned) b k)))) (sym r) w))));
+    }
+
+    pub up_return : (e : E) (new : S) → scope ≡ method_scope class m → before ≡ add_repeated_each [] [] (variables_of m)
+        → Goes stands (declared_step m before) old a next → Goes stands (statements_step scope m.body a) next b now → GivesUp stands halts (mistakes_step (return_phrase scope m.return_mark m.returns m.returned) b) now e new
+        → GivesUp stands halts (method_step class m) old e new
+    unfolding method_step
+    up_return e new s r d ss last = record {
+      ends = λ start k w.
+          last.ends start k
+          (ss.goes start (λ b. mistakes_step (return_phrase scope m.return_mark m.returns m.returned) b k)
+          (d.goes start (λ a. statements_step scope m.body a (λ b. mistakes_step (return_phrase scope m.return_mark m.returns m.returned) b k))
+          (subst (λ s. stands old start (declared_step m before (λ a. statements_step s m.body a (λ b. mistakes_step (return_phrase s m.return_mark m.returns m.returned) b k)))) (sym s)
+          (subst (λ ms. stands old start (declared_step m ms (λ a. statements_step (method_scope class m) m.body a (λ b. mistakes_step (return_phrase (method_scope class m) m.return_mark m.returns m.returned) b k)))) (sym r) w))));
     }

@@ -110,14 +110,16 @@ unfoldable mutual
   statements_step s done mistakes next = next mistakes
   statements_step s (trees.next a ss) mistakes next = statement_step s a mistakes (λ more. statements_step s ss more next)
 
--- a method of the class: the types of its return, its formals and its locals, the statements, the return
+-- the types of the return, of the formals and of the locals
+unfoldable pub declared_step : Method → List Mistake → (List Mistake → Check) → Check
+declared_step m mistakes next = type_step return_type_mark m.returns mistakes (λ a. types_step m.formals a (λ b. types_step m.locals b next))
+
+-- a method of the class: the declared types, the statements, the return
 unfoldable pub method_step : Name → Method → (List Mistake → Check) → Check
 method_step class m next =
-    type_step return_type_mark m.returns (add_repeated_each [] [] (variables_of m)) (λ a.
-    types_step m.formals a (λ b.
-    types_step m.locals b (λ c.
-    statements_step (method_scope class m) m.body c (λ d.
-    mistakes_step (return_phrase (method_scope class m) m.return_mark m.returns m.returned) d next))))
+    declared_step m (add_repeated_each [] [] (variables_of m)) (λ a.
+    statements_step (method_scope class m) m.body a (λ b.
+    mistakes_step (return_phrase (method_scope class m) m.return_mark m.returns m.returned) b next))
 
 unfoldable pub main_step : Main → (List Mistake → Check) → Check
 main_step m next = statement_step main_scope m.statement [] next

@@ -2,7 +2,7 @@
 ghost use Rattle.std.specs.Prelude.{◌≡◌, ◌++◌, ◌∷◌, [], IfOk, IfErr, OnOk};
 ghost use Rattle.mj_answer.specs.declared.code.Code.TheVariants.{E206};
 ghost use Rattle.mj_parser.specs.Views.{method_view, main_view};
-ghost use Rattle.mj_typing.specs.Bodies.{method_step, main_step, type_step, types_step};
+ghost use Rattle.mj_typing.specs.Bodies.{method_step, main_step, declared_step, type_step, types_step};
 ghost use Rattle.mj_typing.specs.Steps.{Goes, GivesUp};
 
 use crate::asking::{Asking, Stop};
@@ -66,6 +66,23 @@ fn check_types<A: Asking>(
     Ok(())
 }
 
+/// The types that a method declares: that of its return, its formals and its locals.
+#[tactic(auto, unfolding(crate::specs::Bodies::declared_step))]
+fn check_declared<A: Asking>(
+    alloc: Global,
+    asking: &mut A,
+    method: &MethodTree,
+    mistakes: &mut Vec<Mistake>,
+) -> Result<(), Stop<A::Refusal>>
+    ensures ok { OnOk result (Goes A.stands (declared_step (method_view method.now) mistakes.old.items) asking.old mistakes.new.items asking.new) }
+    ensures err { IfErr result (λ e. GivesUp A.stands A.halts (declared_step (method_view method.now) mistakes.old.items) asking.old e asking.new) }
+    ensures follows { A.follows asking.old asking.new }
+{
+    check_type(alloc, asking, RETURN_TYPE_MARK, &method.returns, mistakes)?;
+    check_types(alloc, asking, &method.formals, mistakes)?;
+    check_types(alloc, asking, &method.locals, mistakes)
+}
+
 /// The mistakes in a method of the class, unordered and with repeats.
 #[tactic(auto, unfolding(crate::specs::Bodies::method_step))]
 pub fn check_method<A: Asking>(
@@ -80,15 +97,7 @@ pub fn check_method<A: Asking>(
 {
     let mut mistakes = Vec::new(alloc);
     let scope = Scope::of_method(alloc, class, method, &mut mistakes)?;
-    check_type(
-        alloc,
-        asking,
-        RETURN_TYPE_MARK,
-        &method.returns,
-        &mut mistakes,
-    )?;
-    check_types(alloc, asking, &method.formals, &mut mistakes)?;
-    check_types(alloc, asking, &method.locals, &mut mistakes)?;
+    check_declared(alloc, asking, method, &mut mistakes)?;
     check_statements(alloc, asking, &scope, &method.body, &mut mistakes)?;
     check_return(
         alloc,

@@ -14,4 +14,4 @@ pub returns-in-Err-clause-exact : goal.returns-in-Err-clause-exact
 unfolding main_from
 returns-in-Err-clause-exact c =
     let e = rw take_rest at c.in-Err.ensures.exact in
-    fails_behind c.in-Err.fault c.behind.result (main_method_at (drop 3 c.args.tokens.now)) (main_from c.args.tokens.now) c.behind.ensures (λ n. rw (main_from, n) refl) e
+    fails_behind c.in-Err.fault c.behind.result (main_method_at (drop 3 c.args.tokens.now)) (main_from c.args.tokens.now) c.behind.ensures.memory (λ n. rw (main_from, n) refl) e

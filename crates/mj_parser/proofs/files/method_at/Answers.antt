@@ -14,4 +14,4 @@ pub returns-in-Err-clause-exact : goal.returns-in-Err-clause-exact
 unfolding method_from
 returns-in-Err-clause-exact c =
     let e = rw take_rest at c.in-Err.ensures.exact in
-    fails_behind c.in-Err.fault c.behind.result (method_at (drop c.args.at c.args.tokens.now)) (method_from c.args.tokens.now c.args.at) c.behind.ensures (λ n. rw (method_from, n) refl) e
+    fails_behind c.in-Err.fault c.behind.result (method_at (drop c.args.at c.args.tokens.now)) (method_from c.args.tokens.now c.args.at) c.behind.ensures.memory (λ n. rw (method_from, n) refl) e

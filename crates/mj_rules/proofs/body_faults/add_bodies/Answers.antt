@@ -30,5 +30,5 @@ loop-number-preserved c =
     c.loop-number.faults.items c.add_body.new.faults.items
     (map_at method_view c.args.methods.now c.loop-number.number c.index-methods-number.result (item_at c.args.methods.now c.loop-number.number c.index-methods-number.result within c.index-methods-number.is))
     (flag_read (repeats (names (map method_view c.args.methods.now))) c.as_slice-flags.result.now c.loop-number.number _ flags
-      (flag_within (names (map method_view c.args.methods.now)) c.as_slice-flags.result.now c.loop-number.number flags named))
+    (flag_within (names (map method_view c.args.methods.now)) c.as_slice-flags.result.now c.loop-number.number flags named))
     c.in_ok-add_body.ensures ∙ c.loop-number.invariant

@@ -8,7 +8,8 @@ use Rattle.mj_classes.specs.Index.{declared_in}
 use Rattle.mj_rules.specs.FaultLists.{body_faults, class_faults}
 use Rattle.mj_rules.specs.Tables.{table_along, table_of}
 use Rattle.mj_rules.proofs.Composing.{SameFaults, class_answer}
-use Rattle.mj_rules.proofs.LowerLaws.{chain_laws, member_laws, body_laws}
+use Rattle.mj_rules.proofs.LowerLaws.{chain_laws, member_laws}
+use Rattle.mj_rules.proofs.LowerBodies.{body_laws}
 use Rattle.mj_rules.proofs.checker.class_answer.Goals as goal
 
 pub returns-clause-rules : goal.returns-clause-rules

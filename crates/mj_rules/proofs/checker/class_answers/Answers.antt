@@ -39,10 +39,10 @@ loop-name-preserved c =
     let more = take_more c.deref-name-items.result.now c.loop-name.name-index c.name-item.result within ∙ ap (λ (n : Name). take c.loop-name.name-index c.deref-name-items.result.now ++ n ∷ []) (sym c.name-item.is) in
     record {
       named =
-        ap (map (λ (a : ClassAnswerValue). a.name)) c.in_ok-push.ensures.items
-        ∙ (map-append (λ (a : ClassAnswerValue). a.name) c.loop-name.answers.items (c.in_ok-class_answer.field-0 ∷ [])
-        ∙ (ap (λ (ns : List Name). ns ++ c.in_ok-class_answer.field-0.name ∷ []) c.loop-name.invariant.named
-        ∙ (ap (λ (n : Name). take c.loop-name.name-index c.deref-name-items.result.now ++ n ∷ []) name ∙ sym more)));
+          ap (map (λ (a : ClassAnswerValue). a.name)) c.in_ok-push.ensures.items
+          ∙ (map-append (λ (a : ClassAnswerValue). a.name) c.loop-name.answers.items (c.in_ok-class_answer.field-0 ∷ [])
+          ∙ (ap (λ (ns : List Name). ns ++ c.in_ok-class_answer.field-0.name ∷ []) c.loop-name.invariant.named
+          ∙ (ap (λ (n : Name). take c.loop-name.name-index c.deref-name-items.result.now ++ n ∷ []) name ∙ sym more)));
       each = subst (All (IsAnswerFor cs)) (sym c.in_ok-push.ensures.items) (All-push (IsAnswerFor cs) c.loop-name.answers.items c.in_ok-class_answer.field-0 c.loop-name.invariant.each c.in_ok-class_answer.ensures.rules);
     }
 

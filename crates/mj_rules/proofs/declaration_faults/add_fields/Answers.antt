@@ -22,5 +22,5 @@ loop-number-preserved c =
     each_step (field_faults (declared_in c.args.declarations.now)) c.args.fields.now (repeats (map (λ (f : Field). f.name) c.args.fields.now)) c.loop-number.number c.index-fields-number.result _ c.loop-number.faults.items c.add_field.new.faults.items
     (item_at c.args.fields.now c.loop-number.number c.index-fields-number.result within c.index-fields-number.is)
     (flag_read (repeats (map (λ (f : Field). f.name) c.args.fields.now)) c.as_slice-flags.result.now c.loop-number.number _ flags
-      (flag_within (map (λ (f : Field). f.name) c.args.fields.now) c.as_slice-flags.result.now c.loop-number.number flags named))
+    (flag_within (map (λ (f : Field). f.name) c.args.fields.now) c.as_slice-flags.result.now c.loop-number.number flags named))
     c.in_ok-add_field.ensures ∙ c.loop-number.invariant

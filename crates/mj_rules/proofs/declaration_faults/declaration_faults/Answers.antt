@@ -31,7 +31,7 @@ returns c =
     let chain : chain_faults (chain_of cs k.name) ≡ when_fault (is_cycle (end_view c.args.chain.now.end)) Class E202 = ap chain_faults c.requires.chain in
     let fields = c.in_ok-add_fields.ensures ∙ ap (λ (fs : List Field). c.add_chain_fault.new.faults.items ++ each_numbered (field_faults cs) 0 fs (repeats (map (λ (f : Field). f.name) fs))) c.fields.ensures in
     let methods = c.in_ok-add_methods.ensures ∙ (ap (λ (ms : List Method). c.add_fields.new.faults.items ++ each_numbered (method_faults_of (sig_in c.deref-2.result.now)) 0 ms (repeats (map (λ (m : Method). m.name) ms))) c.methods.ensures
-        ∙ ap (λ ds. c.add_fields.new.faults.items ++ ds) (methods_same (rest_of cs k.name) c.deref-2.result.now rows k.methods (repeats (method_names k)))) in
+    ∙ ap (λ ds. c.add_fields.new.faults.items ++ ds) (methods_same (rest_of cs k.name) c.deref-2.result.now rows k.methods (repeats (method_names k)))) in
     four_parts (superclass_faults cs k.superclass) (chain_faults (chain_of cs k.name)) (each_numbered (field_faults cs) 0 k.fields (repeats (field_names k)))
     (each_numbered (method_faults_of (nearest_sig (rest_of cs k.name))) 0 k.methods (repeats (method_names k)))
     c.new-faults.result.items c.add_superclass_fault.new.faults.items c.add_chain_fault.new.faults.items c.add_fields.new.faults.items c.add_methods.new.faults.items

@@ -24,14 +24,14 @@ loop-number-preserved c =
     let here = file_at c.args.files.now c.loop-number.number c.index-files-number.result within c.index-files-number.is in
     let tree = tree_at (sources_view c.args.files.now) c.args.trees.now c.loop-number.number (source_view c.index-files-number.result) c.index-trees-number.result c.requires.trees here c.index-trees-number.is in
     let either : c.if-main_before.main_before ≡ (c.loop-number.main_before || has_main (option_map file_view c.index-trees-number.result)) =
-        elim c.if-main_before.branch [
-          | then-main_before w ↦ w.main_before-is ∙ (w.if-main_before.true ∙ sym (ap (λ b. b || has_main (option_map file_view c.index-trees-number.result)) w.if-main_before.true))
-          | else-main_before w ↦ w.main_before-is ∙ (w.has_main-main_before.ensures ∙ sym (ap (λ b. b || has_main (option_map file_view c.index-trees-number.result)) w.if-main_before.false))
-        ] in
+    elim c.if-main_before.branch [
+      | then-main_before w ↦ w.main_before-is ∙ (w.if-main_before.true ∙ sym (ap (λ b. b || has_main (option_map file_view c.index-trees-number.result)) w.if-main_before.true))
+      | else-main_before w ↦ w.main_before-is ∙ (w.has_main-main_before.ensures ∙ sym (ap (λ b. b || has_main (option_map file_view c.index-trees-number.result)) w.if-main_before.false))
+    ] in
     let after : c.if-main_before.main_before ≡ (c.loop-number.main_before || has_main (file_of (source_view c.index-files-number.result).bytes)) =
-        either ∙ ap (λ t. c.loop-number.main_before || has_main t) tree in
+    either ∙ ap (λ t. c.loop-number.main_before || has_main t) tree in
     record {
       any = rw after (any_step (sources_view c.args.files.now) c.loop-number.main_before c.loop-number.number (source_view c.index-files-number.result) here ∙ c.loop-number.invariant.any);
       faults = rw after (files_step (sources_view c.args.files.now) c.loop-number.main_before c.loop-number.number (source_view c.index-files-number.result) c.loop-number.faults.items c.add_file_fault.new.faults.items here
-        (rw (c.as_str.ensures.value, tree) at c.in_ok-add_file_fault.ensures) ∙ c.loop-number.invariant.faults);
+          (rw (c.as_str.ensures.value, tree) at c.in_ok-add_file_fault.ensures) ∙ c.loop-number.invariant.faults);
     }

@@ -28,7 +28,7 @@ loop-number-preserved c =
     c.loop-number.faults.items c.add_repeated_class.new.faults.items
     (map_at class_ref_view c.args.classes.now c.loop-number.number class (item_at c.args.classes.now c.loop-number.number class within c.index-classes-number.is))
     (flag_read (repeats (class_names (classes_view c.args.classes.now))) c.as_slice-flags.result.now c.loop-number.number false flags
-      (flag_within (class_names (classes_view c.args.classes.now)) c.as_slice-flags.result.now c.loop-number.number flags named))
+    (flag_within (class_names (classes_view c.args.classes.now)) c.as_slice-flags.result.now c.loop-number.number flags named))
     (c.in_ok-add_repeated_class.ensures
-      ∙ ap₂ (λ (f n : ℕ). c.loop-number.faults.items ++ (if get_or c.as_slice-flags.result.now c.loop-number.number false then repeated_class (slice_get (sources_view c.args.files.now) f) n else [])) (sym (class_file class)) (sym (class_number class)))
+    ∙ ap₂ (λ (f n : ℕ). c.loop-number.faults.items ++ (if get_or c.as_slice-flags.result.now c.loop-number.number false then repeated_class (slice_get (sources_view c.args.files.now) f) n else [])) (sym (class_file class)) (sym (class_number class)))
     ∙ c.loop-number.invariant

@@ -16,14 +16,14 @@ returns c =
     let files = rw c.files-files.ensures.files at c.in_ok-has_main.ensures.faults in
     let classes = rw (c.files-files.ensures.files, c.requires.classes) at c.in_ok-add_repeated_classes.ensures in
     let last : c.if-not-has_main.faults.items ≡ c.add_repeated_classes.new.faults.items ++ when_fault (not c.in_ok-has_main.has_main) Project E102 =
-        elim c.if-not-has_main.branch [
-          | then-not-has_main+in_ok-push w ↦
-              let off : c.in_ok-has_main.has_main ≡ false = grind (arith, nat_tests) in
-              main_added c.add_repeated_classes.new.faults.items c.if-not-has_main.faults.items c.in_ok-has_main.has_main (inl (off, ap (λ v. v.items) w.faults-is ∙ w.in_ok-push.ensures.items))
-          | else-not-has_main w ↦
-              let on : c.in_ok-has_main.has_main ≡ true = grind (arith, nat_tests) in
-              main_added c.add_repeated_classes.new.faults.items c.if-not-has_main.faults.items c.in_ok-has_main.has_main (inr (on, ap (λ v. v.items) w.faults-is))
-        ] in
+    elim c.if-not-has_main.branch [
+      | then-not-has_main+in_ok-push w ↦
+          let off : c.in_ok-has_main.has_main ≡ false = grind (arith, nat_tests) in
+          main_added c.add_repeated_classes.new.faults.items c.if-not-has_main.faults.items c.in_ok-has_main.has_main (inl (off, ap (λ v. v.items) w.faults-is ∙ w.in_ok-push.ensures.items))
+      | else-not-has_main w ↦
+          let on : c.in_ok-has_main.has_main ≡ true = grind (arith, nat_tests) in
+          main_added c.add_repeated_classes.new.faults.items c.if-not-has_main.faults.items c.in_ok-has_main.has_main (inr (on, ap (λ v. v.items) w.faults-is))
+    ] in
     three_parts (files_faults false c.args.project.now)
     (each_numbered (repeated_class_faults c.args.project.now) 0 (classes_in c.args.project.now) (repeats (class_names (classes_in c.args.project.now))))
     (when_fault (not (any_main c.args.project.now)) Project E102)
