@@ -1,5 +1,0 @@
-class Main {
-    public static void main(String[] arguments) {
-        System.out.println(0);
-    }
-}

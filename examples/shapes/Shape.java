@@ -1,9 +1,0 @@
-class Shape {
-    Point origin;
-    boolean visible;
-}
-
-class Point {
-    int x;
-    int y;
-}
