@@ -2,9 +2,25 @@
 use mj_rules::{Answer, FaultLine, Project, ProjectFault, fault_lines};
 use std::alloc::{AllocError, Global};
 
+/// Whether an answer has no fault.
+pub(crate) fn is_clean(answer: &Answer) -> bool {
+    answer.faults().is_empty()
+        && answer
+            .classes()
+            .iter()
+            .all(|class| class.faults().is_empty())
+}
+
 /// A line for each fault of the project's answer, in the order of the answer's text.
-pub fn fault_text(alloc: Global, project: &Project, answer: &Answer) -> Result<String, AllocError> {
+pub(crate) fn fault_text(
+    alloc: Global,
+    project: &Project,
+    answer: &Answer,
+) -> Result<String, AllocError> {
     let mut text = String::new(alloc);
+    if is_clean(answer) {
+        return Ok(text);
+    }
     for line in &fault_lines(alloc, project, answer)? {
         write_line(&mut text, line)?;
     }
@@ -21,7 +37,7 @@ fn write_line(text: &mut String, line: &FaultLine<'_>) -> Result<(), AllocError>
 }
 
 /// A refusal of the files, with its number, its name and its argument. Want of memory has no text.
-pub fn refusal_text(alloc: Global, fault: ProjectFault) -> Result<String, AllocError> {
+pub(crate) fn refusal_text(alloc: Global, fault: ProjectFault) -> Result<String, AllocError> {
     match fault {
         ProjectFault::RepeatedFile(file) => {
             format!(in alloc; "refused: 3.1 RepeatedFile({file})\n")

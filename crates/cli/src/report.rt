@@ -1,4 +1,6 @@
 //! What a run writes, all of it made before the first byte is written.
+ghost use Rattle.std.specs.Prelude.{◌≡◌, ◌⊎◌, [], string_bytes};
+
 use std::alloc::Global;
 use std::io;
 use std::io::Write;
@@ -28,7 +30,11 @@ pub struct Report {
 
 impl Report {
     /// The help that was asked for.
-    pub fn help(alloc: Global, text: String) -> Self {
+    pub fn help(alloc: Global, text: String) -> Self
+        ensures notes { string_bytes result.notes ≡ [] }
+        ensures answer { string_bytes result.answer ≡ string_bytes text }
+        ensures status { result.status ≡ Status.Clean }
+    {
         Report {
             notes: String::new(alloc),
             answer: text,
@@ -37,7 +43,11 @@ impl Report {
     }
 
     /// Why there is no answer.
-    pub fn refusal(alloc: Global, text: String) -> Self {
+    pub fn refusal(alloc: Global, text: String) -> Self
+        ensures notes { string_bytes result.notes ≡ string_bytes text }
+        ensures answer { string_bytes result.answer ≡ [] }
+        ensures status { result.status ≡ Status.Refused }
+    {
         Report {
             notes: text,
             answer: String::new(alloc),
@@ -46,8 +56,10 @@ impl Report {
     }
 }
 
-/// Writes the notes, and then the answer.
-pub fn deliver<W: Write, E: Write>(report: &Report, out: &mut W, err: &mut E) -> Status {
+/// Writes the notes, and then the answer. Where one of them can't be written the run is refused.
+pub fn deliver<W: Write, E: Write>(report: &Report, out: &mut W, err: &mut E) -> Status
+    ensures { (result ≡ report.now.status) ⊎ (result ≡ Status.Refused) }
+{
     if write(err, report.notes.as_bytes()).is_err() {
         return Status::Refused;
     }
@@ -59,7 +71,9 @@ pub fn deliver<W: Write, E: Write>(report: &Report, out: &mut W, err: &mut E) ->
 }
 
 /// Says that memory ran out, and takes none for it.
-pub fn no_memory<E: Write>(err: &mut E) -> Status {
+pub fn no_memory<E: Write>(err: &mut E) -> Status
+    ensures { (result ≡ Status.OutOfMemory) ⊎ (result ≡ Status.Refused) }
+{
     match write(err, b"out of memory\n") {
         Ok(()) => Status::OutOfMemory,
         Err(_) => Status::Refused,
@@ -67,7 +81,9 @@ pub fn no_memory<E: Write>(err: &mut E) -> Status {
 }
 
 /// Says why the system gave no words.
-pub fn no_words<E: Write>(error: &io::Error, err: &mut E) -> Status {
+pub fn no_words<E: Write>(error: &io::Error, err: &mut E) -> Status
+    ensures { (result ≡ Status.OutOfMemory) ⊎ (result ≡ Status.Refused) }
+{
     if error.kind() == io::ErrorKind::OutOfMemory {
         return no_memory(err);
     }

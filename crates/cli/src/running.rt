@@ -2,7 +2,7 @@
 ghost use Rattle.cli.specs.Statuses.{IsStatus};
 
 use crate::failure::Failure;
-use crate::lines::{fault_text, refusal_text};
+use crate::lines::{fault_text, is_clean, refusal_text};
 use crate::report::{Report, Status, deliver, no_memory};
 use command_line::{Words, WordsFault, words};
 use mj_rules::{Project, render};
@@ -42,14 +42,13 @@ fn scratch<R: Files + AllocGlobal>(rt: &R, names: Vec<String>) -> Result<Report,
     let alloc = rt.alloc();
     let project = Project::new(alloc, read_files(rt, names)?)?;
     let answer = mj_rules::scratch(alloc, &project)?;
-    let notes = fault_text(alloc, &project, &answer)?;
-    let status = if notes.is_empty() {
+    let status = if is_clean(&answer) {
         Status::Clean
     } else {
         Status::Diagnostics
     };
     Ok(Report {
-        notes,
+        notes: fault_text(alloc, &project, &answer)?,
         answer: render(alloc, &answer)?,
         status,
     })

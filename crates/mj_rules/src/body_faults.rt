@@ -1,53 +1,21 @@
 //! The faults of the bodies of a class.
-ghost use Rattle.std.specs.Prelude.{◌≡◌, [], ◌++◌, if◌then◌else◌, map, IfOk, OnOk};
-ghost use Rattle.mj_parser.specs.Views.{method_view, main_view};
+ghost use Rattle.std.specs.Prelude.{◌≡◌, [], ◌++◌, if◌then◌else◌, map, OnOk};
+ghost use Rattle.mj_parser.specs.Views.{method_view};
 ghost use Rattle.mj_classes.specs.Classes.{class_ref_view};
 ghost use Rattle.mj_classes.specs.Index.{declared_in};
-ghost use Rattle.mj_typing.specs.Bodies.{method_faults, main_faults};
+ghost use Rattle.mj_typing.specs.Bodies.{method_faults};
 ghost use Rattle.mj_rules.specs.Repeats.{repeats};
 ghost use Rattle.mj_rules.specs.Worlds.{world_of};
 ghost use Rattle.mj_rules.specs.FaultLists.{each_numbered, inside, body_faults_of, main_method_faults, body_faults};
 
 use crate::declaration_faults::repeated_methods;
-use crate::plain::Plain;
 use crate::world::World;
 use mj_answer::Diagnostic;
 use mj_classes::{ClassRef, Declarations, Tree};
 use mj_lexer::Name;
-use mj_parser::{MainTree, MethodTree, Place};
-use mj_typing::{Mistake, check_main, check_method};
+use mj_parser::{MethodTree, Place};
+use mj_typing::{Mistake, main_mistakes, method_mistakes};
 use std::alloc::{AllocError, Global};
-
-/// The mistakes in a method of a class.
-fn method_mistakes(
-    alloc: Global,
-    world: &World,
-    class: &Name,
-    method: &MethodTree,
-) -> Result<Vec<Mistake>, AllocError>
-    ensures { IfOk result (λ mistakes. mistakes.items ≡ method_faults (world_of (declared_in world.now.declarations.now)) class.now (method_view method.now)) }
-{
-    let mut asking = Plain {
-        declarations: world,
-    };
-    match check_method(alloc, &mut asking, class, method) {
-        Ok(mistakes) => Ok(mistakes),
-        Err(_) => Err(AllocError),
-    }
-}
-
-/// The mistakes in main.
-fn main_mistakes(alloc: Global, world: &World, main: &MainTree) -> Result<Vec<Mistake>, AllocError>
-    ensures { IfOk result (λ mistakes. mistakes.items ≡ main_faults (world_of (declared_in world.now.declarations.now)) (main_view main.now)) }
-{
-    let mut asking = Plain {
-        declarations: world,
-    };
-    match check_main(alloc, &mut asking, main) {
-        Ok(mistakes) => Ok(mistakes),
-        Err(_) => Err(AllocError),
-    }
-}
 
 /// Adds mistakes in the body of a method.
 fn add_inside(

@@ -6,7 +6,6 @@ mod checker;
 mod declaration_faults;
 mod laws;
 mod places;
-mod plain;
 mod project;
 mod project_faults;
 mod reading;

@@ -1,5 +1,5 @@
 -- Checks that ask conclude with the mistakes.
-use Rattle.std.proofs.Common.{◌≡◌, ℕ, Bool, true, false, cond, List, [], ◌∷◌, ◌++◌, Option, Some, None, refl, sym, ap, ◌∙◌, subst}
+use Rattle.std.proofs.Common.{◌≡◌, ℕ, Bool, true, false, cond, List, [], ◌∷◌, ◌++◌, Option, Some, None, Result, Ok, Err, IfOk, refl, sym, ap, ◌∙◌, subst}
 use Rattle.mj_parser.specs.Trees.{Name, Statement, Statements, Block, If, While, Print, Assign, Store, done, next, Method, Main}
 use Rattle.mj_parser.specs.declared.tree.Ty.{Ty}
 use Rattle.mj_parser.specs.declared.tree.Ty.TheVariants as ty
@@ -8,7 +8,7 @@ use Rattle.mj_typing.specs.declared.verdict.Verdict.{Verdict}
 use Rattle.mj_typing.specs.declared.verdict.Mistake.{Mistake}
 use Rattle.mj_typing.specs.Inquiries.{World, Inquiry, Concludes, AsksDescent, AsksField, AsksMethod, AsksDeclared, conclusion, and_then}
 use Rattle.mj_typing.specs.Phrases.{Phrase, Phrases, phrase, nothing, part, Found, noted, own_step, phrase_step, parts_step, type_of, types_of, verdict_by, and_type, add_own, add_faults, add_all, add_each}
-use Rattle.mj_typing.specs.Steps.{Check}
+use Rattle.mj_typing.specs.Steps.{Check, Goes}
 use Rattle.mj_typing.specs.Table.{Scope, own_phrase, statement_phrases, statements_phrases, return_phrase, method_scope, main_scope, method_phrases}
 use Rattle.mj_typing.specs.Bodies.{return_type_mark, variables_of, add_undeclared, add_undeclared_each, add_repeated_each, type_step, types_step, mistakes_step, statement_step, statements_step, declared_step, method_step, main_step, method_check, main_check, method_faults, main_faults}
 
@@ -98,3 +98,24 @@ module _ (w : World) where
       ∙ statements_said s m.body c after
       ∙ phrase_said last d (λ found. Concludes found.mistakes)
       ∙ sym (add_each-append c (statements_phrases s m.body) (last ∷ []))
+
+-- ---- declarations that answer by themselves
+
+module _ {S : Type 0} (world : S → World) (old new : S) (mistakes : List Mistake) where
+  abbrev pub Stands : S → Check → Check → Type 0
+  Stands s start now = conclusion (world s) start ≡ conclusion (world s) now
+
+  said_plainly : (step : (List Mistake → Check) → Check) → Goes Stands step old mistakes new → world new ≡ world old → mistakes ≡ conclusion (world old) (step (λ mistakes. Concludes mistakes))
+  said_plainly step g same = sym (g.goes (step (λ mistakes. Concludes mistakes)) (λ mistakes. Concludes mistakes) refl) ∙ ap (λ w. conclusion w (step (λ mistakes. Concludes mistakes))) same
+
+  pub method_plainly : (class : Name) (m : Method) → Goes Stands (method_step class m) old mistakes new → world new ≡ world old → mistakes ≡ method_faults (world old) class m
+  unfolding method_check
+  method_plainly class m g same = said_plainly (method_step class m) g same ∙ method_concludes (world old) class m
+
+  pub main_plainly : (m : Main) → Goes Stands (main_step m) old mistakes new → world new ≡ world old → mistakes ≡ main_faults (world old) m
+  unfolding main_check
+  main_plainly m g same = said_plainly (main_step m) g same ∙ main_concludes (world old) m
+
+pub handed_on : {A E F : Type 0} (P : A → Type 0) (r : Result A E) (u : Result A F) → IfOk u (λ v. r ≡ Ok v) → IfOk r P → IfOk u P
+handed_on P r (Ok v) e h = subst (λ r. IfOk r P) e h
+handed_on P r (Err f) e h = tt

@@ -1,15 +1,20 @@
 //! Checks that need no asking.
-ghost use Rattle.std.specs.Prelude.{◌≡◌, refl};
+ghost use Rattle.std.specs.Prelude.{◌≡◌, IfOk, Ok, refl};
+ghost use Rattle.mj_parser.specs.Views.{method_view, main_view};
+ghost use Rattle.mj_typing.specs.Bodies.{method_faults, main_faults};
 ghost use Rattle.mj_typing.specs.Inquiries.{conclusion};
 
 use crate::asking::{Asking, Declarations, Stop};
+use crate::check::{check_main, check_method};
+use crate::verdict::Mistake;
 use mj_lexer::Name;
-use mj_parser::Ty;
+use mj_parser::{MainTree, MethodTree, Ty};
 use std::alloc::{AllocError, Global};
 use std::convert::Infallible;
 
 /// Asks declarations that answer by themselves.
-pub struct Plain<'a, D: Declarations> {
+#[derive(Drop)]
+struct Plain<'a, D: Declarations> {
     declarations: &'a D,
 }
 
@@ -62,4 +67,38 @@ impl<'a, D: Declarations> Asking for Plain<'a, D> {
     fn is_declared(&mut self, alloc: Global, class: &Name) -> Result<bool, Stop<Infallible>> {
         Ok(self.declarations.is_declared(alloc, class)?)
     }
+}
+
+/// What a check that nobody refuses an answer came to.
+fn unrefused(outcome: Result<Vec<Mistake>, Stop<Infallible>>) -> Result<Vec<Mistake>, AllocError>
+    ensures { IfOk result (λ mistakes. outcome ≡ Ok mistakes) }
+{
+    match outcome {
+        Ok(mistakes) => Ok(mistakes),
+        Err(Stop::OutOfMemory) => Err(AllocError),
+        Err(Stop::Refused(never)) => match never {},
+    }
+}
+
+/// The mistakes in a method of the class, where the declarations answer by themselves.
+pub fn method_mistakes<D: Declarations>(
+    alloc: Global,
+    declarations: &D,
+    class: &Name,
+    method: &MethodTree,
+) -> Result<Vec<Mistake>, AllocError>
+    ensures { IfOk result (λ mistakes. mistakes.items ≡ method_faults (D.world declarations.now) class.now (method_view method.now)) }
+{
+    unrefused(check_method(alloc, &mut Plain { declarations }, class, method))
+}
+
+/// The mistakes in main, where the declarations answer by themselves.
+pub fn main_mistakes<D: Declarations>(
+    alloc: Global,
+    declarations: &D,
+    main: &MainTree,
+) -> Result<Vec<Mistake>, AllocError>
+    ensures { IfOk result (λ mistakes. mistakes.items ≡ main_faults (D.world declarations.now) (main_view main.now)) }
+{
+    unrefused(check_main(alloc, &mut Plain { declarations }, main))
 }
