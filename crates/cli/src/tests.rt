@@ -1,4 +1,5 @@
 //! Runs of the program over files in memory and over real ones.
+mod command_words;
 mod devices;
 mod failing;
 mod projects;

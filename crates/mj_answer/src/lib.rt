@@ -16,6 +16,3 @@ pub use lookup::{Named, find_by_name, position_by_name};
 pub use sets::{ascending, fault_set, name_set};
 pub use table::{Answer, ClassAnswer, ClassTable, FieldRow, MethodRow};
 pub use text::render;
-
-#[cfg(test)]
-mod tests;

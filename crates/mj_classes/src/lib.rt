@@ -7,8 +7,6 @@ mod declarations;
 mod laws;
 mod lookup;
 mod member;
-#[cfg(test)]
-mod tests;
 
 pub use chain::{ClassChain, End};
 pub use class::{ClassRef, Tree};

@@ -14,6 +14,3 @@ pub use lexer::{LexFault, lex};
 pub use name::Name;
 pub use place::line_col;
 pub use token::{Kind, Terminal, Token};
-
-#[cfg(test)]
-mod tests;

@@ -11,8 +11,6 @@ mod nodes;
 mod parser;
 mod place;
 mod statements;
-#[cfg(test)]
-mod tests;
 mod tokens;
 mod tree;
 

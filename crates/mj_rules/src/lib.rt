@@ -11,8 +11,6 @@ mod project_faults;
 mod reading;
 mod repeats;
 mod tables;
-#[cfg(test)]
-mod tests;
 mod world;
 
 pub use checker::scratch;

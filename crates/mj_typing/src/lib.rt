@@ -17,6 +17,3 @@ pub use check::{check_main, check_method};
 pub use laws::{body_laws, case_laws, row_laws, typing_laws};
 pub use plain::{main_mistakes, method_mistakes};
 pub use verdict::{Mistake, Verdict};
-
-#[cfg(test)]
-mod tests;

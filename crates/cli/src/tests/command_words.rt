@@ -1,14 +1,7 @@
-use crate::{Words, WordsFault, words};
-use std::alloc::Global;
+//! The words of command lines.
+use crate::tests::list;
+use command_line::{Words, WordsFault, words};
 use std::test::Fail;
-
-fn list(alloc: Global, texts: &[&str]) -> Result<Vec<String>, Fail> {
-    let mut list = Vec::new(alloc);
-    for text in texts {
-        list.push(String::from_str(alloc, text)?)?;
-    }
-    Ok(list)
-}
 
 #[test]
 fn reads_the_files(rt: HostRuntime) -> Result<(), Fail> {

@@ -1,5 +1,5 @@
 //! Tests: chains, ends and owners are those of small programs worked by hand.
-use crate::{
+use mj_classes::{
     ClassChain, ClassRef, Declarations, End, acceptance_laws, chain_laws, field_table, member_laws,
     method_table,
 };

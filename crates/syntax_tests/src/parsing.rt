@@ -1,6 +1,6 @@
 //! Tests: expected values are from the language's rules and its worked examples.
-use crate::{Exp, ParseFault, Place, Stmt, Ty, grammar_laws, locate, mark_laws, parse};
 use mj_lexer::{Name, Token, lex};
+use mj_parser::{Exp, ParseFault, Place, Stmt, Ty, grammar_laws, locate, mark_laws, parse};
 use std::alloc::{AllocError, Global};
 use std::test::Fail;
 

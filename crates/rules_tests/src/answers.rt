@@ -1,5 +1,5 @@
 //! Tests: expected texts are from the rules of the printed text and from worked examples.
-use crate::{
+use mj_answer::{
     Answer, ClassAnswer, ClassTable, Code, Diagnostic, FieldRow, MethodRow, Named, ascending,
     code_numbers, fault_set, find_by_name, name_set, one_list, position_by_name, render,
     strict_total_orders,

@@ -1,5 +1,5 @@
 //! Tests: expected values are from the language's rules and its worked examples.
-use crate::{Kind, Name, Token, front_laws, lex, lexing_laws, line_col, name_laws};
+use mj_lexer::{Kind, Name, Token, front_laws, lex, lexing_laws, line_col, name_laws};
 use std::alloc::{AllocError, Global};
 use std::hash::{DefaultHasher, Hash, Hasher};
 use std::test::Fail;

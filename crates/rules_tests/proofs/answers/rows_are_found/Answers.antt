@@ -1,4 +1,4 @@
-use Rattle.mj_answer.proofs.tests.rows_are_found.Goals as goal
+use Rattle.rules_tests.proofs.answers.rows_are_found.Goals as goal
 
 pub position_by_name-requires : goal.position_by_name-requires
 position_by_name-requires g c = rw c.as_slice.ensures.value c.loop-text.invariant

@@ -1,5 +1,5 @@
 //! Tests: the expected texts are those of worked examples.
-use crate::{
+use mj_rules::{
     Project, ProjectFault, answer_laws, class_fault_laws, fault_lines, project_fault_laws, render,
     scratch, sentence_laws, world_laws,
 };

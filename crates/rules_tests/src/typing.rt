@@ -3,12 +3,12 @@ ghost use Rattle.std.specs.Prelude.{◌≡◌, IfOk, ◌&&◌, ◌||◌, [], ◌
 ghost use Rattle.mj_parser.specs.declared.tree.Ty.TheVariants.{Int, Boolean, Class};
 ghost use Rattle.mj_typing.specs.Types.{is_same};
 
-use crate::{
+use mj_lexer::{Name, lex};
+use mj_parser::{FileTree, Ty, parse};
+use mj_typing::{
     Asking, Declarations, Mistake, Signature, Stop, body_laws, case_laws, check_main, check_method,
     main_mistakes, method_mistakes, row_laws, typing_laws,
 };
-use mj_lexer::{Name, lex};
-use mj_parser::{FileTree, Ty, parse};
 use std::alloc::{AllocError, Global};
 use std::test::Fail;
 

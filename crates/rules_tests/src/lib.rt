@@ -1,0 +1,11 @@
+//! Tests of the crates that know the static rules: their expected values are from the rules of the language and its worked examples.
+#![tactic(auto)]
+
+#[cfg(test)]
+mod answers;
+#[cfg(test)]
+mod declarations;
+#[cfg(test)]
+mod projects;
+#[cfg(test)]
+mod typing;
