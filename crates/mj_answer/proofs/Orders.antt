@@ -1,5 +1,5 @@
 -- The orders of names, places and faults are strict and total.
-use Rattle.std.proofs.Common.{◌≡◌, ℕ, zero, suc, ◌<◌, List, [], Ordering, Some, refl, sym, ap, ◌∙◌, subst, arith, ◌⊎◌, inl, inr}
+use Rattle.std.proofs.Common.{◌≡◌, ℕ, zero, suc, ◌<◌, List, Ordering, Some, refl, sym, ap, ◌∙◌, subst, arith, ◌⊎◌, inl, inr}
 use Rattle.std.specs.Ordering.{nat_cmp, ordering_reverse, is_eq}
 use Rattle.std.specs.Cmp.Lexicographic.{slice_cmp}
 use Rattle.std.specs.declared.cmp.Ordering.TheVariants.{Less, Equal, Greater}
@@ -10,7 +10,7 @@ use Rattle.std.proofs.lemmas.Bool.{cases_order}
 use Rattle.mj_parser.specs.declared.place.Place.{Place}
 use Rattle.mj_parser.specs.declared.place.Place.TheVariants.{Project, File, ClassOf, Class, Field, Method, Inside}
 use Rattle.mj_answer.specs.declared.code.Code.{Code}
-use Rattle.mj_answer.specs.declared.code.Code.TheVariants.{E101, E102, E103, E104, E201, E202, E203, E204, E205, E206, E207, E301, E302, E303, E304, E305, E306, E307, E308, E309, E310, E311, E312, E313, E314, E315, E316, E317, E318, E319}
+use Rattle.mj_answer.specs.declared.code.Code.TheVariants.{E101}
 use Rattle.mj_answer.specs.declared.diagnostic.Diagnostic.{Diagnostic}
 use Rattle.mj_answer.specs.Codes.{number_of, code_of}
 use Rattle.mj_answer.specs.Order.{NameBefore, kind_of, name_in, number_in, PlaceBefore, Before, IsStrictTotalOrder}

@@ -7,9 +7,8 @@ use Rattle.std.specs.declared.cmp.Ordering.TheVariants.{Less}
 use Rattle.mj_parser.specs.declared.place.Place.{Place}
 use Rattle.mj_parser.specs.declared.place.Place.TheVariants.{Project, File, ClassOf, Class, Field, Method, Inside}
 use Rattle.mj_answer.specs.declared.diagnostic.Diagnostic.{Diagnostic}
-use Rattle.mj_answer.specs.declared.table.FieldRow.{FieldRow}
 use Rattle.mj_answer.specs.Codes.{number_of}
-use Rattle.mj_answer.specs.Answers.{MethodRowValue, ClassTableValue, ClassAnswerValue, AnswerValue}
+use Rattle.mj_answer.specs.Answers.{ClassTableValue, ClassAnswerValue, AnswerValue}
 
 -- names are ordered by their bytes
 abbrev pub NameBefore : List ℕ → List ℕ → Type 0

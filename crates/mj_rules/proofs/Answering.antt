@@ -1,9 +1,8 @@
 -- The answer that is computed is the one that the rules give.
-use Rattle.std.proofs.Common.{◌≡◌, ℕ, List, [], ◌∷◌, map, Option, Some, None, All, Contains, filter_map, refl, sym, ap, ap₂, subst, ◌∙◌, ◌↔◌}
+use Rattle.std.proofs.Common.{◌≡◌, List, [], ◌∷◌, map, Option, Some, None, All, Contains, filter_map, refl, sym, ap, ap₂, subst, ◌∙◌, ◌↔◌}
 use Rattle.std.specs.List.{cons_option}
 use Rattle.std.proofs.lemmas.List.Elements.{All-nil, All-cons}
 use Rattle.mj_parser.specs.Trees.{Name}
-use Rattle.mj_answer.specs.declared.diagnostic.Diagnostic.{Diagnostic}
 use Rattle.mj_answer.specs.Answers.{ClassAnswerValue, AnswerValue}
 use Rattle.mj_answer.specs.Order.{NameBefore, Before}
 use Rattle.mj_answer.proofs.Alike.{Contains-first, Contains-later}
@@ -13,9 +12,9 @@ use Rattle.mj_rules.specs.Projects.{SourceFile}
 use Rattle.mj_rules.specs.Sentences.{classes_in}
 use Rattle.mj_rules.specs.Rules.{IsAnswerFor, Rules}
 use Rattle.mj_rules.specs.FaultLists.{project_faults, class_faults, class_names}
-use Rattle.mj_rules.specs.Answering.{set_of, name_order, fault_order, class_answer, first_classes, rules_of}
+use Rattle.mj_rules.specs.Answering.{set_of, name_order, fault_order, class_answer, rules_of}
 use Rattle.mj_rules.specs.Laws.{SentenceLaw, BodyLaws}
-use Rattle.mj_rules.proofs.Listed.{contains_at, place_of, at_map}
+use Rattle.mj_rules.proofs.Listed.{place_of, at_map}
 use Rattle.mj_rules.proofs.Overriding.{decl-name}
 use Rattle.mj_rules.proofs.RowLemmas.{finds_one}
 use Rattle.mj_rules.proofs.Sets.{names_compare, faults_compare, set_ascends, from_set, to_set}

@@ -1,9 +1,8 @@
 -- The list of a class's faults has just those of the rows.
-use Rattle.std.proofs.Common.{◌≡◌, ◌≢◌, ℕ, ◌<◌, Bool, true, false, not, List, [], ◌∷◌, ◌++◌, map, take, slice_get, Option, Some, None, is_some, is_none, option_map, Contains, refl, sym, ap, subst, ◌∙◌, ◌⊎◌, inl, inr, true≢false, if◌then◌else◌}
-use Rattle.std.proofs.lemmas.Option.{none-some}
+use Rattle.std.proofs.Common.{◌≡◌, ℕ, ◌<◌, Bool, true, false, not, List, [], take, slice_get, Option, Some, None, is_none, option_map, Contains, refl, sym, ap, subst, ◌∙◌, inl, inr, true≢false}
 use Rattle.std.proofs.lemmas.List.Elements.{Contains-append_left, Contains-append_right, Contains-append_cases}
 use Rattle.mj_answer.proofs.Alike.{Contains-first}
-use Rattle.mj_parser.specs.Trees.{Name, Statement, Method, Main}
+use Rattle.mj_parser.specs.Trees.{Name, Statement, Method}
 use Rattle.mj_parser.specs.declared.tree.Ty.{Ty}
 use Rattle.mj_parser.specs.declared.tree.Ty.TheVariants as types
 use Rattle.mj_parser.specs.declared.tree.Field.{Field}

@@ -1,5 +1,5 @@
 -- The parts of an answer make the answer of the rules.
-use Rattle.std.proofs.Common.{◌≡◌, ℕ, List, [], ◌∷◌, map, Option, Some, All, Contains, refl, sym, ap, subst, ◌∙◌, ◌↔◌}
+use Rattle.std.proofs.Common.{◌≡◌, List, map, Some, All, Contains, sym, ap, subst, ◌∙◌, ◌↔◌}
 use Rattle.mj_parser.specs.Trees.{Name}
 use Rattle.mj_answer.specs.declared.diagnostic.Diagnostic.{Diagnostic}
 use Rattle.mj_answer.specs.Answers.{ClassAnswerValue, AnswerValue}
@@ -9,7 +9,7 @@ use Rattle.mj_classes.specs.Laws.{ChainLaws, MemberLaws}
 use Rattle.mj_rules.specs.Projects.{SourceFile}
 use Rattle.mj_rules.specs.Sentences.{classes_in}
 use Rattle.mj_rules.specs.Tables.{table_of}
-use Rattle.mj_rules.specs.Rules.{AreTheFaults, IsTableOf, IsAnswerFor, AreClassAnswers, Rules}
+use Rattle.mj_rules.specs.Rules.{IsTableOf, IsAnswerFor, AreClassAnswers, Rules}
 use Rattle.mj_rules.specs.FaultLists.{fault, project_faults, class_faults, class_names}
 use Rattle.mj_rules.specs.Laws.{SentenceLaw, BodyLaws}
 use Rattle.mj_rules.proofs.Listed.{contains_at, place_of, map_at}

@@ -1,5 +1,4 @@
 -- The laws of the crates below.
-use Rattle.std.proofs.Common.{◌≡◌, ℕ, List}
 use Rattle.mj_classes.specs.Chains.{ancestry}
 use Rattle.mj_classes.specs.Members.{own_field, own_method, FieldOf, MethodOf}
 use Rattle.mj_classes.specs.Tables.{fields_along, methods_along}

@@ -1,12 +1,12 @@
 -- The nearest method behind a class in its chain.
-use Rattle.std.proofs.Common.{◌≡◌, ℕ, Bool, true, false, List, [], ◌∷◌, ◌++◌, drop, Option, Some, None, find, Contains, refl, sym, ap, subst, ◌∙◌, ◌⊎◌, inl, inr, true≢false, bytes_eq, cond}
+use Rattle.std.proofs.Common.{◌≡◌, Bool, true, false, List, [], ◌∷◌, ◌++◌, drop, Option, Some, None, find, Contains, refl, sym, ap, subst, ◌∙◌, inl, inr, bytes_eq, cond}
 use Rattle.std.specs.List.{filter_map, cons_option}
 use Rattle.std.proofs.lemmas.Option.{none-some, same_Some}
 use Rattle.std.proofs.lemmas.Slice.Eq.{bytes_eq-Decides}
 use Rattle.mj_answer.proofs.Alike.{Contains-cases, Contains-first, Contains-later}
 use Rattle.mj_parser.specs.Trees.{Name, Method}
 use Rattle.mj_classes.specs.Declarations.{ClassDecl, decl}
-use Rattle.mj_classes.specs.Chains.{EndOf, Top, Undeclared, Repeated, Chain, Extends, Ends, Links, IsChain, chain_of, chain_names, ancestry}
+use Rattle.mj_classes.specs.Chains.{EndOf, Top, Undeclared, Repeated, Ends, Links, IsChain, chain_names, ancestry}
 use Rattle.mj_classes.specs.Members.{nearest, or_farther, own_method}
 use Rattle.mj_classes.specs.Laws.{ChainLaws}
 use Rattle.mj_rules.specs.ClassFaults.{IsOverridden}

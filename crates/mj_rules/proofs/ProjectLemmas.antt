@@ -1,5 +1,5 @@
 -- Which files are a project, and why others are none.
-use Rattle.std.proofs.Common.{◌≡◌, ◌≢◌, ℕ, ◌+◌, ◌<◌, ◌≤◌, Bool, true, false, not, cond, ◌&&◌, nat_lt, nat_le, List, [], ◌∷◌, map, length, get_or, take, slice_get, Option, Some, None, All, Contains, position, refl, sym, ap, ◌∙◌, arith, ◌⊎◌, inl, inr, true≢false, ltb-false, string_bytes, String, Vec}
+use Rattle.std.proofs.Common.{◌≡◌, ℕ, ◌+◌, ◌<◌, ◌≤◌, Bool, true, false, not, cond, nat_lt, List, [], ◌∷◌, map, length, get_or, take, slice_get, Option, Some, None, All, position, refl, sym, ap, ◌∙◌, arith, true≢false, ltb-false, string_bytes, String, Vec}
 use Rattle.std.specs.declared.alloc.Global.{Global}
 use Rattle.std.specs.List.{position_or_len}
 use Rattle.std.proofs.lemmas.Bool.Decides.{nat_tests}
@@ -9,10 +9,10 @@ use Rattle.std.proofs.lemmas.List.{length-map}
 use Rattle.std.proofs.lemmas.List.Sums.{fails_before_first}
 use Rattle.mj_rules.specs.declared.project.ProjectFault.{ProjectFault}
 use Rattle.mj_rules.specs.declared.project.ProjectFault.TheVariants.{NoFiles, TooManyFiles, BadFileName, RepeatedFile, OutOfMemory}
-use Rattle.mj_rules.specs.Repeats.{is_in, repeats}
+use Rattle.mj_rules.specs.Repeats.{repeats}
 use Rattle.mj_rules.specs.Projects.{SourceFile, source_view, sources_view, names_of, IsFileName, is_file_name, HasProjectSize, IsRepeated, IsProject, IsFirst, Refuses}
 use Rattle.mj_rules.proofs.Listed.{map_at}
-use Rattle.mj_rules.proofs.RepeatLemmas.{Contains-is_in, is_in-Contains, repeats-at, flag_at, length-repeats}
+use Rattle.mj_rules.proofs.RepeatLemmas.{Contains-is_in, is_in-Contains, flag_at, length-repeats}
 
 past : (a b : ℕ) → cond (nat_lt a b) (Some a) None ≡ None → b ≤ a
 past a b e = test (nat_lt a b) refl e

@@ -1,5 +1,5 @@
 -- Names that stand in a list more than once.
-use Rattle.std.proofs.Common.{◌≡◌, ℕ, zero, suc, ◌+◌, ◌<◌, Bool, true, false, List, [], ◌∷◌, ◌++◌, map, length, get_or, take, slice_get, Some, Contains, refl, sym, ap, ◌∙◌, arith, append_assoc, append-nil, bytes_eq, Bor, cond, not, ◌||◌}
+use Rattle.std.proofs.Common.{◌≡◌, ℕ, zero, suc, ◌+◌, ◌<◌, Bool, true, false, List, [], ◌∷◌, ◌++◌, map, length, get_or, take, slice_get, Some, Contains, refl, sym, ap, ◌∙◌, append_assoc, append-nil, bytes_eq, Bor, cond, not, ◌||◌}
 use Rattle.std.specs.BTreeSet.{BTreeSet, contains_by, Updates}
 use Rattle.std.specs.Cmp.Lexicographic.{slice_cmp}
 use Rattle.std.specs.Ordering.{nat_cmp}

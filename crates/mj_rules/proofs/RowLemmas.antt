@@ -10,7 +10,6 @@ use Rattle.mj_classes.specs.Declarations.{ClassDecl}
 use Rattle.mj_classes.specs.Members.{nearest, or_farther, own_method}
 use Rattle.mj_classes.specs.Tables.{IsTable, methods_along}
 use Rattle.mj_classes.proofs.Tables.{is_table}
-use Rattle.mj_typing.specs.Inquiries.{Sig}
 use Rattle.mj_rules.specs.FaultLists.{fault, each_numbered, nearest_sig, override_faults, method_faults_of}
 use Rattle.mj_parser.specs.declared.place.Place.TheVariants as places
 use Rattle.mj_answer.specs.declared.code.Code.TheVariants.{E204}

@@ -1,10 +1,9 @@
 -- The tree that is computed is the one of the sentence.
-use Rattle.std.proofs.Common.{◌≡◌, ℕ, List, Option, Some, None, Result, Ok, Err, IfOk, option_and_then, option_map, refl, sym, ap, ◌∙◌, ◌↔◌}
+use Rattle.std.proofs.Common.{◌≡◌, ℕ, List, Option, Some, None, Result, Ok, Err, IfOk, option_and_then, option_map, refl, sym, ap, ◌∙◌}
 use Rattle.std.specs.Result.{result_ok}
 use Rattle.std.proofs.lemmas.Option.{none-some}
 use Rattle.mj_lexer.specs.declared.token.Token.{Token}
 use Rattle.mj_lexer.specs.declared.lexer.LexFault.{LexFault}
-use Rattle.mj_lexer.specs.Lexes.{Lexes}
 use Rattle.mj_lexer.specs.Lexing.{tokens_of, lexing_of}
 use Rattle.mj_lexer.proofs.Lexings.{Lexes-tokens_of}
 use Rattle.mj_parser.specs.Trees.{File}

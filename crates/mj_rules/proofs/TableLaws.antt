@@ -1,5 +1,5 @@
 -- The tables that are computed are those of the rules.
-use Rattle.std.proofs.Common.{◌≡◌, ℕ, Bool, true, false, cond, List, [], ◌∷◌, map, slice_get, Option, Some, None, find, Contains, refl, sym, ap, subst, ◌∙◌, bytes_eq, ◌↔◌, Ordering}
+use Rattle.std.proofs.Common.{◌≡◌, Bool, true, false, cond, List, [], ◌∷◌, map, Some, find, Contains, refl, sym, ap, subst, ◌∙◌, bytes_eq}
 use Rattle.std.specs.List.{AllByRecursion}
 use Rattle.std.specs.Ordering.{nat_cmp}
 use Rattle.std.specs.Cmp.Lexicographic.{slice_cmp}
@@ -9,12 +9,12 @@ use Rattle.mj_parser.specs.Trees.{Name, Method}
 use Rattle.mj_parser.specs.declared.tree.Ty.{Ty}
 use Rattle.mj_parser.specs.declared.tree.Field.{Field}
 use Rattle.mj_answer.specs.declared.table.FieldRow.{FieldRow}
-use Rattle.mj_answer.specs.Answers.{MethodRowValue, ClassTableValue}
+use Rattle.mj_answer.specs.Answers.{MethodRowValue}
 use Rattle.mj_answer.specs.Order.{NameBefore, IsAscendingBy, IsAscendingByName}
 use Rattle.mj_answer.proofs.Compared.{ascends}
-use Rattle.mj_classes.specs.Declarations.{ClassDecl, decl}
-use Rattle.mj_classes.specs.Members.{IsNearest, FieldOf, MethodOf, own_field, own_method}
-use Rattle.mj_classes.specs.Tables.{IsTable, field_table, method_table}
+use Rattle.mj_classes.specs.Declarations.{ClassDecl}
+use Rattle.mj_classes.specs.Members.{FieldOf, MethodOf}
+use Rattle.mj_classes.specs.Tables.{field_table, method_table}
 use Rattle.mj_classes.specs.Laws.{MemberLaws}
 use Rattle.mj_rules.specs.Rules.{IsFieldOf, IsMethodOf, IsTableOf}
 use Rattle.mj_rules.specs.Tables.{field_row, method_row, table_of}

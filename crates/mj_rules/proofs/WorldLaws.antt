@@ -1,5 +1,5 @@
 -- What the declarations say is what chains and members are.
-use Rattle.std.proofs.Common.{◌≡◌, ℕ, Bool, true, false, List, Option, Some, None, option_map, is_some, Contains, refl, sym, ap, subst, ◌∙◌, ◌↔◌, true≢false}
+use Rattle.std.proofs.Common.{◌≡◌, true, List, Option, Some, None, option_map, is_some, Contains, refl, sym, ap, ◌∙◌, true≢false}
 use Rattle.std.proofs.lemmas.Option.{none-some, same_Some}
 use Rattle.mj_parser.specs.Trees.{Name, Method}
 use Rattle.mj_parser.specs.declared.tree.Ty.{Ty}
@@ -8,7 +8,7 @@ use Rattle.mj_classes.specs.Declarations.{ClassDecl, decl}
 use Rattle.mj_classes.specs.Chains.{EndOf, Chain, IsChain, chain_of, chain_names, is_in}
 use Rattle.mj_classes.specs.Members.{FieldOf, MethodOf, field_of, method_of}
 use Rattle.mj_typing.specs.Inquiries.{Sig}
-use Rattle.mj_rules.specs.Worlds.{sig_of, world_of, Says}
+use Rattle.mj_rules.specs.Worlds.{sig_of}
 use Rattle.mj_rules.specs.Laws.{WorldLaw}
 use Rattle.mj_rules.proofs.RepeatLemmas.{Contains-is_in, is_in-Contains}
 use Rattle.mj_rules.proofs.LowerLaws.{chain_laws, member_laws}

@@ -1,5 +1,5 @@
 -- The answer of the rules as a function.
-use Rattle.std.specs.Prelude.{ℕ, List, [], ◌∷◌, map, filter_map, option_map}
+use Rattle.std.specs.Prelude.{List, [], ◌∷◌, map, filter_map}
 use Rattle.std.specs.Ordering.{nat_cmp, ordering_then, match_ordering}
 use Rattle.std.specs.Cmp.Lexicographic.{slice_cmp}
 use Rattle.std.specs.declared.cmp.Ordering.{Ordering}

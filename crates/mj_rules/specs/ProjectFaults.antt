@@ -1,5 +1,5 @@
 -- The faults of a project itself, one case a row.
-use Rattle.std.specs.Prelude.{◌≡◌, ℕ, ◌<◌, List, Option, Some, IsSome, Contains, slice_get}
+use Rattle.std.specs.Prelude.{◌≡◌, ℕ, ◌<◌, List, Some, IsSome, Contains, slice_get}
 use Rattle.mj_parser.specs.Trees.{File}
 use Rattle.mj_parser.specs.declared.place.Place.{Place}
 use Rattle.mj_parser.specs.declared.place.Place.TheVariants as places

@@ -12,7 +12,6 @@ use Rattle.mj_classes.specs.Declarations.{ClassDecl, decl}
 use Rattle.mj_classes.specs.Members.{FieldOf, MethodOf}
 use Rattle.mj_rules.specs.Projects.{SourceFile}
 use Rattle.mj_rules.specs.Sentences.{classes_in}
-use Rattle.mj_rules.specs.Worlds.{sig_of}
 use Rattle.mj_rules.specs.ProjectFaults.{FaultOfProject}
 use Rattle.mj_rules.specs.ClassFaults.{FaultOfClass}
 

@@ -1,4 +1,4 @@
-use Rattle.std.proofs.Common.{◌≡◌, ◌<◌, ◌∙◌, List, ℕ, length, map, arith}
+use Rattle.std.proofs.Common.{◌<◌, ◌∙◌, List, ℕ, length, map, arith}
 use Rattle.std.proofs.lemmas.List.{length-map}
 use Rattle.mj_parser.specs.Trees.{Method}
 use Rattle.mj_parser.specs.Views.{method_view}

@@ -1,12 +1,11 @@
 use Rattle.std.proofs.Common.{◌≡◌, ◌∙◌, ◌++◌, List, drop, map, sym, ap, subst}
 use Rattle.mj_parser.specs.Trees.{Method}
-use Rattle.mj_parser.specs.Views.{method_view}
 use Rattle.mj_parser.specs.declared.tree.Field.{Field}
 use Rattle.mj_parser.specs.declared.place.Place.TheVariants.{Class}
 use Rattle.mj_answer.specs.declared.code.Code.TheVariants.{E202}
 use Rattle.mj_answer.specs.Answers.{MethodRowValue}
 use Rattle.mj_answer.specs.Order.{IsAscendingByName}
-use Rattle.mj_classes.specs.Chains.{chain_of, ancestry}
+use Rattle.mj_classes.specs.Chains.{chain_of}
 use Rattle.mj_classes.specs.Classes.{class_ref_view, classes_view, end_view}
 use Rattle.mj_classes.specs.Index.{declared_in}
 use Rattle.mj_classes.specs.Tables.{methods_along}

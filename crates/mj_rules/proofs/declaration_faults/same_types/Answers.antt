@@ -1,4 +1,4 @@
-use Rattle.std.proofs.Common.{◌≡◌, length, arith}
+use Rattle.std.proofs.Common.{arith}
 use Rattle.std.proofs.lemmas.Bool.Decides.{nat_tests}
 use Rattle.mj_rules.proofs.Steps.{differ}
 use Rattle.mj_rules.proofs.declaration_faults.same_types.Goals as goal

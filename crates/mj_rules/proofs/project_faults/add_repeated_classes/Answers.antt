@@ -1,4 +1,4 @@
-use Rattle.std.proofs.Common.{◌≡◌, ◌<◌, ◌++◌, get_or, false, ◌∙◌, List, ℕ, length, map, slice_get, [], ap₂, sym, arith, if◌then◌else◌}
+use Rattle.std.proofs.Common.{◌<◌, ◌++◌, get_or, false, ◌∙◌, ℕ, length, slice_get, [], ap₂, sym, arith, if◌then◌else◌}
 use Rattle.std.proofs.lemmas.List.{length-map}
 use Rattle.mj_classes.specs.Classes.{class_ref_view, classes_view}
 use Rattle.mj_classes.specs.Declarations.{ClassDecl}

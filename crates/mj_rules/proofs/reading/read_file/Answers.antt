@@ -1,4 +1,3 @@
-use Rattle.std.proofs.Common.{◌≡◌, ◌∙◌, sym, subst}
 use Rattle.mj_rules.specs.Sentences.{file_of}
 use Rattle.mj_rules.proofs.SentenceLaws.{no_tokens, tree_found, no_tree_found, refused}
 use Rattle.mj_rules.proofs.LowerLaws.{grammar}

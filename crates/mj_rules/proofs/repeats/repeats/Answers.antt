@@ -1,6 +1,6 @@
-use Rattle.std.proofs.Common.{◌≡◌, ◌∙◌, refl, sym, ap, [], ◌∷◌, ◌++◌, List, ℕ, map, take, get_or, not, Bor}
+use Rattle.std.proofs.Common.{◌∙◌, sym, ap, [], ◌∷◌, ◌++◌, List, ℕ, map, take, get_or, not, Bor}
 use Rattle.mj_rules.specs.Repeats.{is_in, repeats}
-use Rattle.mj_rules.proofs.RepeatLemmas.{HasNames, names-insert, names_more, not_not, repeats-push}
+use Rattle.mj_rules.proofs.RepeatLemmas.{names-insert, names_more, not_not, repeats-push}
 use Rattle.mj_rules.proofs.repeats.repeats.Goals as goal
 
 pub loop-name-init : goal.loop-name-init

@@ -1,6 +1,6 @@
-use Rattle.std.proofs.Common.{◌≡◌, ◌<◌, ◌≤◌, length, Option, Some, None, sym, ◌∙◌, arith, inl, ◌⊎◌, All}
+use Rattle.std.proofs.Common.{◌<◌, ◌≤◌, length, sym, ◌∙◌, arith, inl}
 use Rattle.std.proofs.lemmas.Bool.Decides.{nat_tests}
-use Rattle.mj_rules.specs.Projects.{sources_view, names_of, HasProjectSize, IsFileName, IsProject, Refuses}
+use Rattle.mj_rules.specs.Projects.{sources_view, IsProject, Refuses}
 use Rattle.mj_rules.specs.declared.project.ProjectFault.TheVariants.{BadFileName, RepeatedFile}
 use Rattle.mj_rules.proofs.ProjectLemmas.{is_size, names_good, bad_refusal, repeated_refusal, is_project, none_by, project_refuses, one_refusal}
 use Rattle.mj_rules.proofs.project.Project.new.Goals as goal

@@ -1,4 +1,4 @@
-use Rattle.std.proofs.Common.{◌≡◌, ◌∙◌, List, Option, Some, option_map, map, ap}
+use Rattle.std.proofs.Common.{◌≡◌, ◌∙◌, List, Option, Some, map, ap}
 use Rattle.mj_classes.specs.Chains.{Chain, chain_of, chain_names, is_in}
 use Rattle.mj_classes.specs.Classes.{class_ref_view, chain_view}
 use Rattle.mj_classes.specs.Index.{declared_in}
