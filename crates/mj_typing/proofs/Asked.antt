@@ -1,11 +1,9 @@
 -- Steps of a check, one after the other.
-use Rattle.std.proofs.Common.{◌≡◌, ℕ, zero, suc, ◌+◌, ◌<◌, ◌≤◌, Bool, true, false, List, [], ◌∷◌, length, drop, get_or, drop-cons, add-one, Option, Some, None, Result, Ok, Err, IfOk, IfErr, cond, arith, refl, ap, subst, sym, ◌∙◌}
+use Rattle.std.proofs.Common.{◌≡◌, ℕ, zero, suc, ◌+◌, ◌<◌, ◌≤◌, Bool, true, false, List, [], ◌∷◌, length, drop, get_or, drop-cons, add-one, Result, Ok, Err, IfErr, cond, arith, refl, ap, subst, sym, ◌∙◌}
 use Rattle.std.proofs.Math.Seq.{drop-nil}
 use Rattle.std.proofs.lemmas.Bool.{eq-eqb, ne_eqb}
 use Rattle.std.specs.Prelude.{nat_eq}
 use Rattle.mj_parser.specs.declared.tree.Ty.{Ty}
-use Rattle.mj_typing.specs.declared.asking.Stop.{Stop}
-use Rattle.mj_typing.specs.declared.asking.Stop.TheVariants.{OutOfMemory}
 use Rattle.mj_answer.specs.declared.code.Code.{Code}
 use Rattle.mj_answer.specs.declared.code.Code.TheVariants.{E312, E313}
 use Rattle.mj_typing.specs.declared.verdict.Verdict.{Verdict}

@@ -1,8 +1,8 @@
 -- The table is the judgement by cases.
-use Rattle.std.proofs.Common.{◌≡◌, ℕ, zero, suc, ◌≤◌, nat_le, Bool, true, false, cond, ◌&&◌, List, [], ◌∷◌, ◌++◌, length, Option, Some, None, refl, sym, ap, ◌∙◌, subst, arith, ◌⊎◌, inl, inr}
+use Rattle.std.proofs.Common.{◌≡◌, ℕ, suc, nat_le, Bool, true, false, cond, ◌&&◌, List, [], ◌∷◌, length, Option, Some, None, refl, sym, ap, ◌∙◌, subst, arith, inl, inr}
 use Rattle.std.proofs.lemmas.Bool.{leb-true, le-leb, eq-eqb, eqb-true}
 use Rattle.std.specs.Prelude.{nat_eq}
-use Rattle.mj_parser.specs.Trees.{Name, Expression, Expressions, Binary, Index, Length, Call, Literal, Boolean, Named, This, NewArray, NewObject, Not, Parenthesized, none, more, Statement, Statements, Block, If, While, Print, Assign, Store, done, next, Method, Main}
+use Rattle.mj_parser.specs.Trees.{Name, Expression, Expressions, Binary, Index, Length, Call, Literal, Boolean, Named, This, NewArray, NewObject, Not, Parenthesized, none, more}
 use Rattle.mj_parser.specs.declared.tree.Operator.{Operator}
 use Rattle.mj_parser.specs.declared.tree.Operator.TheVariants.{And, Less, Plus, Minus, Times}
 use Rattle.mj_parser.specs.declared.tree.Ty.{Ty}
@@ -13,9 +13,9 @@ use Rattle.mj_answer.specs.declared.code.Code.TheVariants.{E301, E302, E303, E30
 use Rattle.mj_typing.specs.declared.verdict.Verdict.{Verdict}
 use Rattle.mj_typing.specs.declared.verdict.Verdict.TheVariants.{Is, Fine, Wrong, Silent}
 use Rattle.mj_typing.specs.Types.{is_same, is_int, is_boolean, is_int_array, class_in}
-use Rattle.mj_typing.specs.Inquiries.{World, Sig, Inquiry, Concludes, AsksDescent, AsksField, AsksMethod, conclusion, and_then}
-use Rattle.mj_typing.specs.Phrases.{demand, demand_asked, given, is, fine, Phrase, Phrases, phrase, nothing, part, HasType, AllTyped, Well}
-use Rattle.mj_typing.specs.Table.{Scope, local_of, accepts, accepts_all, literal, named, local_or_field, this, negation, binary, index, array_length, called, call, new_array, new_object, condition, print, assign, store, returned, no_parts, one_part, two_parts, three_parts, some_parts, phrase_of, phrases_of, name_phrase, own_phrase, return_phrase}
+use Rattle.mj_typing.specs.Inquiries.{World, Inquiry, Concludes, AsksDescent, AsksField, AsksMethod, conclusion}
+use Rattle.mj_typing.specs.Phrases.{demand, demand_asked, given, is, Phrase, Phrases, nothing, part, HasType, AllTyped}
+use Rattle.mj_typing.specs.Table.{Scope, local_of, accepts, accepts_all, literal, named, local_or_field, this, negation, binary, index, array_length, called, call, new_array, new_object, no_parts, one_part, two_parts, three_parts, some_parts, phrase_of, phrases_of}
 use Rattle.mj_typing.specs.Cases.{Accepted, IsLocal, IsNoLocal, IsVariable, operand_type, result_type, HasTypeByCases, AcceptedBy}
 use Rattle.mj_typing.proofs.Checks.{conclusion-and_then}
 use Rattle.mj_typing.proofs.Mistakes.{same_from, from_same}

@@ -1,5 +1,5 @@
 -- Checks that ask conclude with the mistakes.
-use Rattle.std.proofs.Common.{◌≡◌, ℕ, Bool, true, false, cond, List, [], ◌∷◌, ◌++◌, Option, Some, None, Result, Ok, Err, IfOk, refl, sym, ap, ◌∙◌, subst}
+use Rattle.std.proofs.Common.{◌≡◌, ℕ, List, [], ◌∷◌, ◌++◌, Option, Some, None, Result, Ok, Err, IfOk, refl, sym, ap, ◌∙◌, subst}
 use Rattle.mj_parser.specs.Trees.{Name, Statement, Statements, Block, If, While, Print, Assign, Store, done, next, Method, Main}
 use Rattle.mj_parser.specs.declared.tree.Ty.{Ty}
 use Rattle.mj_parser.specs.declared.tree.Ty.TheVariants as ty
@@ -7,9 +7,9 @@ use Rattle.mj_parser.specs.declared.tree.Variable.{Variable}
 use Rattle.mj_typing.specs.declared.verdict.Verdict.{Verdict}
 use Rattle.mj_typing.specs.declared.verdict.Mistake.{Mistake}
 use Rattle.mj_typing.specs.Inquiries.{World, Inquiry, Concludes, AsksDescent, AsksField, AsksMethod, AsksDeclared, conclusion, and_then}
-use Rattle.mj_typing.specs.Phrases.{Phrase, Phrases, phrase, nothing, part, Found, noted, own_step, phrase_step, parts_step, type_of, types_of, verdict_by, and_type, add_own, add_faults, add_all, add_each}
+use Rattle.mj_typing.specs.Phrases.{Phrase, Phrases, phrase, nothing, part, Found, noted, own_step, phrase_step, parts_step, type_of, types_of, verdict_by, and_type, add_faults, add_all, add_each}
 use Rattle.mj_typing.specs.Steps.{Check, Goes}
-use Rattle.mj_typing.specs.Table.{Scope, own_phrase, statement_phrases, statements_phrases, return_phrase, method_scope, main_scope, method_phrases}
+use Rattle.mj_typing.specs.Table.{Scope, own_phrase, statement_phrases, statements_phrases, return_phrase, method_scope, main_scope}
 use Rattle.mj_typing.specs.Bodies.{return_type_mark, variables_of, add_undeclared, add_undeclared_each, add_repeated_each, type_step, types_step, mistakes_step, statement_step, statements_step, declared_step, method_step, main_step, method_check, main_check, method_faults, main_faults}
 
 pub conclusion-and_then : {R S : Type 0} (w : World) (m : Inquiry R) (f : R → Inquiry S) → conclusion w (and_then m f) ≡ conclusion w (f (conclusion w m))

@@ -1,9 +1,9 @@
 -- The list of a body's mistakes has each of them and no other.
-use Rattle.std.proofs.Common.{◌≡◌, ℕ, Bool, true, false, cond, List, [], ◌∷◌, ◌++◌, Option, Some, None, refl, sym, ap, ◌∙◌, subst, ◌⊎◌, inl, inr, append_assoc, append-nil}
-use Rattle.std.specs.Prelude.{Contains, ◌↔◌}
+use Rattle.std.proofs.Common.{◌≡◌, ℕ, Bool, true, false, cond, List, [], ◌∷◌, ◌++◌, refl, sym, ap, ◌∙◌, subst, ◌⊎◌, inl, inr, append_assoc, append-nil}
+use Rattle.std.specs.Prelude.{Contains}
 use Rattle.std.proofs.lemmas.List.Elements.{Contains-append_left, Contains-append_right, Contains-append_cases, Contains-push, Contains-push_cases}
 use Rattle.std.proofs.lemmas.Slice.Eq.{bytes_eq-Decides}
-use Rattle.mj_parser.specs.Trees.{Name, Method, Main}
+use Rattle.mj_parser.specs.Trees.{Name, Method}
 use Rattle.mj_parser.specs.declared.tree.Ty.{Ty}
 use Rattle.mj_parser.specs.declared.tree.Ty.TheVariants as ty
 use Rattle.mj_parser.specs.declared.tree.Variable.{Variable}
@@ -12,7 +12,6 @@ use Rattle.mj_answer.specs.declared.code.Code.TheVariants.{E206, E207}
 use Rattle.mj_typing.specs.declared.verdict.Mistake.{Mistake}
 use Rattle.mj_typing.specs.Types.{is_same}
 use Rattle.mj_typing.specs.Inquiries.{World}
-use Rattle.mj_typing.specs.Phrases.{FaultInSome}
 use Rattle.mj_typing.specs.Table.{method_phrases}
 use Rattle.mj_typing.specs.Bodies.{MethodFault, UndeclaredReturn, UndeclaredVariable, RepeatedVariable, IllPhrase, return_type_mark, name_mark, has_name, variables_of, add_undeclared, add_undeclared_each, add_repeated, add_repeated_each, method_faults}
 use Rattle.mj_typing.proofs.Agree.{nowhere, first, later, first_or_later, each_listed, each_kept, each_there}

@@ -15,7 +15,7 @@ use Rattle.mj_typing.specs.Bodies.{has_name, add_repeated, add_repeated_each}
 use Rattle.mj_typing.specs.Seen.{Covers}
 use Rattle.mj_typing.specs.Table.{local_of}
 use Rattle.mj_typing.proofs.Asked.{front_at}
-use Rattle.mj_typing.proofs.Mistakes.{same_from, from_same}
+use Rattle.mj_typing.proofs.Mistakes.{same_from}
 
 abbrev or_else : Option Ty → Option Ty → Option Ty
 or_else None o = o

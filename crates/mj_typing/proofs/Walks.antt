@@ -1,5 +1,5 @@
 -- The walk over phrases and their parts.
-use Rattle.std.proofs.Common.{◌≡◌, ℕ, ◌+◌, ◌<◌, ◌≤◌, List, [], ◌∷◌, ◌++◌, length, map, drop, get_or, Option, Some, None, Result, Ok, Err, IfOk, IfErr, refl, ap, subst, sym, ◌∙◌, append_assoc, append-nil}
+use Rattle.std.proofs.Common.{◌≡◌, ℕ, ◌+◌, ◌<◌, ◌≤◌, List, [], ◌∷◌, ◌++◌, length, drop, get_or, Option, Some, None, Result, Ok, Err, IfOk, IfErr, refl, ap, subst, sym, ◌∙◌, append_assoc, append-nil}
 use Rattle.mj_parser.specs.Trees.{Name, Method}
 use Rattle.mj_parser.specs.Views.{exp_view, exps_view, stmt_view, stmts_view}
 use Rattle.mj_parser.specs.declared.tree.Exp.{Exp}

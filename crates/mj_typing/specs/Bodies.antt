@@ -1,5 +1,5 @@
 -- The mistakes in a method, and in main.
-use Rattle.std.specs.Prelude.{◌≡◌, ℕ, ◌+◌, ◌-◌, ◌^◌, min, Bool, true, false, List, [], ◌∷◌, ◌++◌, Option, Some, Contains, if◌then◌else◌}
+use Rattle.std.specs.Prelude.{◌≡◌, ℕ, ◌+◌, ◌-◌, ◌^◌, min, Bool, true, false, List, [], ◌∷◌, ◌++◌, Contains, if◌then◌else◌}
 use Rattle.mj_parser.specs.Trees.{Name, Expression, Statement, Statements, Block, If, While, Print, Assign, Store, done, Method, Main}
 use Rattle.mj_parser.specs.Trees as trees
 use Rattle.mj_parser.specs.declared.tree.Ty.{Ty}
@@ -8,7 +8,7 @@ use Rattle.mj_parser.specs.declared.tree.Variable.{Variable}
 use Rattle.mj_answer.specs.declared.code.Code.TheVariants.{E206, E207}
 use Rattle.mj_typing.specs.declared.verdict.Mistake.{Mistake}
 use Rattle.mj_typing.specs.Types.{is_same}
-use Rattle.mj_typing.specs.Inquiries.{World, Inquiry, Concludes, AsksDeclared}
+use Rattle.mj_typing.specs.Inquiries.{World, Concludes, AsksDeclared}
 use Rattle.mj_typing.specs.Steps.{Check}
 use Rattle.mj_typing.specs.Phrases.{Phrase, FaultInSome, add_each, phrase_step}
 use Rattle.mj_typing.specs.Table.{Scope, method_scope, main_scope, own_phrase, return_phrase, method_phrases, main_phrases}

@@ -1,5 +1,5 @@
 -- What a check of a body asks about the declarations, and in which order.
-use Rattle.std.specs.Prelude.{ℕ, Bool, List, Option}
+use Rattle.std.specs.Prelude.{Bool, List, Option}
 use Rattle.mj_parser.specs.Trees.{Name}
 use Rattle.mj_parser.specs.declared.tree.Ty.{Ty}
 

@@ -1,11 +1,11 @@
 -- What holds of the definitions.
-use Rattle.std.specs.Prelude.{◌≡◌, ◌↔◌, ℕ, suc, List, [], ◌∷◌, ◌++◌, length, Some, Contains, All}
+use Rattle.std.specs.Prelude.{◌≡◌, ◌↔◌, ℕ, suc, List, [], ◌∷◌, length, Some, Contains}
 use Rattle.mj_parser.specs.Trees.{Name, Expression, Method, Main}
 use Rattle.mj_parser.specs.declared.tree.Ty.{Ty}
 use Rattle.mj_typing.specs.declared.verdict.Mistake.{Mistake}
 use Rattle.mj_typing.specs.declared.verdict.Verdict.{Verdict}
 use Rattle.mj_typing.specs.declared.verdict.Verdict.TheVariants.{Is, Fine, Wrong, Silent}
-use Rattle.mj_typing.specs.Inquiries.{World, Inquiry, conclusion}
+use Rattle.mj_typing.specs.Inquiries.{World, conclusion}
 use Rattle.mj_typing.specs.Phrases.{Phrase, Phrases, phrase, nothing, part, HasType, FaultInSome, type_of, add_each}
 use Rattle.mj_typing.specs.Table.{Scope, phrase_of, method_phrases, main_phrases}
 use Rattle.mj_typing.specs.Bodies.{MethodFault, MainFault, method_faults, main_faults, method_check, main_check}

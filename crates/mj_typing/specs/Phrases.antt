@@ -1,5 +1,5 @@
 -- Phrases by their demands: the judgement, its mistakes, and both as functions.
-use Rattle.std.specs.Prelude.{◌≡◌, ℕ, Bool, List, [], ◌∷◌, ◌++◌, Option, Some, None, ◌⊎◌, Contains, ◌↔◌, if◌then◌else◌}
+use Rattle.std.specs.Prelude.{◌≡◌, ℕ, Bool, List, [], ◌∷◌, ◌++◌, Option, Some, None, ◌⊎◌, Contains, if◌then◌else◌}
 use Rattle.mj_parser.specs.declared.tree.Ty.{Ty}
 use Rattle.mj_answer.specs.declared.code.Code.{Code}
 use Rattle.mj_typing.specs.declared.verdict.Verdict.{Verdict}

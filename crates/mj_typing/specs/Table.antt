@@ -8,7 +8,7 @@ use Rattle.mj_parser.specs.declared.tree.Ty.TheVariants as ty
 use Rattle.mj_parser.specs.declared.tree.Variable.{Variable}
 use Rattle.mj_answer.specs.declared.code.Code.TheVariants.{E301, E302, E303, E304, E305, E306, E307, E308, E309, E310, E311, E312, E313, E314, E315, E316, E317, E318, E319}
 use Rattle.mj_typing.specs.declared.verdict.Verdict.{Verdict}
-use Rattle.mj_typing.specs.declared.verdict.Verdict.TheVariants.{Is, Silent}
+use Rattle.mj_typing.specs.declared.verdict.Verdict.TheVariants.{Silent}
 use Rattle.mj_typing.specs.Types.{is_same, is_int, is_boolean, is_int_array, class_in}
 use Rattle.mj_typing.specs.Inquiries.{Sig, Inquiry, Concludes, AsksDescent, AsksField, AsksMethod, AsksDeclared, and_then}
 use Rattle.mj_typing.specs.Phrases.{demand, demand_asked, given, is, fine, Phrase, Phrases, phrase, nothing, part}

@@ -1,4 +1,4 @@
-use Rattle.std.proofs.Common.{rules, arith}
+use Rattle.std.proofs.Common.{rules}
 use Rattle.mj_typing.specs.Inquiries.{and_then}
 use Rattle.mj_typing.specs.Steps.{GivesUp}
 use Rattle.mj_typing.specs.Table.{accepts_all}

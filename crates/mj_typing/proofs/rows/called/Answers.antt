@@ -1,4 +1,4 @@
-use Rattle.std.proofs.Common.{rules, refl, sym}
+use Rattle.std.proofs.Common.{rules, refl}
 use Rattle.mj_typing.specs.declared.asking.Stop.TheVariants.{OutOfMemory}
 use Rattle.mj_answer.specs.declared.code.Code.TheVariants.{E313}
 use Rattle.mj_typing.specs.declared.verdict.Verdict.TheVariants.{Is, Wrong}

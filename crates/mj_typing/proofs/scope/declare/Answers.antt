@@ -1,4 +1,4 @@
-use Rattle.std.proofs.Common.{sym, ◌∙◌, ap, refl}
+use Rattle.std.proofs.Common.{sym, ◌∙◌, refl}
 use Rattle.mj_typing.proofs.Scopes.{covers_same, covers_more, has_name-covered}
 use Rattle.mj_typing.proofs.scope.declare.Goals as goal
 

@@ -2,8 +2,7 @@ use Rattle.std.proofs.Common.{rules, refl, ap, Some}
 use Rattle.mj_parser.specs.Views.{exp_view, exps_view}
 use Rattle.mj_typing.specs.declared.asking.Stop.TheVariants.{OutOfMemory}
 use Rattle.mj_typing.specs.Phrases.{phrase_step, parts_step}
-use Rattle.mj_typing.specs.Seen.{items_in}
-use Rattle.mj_typing.specs.Steps.{Goes, GivesUp}
+use Rattle.mj_typing.specs.Steps.{GivesUp}
 use Rattle.mj_typing.specs.Table.{phrase_of, phrases_of, one_part, two_parts, some_parts, negation, binary, index, array_length, new_array, call}
 use Rattle.mj_typing.proofs.Views.{exp_view-Not, exp_view-Length, exp_view-NewArray, exp_view-Binary, exp_view-Index, exp_view-Call}
 use Rattle.mj_typing.proofs.Walks.{if_ok, if_err, goes_whole, up_whole, up_others, memory_one, memory_two, parts_start, parts_more, parts_up, parts_memory, parts_done}
