@@ -1,0 +1,9 @@
+use Rattle.std.proofs.Common.{◌≡◌, ◌++◌, map, drop}
+use Rattle.std.specs.List.{flat_map}
+use Rattle.mj_parser.specs.Views.{stmts_view}
+use Rattle.byte_readers.specs.Spelling.{list}
+use Rattle.tree_bytes.specs.Spelling.{stmts}
+use Rattle.tree_bytes.proofs.writing.+put_statements.Given as goal
+
+abbrev pub invariant-put_stmts-loop-s : goal.invariant-put_stmts-loop-s
+invariant-put_stmts-loop-s l = l.out.items ++ stmts (stmts_view (drop l.s-index l.ss)) ≡ l.fn.out.items ++ stmts (stmts_view l.ss)
