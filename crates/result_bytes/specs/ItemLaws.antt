@@ -30,7 +30,7 @@ abbrev done : {A : Type 0} → A → Result A Breach
 done x = Ok x
 
 -- an item of one byte
-leaf_takes : {A : Type 0} (sp : A → List ℕ) (P : A → Type 0) (b : ℕ) (bytes : List ℕ) (one a : A) (rest : List ℕ) → sp one ≡ b ∷ [] → P one → IsBytes (b ∷ bytes) → done (one, bytes) ≡ done (a, rest) → Takes (b ∷ bytes) (sp a) rest × P a
+leaf_takes : {A : Type 0} (sp : A → List ℕ) (P : A → Type 0) (b : ℕ) (bytes : List ℕ) (one a : A) (rest : List ℕ) → sp one ≡ b ∷ [] → P one → IsBytes (b ∷ bytes) → done {A = A × List ℕ} (one, bytes) ≡ done (a, rest) → Takes (b ∷ bytes) (sp a) rest × P a
 leaf_takes {A} sp P b bytes one a rest spelled fit fits e =
     let whole : Takes (b ∷ bytes) (sp one) bytes = subst (λ (x : List ℕ). Takes (b ∷ bytes) x bytes) (sym spelled) (takes_behind b bytes [] bytes (takes_nothing bytes (IsBytes-rest b bytes fits))) in
     subst (λ (x : A × List ℕ). Takes (b ∷ bytes) (sp x.0) x.1 × P x.0) (ok_is (one, bytes) (a, rest) e) (whole, fit)

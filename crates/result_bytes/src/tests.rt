@@ -1,10 +1,9 @@
-use crate::files::{FileNames, Index, IndexRow, Text};
 use crate::reading::decode;
 use crate::refusal::Refusal;
 use crate::value::Value;
 use crate::writing::encode;
 use item_ids::Kind;
-use mj_lexer::Name;
+use mj_answer::render;
 use std::test::*;
 
 // What spells a value. The project of the first rows is the file M.java with the main class M, whose statement prints 1.
@@ -129,6 +128,66 @@ const EVERY_PHRASE: [(Kind, &str); 2] = [
     ),
 ];
 
+// The answers of example projects: their bytes, and the text that is printed for them.
+const ANSWERS: [(&str, &str); 14] = [
+    (
+        "0c00000000000000000000000000000001014d000000000000000000000000000000000000000000000000",
+        "class M\n",
+    ),
+    (
+        "0c00000000000000010000660000000000000000",
+        "E102 project\n",
+    ),
+    (
+        "0c0000000000000000000000000000000201410000000000000000000000000000000000000000000000010000ca014d000000000000000000000000000000000000000000000000",
+        "class A\n  E202 class\nclass M\n",
+    ),
+    (
+        "0c0000000000000000000000000000000401420000000000000001016b014300000000000000000000000000000000010000ca01430000000000000001016b014300000000000000000000000000000000010000ca01440000000000000001016b014300000000000000000000000000000000010000ca014d000000000000000000000000000000000000000000000000",
+        "class B\n  field k: int from C\n  E202 class\nclass C\n  field k: int from C\n  E202 class\nclass D\n  field k: int from C\n  E202 class\nclass M\n",
+    ),
+    (
+        "0c00000000000000000000000000000001014d00000000000000000000000000000000000000000000000203046d61696e00000013013003046d61696e00000017012f",
+        "class M\n  E304 in main at 19\n  E303 in main at 23\n",
+    ),
+    (
+        "0c000000000000000000000000000000030141000000000000000000000000000000010166014100000000000000010000000000000000000001420000000000000000000000000000000101660142000000000000000101000000000000000001020000000000cd014d000000000000000000000000000000000000000000000000",
+        "class A\n  method f(int): int from A\nclass B\n  method f(boolean): int from B\n  E205 method 0\nclass M\n",
+    ),
+    (
+        "0c000000000000000200006601064d2e6a61766100650000000000000000",
+        "E102 project\nE101 file M.java\n",
+    ),
+    (
+        "0c000000000000000101086261642e6a61766100650000000000000001014d000000000000000000000000000000000000000000000000",
+        "E101 file bad.java\nclass M\n",
+    ),
+    (
+        "0c0000000000000000000000000000000201420000000000000001016101420301410000000000000001016601420000000000000000000000000000000002010000000000ce030166000000080131014d000000000000000000000000000000000000000000000000",
+        "class B\n  field a: A from B\n  method f(): int from B\n  E206 field 0\n  E305 in f at 8\nclass M\n",
+    ),
+    (
+        "0c00000000000000010206622e6a617661000000010068000000000000000201410000000000000001017801410000000000000000000000000000000000014d000000000000000000000000000000000000000000000000",
+        "E104 file b.java class 1\nclass A\n  field x: int from A\nclass M\n",
+    ),
+    (
+        "0c000000000000000000000000000000030141000000000000000101780141000000000000000000000000000000000001420000000000000001017801420100000000000000000000000000000000014d000000000000000000000000000000000000000000000000",
+        "class A\n  field x: int from A\nclass B\n  field x: boolean from B\nclass M\n",
+    ),
+    (
+        "0c00000000000000000000000000000001014d00000000000000000000000000000000000000000000000103046d61696e00000011013b",
+        "class M\n  E315 in main at 17\n",
+    ),
+    (
+        "0c00000000000000000000000000000001014d00000000000000000000000000000000000000000000000103046d61696e0000000b013d",
+        "class M\n  E317 in main at 11\n",
+    ),
+    (
+        "0c0000000000000000000000000000000203466163000000000000000000000000000000010a436f6d707574654661630346616300000000000000010000000000000000000009466163746f7269616c000000000000000000000000000000000000000000000000",
+        "class Fac\n  method ComputeFac(int): int from Fac\nclass Factorial\n",
+    ),
+];
+
 fn bytes_of(rt: HostRuntime, digits: &str) -> Result<Vec<u8>, Fail> {
     Ok(
         hex::decode(rt.alloc(), digits)
@@ -156,6 +215,23 @@ fn refusals(rt: HostRuntime) -> Result<(), Fail> {
     for (kind, digits, refusal) in &REFUSALS {
         let bytes = bytes_of(rt, digits)?;
         assert!(rt; decode(rt.alloc(), *kind, &bytes).err() == Some(*refusal));
+    }
+    Ok(())
+}
+
+// The bytes were made from the text that is printed for each example, by another program.
+#[test]
+fn answers(rt: HostRuntime) -> Result<(), Fail> {
+    for (digits, text) in &ANSWERS {
+        let bytes = bytes_of(rt, digits)?;
+        let value = decode(rt.alloc(), Kind::Answer, &bytes)
+            .ok()
+            .ok_or("an answer")?;
+        assert_eq!(rt; encode(rt.alloc(), &value)?.as_slice(), bytes.as_slice());
+        let Value::Answer(whole) = value else {
+            return Err("a value of another kind".into());
+        };
+        assert_eq!(rt; render(rt.alloc(), whole.answer())?.as_str(), *text);
     }
     Ok(())
 }

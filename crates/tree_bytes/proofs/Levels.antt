@@ -1,10 +1,10 @@
 -- Reading a phrase by its tag.
-use Rattle.std.proofs.Common.{◌≡◌, ℕ, suc, ◌-◌, List, Option, Some, Ok, refl, ap, ◌∙◌, arith}
-use Rattle.byte_readers.specs.Reading.{◌>>=◌, byte_at, four_at}
+use Rattle.std.proofs.Common.{◌≡◌, ℕ, suc, ◌-◌, List, Some, Ok, refl, ap, ◌∙◌, arith}
+use Rattle.byte_readers.specs.Reading.{byte_at, four_at}
 use Rattle.tree_bytes.specs.declared.tag.ExpTag.{ExpTag}
 use Rattle.tree_bytes.specs.declared.tag.StmtTag.{StmtTag}
 use Rattle.tree_bytes.specs.Tags.{exp_tag_of, stmt_tag_of}
-use Rattle.tree_bytes.specs.Reading.{exp_tagged, exp_body_at, exp_at, stmt_tagged, stmt_body_at, stmt_at}
+use Rattle.tree_bytes.specs.Reading.{exp_body_at, exp_at, stmt_body_at, stmt_at}
 
 one_level : (room : ℕ) → (room ≡ 0 → ⊥) → room ≡ suc (room - 1)
 one_level room h = omega (arith, h)

@@ -1,5 +1,5 @@
 -- The statement of `main`, or a method.
-use Rattle.std.specs.Prelude.{ℕ, zero, suc, List, [], ◌∷◌, Result, Err, refl, ◌≡◌, ◌⊎◌}
+use Rattle.std.specs.Prelude.{ℕ, zero, suc, List, [], ◌∷◌, Err, refl, ◌≡◌, ◌⊎◌}
 use Rattle.std.specs.Coded.{Coded, code_by, coded⊎}
 use Rattle.std.proofs.Common.{inl, inr}
 use Rattle.mj_parser.specs.Trees.{Statement, Method}

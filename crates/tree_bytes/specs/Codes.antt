@@ -1,9 +1,8 @@
 -- Codes of trees: a tree of numbers for each, and the way back. They serve the models of the types that hold trees.
-use Rattle.std.specs.Prelude.{◌≡◌, ℕ, zero, suc, Bool, true, false, List, [], ◌∷◌, refl, Option, ◌⊎◌}
+use Rattle.std.specs.Prelude.{◌≡◌, ℕ, zero, suc, true, false, List, [], ◌∷◌, refl}
 use Rattle.std.specs.Coded.{code_by, coded×, coded_ℕ, coded_list, coded_option}
 use Rattle.std.proofs.Common.{ap, sym, ◌∙◌}
 use base.Stored.{Coded, Gv, gnil, gnum, gcons, num}
-use Rattle.mj_parser.specs.declared.tree.Operator.{Operator}
 use Rattle.mj_parser.specs.declared.tree.Operator.TheVariants.{And, Less, Plus, Minus, Times}
 use Rattle.mj_parser.specs.contracts.tree.Ty as ty_contracts
 use Rattle.mj_parser.specs.contracts.tree.Field as field_contracts

@@ -1,16 +1,15 @@
 -- An expression that is read is spelled so, and one that is spelled so is read.
-use Rattle.std.proofs.Common.{◌≡◌, ℕ, zero, suc, ◌^◌, ◌<◌, Bool, true, false, cond, ltb, ◌≤◌, List, [], ◌∷◌, ◌++◌, length, Option, Some, None, Result, Ok, Err, refl, sym, ap, subst, ◌∙◌, append_assoc, arith}
+use Rattle.std.proofs.Common.{◌≡◌, ℕ, zero, suc, ◌^◌, ◌<◌, false, cond, ltb, ◌≤◌, List, [], ◌∷◌, ◌++◌, length, Option, Some, None, Result, Ok, refl, sym, ap, subst, ◌∙◌, append_assoc, arith}
 use Rattle.std.specs.List.{flat_map, AllByRecursion}
 use Rattle.std.proofs.lemmas.List.Concat.{flat_map-cons}
 use Rattle.std.proofs.lemmas.Bool.{ltb-false, le-ltb}
 use Rattle.mj_parser.specs.Trees as trees
 use Rattle.byte_readers.specs.declared.breach.Breach.{Breach}
 use Rattle.byte_readers.specs.declared.breach.Breach.TheVariants.{NotCanonical}
-use Rattle.byte_readers.specs.Spelling.{four, eight, name, list}
-use Rattle.byte_readers.specs.Reading.{◌>>=◌, Reader, refused, any, byte_at, four_at, name_at, pair_at, made_at, list_at}
-use Rattle.byte_readers.specs.Lawful.{IsBytes, Takes, Lawful, FitsList}
+use Rattle.byte_readers.specs.Spelling.{four, eight, name}
+use Rattle.byte_readers.specs.Reading.{◌>>=◌, Reader, refused, any, byte_at, four_at, made_at}
+use Rattle.byte_readers.specs.Lawful.{IsBytes, Takes, Lawful}
 use Rattle.byte_readers.specs.Laws.{IsBytes-rest, bind_ok, guard_ok, ok_is, Takes-then, takes_nothing, made_takes, made_again, lawful_four, lawful_name, lawful_pair, lawful_list, lawful_made, lawful_as, lawful_where, any_admits}
-use Rattle.mj_parser.specs.declared.tree.Operator.{Operator}
 use Rattle.mj_parser.specs.Trees.{Expression, Expressions, none, more}
 use Rattle.mj_parser.specs.Views.{expressions_of}
 use Rattle.tree_bytes.specs.declared.tag.ExpTag.{ExpTag}
@@ -20,8 +19,8 @@ use Rattle.tree_bytes.specs.declared.tag.OnePart.TheVariants as ones
 use Rattle.tree_bytes.specs.Tags.{exp_byte, exp_tag_of}
 use Rattle.tree_bytes.specs.TagLaws.{exp_byte_is, exp_tag_back}
 use Rattle.tree_bytes.specs.Spelling.{node, exp, exps, count_exps}
-use Rattle.tree_bytes.specs.Fits.{greatest_literal, IsMark, ExpFits, ExpsFit}
-use Rattle.tree_bytes.specs.Reading.{literal_at, exps_at, two_of, one_of, exp_body_at, exp_tagged, exp_at}
+use Rattle.tree_bytes.specs.Fits.{greatest_literal, ExpFits, ExpsFit}
+use Rattle.tree_bytes.specs.Reading.{literal_at, exps_at, exp_body_at, exp_tagged, exp_at}
 
 -- ---- lists of expressions
 
@@ -100,7 +99,7 @@ body_made {A} {p} {sp} {P} law make room tag mark spelled fit bytes t rest fits 
 abbrev done : {A : Type 0} → A → Result A Breach
 done x = Ok x
 
-body_leaf : (one : Expression) (room : ℕ) (tag : ExpTag) (mark : ℕ) → exp one ≡ node (exp_byte tag) mark [] → ExpFits (suc room) one → (bytes : List ℕ) (t : Expression) (rest : List ℕ) → IsBytes bytes → done (one, bytes) ≡ done (t, rest) → Body room tag mark bytes t rest
+body_leaf : (one : Expression) (room : ℕ) (tag : ExpTag) (mark : ℕ) → exp one ≡ node (exp_byte tag) mark [] → ExpFits (suc room) one → (bytes : List ℕ) (t : Expression) (rest : List ℕ) → IsBytes bytes → done {A = Expression × List ℕ} (one, bytes) ≡ done (t, rest) → Body room tag mark bytes t rest
 body_leaf one room tag mark spelled fit bytes t rest fits e =
     subst (λ (x : Expression × List ℕ). Body room tag mark bytes x.0 x.1) (ok_is (one, bytes) (t, rest) e) record { text = []; takes = takes_nothing bytes fits; spelled = spelled; fits = fit }
 

@@ -1,20 +1,19 @@
 -- Methods, classes, files and bodies: what is read is spelled so, and what is spelled so is read.
-use Rattle.std.proofs.Common.{◌≡◌, ℕ, zero, suc, ◌<◌, ◌^◌, List, [], ◌∷◌, ◌++◌, Result, Ok, refl, sym, ap, subst, ◌∙◌}
-use Rattle.mj_parser.specs.Trees.{Expression, Statement, Statements, Method, Main, File}
-use Rattle.mj_parser.specs.Trees as trees
-use Rattle.byte_readers.specs.Spelling.{name, eight, list}
-use Rattle.byte_readers.specs.Reading.{Reader, any}
-use Rattle.byte_readers.specs.Lawful.{IsBytes, Takes, Lawful, FitsList}
+use Rattle.std.proofs.Common.{◌≡◌, ℕ, zero, suc, ◌<◌, ◌^◌, List, [], ◌∷◌, ◌++◌, Ok, refl, subst}
+use Rattle.mj_parser.specs.Trees.{Method}
+use Rattle.byte_readers.specs.Spelling.{eight}
+use Rattle.byte_readers.specs.Reading.{any}
+use Rattle.byte_readers.specs.Lawful.{IsBytes, Takes, Lawful}
 use Rattle.byte_readers.specs.Laws.{IsBytes-rest, takes_behind, made_takes, made_again, lawful_name, lawful_four, lawful_pair, lawful_option, lawful_list, lawful_made, lawful_where, any_admits}
-use Rattle.tree_bytes.specs.Spelling.{exp, stmt, stmts, count_stmts, variable, method, tagged_method, main, class, file}
-use Rattle.tree_bytes.specs.Fits.{most_levels, VariableFits, TopStmtFits, TopStmtsFit, TopExpFits, MethodFits, MainFits, ClassFits, FileFits}
-use Rattle.tree_bytes.specs.Reading.{stmt_at, top_stmt_at, top_stmts_at, top_exp_at, method_of, method_at, tagged_method_at, main_of, main_at, class_of, class_at, file_of, file_at}
+use Rattle.tree_bytes.specs.Spelling.{exp, stmt, stmts, count_stmts, method, tagged_method, main, class, file}
+use Rattle.tree_bytes.specs.Fits.{most_levels, TopStmtFits, TopStmtsFit, TopExpFits, MethodFits, MainFits, ClassFits, FileFits}
+use Rattle.tree_bytes.specs.Reading.{top_stmt_at, top_stmts_at, top_exp_at, method_of, method_at, tagged_method_at, main_of, main_at, class_of, class_at, file_of, file_at}
 use Rattle.tree_bytes.specs.Bodies.{BodyValue, OfMain, OfMethod, body, BodyFits, body_at}
 use Rattle.tree_bytes.specs.TypeLaws.{lawful_ty, lawful_field, lawful_variable}
 use Rattle.tree_bytes.specs.ExpLaws.{lawful_exp}
 use Rattle.tree_bytes.specs.StmtLaws.{lawful_stmt, lawful_stmts}
 
-lawful_top_stmt : Lawful top_stmt_at stmt TopStmtFits
+pub lawful_top_stmt : Lawful top_stmt_at stmt TopStmtFits
 unfolding top_stmt_at TopStmtFits
 lawful_top_stmt = lawful_stmt most_levels
 

@@ -1,5 +1,5 @@
 -- Which trees have a spelling: tokens in four bytes, literals up to the greatest, names, and at most so many levels.
-use Rattle.std.specs.Prelude.{ℕ, zero, suc, ◌<◌, ◌≤◌, ◌^◌, List, length, IfSome}
+use Rattle.std.specs.Prelude.{ℕ, zero, suc, ◌<◌, ◌≤◌, ◌^◌, length, IfSome}
 use Rattle.std.specs.List.{AllByRecursion}
 use Rattle.mj_parser.specs.declared.tree.Ty.{Ty}
 use Rattle.mj_parser.specs.declared.tree.Ty.TheVariants.{Int, Boolean, IntArray, Class}

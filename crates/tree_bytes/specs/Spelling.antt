@@ -1,5 +1,5 @@
 -- The one spelling of each tree.
-use Rattle.std.specs.Prelude.{ℕ, zero, suc, List, [], ◌∷◌, ◌++◌}
+use Rattle.std.specs.Prelude.{ℕ, suc, List, [], ◌∷◌, ◌++◌}
 use Rattle.mj_parser.specs.declared.tree.Ty.{Ty}
 use Rattle.mj_parser.specs.declared.tree.Ty.TheVariants.{Int, Boolean, IntArray, Class}
 use Rattle.mj_parser.specs.declared.tree.Field.{Field}

@@ -1,15 +1,13 @@
 -- A statement that is read is spelled so, and one that is spelled so is read.
-use Rattle.std.proofs.Common.{◌≡◌, ℕ, zero, suc, ◌^◌, ◌<◌, Bool, true, false, List, [], ◌∷◌, ◌++◌, length, Option, Some, None, Result, Ok, Err, refl, sym, ap, subst, ◌∙◌, append_assoc, arith}
+use Rattle.std.proofs.Common.{◌≡◌, ℕ, zero, suc, ◌^◌, ◌<◌, List, [], ◌∷◌, ◌++◌, length, Option, Some, None, Result, Ok, refl, sym, ap, subst, ◌∙◌, append_assoc, arith}
 use Rattle.std.specs.List.{flat_map, AllByRecursion}
 use Rattle.std.proofs.lemmas.List.Concat.{flat_map-cons}
-use Rattle.std.proofs.lemmas.Bool.{ltb-false, le-ltb}
 use Rattle.mj_parser.specs.Trees as trees
 use Rattle.byte_readers.specs.declared.breach.Breach.{Breach}
-use Rattle.byte_readers.specs.declared.breach.Breach.TheVariants.{NotCanonical}
-use Rattle.byte_readers.specs.Spelling.{four, eight, name, list}
-use Rattle.byte_readers.specs.Reading.{◌>>=◌, Reader, refused, any, byte_at, four_at, name_at, pair_at, made_at, list_at}
-use Rattle.byte_readers.specs.Lawful.{IsBytes, Takes, Lawful, FitsList}
-use Rattle.byte_readers.specs.Laws.{IsBytes-rest, bind_ok, guard_ok, ok_is, Takes-then, takes_nothing, made_takes, made_again, lawful_four, lawful_name, lawful_pair, lawful_list, lawful_made, lawful_as, lawful_where, any_admits}
+use Rattle.byte_readers.specs.Spelling.{four, eight, name}
+use Rattle.byte_readers.specs.Reading.{◌>>=◌, Reader, any, byte_at, four_at, made_at}
+use Rattle.byte_readers.specs.Lawful.{IsBytes, Takes, Lawful}
+use Rattle.byte_readers.specs.Laws.{IsBytes-rest, bind_ok, Takes-then, made_takes, made_again, lawful_four, lawful_name, lawful_pair, lawful_list, lawful_made, lawful_as, lawful_where, any_admits}
 use Rattle.mj_parser.specs.Trees.{Statement, Statements, done, next}
 use Rattle.mj_parser.specs.Views.{statements_of}
 use Rattle.tree_bytes.specs.declared.tag.StmtTag.{StmtTag}
@@ -17,7 +15,7 @@ use Rattle.tree_bytes.specs.declared.tag.StmtTag.TheVariants as tags
 use Rattle.tree_bytes.specs.Tags.{stmt_byte, stmt_tag_of}
 use Rattle.tree_bytes.specs.TagLaws.{stmt_byte_is, stmt_tag_back}
 use Rattle.tree_bytes.specs.Spelling.{node, exp, stmt, stmts, count_stmts}
-use Rattle.tree_bytes.specs.Fits.{IsMark, ExpFits, StmtFits, StmtsFit}
+use Rattle.tree_bytes.specs.Fits.{StmtFits, StmtsFit}
 use Rattle.tree_bytes.specs.Reading.{stmts_at, stmt_body_at, stmt_tagged, exp_at, stmt_at}
 use Rattle.tree_bytes.specs.ExpLaws.{lawful_exp}
 

@@ -1,9 +1,8 @@
 -- Declared types, and what is declared with them: what is read is spelled so, and what is spelled so is read.
-use Rattle.std.proofs.Common.{◌≡◌, ℕ, zero, suc, List, [], ◌∷◌, ◌++◌, Result, Ok, refl, sym, ap, subst, ◌∙◌}
+use Rattle.std.proofs.Common.{◌≡◌, ℕ, zero, suc, List, [], ◌∷◌, ◌++◌, Result, Ok, refl, sym, subst}
 use Rattle.mj_parser.specs.declared.tree.Ty.{Ty}
 use Rattle.mj_parser.specs.declared.tree.Ty.TheVariants.{Int, Boolean, IntArray, Class}
 use Rattle.byte_readers.specs.declared.breach.Breach.{Breach}
-use Rattle.byte_readers.specs.Names.{IsName}
 use Rattle.byte_readers.specs.Spelling.{name}
 use Rattle.byte_readers.specs.Lawful.{IsBytes, Takes, Lawful}
 use Rattle.byte_readers.specs.Laws.{IsBytes-rest, ok_is, takes_nothing, takes_behind, made_takes, made_again, lawful_name, lawful_four, lawful_pair, lawful_made}
@@ -14,7 +13,7 @@ use Rattle.tree_bytes.specs.Reading.{ty_at, field_of, field_at, variable_of, var
 abbrev done : {A : Type 0} → A → Result A Breach
 done x = Ok x
 
-leaf : (b : ℕ) (bytes : List ℕ) (one t : Ty) (rest : List ℕ) → ty one ≡ b ∷ [] → TyFits one → IsBytes (b ∷ bytes) → done (one, bytes) ≡ done (t, rest) → Takes (b ∷ bytes) (ty t) rest × TyFits t
+leaf : (b : ℕ) (bytes : List ℕ) (one t : Ty) (rest : List ℕ) → ty one ≡ b ∷ [] → TyFits one → IsBytes (b ∷ bytes) → done {A = Ty × List ℕ} (one, bytes) ≡ done (t, rest) → Takes (b ∷ bytes) (ty t) rest × TyFits t
 leaf b bytes one t rest spelled fit fits e =
     let whole : Takes (b ∷ bytes) (ty one) bytes = subst (λ (x : List ℕ). Takes (b ∷ bytes) x bytes) (sym spelled) (takes_behind b bytes [] bytes (takes_nothing bytes (IsBytes-rest b bytes fits))) in
     subst (λ (x : Ty × List ℕ). Takes (b ∷ bytes) (ty x.0) x.1 × TyFits x.0) (ok_is (one, bytes) (t, rest) e) (whole, fit)

@@ -1,8 +1,8 @@
-use Rattle.std.proofs.Common.{◌≡◌, ◌∷◌, ◌++◌, [], map, refl, sym, ◌-◌, suc, arith}
+use Rattle.std.proofs.Common.{◌≡◌, ◌∷◌, ◌++◌, [], map, refl}
 use Rattle.std.proofs.lemmas.Result.{err_from_is_err_and}
 use Rattle.std.proofs.lemmas.List.{map_push}
 use Rattle.mj_parser.specs.Views.{exp_view}
-use Rattle.byte_readers.specs.Reading.{list_from, any}
+use Rattle.byte_readers.specs.Reading.{any}
 use Rattle.byte_readers.proofs.Loop.{goes_on, ends, is_done}
 use Rattle.tree_bytes.specs.Reading.{exp_at}
 use Rattle.tree_bytes.proofs.Levels.{exp_by_tag}

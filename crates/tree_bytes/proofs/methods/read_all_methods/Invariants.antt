@@ -1,4 +1,4 @@
-use Rattle.std.proofs.Common.{◌≡◌, ◌+◌, ◌-◌, ◌*◌, map, []}
+use Rattle.std.proofs.Common.{◌≡◌, ◌-◌, map, []}
 use Rattle.mj_parser.specs.Views.{method_view}
 use Rattle.byte_readers.specs.Reading.{list_from, any}
 use Rattle.tree_bytes.specs.Reading.{tagged_method_at}

@@ -1,7 +1,5 @@
-use Rattle.std.proofs.Common.{◌≡◌, ◌++◌, map, drop}
-use Rattle.std.specs.List.{flat_map}
+use Rattle.std.proofs.Common.{◌≡◌, ◌++◌, drop}
 use Rattle.mj_parser.specs.Views.{stmts_view}
-use Rattle.byte_readers.specs.Spelling.{list}
 use Rattle.tree_bytes.specs.Spelling.{stmts}
 use Rattle.tree_bytes.proofs.writing.+put_statements.Given as goal
 
