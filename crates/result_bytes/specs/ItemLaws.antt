@@ -3,7 +3,7 @@ use Rattle.std.proofs.Common.{◌≡◌, ℕ, zero, suc, ◌+◌, ◌<◌, ◌�
 use Rattle.std.specs.Prelude.{◌≢◌, not, ◌||◌}
 use Rattle.std.specs.List.{flat_map}
 use Rattle.std.proofs.lemmas.Bool.{ltb-false, le-ltb, eqb-true, eqb-false, ne_eqb}
-use Rattle.std.proofs.lemmas.List.{take_at, drop_at, take-append-drop, length-append, length-take}
+use Rattle.std.proofs.lemmas.List.{take_at, drop_at, take-append-drop, length-append, length-take-le}
 use Rattle.mj_parser.specs.declared.place.Place.{Place}
 use Rattle.mj_parser.specs.declared.place.Place.TheVariants as places
 use Rattle.mj_answer.specs.declared.code.Code.{Code}
@@ -90,8 +90,8 @@ text_takes bytes text1 rest fits e =
     let is = ok_is (take n.0.0 n.0.1, drop n.0.0 n.0.1) (text1, rest) g.1 in
     let front : take n.0.0 n.0.1 ≡ text1 = ap (λ (x : List ℕ × List ℕ). x.0) is in
     let back : drop n.0.0 n.0.1 ≡ rest = ap (λ (x : List ℕ × List ℕ). x.1) is in
-    let len : length text1 ≡ n.0.0 = rw (← front) (omega (arith, length-take n.0.0 n.0.1, ltb-false _ _ g.0)) in
-    let inner : Takes n.0.1 text1 rest = record { parts = rw (← front, ← back) (sym (take-append-drop n.0.0 n.0.1)); rest_fits = rw (← back) (IsBytes-drop n.0.0 n.0.1 t.0.rest_fits) } in
+    let len : length text1 ≡ n.0.0 = ap length (sym front) ∙ length-take-le n.0.0 n.0.1 (ltb-false _ _ g.0) in
+    let inner : Takes n.0.1 text1 rest = record { parts = sym (take-append-drop n.0.0 n.0.1) ∙ ap (λ (x : List ℕ). x ++ drop n.0.0 n.0.1) front ∙ ap (λ (x : List ℕ). text1 ++ x) back; rest_fits = subst IsBytes back (IsBytes-drop n.0.0 n.0.1 t.0.rest_fits) } in
     (subst (λ (k : ℕ). Takes bytes (eight k ++ text1) rest) (sym len) (Takes-then bytes (eight n.0.0) n.0.1 text1 rest t.0 inner), omega (arith, len, t.1))
 
 text_again : (text1 rest : List ℕ) → TextFits text1 → text_at (text text1 ++ rest) ≡ Ok (text1, rest)
