@@ -3,6 +3,6 @@ pub mod Canon
 pub mod Fits
 pub mod Reading
 pub mod Values
-pub mod OrderLaws
+pub mod Distinct
 pub mod ItemLaws
 pub mod ValueLaws

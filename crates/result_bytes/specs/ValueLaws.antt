@@ -15,7 +15,8 @@ use Rattle.result_bytes.specs.declared.refusal.Refusal.TheVariants.{Short, Trail
 use Rattle.result_bytes.specs.declared.value.Value.{Value}
 use Rattle.result_bytes.specs.declared.value.Value.TheVariants.{Files, Source, Tree, Index, Header, Method, Sig, Supers, Members, CheckClass, CheckBody, Diags, Answer}
 use Rattle.result_bytes.specs.Values.{kind_of, content, canon, IsValue, content_at, refusal, whole, decoded}
-use Rattle.result_bytes.specs.ItemLaws.{lawful_file_names, lawful_text, lawful_index, lawful_header, lawful_signature, lawful_chain, lawful_table, lawful_class_faults, lawful_answer}
+use Rattle.result_bytes.specs.ItemLaws.{lawful_file_names, lawful_text, lawful_index, lawful_header, lawful_signature, lawful_chain}
+use Rattle.answer_bytes.specs.AnswerLaws.{lawful_table, lawful_class_faults, lawful_answer}
 
 record Content (kind : Kind) (bytes : List ℕ) (v : Value) (rest : List ℕ) : Type 0 where
   pub takes : Takes bytes (content v) rest

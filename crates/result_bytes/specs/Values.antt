@@ -15,9 +15,12 @@ use Rattle.result_bytes.specs.declared.refusal.Refusal.{Refusal}
 use Rattle.result_bytes.specs.declared.refusal.Refusal.TheVariants.{Short, Trailing, NotCanonical, WrongKind, OutOfMemory}
 use Rattle.result_bytes.specs.declared.value.Value.{Value}
 use Rattle.result_bytes.specs.declared.value.Value.TheVariants.{Files, Source, Tree, Index, Header, Method, Sig, Supers, Members, CheckClass, CheckBody, Diags, Answer}
-use Rattle.result_bytes.specs.Canon.{text, index_row, header, signature, chain, table, class_fault, answer}
-use Rattle.result_bytes.specs.Fits.{FileNamesFit, TextFits, IndexFits, HeaderFits, SignatureFits, ChainFits, TableFits, ClassFaultsFit, AnswerFits}
-use Rattle.result_bytes.specs.Reading.{file_names_at, text_at, index_at, header_at, signature_at, chain_at, table_at, class_faults_at, answer_at}
+use Rattle.result_bytes.specs.Canon.{text, index_row, header, signature, chain}
+use Rattle.answer_bytes.specs.Canon.{table, class_fault, answer}
+use Rattle.result_bytes.specs.Fits.{FileNamesFit, TextFits, IndexFits, HeaderFits, SignatureFits, ChainFits}
+use Rattle.answer_bytes.specs.Fits.{TableFits, ClassFaultsFit, AnswerFits}
+use Rattle.result_bytes.specs.Reading.{file_names_at, text_at, index_at, header_at, signature_at, chain_at}
+use Rattle.answer_bytes.specs.Reading.{table_at, class_faults_at, answer_at}
 
 abbrev pub kind_of : Value → Kind
 kind_of (Files names) = kinds.Files

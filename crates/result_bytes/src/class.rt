@@ -41,13 +41,13 @@ impl Header {
     ghost use Rattle.result_bytes.specs.Reading.{header_of};
 
     /// A header of these parts.
+    #[tactic(auto, using(byte_readers::specs::Laws::all_storable))]
     pub fn new(
         is_main: bool,
         superclass: Option<Name>,
         fields: Vec<Field>,
         methods: Vec<Name>,
     ) -> Self
-        requires { HeaderFits (header_of (is_main, (superclass, (fields.items, methods.items)))) }
         ensures { result ≡ header_of (is_main, (superclass, (fields.items, methods.items))) }
     {
         check_perhaps_name(&superclass);

@@ -6,10 +6,9 @@ ghost use Rattle.result_bytes.specs.Fits.{most_files, AreDistinct, FileNamesFit,
 ghost use Rattle.result_bytes.specs.Canon.{index_row};
 ghost use Rattle.result_bytes.specs.Reading.{is_new, file_names_at, index_at};
 
-use crate::rows::IndexRowFormat;
 use byte_readers::{
-    Breach, Format, NameFormat, ReadError, check_list, put_eight, put_list, read_ascending,
-    read_eight, read_name, refused,
+    Breach, Format, NameFormat, Ordered, ReadError, check_list, check_name, put_eight, put_list,
+    put_name, read_ascending, read_eight, read_name, refused,
 };
 use mj_lexer::Name;
 use std::alloc::{AllocError, Global};
@@ -191,6 +190,54 @@ impl Format for TextFormat {
 pub struct IndexRow {
     pub class: Name,
     pub file: Name,
+}
+
+/// Classes with their files, in the order of the classes.
+pub struct IndexRowFormat;
+
+impl Format for IndexRowFormat {
+    ghost use Rattle.result_bytes.specs.Canon.{index_row};
+    ghost use Rattle.result_bytes.specs.Fits.{IndexRowFits};
+    ghost use Rattle.result_bytes.specs.Reading.{index_row_at};
+    ghost use Rattle.result_bytes.specs.ItemLaws.{lawful_index_row};
+
+    type Item = IndexRow;
+
+    ghost is_storable = { λ _. Unit {0} };
+
+    ghost has_spelling = { IndexRowFits };
+
+    ghost spelling = { index_row };
+
+    ghost reading = { index_row_at };
+
+    ghost lawful = { lawful_index_row };
+
+    fn check(item: &IndexRow) {
+        check_name(&item.class);
+        check_name(&item.file);
+    }
+
+    fn write(out: &mut Vec<u8>, item: &IndexRow) -> Result<(), AllocError> {
+        put_name(out, &item.class)?;
+        put_name(out, &item.file)
+    }
+
+    fn read(alloc: Global, bytes: &[u8]) -> Result<(IndexRow, &[u8]), ReadError> {
+        let (class, rest) = read_name(alloc, bytes)?;
+        let (file, rest) = read_name(alloc, rest)?;
+        Ok((IndexRow { class, file }, rest))
+    }
+}
+
+impl Ordered for IndexRowFormat {
+    ghost use Rattle.answer_bytes.specs.Reading.{by_name};
+
+    ghost precedes = { by_name (λ row. row.class) };
+
+    fn precedes(item: &IndexRow, other: &IndexRow) -> bool {
+        item.class.cmp(&other.class).is_lt()
+    }
 }
 
 /// Each class with the file that declares it, ascending by class.

@@ -1,19 +1,15 @@
 //! The results of queries, and the one spelling of each in bytes.
 #![tactic(auto)]
 
-mod answer;
 mod class;
-mod faults;
 mod files;
 mod laws;
 mod parts;
 mod reading;
 mod refusal;
-mod rows;
 mod value;
 mod writing;
 
-pub use answer::{Faults, Members, WholeAnswer};
 pub use class::{Header, Signature, Supers};
 pub use files::{FileNames, Index, IndexRow, Text};
 pub use laws::{is_value, one_spelling};

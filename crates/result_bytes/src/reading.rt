@@ -4,11 +4,11 @@ ghost use Rattle.byte_readers.specs.Reading.{Gives};
 ghost use Rattle.result_bytes.specs.declared.value.Value.{Value};
 ghost use Rattle.result_bytes.specs.Values.{IsValue, canon, kind_of, content_at, decoded, refusal, IsUnlessMemory};
 
-use crate::answer::{MembersFormat, read_answer, read_faults};
 use crate::class::{HeaderFormat, SignatureFormat, SupersFormat};
 use crate::files::{TextFormat, read_file_names, read_index};
 use crate::refusal::Refusal;
 use crate::value::Value;
+use answer_bytes::{MembersFormat, read_answer, read_faults};
 use byte_readers::{Breach, ReadError, read_option};
 use item_ids::Kind;
 use std::alloc::Global;

@@ -1,9 +1,9 @@
 //! Values of queries.
 ghost use Rattle.std.specs.Prelude.{◌≡◌};
 
-use crate::answer::{Faults, Members, WholeAnswer};
 use crate::class::{Header, Signature, Supers};
 use crate::files::{FileNames, Index, Text};
+use answer_bytes::{Faults, Members, WholeAnswer};
 use item_ids::Kind;
 use tree_bytes::{Body, Tree};
 

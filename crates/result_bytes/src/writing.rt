@@ -2,10 +2,10 @@
 ghost use Rattle.std.specs.Prelude.{◌≡◌, ◌++◌, IfOk, OnOk};
 ghost use Rattle.result_bytes.specs.Values.{content, canon};
 
-use crate::answer::{MembersFormat, put_answer, put_faults};
 use crate::class::{HeaderFormat, SignatureFormat, SupersFormat};
 use crate::files::{TextFormat, put_file_names, put_index};
 use crate::value::Value;
+use answer_bytes::{MembersFormat, put_answer, put_faults};
 use byte_readers::put_option;
 use std::alloc::{AllocError, Global};
 use tree_bytes::{BodyFormat, TreeFormat};

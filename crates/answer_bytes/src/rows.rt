@@ -1,7 +1,6 @@
 //! The rows of tables as bytes.
 ghost use Rattle.std.specs.Prelude.{◌≡◌};
 
-use crate::files::IndexRow;
 use byte_readers::{
     Format, Ordered, ReadError, check_list, check_name, put_list, put_name, read_list, read_name,
 };
@@ -9,62 +8,14 @@ use mj_answer::{FieldRow, MethodRow};
 use std::alloc::{AllocError, Global};
 use tree_bytes::{TypeFormat, check_ty, put_ty, read_ty};
 
-/// Classes with their files, in the order of the classes.
-pub struct IndexRowFormat;
-
-impl Format for IndexRowFormat {
-    ghost use Rattle.result_bytes.specs.Canon.{index_row};
-    ghost use Rattle.result_bytes.specs.Fits.{IndexRowFits};
-    ghost use Rattle.result_bytes.specs.Reading.{index_row_at};
-    ghost use Rattle.result_bytes.specs.ItemLaws.{lawful_index_row};
-
-    type Item = IndexRow;
-
-    ghost is_storable = { λ _. Unit {0} };
-
-    ghost has_spelling = { IndexRowFits };
-
-    ghost spelling = { index_row };
-
-    ghost reading = { index_row_at };
-
-    ghost lawful = { lawful_index_row };
-
-    fn check(item: &IndexRow) {
-        check_name(&item.class);
-        check_name(&item.file);
-    }
-
-    fn write(out: &mut Vec<u8>, item: &IndexRow) -> Result<(), AllocError> {
-        put_name(out, &item.class)?;
-        put_name(out, &item.file)
-    }
-
-    fn read(alloc: Global, bytes: &[u8]) -> Result<(IndexRow, &[u8]), ReadError> {
-        let (class, rest) = read_name(alloc, bytes)?;
-        let (file, rest) = read_name(alloc, rest)?;
-        Ok((IndexRow { class, file }, rest))
-    }
-}
-
-impl Ordered for IndexRowFormat {
-    ghost use Rattle.result_bytes.specs.Reading.{by_name};
-
-    ghost precedes = { by_name (λ row. row.class) };
-
-    fn precedes(item: &IndexRow, other: &IndexRow) -> bool {
-        item.class.cmp(&other.class).is_lt()
-    }
-}
-
 /// Fields with their owners, in the order of their names.
 pub struct FieldRowFormat;
 
 impl Format for FieldRowFormat {
-    ghost use Rattle.result_bytes.specs.Canon.{field_row};
-    ghost use Rattle.result_bytes.specs.Fits.{FieldRowFits};
-    ghost use Rattle.result_bytes.specs.Reading.{field_row_at};
-    ghost use Rattle.result_bytes.specs.ItemLaws.{lawful_field_row};
+    ghost use Rattle.answer_bytes.specs.Canon.{field_row};
+    ghost use Rattle.answer_bytes.specs.Fits.{FieldRowFits};
+    ghost use Rattle.answer_bytes.specs.Reading.{field_row_at};
+    ghost use Rattle.answer_bytes.specs.AnswerLaws.{lawful_field_row};
 
     type Item = FieldRow;
 
@@ -99,7 +50,7 @@ impl Format for FieldRowFormat {
 }
 
 impl Ordered for FieldRowFormat {
-    ghost use Rattle.result_bytes.specs.Reading.{by_name};
+    ghost use Rattle.answer_bytes.specs.Reading.{by_name};
 
     ghost precedes = { by_name (λ row. row.name) };
 
@@ -112,10 +63,10 @@ impl Ordered for FieldRowFormat {
 pub struct MethodRowFormat;
 
 impl Format for MethodRowFormat {
-    ghost use Rattle.result_bytes.specs.Canon.{method_row};
-    ghost use Rattle.result_bytes.specs.Fits.{MethodRowFits};
-    ghost use Rattle.result_bytes.specs.Reading.{method_row_at};
-    ghost use Rattle.result_bytes.specs.ItemLaws.{lawful_method_row};
+    ghost use Rattle.answer_bytes.specs.Canon.{method_row};
+    ghost use Rattle.answer_bytes.specs.Fits.{MethodRowFits};
+    ghost use Rattle.answer_bytes.specs.Reading.{method_row_at};
+    ghost use Rattle.answer_bytes.specs.AnswerLaws.{lawful_method_row};
 
     type Item = MethodRow;
 
@@ -154,7 +105,7 @@ impl Format for MethodRowFormat {
 }
 
 impl Ordered for MethodRowFormat {
-    ghost use Rattle.result_bytes.specs.Reading.{by_name};
+    ghost use Rattle.answer_bytes.specs.Reading.{by_name};
 
     ghost precedes = { by_name (λ row. row.name) };
 

@@ -3,9 +3,9 @@ ghost use Rattle.std.specs.Prelude.{◌≡◌, ◌++◌, OnOk};
 ghost use Rattle.mj_answer.specs.Codes.{number_of};
 ghost use Rattle.byte_readers.specs.Spelling.{two};
 ghost use Rattle.byte_readers.specs.Reading.{Gives};
-ghost use Rattle.result_bytes.specs.Canon.{project_place, class_place};
-ghost use Rattle.result_bytes.specs.Fits.{PlaceNameFits};
-ghost use Rattle.result_bytes.specs.Reading.{project_place_at, class_place_at, code_at};
+ghost use Rattle.answer_bytes.specs.Canon.{project_place, class_place};
+ghost use Rattle.answer_bytes.specs.Fits.{PlaceNameFits};
+ghost use Rattle.answer_bytes.specs.Reading.{project_place_at, class_place_at, code_at};
 
 use byte_readers::{
     Breach, Format, Ordered, ReadError, check_name, put_four, put_name, put_two, read_four,
@@ -132,10 +132,10 @@ fn put_code(out: &mut Vec<u8>, code: Code) -> Result<(), AllocError>
 pub struct ProjectFaultFormat;
 
 impl Format for ProjectFaultFormat {
-    ghost use Rattle.result_bytes.specs.Canon.{project_fault};
-    ghost use Rattle.result_bytes.specs.Fits.{IsProjectPlace, ProjectFaultFits};
-    ghost use Rattle.result_bytes.specs.Reading.{project_fault_at};
-    ghost use Rattle.result_bytes.specs.ItemLaws.{lawful_project_fault};
+    ghost use Rattle.answer_bytes.specs.Canon.{project_fault};
+    ghost use Rattle.answer_bytes.specs.Fits.{IsProjectPlace, ProjectFaultFits};
+    ghost use Rattle.answer_bytes.specs.Reading.{project_fault_at};
+    ghost use Rattle.answer_bytes.specs.AnswerLaws.{lawful_project_fault};
 
     type Item = Diagnostic;
 
@@ -166,7 +166,7 @@ impl Format for ProjectFaultFormat {
 }
 
 impl Ordered for ProjectFaultFormat {
-    ghost use Rattle.result_bytes.specs.Reading.{by_place};
+    ghost use Rattle.answer_bytes.specs.Reading.{by_place};
 
     ghost precedes = { by_place };
 
@@ -179,10 +179,10 @@ impl Ordered for ProjectFaultFormat {
 pub struct ClassFaultFormat;
 
 impl Format for ClassFaultFormat {
-    ghost use Rattle.result_bytes.specs.Canon.{class_fault};
-    ghost use Rattle.result_bytes.specs.Fits.{IsClassPlace, ClassFaultFits};
-    ghost use Rattle.result_bytes.specs.Reading.{class_fault_at};
-    ghost use Rattle.result_bytes.specs.ItemLaws.{lawful_class_fault};
+    ghost use Rattle.answer_bytes.specs.Canon.{class_fault};
+    ghost use Rattle.answer_bytes.specs.Fits.{IsClassPlace, ClassFaultFits};
+    ghost use Rattle.answer_bytes.specs.Reading.{class_fault_at};
+    ghost use Rattle.answer_bytes.specs.AnswerLaws.{lawful_class_fault};
 
     type Item = Diagnostic;
 
@@ -213,7 +213,7 @@ impl Format for ClassFaultFormat {
 }
 
 impl Ordered for ClassFaultFormat {
-    ghost use Rattle.result_bytes.specs.Reading.{by_place};
+    ghost use Rattle.answer_bytes.specs.Reading.{by_place};
 
     ghost precedes = { by_place };
 

@@ -1,8 +1,8 @@
 use Rattle.std.proofs.Common.{◌≡◌, List, ℕ, Ok, refl, arith}
 use Rattle.byte_readers.specs.Reading.{◌>>=◌}
-use Rattle.result_bytes.specs.Reading.{project_faults_at, answer_of, answer_at}
-use Rattle.result_bytes.specs.ItemLaws.{lawful_answer}
-use Rattle.result_bytes.proofs.answer.read_answer.Goals as goal
+use Rattle.answer_bytes.specs.Reading.{project_faults_at, answer_of, answer_at}
+use Rattle.answer_bytes.specs.AnswerLaws.{lawful_answer}
+use Rattle.answer_bytes.proofs.answer.read_answer.Goals as goal
 
 pub invariant_of-result : goal.invariant_of-result
 unfolding answer_at project_faults_at

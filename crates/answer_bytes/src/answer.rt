@@ -4,9 +4,9 @@ ghost use Rattle.std.specs.List.{AllByRecursion};
 ghost use Rattle.mj_answer.specs.Order.{IsAscending, IsAscendingByName, IsTableInOrder};
 ghost use Rattle.byte_readers.specs.Reading.{Gives};
 ghost use Rattle.byte_readers.specs.Spelling.{list};
-ghost use Rattle.result_bytes.specs.Canon.{table, class_fault, answer};
-ghost use Rattle.result_bytes.specs.Fits.{TableFits, ClassFaultsFit, AnswerFits, AreProjectFaults, AreClassFaults, IsClassStorable};
-ghost use Rattle.result_bytes.specs.Reading.{table_at, class_faults_at, answer_at};
+ghost use Rattle.answer_bytes.specs.Canon.{table, class_fault, answer};
+ghost use Rattle.answer_bytes.specs.Fits.{TableFits, ClassFaultsFit, AnswerFits, AreProjectFaults, AreClassFaults, IsClassStorable};
+ghost use Rattle.answer_bytes.specs.Reading.{table_at, class_faults_at, answer_at};
 
 use crate::faults::{ClassFaultFormat, ProjectFaultFormat};
 use crate::rows::{FieldRowFormat, MethodRowFormat};
@@ -26,7 +26,7 @@ pub struct Members {
 
 impl Model for Members {
     ghost use Rattle.mj_answer.specs.Answers.{ClassTableValue};
-    ghost use Rattle.result_bytes.specs.Fits.{TableFits};
+    ghost use Rattle.answer_bytes.specs.Fits.{TableFits};
 
     ghost Value = { ClassTableValue };
 
@@ -63,7 +63,7 @@ pub struct Faults {
 impl Model for Faults {
     ghost use Rattle.std.specs.Prelude.{List};
     ghost use Rattle.mj_answer.specs.declared.diagnostic.Diagnostic.{Diagnostic};
-    ghost use Rattle.result_bytes.specs.Fits.{ClassFaultsFit};
+    ghost use Rattle.answer_bytes.specs.Fits.{ClassFaultsFit};
 
     ghost Value = { List Diagnostic };
 
@@ -100,7 +100,7 @@ pub struct WholeAnswer {
 
 impl Model for WholeAnswer {
     ghost use Rattle.mj_answer.specs.Answers.{AnswerValue};
-    ghost use Rattle.result_bytes.specs.Fits.{AnswerFits};
+    ghost use Rattle.answer_bytes.specs.Fits.{AnswerFits};
 
     ghost Value = { AnswerValue };
 
@@ -162,10 +162,10 @@ fn read_table(alloc: Global, bytes: &[u8]) -> Result<(ClassTable, &[u8]), ReadEr
 pub struct MembersFormat;
 
 impl Format for MembersFormat {
-    ghost use Rattle.result_bytes.specs.Canon.{table};
-    ghost use Rattle.result_bytes.specs.Fits.{TableFits};
-    ghost use Rattle.result_bytes.specs.Reading.{table_at};
-    ghost use Rattle.result_bytes.specs.ItemLaws.{lawful_table};
+    ghost use Rattle.answer_bytes.specs.Canon.{table};
+    ghost use Rattle.answer_bytes.specs.Fits.{TableFits};
+    ghost use Rattle.answer_bytes.specs.Reading.{table_at};
+    ghost use Rattle.answer_bytes.specs.AnswerLaws.{lawful_table};
 
     type Item = Members;
 
@@ -213,10 +213,10 @@ pub fn read_faults(alloc: Global, bytes: &[u8]) -> Result<(Faults, &[u8]), ReadE
 pub struct ClassFormat;
 
 impl Format for ClassFormat {
-    ghost use Rattle.result_bytes.specs.Canon.{class_answer};
-    ghost use Rattle.result_bytes.specs.Fits.{IsClassStorable, ClassAnswerFits};
-    ghost use Rattle.result_bytes.specs.Reading.{class_answer_at};
-    ghost use Rattle.result_bytes.specs.ItemLaws.{lawful_class_answer};
+    ghost use Rattle.answer_bytes.specs.Canon.{class_answer};
+    ghost use Rattle.answer_bytes.specs.Fits.{IsClassStorable, ClassAnswerFits};
+    ghost use Rattle.answer_bytes.specs.Reading.{class_answer_at};
+    ghost use Rattle.answer_bytes.specs.AnswerLaws.{lawful_class_answer};
 
     type Item = ClassAnswer;
 
@@ -252,7 +252,7 @@ impl Format for ClassFormat {
 }
 
 impl Ordered for ClassFormat {
-    ghost use Rattle.result_bytes.specs.Reading.{by_name};
+    ghost use Rattle.answer_bytes.specs.Reading.{by_name};
 
     ghost precedes = { by_name (λ class. class.name) };
 

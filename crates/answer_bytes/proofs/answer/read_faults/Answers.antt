@@ -1,7 +1,7 @@
 use Rattle.std.proofs.Common.{◌≡◌, arith}
-use Rattle.result_bytes.specs.ItemLaws.{lawful_class_faults}
-use Rattle.result_bytes.specs.Reading.{class_faults_at}
-use Rattle.result_bytes.proofs.answer.read_faults.Goals as goal
+use Rattle.answer_bytes.specs.AnswerLaws.{lawful_class_faults}
+use Rattle.answer_bytes.specs.Reading.{class_faults_at}
+use Rattle.answer_bytes.proofs.answer.read_faults.Goals as goal
 
 pub invariant_of-result : goal.invariant_of-result
 unfolding class_faults_at
