@@ -1,26 +1,20 @@
 -- Tables, faults and answers: what is read is spelled so, and what is spelled so is read.
-use Rattle.std.proofs.Common.{◌≡◌, ℕ, zero, suc, ◌+◌, ◌<◌, ◌≤◌, ◌^◌, Bool, true, false, cond, eqb, ltb, List, [], ◌∷◌, ◌++◌, length, take, drop, Option, Some, None, Result, Ok, Err, refl, sym, ap, subst, ◌∙◌, append_assoc, arith, lit<}
-use Rattle.std.specs.Prelude.{◌≢◌, not, ◌||◌}
-use Rattle.std.specs.List.{flat_map}
-use Rattle.std.proofs.lemmas.Bool.{ltb-false, le-ltb, eqb-true, eqb-false, ne_eqb}
-use Rattle.std.proofs.lemmas.List.{take_at, drop_at, take-append-drop, length-append, length-take-le}
+use Rattle.std.proofs.Common.{◌≡◌, ℕ, zero, suc, ◌<◌, ◌^◌, eqb, List, [], ◌∷◌, ◌++◌, Option, Some, None, Result, Ok, refl, sym, ap, subst, lit<}
+use Rattle.std.proofs.lemmas.Bool.{eqb-true}
 use Rattle.mj_parser.specs.declared.place.Place.{Place}
 use Rattle.mj_parser.specs.declared.place.Place.TheVariants as places
 use Rattle.mj_answer.specs.declared.code.Code.{Code}
 use Rattle.mj_answer.specs.declared.code.Code.TheVariants.{E101}
-use Rattle.mj_answer.specs.declared.diagnostic.Diagnostic.{Diagnostic}
 use Rattle.mj_answer.specs.Codes.{number_of, all_codes, code_of}
 use Rattle.mj_answer.proofs.Orders.{code_back}
 use Rattle.byte_readers.specs.declared.breach.Breach.{Breach}
-use Rattle.byte_readers.specs.declared.breach.Breach.TheVariants.{Short, NotCanonical}
-use Rattle.byte_readers.specs.Names.{IsName}
-use Rattle.byte_readers.specs.Spelling.{two, four, eight, name, option, list}
-use Rattle.byte_readers.specs.Reading.{◌>>=◌, Reader, refused, any, two_at, four_at, eight_at, name_at, pair_at, made_at, list_from}
-use Rattle.byte_readers.specs.Lawful.{IsBytes, Takes, Lawful, Admitted, FitsList}
-use Rattle.byte_readers.specs.Laws.{IsBytes-rest, IsBytes-drop, bind_ok, guard_ok, guard_so, ok_is, Takes-then, takes_nothing, takes_behind, found_passes, made_takes, made_again, lawful_two, lawful_four, lawful_eight, lawful_name, lawful_pair, lawful_option, lawful_list, list_takes, list_again, whole_list, lawful_made, lawful_where, any_admits}
-use Rattle.tree_bytes.specs.TypeLaws.{lawful_ty, lawful_field}
+use Rattle.byte_readers.specs.Spelling.{two, list}
+use Rattle.byte_readers.specs.Reading.{Reader, any, two_at, made_at}
+use Rattle.byte_readers.specs.Lawful.{IsBytes, Takes, Lawful}
+use Rattle.byte_readers.specs.Laws.{IsBytes-rest, bind_ok, ok_is, takes_nothing, takes_behind, found_passes, made_takes, made_again, lawful_two, lawful_four, lawful_name, lawful_pair, lawful_list, lawful_made, lawful_where, any_admits}
+use Rattle.tree_bytes.specs.TypeLaws.{lawful_ty}
 use Rattle.answer_bytes.specs.Canon.{field_row, method_row, table, project_place, class_place, project_fault, class_fault, class_answer, answer}
-use Rattle.answer_bytes.specs.Fits.{IsCount, FieldRowFits, MethodRowFits, TableFits, IsProjectPlace, IsClassPlace, PlaceNameFits, ProjectFaultFits, ClassFaultFits, ProjectFaultsFit, ClassFaultsFit, ClassAnswerFits, AnswerFits}
+use Rattle.answer_bytes.specs.Fits.{FieldRowFits, MethodRowFits, TableFits, IsProjectPlace, IsClassPlace, PlaceNameFits, ProjectFaultFits, ClassFaultFits, ProjectFaultsFit, ClassFaultsFit, ClassAnswerFits, AnswerFits}
 use Rattle.answer_bytes.specs.Reading.{field_row_of, field_row_at, method_row_of, method_row_at, table_of, table_at, class_of, project_place_at, inside_of, class_place_at, coded, code_at, fault_of, project_fault_at, class_fault_at, project_faults_at, class_faults_at, class_answer_of, class_answer_at, answer_of, answer_at}
 use Rattle.answer_bytes.specs.OrderLaws.{lawful_by_name, lawful_by_place}
 

@@ -1,13 +1,13 @@
 -- The canonical bytes of tables, faults and answers. Numbers are big endian.
-use Rattle.std.specs.Prelude.{ℕ, Bool, true, false, List, [], ◌∷◌, ◌++◌, length}
+use Rattle.std.specs.Prelude.{ℕ, List, [], ◌∷◌, ◌++◌}
 use Rattle.mj_parser.specs.declared.place.Place.{Place}
 use Rattle.mj_parser.specs.declared.place.Place.TheVariants.{Project, File, ClassOf, Class, Field, Method, Inside}
 use Rattle.mj_answer.specs.declared.diagnostic.Diagnostic.{Diagnostic}
 use Rattle.mj_answer.specs.declared.table.FieldRow.{FieldRow}
 use Rattle.mj_answer.specs.Codes.{number_of}
 use Rattle.mj_answer.specs.Answers.{MethodRowValue, ClassTableValue, ClassAnswerValue, AnswerValue}
-use Rattle.byte_readers.specs.Spelling.{two, four, eight, name, option, list}
-use Rattle.tree_bytes.specs.Spelling.{ty, field}
+use Rattle.byte_readers.specs.Spelling.{two, four, name, list}
+use Rattle.tree_bytes.specs.Spelling.{ty}
 
 -- a field: its name, its owner, its type
 abbrev pub field_row : FieldRow → List ℕ

@@ -2,6 +2,7 @@ use crate::reading::decode;
 use crate::refusal::Refusal;
 use crate::value::Value;
 use crate::writing::encode;
+use answer_bytes::WholeAnswer;
 use item_ids::Kind;
 use mj_answer::render;
 use std::test::*;
@@ -134,10 +135,7 @@ const ANSWERS: [(&str, &str); 14] = [
         "0c00000000000000000000000000000001014d000000000000000000000000000000000000000000000000",
         "class M\n",
     ),
-    (
-        "0c00000000000000010000660000000000000000",
-        "E102 project\n",
-    ),
+    ("0c00000000000000010000660000000000000000", "E102 project\n"),
     (
         "0c0000000000000000000000000000000201410000000000000000000000000000000000000000000000010000ca014d000000000000000000000000000000000000000000000000",
         "class A\n  E202 class\nclass M\n",
@@ -196,9 +194,28 @@ fn bytes_of(rt: HostRuntime, digits: &str) -> Result<Vec<u8>, Fail> {
     )
 }
 
+fn value_of(rt: HostRuntime, kind: Kind, bytes: &[u8]) -> Result<Value, Fail> {
+    match decode(rt.alloc(), kind, bytes) {
+        Ok(value) => Ok(value),
+        Err(_refusal) => Err("no value".into()),
+    }
+}
+
 fn again(rt: HostRuntime, kind: Kind, bytes: &[u8]) -> Result<Vec<u8>, Fail> {
-    let value = decode(rt.alloc(), kind, bytes).ok().ok_or("a value")?;
+    let value = value_of(rt, kind, bytes)?;
     Ok(encode(rt.alloc(), &value)?)
+}
+
+fn answer_of(rt: HostRuntime, bytes: &[u8]) -> Result<WholeAnswer, Fail> {
+    match value_of(rt, Kind::Answer, bytes)? {
+        Value::Answer(whole) => Ok(whole),
+        _other => Err("a value of another kind".into()),
+    }
+}
+
+fn printed(rt: HostRuntime, bytes: &[u8]) -> Result<String, Fail> {
+    let whole = answer_of(rt, bytes)?;
+    Ok(render(rt.alloc(), whole.answer())?)
 }
 
 #[test]
@@ -224,14 +241,8 @@ fn refusals(rt: HostRuntime) -> Result<(), Fail> {
 fn answers(rt: HostRuntime) -> Result<(), Fail> {
     for (digits, text) in &ANSWERS {
         let bytes = bytes_of(rt, digits)?;
-        let value = decode(rt.alloc(), Kind::Answer, &bytes)
-            .ok()
-            .ok_or("an answer")?;
-        assert_eq!(rt; encode(rt.alloc(), &value)?.as_slice(), bytes.as_slice());
-        let Value::Answer(whole) = value else {
-            return Err("a value of another kind".into());
-        };
-        assert_eq!(rt; render(rt.alloc(), whole.answer())?.as_str(), *text);
+        assert_eq!(rt; again(rt, Kind::Answer, &bytes)?.as_slice(), bytes.as_slice());
+        assert_eq!(rt; printed(rt, &bytes)?.as_str(), *text);
     }
     Ok(())
 }

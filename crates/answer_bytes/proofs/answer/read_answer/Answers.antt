@@ -1,5 +1,4 @@
-use Rattle.std.proofs.Common.{◌≡◌, List, ℕ, Ok, refl, arith}
-use Rattle.byte_readers.specs.Reading.{◌>>=◌}
+use Rattle.std.proofs.Common.{◌≡◌, Ok, refl, arith}
 use Rattle.answer_bytes.specs.Reading.{project_faults_at, answer_of, answer_at}
 use Rattle.answer_bytes.specs.AnswerLaws.{lawful_answer}
 use Rattle.answer_bytes.proofs.answer.read_answer.Goals as goal

@@ -1,4 +1,4 @@
-use Rattle.std.proofs.Common.{◌≡◌, arith}
+use Rattle.std.proofs.Common.{arith}
 use Rattle.answer_bytes.specs.AnswerLaws.{lawful_class_faults}
 use Rattle.answer_bytes.specs.Reading.{class_faults_at}
 use Rattle.answer_bytes.proofs.answer.read_faults.Goals as goal

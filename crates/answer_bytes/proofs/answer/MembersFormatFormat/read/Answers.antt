@@ -1,4 +1,4 @@
-use Rattle.std.proofs.Common.{◌≡◌, arith}
+use Rattle.std.proofs.Common.{arith}
 use Rattle.answer_bytes.specs.AnswerLaws.{lawful_table}
 use Rattle.answer_bytes.proofs.answer.MembersFormatFormat.read.Goals as goal
 
