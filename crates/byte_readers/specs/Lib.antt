@@ -1,0 +1,6 @@
+pub mod Names
+pub mod Spelling
+pub mod Reading
+pub mod Orders
+pub mod Lawful
+pub mod Laws

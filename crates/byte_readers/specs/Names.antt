@@ -1,0 +1,9 @@
+-- What a name is.
+use Rattle.std.specs.Prelude.{◌≡◌, ℕ, ◌<◌, ◌≤◌, true, List, length}
+use Rattle.std.specs.Str.{is_utf8}
+
+-- a text of 1 to 255 bytes
+pub record IsName (bytes : List ℕ) : Type 0 where
+  pub some : 0 < length bytes
+  pub short : length bytes ≤ 255
+  pub text : is_utf8 bytes ≡ true

@@ -1,0 +1,21 @@
+//! Items as bytes: readers that refuse what isn't the one spelling of an item, and writers of this spelling.
+#![tactic(auto)]
+
+mod breach;
+mod fields;
+mod format;
+mod lists;
+mod names;
+mod options;
+
+pub use breach::{Breach, ReadError};
+pub use fields::{
+    put_eight, put_four, put_two, read_byte, read_eight, read_four, read_two, refused,
+};
+pub use format::{Format, Ordered};
+pub use lists::{check_list, put_list, read_ascending, read_list};
+pub use names::{NameFormat, check_name, put_name, read_name};
+pub use options::{check_option, put_option, read_option};
+
+#[cfg(test)]
+mod tests;

@@ -1,0 +1,103 @@
+//! Lists of items: their number, and the items.
+ghost use Rattle.std.specs.Prelude.{◌≡◌, ◌++◌, ◌<◌, ◌^◌, List, [], length, OnOk};
+ghost use Rattle.std.specs.List.{AllByRecursion};
+ghost use Rattle.byte_readers.specs.Spelling.{list};
+ghost use Rattle.byte_readers.specs.Reading.{Gives, list_at, list_from, any};
+ghost use Rattle.byte_readers.specs.Orders.{is_after};
+
+use crate::breach::ReadError;
+use crate::fields::{put_eight, read_eight, refused};
+use crate::format::{Format, Ordered};
+use std::alloc::{AllocError, Global};
+
+/// The number of items has a spelling, and each item where it meets what its type doesn't tell.
+pub fn check_list<F: Format>(items: &[F::Item])
+    requires { AllByRecursion F.is_storable items.now }
+    ensures few { length items.now < 2 ^ 64 }
+    ensures each { AllByRecursion F.has_spelling items.now }
+{
+    let _few = items.len();
+    for item in items {
+        F::check(item);
+    }
+}
+
+/// Writes the number of items, and the items.
+pub fn put_list<F: Format>(out: &mut Vec<u8>, items: &[F::Item]) -> Result<(), AllocError>
+    ensures { OnOk result (out.new.items ≡ out.old.items ++ list F.spelling items.now) }
+{
+    put_eight(out, items.len())?;
+    for item in items {
+        F::write(out, item)?;
+    }
+    Ok(())
+}
+
+/// Reads a list.
+#[tactic(auto, unfolding(crate::specs::Reading::list_at))]
+pub fn read_list<F: Format>(alloc: Global, bytes: &[u8]) -> Result<(Vec<F::Item>, &[u8]), ReadError>
+    ensures { Gives (λ x. (x.0.items, x.1.now)) result (list_at F.reading any bytes.now) }
+{
+    let (count, rest) = read_eight(bytes)?;
+    read_items::<F>(alloc, count, rest)
+}
+
+fn read_items<F: Format>(
+    alloc: Global,
+    count: u64,
+    bytes: &[u8],
+) -> Result<(Vec<F::Item>, &[u8]), ReadError>
+    ensures { Gives (λ x. (x.0.items, x.1.now)) result (list_from F.reading any [] count bytes.now) }
+{
+    let mut items = Vec::new(alloc);
+    let mut rest = bytes;
+    for _ in 0..count {
+        let (item, after) = F::read(alloc, rest)?;
+        items.push(item)?;
+        rest = after;
+    }
+    Ok((items, rest))
+}
+
+/// Reads a list in ascending order.
+#[tactic(auto, unfolding(crate::specs::Reading::list_at))]
+pub fn read_ascending<F: Ordered>(
+    alloc: Global,
+    bytes: &[u8],
+) -> Result<(Vec<F::Item>, &[u8]), ReadError>
+    ensures { Gives (λ x. (x.0.items, x.1.now)) result (list_at F.reading (is_after F.precedes) bytes.now) }
+{
+    let (count, rest) = read_eight(bytes)?;
+    read_ascending_items::<F>(alloc, count, rest)
+}
+
+fn read_ascending_items<F: Ordered>(
+    alloc: Global,
+    count: u64,
+    bytes: &[u8],
+) -> Result<(Vec<F::Item>, &[u8]), ReadError>
+    ensures { Gives (λ x. (x.0.items, x.1.now)) result (list_from F.reading (is_after F.precedes) [] count bytes.now) }
+{
+    let mut items = Vec::new(alloc);
+    let mut rest = bytes;
+    for _ in 0..count {
+        let (item, after) = F::read(alloc, rest)?;
+        let admitted = is_after::<F>(&items, &item);
+        if !admitted {
+            return Err(refused(rest));
+        }
+        items.push(item)?;
+        rest = after;
+    }
+    Ok((items, rest))
+}
+
+/// Whether the item comes after the last of the items.
+fn is_after<F: Ordered>(items: &[F::Item], item: &F::Item) -> bool
+    ensures { result ≡ is_after F.precedes items.now item.now }
+{
+    match items.last() {
+        None => true,
+        Some(last) => F::precedes(last, item),
+    }
+}

@@ -1,0 +1,94 @@
+//! Names.
+ghost use Rattle.std.specs.Prelude.{◌≡◌, ◌++◌, List, ℕ, OnOk, IfSome, is_some};
+ghost use Rattle.std.specs.Str.{is_utf8};
+ghost use Rattle.byte_readers.specs.Spelling.{name};
+ghost use Rattle.byte_readers.specs.Reading.{Gives, name_at};
+ghost use Rattle.byte_readers.specs.Names.{IsName};
+
+use crate::breach::{Breach, ReadError};
+use crate::fields::{read_byte, refused};
+use crate::format::Format;
+use mj_lexer::Name;
+use std::alloc::{AllocError, Global};
+
+/// Names: one byte of length, and the bytes of the text.
+pub struct NameFormat;
+
+/// Writes a name.
+pub fn put_name(out: &mut Vec<u8>, item: &Name) -> Result<(), AllocError>
+    ensures { OnOk result (out.new.items ≡ out.old.items ++ name item.now) }
+{
+    let bytes = item.bytes();
+    out.push(bytes.len() as u8)?;
+    out.extend_from_slice(bytes)
+}
+
+/// Reads a name.
+#[tactic(auto, unfolding(crate::specs::Reading::name_at))]
+pub fn read_name(alloc: Global, bytes: &[u8]) -> Result<(Name, &[u8]), ReadError>
+    ensures { Gives (λ x. (x.0, x.1.now)) result (name_at bytes.now) }
+{
+    let (len, rest) = read_byte(bytes)?;
+    let len = len as usize;
+    if len == 0 {
+        return Err(refused(bytes));
+    }
+    if rest.len() < len {
+        return Err(ReadError::Breach(Breach::Short));
+    }
+    let (front, rest) = rest.split_at(len);
+    let Some(text) = as_text(front) else {
+        return Err(refused(bytes));
+    };
+    Ok((Name::new(alloc, text)?, rest))
+}
+
+/// The bytes as a text, where they are UTF-8.
+fn as_text(bytes: &[u8]) -> Option<&str>
+    ensures same { IfSome result (λ text. text.now ≡ bytes.now) }
+    ensures is_text { is_some result ≡ is_utf8 bytes.now }
+{
+    match std::str::from_utf8(bytes) {
+        Ok(text) => Some(text),
+        Err(_) => None,
+    }
+}
+
+/// A name has a spelling.
+pub fn check_name(item: &Name)
+    ensures { IsName item.now }
+{
+    let _bytes = item.bytes();
+    let _text = item.as_str();
+}
+
+impl Format for NameFormat {
+    ghost use Rattle.byte_readers.specs.Spelling.{name};
+    ghost use Rattle.byte_readers.specs.Reading.{name_at};
+    ghost use Rattle.byte_readers.specs.Names.{IsName};
+    ghost use Rattle.byte_readers.specs.Laws.{lawful_name};
+
+    type Item = Name;
+
+    ghost is_storable = { λ _. Unit {0} };
+
+    ghost has_spelling = { IsName };
+
+    ghost spelling = { name };
+
+    ghost reading = { name_at };
+
+    ghost lawful = { lawful_name };
+
+    fn check(item: &Name) {
+        check_name(item)
+    }
+
+    fn write(out: &mut Vec<u8>, item: &Name) -> Result<(), AllocError> {
+        put_name(out, item)
+    }
+
+    fn read(alloc: Global, bytes: &[u8]) -> Result<(Name, &[u8]), ReadError> {
+        read_name(alloc, bytes)
+    }
+}

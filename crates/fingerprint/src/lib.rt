@@ -1,0 +1,11 @@
+//! Results with their canonical bytes and the fingerprint of these.
+#![tactic(auto)]
+
+mod print;
+mod sealed;
+
+pub use print::Print;
+pub use sealed::{OpenFault, Sealed, open_sealed, seal};
+
+#[cfg(test)]
+mod tests;

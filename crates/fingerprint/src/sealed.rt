@@ -1,0 +1,112 @@
+//! Sealed results.
+ghost use Rattle.std.specs.Prelude.{◌≡◌, IfOk};
+ghost use Rattle.result_bytes.specs.declared.value.Value.{Value};
+ghost use Rattle.result_bytes.specs.Values.{IsValue, canon, kind_of};
+ghost use Rattle.fingerprint.specs.Prints.{print_of};
+ghost use Rattle.fingerprint.specs.Opening.{IsOpened, IsOkUnlessMemory};
+
+use crate::print::Print;
+use item_ids::Kind;
+use result_bytes::{Refusal, Value, decode, encode};
+use std::alloc::{AllocError, Global};
+use std::marker::Model;
+
+/// A value with its canonical bytes and their print. Contracts see the value.
+#[derive(Debug, Drop)]
+pub struct Sealed {
+    value: Value,
+    bytes: Vec<u8>,
+    print: Print,
+}
+
+impl Model for Sealed {
+    ghost use Rattle.result_bytes.specs.declared.value.Value.{Value as Content};
+    ghost use Rattle.result_bytes.specs.contracts.value.Value as value_contracts;
+
+    ghost Value = { Content };
+
+    ghost coded = { value_contracts.the_row.coded };
+
+    ghost use Rattle.std.specs.Prelude.{◌≡◌};
+    ghost use Rattle.result_bytes.specs.Values.{canon};
+    ghost use Rattle.fingerprint.specs.Prints.{print_of};
+
+    ghost view = { λ s. s.value };
+
+    ghost invariant = { λ s. (s.bytes.items ≡ canon s.value) × (s.print.0 ≡ print_of s.value) };
+}
+
+/// Why bytes and a print are no sealed value of a kind.
+#[derive(Clone, Copy, Debug, PartialEq, Eq)]
+pub enum OpenFault {
+    /// The bytes are refused.
+    Refused(Refusal),
+    /// The bytes spell a value, and the print is that of others.
+    WrongPrint,
+}
+
+impl Sealed {
+    /// The value.
+    pub fn value(&self) -> &Value
+        ensures { result.now ≡ self.now }
+    {
+        &self.value
+    }
+
+    /// Its canonical bytes.
+    pub fn bytes(&self) -> &[u8]
+        ensures { result.now ≡ canon self.now }
+    {
+        self.bytes.as_slice()
+    }
+
+    /// The print of its canonical bytes.
+    pub fn print(&self) -> Print
+        ensures { result.0 ≡ print_of self.now }
+    {
+        self.print
+    }
+}
+
+/// The value with its bytes and print.
+#[tactic(auto, unfolding(crate::specs::Prints::print_of))]
+pub fn seal(alloc: Global, value: Value) -> Result<Sealed, AllocError>
+    ensures { IfOk result (λ sealed. sealed ≡ value) }
+{
+    let bytes = encode(alloc, &value)?;
+    let print = Print::of(&bytes);
+    Ok(Sealed {
+        value,
+        bytes,
+        print,
+    })
+}
+
+/// The value of a kind that the bytes spell, whose print is this one.
+#[tactic(auto, unfolding(crate::specs::Prints::print_of))]
+pub fn open_sealed(
+    alloc: Global,
+    kind: Kind,
+    bytes: Vec<u8>,
+    print: Print,
+) -> Result<Sealed, OpenFault>
+    // What is opened is a value of the kind, with these bytes and this print.
+    ensures found { IfOk result (λ v. IsValue v × (kind_of v ≡ kind) × (bytes.items ≡ canon v) × (print.0 ≡ print_of v)) }
+    // The bytes and the print of a value are opened, unless memory runs out.
+    ensures only { (v : Value) → IsValue v → kind_of v ≡ kind → bytes.items ≡ canon v → print.0 ≡ print_of v → IsOkUnlessMemory result v }
+    // Which fault it is.
+    ensures cases { IsOpened kind bytes.items print.0 result }
+{
+    let value = match decode(alloc, kind, bytes.as_slice()) {
+        Ok(value) => value,
+        Err(refusal) => return Err(OpenFault::Refused(refusal)),
+    };
+    if Print::of(bytes.as_slice()) != print {
+        return Err(OpenFault::WrongPrint);
+    }
+    Ok(Sealed {
+        value,
+        bytes,
+        print,
+    })
+}

@@ -1,0 +1,20 @@
+use Rattle.std.proofs.Common.{◌≡◌, ◌∷◌, ◌++◌, [], refl, sym, ◌∙◌}
+use Rattle.std.proofs.lemmas.Result.{err_from_is_err_and}
+use Rattle.byte_readers.specs.Reading.{list_from, name_at}
+use Rattle.byte_readers.proofs.Loop.{goes_on, is_refused, ends, is_done}
+use Rattle.result_bytes.specs.Reading.{is_new}
+use Rattle.result_bytes.proofs.files.read_new_names.Goals as goal
+
+pub returns-in_err-item : goal.returns-in_err-item
+returns-in_err-item c =
+    let p = err_from_is_err_and c.from_residual.result c.from_residual.ensures.1 in
+    rw (p.1, p.2) (ends c.in_err-item.field-0.0 name_at is_new c.loop.items.items c.args.count c.loop.counter c.loop.rest.now _ c.loop-test.true c.in_err-item.ensures c.loop.invariant)
+
+pub loop-preserved : goal.loop-preserved
+loop-preserved c = rw c.in_ok-push.ensures.items (goes_on name_at is_new c.loop.items.items c.args.count c.loop.counter c.loop.rest.now c.in_ok-item.item c.in_ok-item.after.now _ c.loop-test.true c.in_ok-item.ensures (sym (rw c.deref.ensures.value at c.is_new-admitted.ensures) ∙ c.if-not-admitted.false) c.loop.invariant)
+
+pub returns : goal.returns
+returns c = is_done name_at is_new c.loop.items.items c.args.count c.loop.counter c.loop.rest.now _ c.loop-test.false c.loop.invariant
+
+pub returns-then-not-admitted : goal.returns-then-not-admitted
+returns-then-not-admitted c = rw c.refused.ensures (is_refused name_at is_new c.loop.items.items c.args.count c.loop.counter c.loop.rest.now c.in_ok-item.item c.in_ok-item.after.now _ c.loop-test.true c.in_ok-item.ensures (sym (rw c.deref.ensures.value at c.is_new-admitted.ensures) ∙ c.if-not-admitted.true) c.loop.invariant)

@@ -1,0 +1,81 @@
+-- Names that are admitted where none in front is the same differ, and the other way round.
+use Rattle.std.proofs.Common.{◌≡◌, ℕ, suc, Bool, true, false, cond, List, [], ◌∷◌, ◌++◌, refl, sym, ap, subst, ◌∙◌, arith, ◌⊎◌, inl, inr}
+use Rattle.std.specs.Prelude.{Contains, not, ◌||◌}
+use Rattle.std.specs.List.{AllByRecursion, list_any}
+use Rattle.std.specs.Str.{bytes_eq}
+use Rattle.std.specs.Ordering.{nat_cmp, is_lt, is_eq, ordering_reverse}
+use Rattle.std.specs.declared.cmp.Ordering.{Ordering}
+use Rattle.std.specs.declared.cmp.Ordering.TheVariants.{Less, Equal, Greater}
+use Rattle.std.specs.Cmp.Lexicographic.{slice_cmp}
+use Rattle.std.proofs.lemmas.Slice.Eq.{bytes_eq-Decides}
+use Rattle.std.proofs.lemmas.List.Elements.{Contains-append_left, Contains-append_right, Contains-push, Contains-push_cases, at_from_Contains}
+use Rattle.mj_answer.specs.declared.diagnostic.Diagnostic.{Diagnostic}
+use Rattle.mj_answer.specs.contracts.diagnostic.DiagnosticOrd.TheImpl.{cmp-value}
+use Rattle.mj_answer.specs.contracts.diagnostic.DiagnosticPartialEq.TheImpl.{eq-value}
+use Rattle.mj_answer.specs.contracts.diagnostic.DiagnosticOrd.TheImpl.Laws.{total-law, matches_eq-law}
+use Rattle.mj_answer.specs.Order.{NameBefore, Before, IsAscendingBy, IsAscendingByName, IsStrictTotalOrder}
+use Rattle.mj_answer.proofs.Orders.{names, faults}
+use Rattle.mj_answer.proofs.Compared.{fault_less, fault_equal}
+use Rattle.mj_answer.proofs.Alike.{Contains-cases, Contains-first, Contains-later}
+use Rattle.byte_readers.specs.Orders.{is_after}
+use Rattle.byte_readers.specs.Lawful.{Lawful, Admitted, FitsList}
+use Rattle.byte_readers.specs.Reading.{Reader, list_at}
+use Rattle.byte_readers.specs.Spelling.{list}
+use Rattle.byte_readers.specs.Laws.{lawful_list, lawful_where}
+use Rattle.result_bytes.specs.Fits.{AreDistinct}
+use Rattle.answer_bytes.specs.Fits.{ByName, OrderedFits}
+use Rattle.result_bytes.specs.Reading.{is_new}
+use Rattle.answer_bytes.specs.Reading.{by_name, by_place}
+
+pub nowhere : (x : List ℕ) → Contains [] x → ⊥
+nowhere x h = let a = at_from_Contains [] x h in absurd (omega (arith, a.1))
+
+pub or_false : (a b : Bool) → (a || b) ≡ false → (a ≡ false) × (b ≡ false)
+or_false true b e = absurd cc
+or_false false b e = (refl, e)
+
+pub not_true : (b : Bool) → not b ≡ true → b ≡ false
+not_true true e = absurd cc
+not_true false e = refl
+
+-- a new name isn't among those in front
+absent : (front : List (List ℕ)) (x : List ℕ) → list_any (λ other. bytes_eq other x) front ≡ false → Contains front x → ⊥
+absent [] x e h = nowhere x h
+absent (y ∷ front) x e h =
+    let f = or_false (bytes_eq y x) _ e in
+    elim (Contains-cases y front x h) [
+      | inl same ↦ (let t : true ≡ false = sym ((bytes_eq-Decides y x).1 same) ∙ f.0 in absurd cc)
+      | inr later ↦ absent front x f.1 later
+    ]
+
+not_equal : (a b : List ℕ) → (a ≡ b → ⊥) → (t : Bool) → bytes_eq a b ≡ t → t ≡ false
+not_equal a b h true e = absurd (h ((bytes_eq-Decides a b).0 e))
+not_equal a b h false e = refl
+
+-- a name that isn't among those in front is new
+is_absent : (front : List (List ℕ)) (x : List ℕ) → (Contains front x → ⊥) → list_any (λ other. bytes_eq other x) front ≡ false
+is_absent [] x h = refl
+is_absent (y ∷ front) x h =
+    rw (not_equal y x (λ same. h (subst (λ (z : List ℕ). Contains (y ∷ front) z) same (Contains-first y front))) (bytes_eq y x) refl) (is_absent front x (λ k. h (Contains-later y front x k)))
+
+no_later : (front : List (List ℕ)) (x : List ℕ) (names : List (List ℕ)) → Contains front x → Admitted is_new front names → Contains names x → ⊥
+no_later front x [] k h c = nowhere x c
+no_later front x (y ∷ names) k h c =
+    elim (Contains-cases y names x c) [
+      | inl same ↦ absent front y (not_true _ h.0) (subst (λ (z : List ℕ). Contains front z) (sym same) k)
+      | inr later ↦ no_later (front ++ y ∷ []) x names (Contains-append_left front (y ∷ []) x k) h.1 later
+    ]
+
+pub to_distinct : (front names : List (List ℕ)) → Admitted is_new front names → AreDistinct names
+to_distinct front [] h = tt
+to_distinct front (x ∷ names) h = (λ c. no_later (front ++ x ∷ []) x names (Contains-push front x) h.1 c, to_distinct (front ++ x ∷ []) names h.1)
+
+pub from_distinct : (front names : List (List ℕ)) → ((x : List ℕ) → Contains front x → Contains names x → ⊥) → AreDistinct names → Admitted is_new front names
+from_distinct front [] apart h = tt
+from_distinct front (x ∷ names) apart h = (
+  ap not (is_absent front x (λ k. apart x k (Contains-first x names))),
+  from_distinct (front ++ x ∷ []) names (λ z k c. elim (Contains-push_cases front x z k) [
+    | inl before ↦ apart z before (Contains-later x names z c)
+    | inr same ↦ h.0 (subst (λ (w : List ℕ). Contains names w) (sym same) c)
+  ]) h.1,
+)

@@ -1,0 +1,8 @@
+pub mod Payloads
+pub mod Canon
+pub mod Fits
+pub mod Reading
+pub mod Values
+pub mod Distinct
+pub mod ItemLaws
+pub mod ValueLaws

@@ -1,0 +1,298 @@
+//! What is known of the project's files.
+ghost use Rattle.std.specs.Prelude.{◌≡◌, ◌<◌, ◌≤◌, ◌++◌, List, ℕ, [], length, OnOk};
+ghost use Rattle.byte_readers.specs.Spelling.{name, list};
+ghost use Rattle.byte_readers.specs.Reading.{Gives, name_at, list_from};
+ghost use Rattle.result_bytes.specs.Fits.{most_files, AreDistinct, FileNamesFit, TextFits};
+ghost use Rattle.result_bytes.specs.Canon.{index_row};
+ghost use Rattle.result_bytes.specs.Reading.{is_new, file_names_at, index_at};
+
+use byte_readers::{
+    Breach, Format, NameFormat, Ordered, ReadError, check_list, check_name, put_eight, put_list,
+    put_name, read_ascending, read_eight, read_name, refused,
+};
+use mj_lexer::Name;
+use std::alloc::{AllocError, Global};
+use std::marker::Model;
+
+/// The most files of a project.
+pub const MOST_FILES: usize = 4096;
+
+/// The names of a project's files in their order: 1 to 4,096 names that differ.
+#[derive(Debug, Drop)]
+pub struct FileNames {
+    names: Vec<Name>,
+}
+
+impl Model for FileNames {
+    ghost use Rattle.std.specs.Prelude.{ℕ, List};
+    ghost use Rattle.result_bytes.specs.Fits.{FileNamesFit};
+
+    ghost Value = { List (List ℕ) };
+
+    ghost view = { λ files. files.names.items };
+
+    ghost invariant = { λ files. FileNamesFit files.names.items };
+}
+
+impl FileNames {
+    /// These names.
+    #[tactic(auto, using(byte_readers::specs::Laws::all_storable))]
+    pub fn new(names: Vec<Name>) -> Self
+        requires some { 0 < length names.items }
+        requires few { length names.items ≤ most_files }
+        requires distinct { AreDistinct names.items }
+        ensures { result ≡ names.items }
+    {
+        check_list::<NameFormat>(&names);
+        FileNames { names }
+    }
+
+    /// The names.
+    pub fn names(&self) -> &[Name]
+        ensures value { result.now ≡ self.now }
+        ensures fits { FileNamesFit self.now }
+    {
+        self.names.as_slice()
+    }
+}
+
+/// Writes the names of the files.
+pub fn put_file_names(out: &mut Vec<u8>, files: &FileNames) -> Result<(), AllocError>
+    ensures { OnOk result (out.new.items ≡ out.old.items ++ list name files.now) }
+{
+    put_list::<NameFormat>(out, files.names())
+}
+
+/// Reads the names of the files.
+pub fn read_file_names(alloc: Global, bytes: &[u8]) -> Result<(FileNames, &[u8]), ReadError>
+    ensures { Gives (λ x. (x.0, x.1.now)) result (file_names_at bytes.now) }
+{
+    let (names, rest) = read_names(alloc, bytes)?;
+    Ok((FileNames { names }, rest))
+}
+
+/// Reads 1 to 4,096 names that differ.
+#[tactic(auto, unfolding(crate::specs::Reading::file_names_at))]
+fn read_names(alloc: Global, bytes: &[u8]) -> Result<(Vec<Name>, &[u8]), ReadError>
+    ensures { Gives (λ x. (x.0.items, x.1.now)) result (file_names_at bytes.now) }
+{
+    let (count, rest) = read_eight(bytes)?;
+    if count == 0 || count > 4096 {
+        return Err(refused(bytes));
+    }
+    read_new_names(alloc, count, rest)
+}
+
+/// Reads so many names that differ.
+fn read_new_names(alloc: Global, count: u64, bytes: &[u8]) -> Result<(Vec<Name>, &[u8]), ReadError>
+    ensures { Gives (λ x. (x.0.items, x.1.now)) result (list_from name_at is_new [] count bytes.now) }
+{
+    let mut items = Vec::new(alloc);
+    let mut rest = bytes;
+    for _ in 0..count {
+        let (item, after) = read_name(alloc, rest)?;
+        let admitted = is_new(&items, &item);
+        if !admitted {
+            return Err(refused(rest));
+        }
+        items.push(item)?;
+        rest = after;
+    }
+    Ok((items, rest))
+}
+
+/// Whether no name in front is this one.
+fn is_new(front: &[Name], name: &Name) -> bool
+    ensures { result ≡ is_new front.now name.now }
+{
+    !front.iter().any(|other| other.bytes() == name.bytes())
+}
+
+/// The bytes of a source file.
+#[derive(Debug, Drop)]
+pub struct Text {
+    bytes: Vec<u8>,
+}
+
+impl Model for Text {
+    ghost use Rattle.std.specs.Prelude.{ℕ, List};
+    ghost use Rattle.result_bytes.specs.Fits.{TextFits};
+
+    ghost Value = { List ℕ };
+
+    ghost view = { λ text. text.bytes.items };
+
+    ghost invariant = { λ text. TextFits text.bytes.items };
+}
+
+impl Text {
+    /// These bytes.
+    pub fn new(bytes: Vec<u8>) -> Self
+        ensures { result ≡ bytes.items }
+    {
+        let _few = bytes.len();
+        Text { bytes }
+    }
+
+    /// The bytes.
+    pub fn bytes(&self) -> &[u8]
+        ensures value { result.now ≡ self.now }
+        ensures fits { TextFits self.now }
+    {
+        self.bytes.as_slice()
+    }
+}
+
+/// Bytes of sources: their number, and they themselves.
+pub struct TextFormat;
+
+impl Format for TextFormat {
+    ghost use Rattle.result_bytes.specs.Canon.{text};
+    ghost use Rattle.result_bytes.specs.Fits.{TextFits};
+    ghost use Rattle.result_bytes.specs.Reading.{text_at};
+    ghost use Rattle.result_bytes.specs.ItemLaws.{lawful_text};
+
+    type Item = Text;
+
+    ghost is_storable = { λ _. Unit {0} };
+
+    ghost has_spelling = { TextFits };
+
+    ghost spelling = { text };
+
+    ghost reading = { text_at };
+
+    ghost lawful = { lawful_text };
+
+    fn check(item: &Text) {
+        let _bytes = item.bytes();
+    }
+
+    fn write(out: &mut Vec<u8>, item: &Text) -> Result<(), AllocError> {
+        put_eight(out, item.bytes().len())?;
+        out.extend_from_slice(item.bytes())
+    }
+
+    #[tactic(auto, unfolding(crate::specs::Reading::text_at))]
+    fn read(alloc: Global, bytes: &[u8]) -> Result<(Text, &[u8]), ReadError> {
+        let (len, rest) = read_eight(bytes)?;
+        let len = len as usize;
+        if rest.len() < len {
+            return Err(ReadError::Breach(Breach::Short));
+        }
+        let (front, rest) = rest.split_at(len);
+        Ok((Text::new(front.to_vec(alloc)?), rest))
+    }
+}
+
+/// A class and the file that declares it.
+#[derive(Debug, Drop)]
+pub struct IndexRow {
+    pub class: Name,
+    pub file: Name,
+}
+
+/// Classes with their files, in the order of the classes.
+pub struct IndexRowFormat;
+
+impl Format for IndexRowFormat {
+    ghost use Rattle.result_bytes.specs.Canon.{index_row};
+    ghost use Rattle.result_bytes.specs.Fits.{IndexRowFits};
+    ghost use Rattle.result_bytes.specs.Reading.{index_row_at};
+    ghost use Rattle.result_bytes.specs.ItemLaws.{lawful_index_row};
+
+    type Item = IndexRow;
+
+    ghost is_storable = { λ _. Unit {0} };
+
+    ghost has_spelling = { IndexRowFits };
+
+    ghost spelling = { index_row };
+
+    ghost reading = { index_row_at };
+
+    ghost lawful = { lawful_index_row };
+
+    fn check(item: &IndexRow) {
+        check_name(&item.class);
+        check_name(&item.file);
+    }
+
+    fn write(out: &mut Vec<u8>, item: &IndexRow) -> Result<(), AllocError> {
+        put_name(out, &item.class)?;
+        put_name(out, &item.file)
+    }
+
+    fn read(alloc: Global, bytes: &[u8]) -> Result<(IndexRow, &[u8]), ReadError> {
+        let (class, rest) = read_name(alloc, bytes)?;
+        let (file, rest) = read_name(alloc, rest)?;
+        Ok((IndexRow { class, file }, rest))
+    }
+}
+
+impl Ordered for IndexRowFormat {
+    ghost use Rattle.answer_bytes.specs.Reading.{by_name};
+
+    ghost precedes = { by_name (λ row. row.class) };
+
+    fn precedes(item: &IndexRow, other: &IndexRow) -> bool {
+        item.class.cmp(&other.class).is_lt()
+    }
+}
+
+/// Each class with the file that declares it, ascending by class.
+#[derive(Debug, Drop)]
+pub struct Index {
+    rows: Vec<IndexRow>,
+}
+
+impl Model for Index {
+    ghost use Rattle.std.specs.Prelude.{List};
+    ghost use Rattle.result_bytes.specs.declared.files.IndexRow.{IndexRow};
+    ghost use Rattle.result_bytes.specs.Fits.{IndexFits};
+
+    ghost Value = { List IndexRow };
+
+    ghost view = { λ index. index.rows.items };
+
+    ghost invariant = { λ index. IndexFits index.rows.items };
+}
+
+impl Index {
+    ghost use Rattle.mj_answer.specs.Order.{IsAscendingByName};
+    ghost use Rattle.result_bytes.specs.Fits.{IndexFits};
+
+    /// These rows.
+    #[tactic(auto, using(byte_readers::specs::Laws::all_storable))]
+    pub fn new(rows: Vec<IndexRow>) -> Self
+        requires { IsAscendingByName (λ row. row.class) rows.items }
+        ensures { result ≡ rows.items }
+    {
+        check_list::<IndexRowFormat>(&rows);
+        Index { rows }
+    }
+
+    /// The rows.
+    pub fn rows(&self) -> &[IndexRow]
+        ensures value { result.now ≡ self.now }
+        ensures fits { IndexFits self.now }
+    {
+        self.rows.as_slice()
+    }
+}
+
+/// Writes an index.
+pub fn put_index(out: &mut Vec<u8>, index: &Index) -> Result<(), AllocError>
+    ensures { OnOk result (out.new.items ≡ out.old.items ++ list index_row index.now) }
+{
+    put_list::<IndexRowFormat>(out, index.rows())
+}
+
+/// Reads an index.
+#[tactic(auto, unfolding(crate::specs::Reading::index_at))]
+pub fn read_index(alloc: Global, bytes: &[u8]) -> Result<(Index, &[u8]), ReadError>
+    ensures { Gives (λ x. (x.0, x.1.now)) result (index_at bytes.now) }
+{
+    let (rows, rest) = read_ascending::<IndexRowFormat>(alloc, bytes)?;
+    Ok((Index { rows }, rest))
+}

@@ -1,0 +1,45 @@
+-- The statement of `main`, or a method.
+use Rattle.std.specs.Prelude.{ℕ, zero, suc, List, [], ◌∷◌, Err, refl, ◌≡◌, ◌⊎◌}
+use Rattle.std.specs.Coded.{Coded, code_by, coded⊎}
+use Rattle.std.proofs.Common.{inl, inr}
+use Rattle.mj_parser.specs.Trees.{Statement, Method}
+use Rattle.tree_bytes.specs.Spelling.{stmt, method}
+use Rattle.tree_bytes.specs.Fits.{TopStmtFits, MethodFits}
+use Rattle.byte_readers.specs.declared.breach.Breach.TheVariants.{Short}
+use Rattle.byte_readers.specs.Reading.{Reader, refused, made_at}
+use Rattle.tree_bytes.specs.Reading.{top_stmt_at, method_at}
+use Rattle.tree_bytes.specs.Codes.{statement_code, method_code}
+
+pub data BodyValue : Type 0 where
+  OfMain : (statement : Statement) → BodyValue
+  OfMethod : (tree : Method) → BodyValue
+
+abbrev to_sum : BodyValue → Statement ⊎ Method
+to_sum (OfMain s) = inl s
+to_sum (OfMethod m) = inr m
+
+abbrev from_sum : Statement ⊎ Method → BodyValue
+from_sum (inl s) = OfMain s
+from_sum (inr m) = OfMethod m
+
+pub from_sum-to_sum : (b : BodyValue) → from_sum (to_sum b) ≡ b
+from_sum-to_sum (OfMain s) = refl
+from_sum-to_sum (OfMethod m) = refl
+
+abbrev pub body_code : Coded BodyValue
+body_code = code_by (Statement ⊎ Method) (coded⊎ statement_code method_code) to_sum from_sum from_sum-to_sum
+
+abbrev pub BodyFits : BodyValue → Type 0
+BodyFits (OfMain s) = TopStmtFits s
+BodyFits (OfMethod m) = MethodFits m
+
+-- a tag, and the statement or the method
+abbrev pub body : BodyValue → List ℕ
+body (OfMain s) = 0x00 ∷ stmt s
+body (OfMethod m) = 0x01 ∷ method m
+
+unfoldable pub body_at : Reader BodyValue
+body_at [] = Err Short
+body_at (zero ∷ rest) = made_at OfMain top_stmt_at rest
+body_at (suc zero ∷ rest) = made_at OfMethod method_at rest
+body_at (suc (suc b) ∷ rest) = refused (suc (suc b) ∷ rest)

@@ -1,0 +1,12 @@
+pub mod Tags
+pub mod Spelling
+pub mod Fits
+pub mod Reading
+pub mod Codes
+pub mod Bodies
+pub mod BodyViews
+pub mod TagLaws
+pub mod TypeLaws
+pub mod ExpLaws
+pub mod StmtLaws
+pub mod FileLaws

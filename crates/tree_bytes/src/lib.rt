@@ -1,0 +1,16 @@
+//! Trees as bytes.
+#![tactic(auto)]
+
+mod expressions;
+mod files;
+mod formats;
+mod methods;
+mod statements;
+mod tag;
+mod tree;
+mod types;
+mod writing;
+
+pub use formats::{BodyFormat, TreeFormat};
+pub use tree::{Body, MainOrMethod, Tree};
+pub use types::{FieldFormat, TypeFormat, check_ty, put_ty, read_ty};

@@ -1,0 +1,268 @@
+//! Writing trees.
+ghost use Rattle.std.specs.Prelude.{◌≡◌, ◌++◌, ◌∷◌, List, length, map, option_map, OnOk};
+ghost use Rattle.mj_parser.specs.Views.{exp_view, exps_view, stmt_view, stmts_view, method_view, main_view, class_view, file_view};
+ghost use Rattle.byte_readers.specs.Spelling.{name, four, eight, option, list};
+ghost use Rattle.tree_bytes.specs.Tags.{operator_byte, boolean_byte};
+ghost use Rattle.tree_bytes.specs.Spelling.{exp, exps, stmt, stmts, count_exps, count_stmts, method, tagged_method, main, class, file};
+
+use crate::types::{FieldFormat, VariableFormat, put_ty};
+use byte_readers::{NameFormat, put_eight, put_four, put_list, put_name, put_option};
+use mj_parser::{ClassTree, Exp, FileTree, MainTree, MethodTree, Operator, Stmt};
+use std::alloc::AllocError;
+
+fn operator_byte(operator: Operator) -> u8
+    ensures { result ≡ operator_byte operator }
+{
+    match operator {
+        Operator::And => 0x00,
+        Operator::Less => 0x01,
+        Operator::Plus => 0x02,
+        Operator::Minus => 0x03,
+        Operator::Times => 0x04,
+    }
+}
+
+fn boolean_byte(value: bool) -> u8
+    ensures { result ≡ boolean_byte value }
+{
+    if value { 0x09 } else { 0x0a }
+}
+
+/// Writes the tag and the mark of a phrase.
+fn put_node(out: &mut Vec<u8>, tag: u8, mark: usize) -> Result<(), AllocError>
+    ensures { OnOk result (out.new.items ≡ out.old.items ++ tag ∷ four mark) }
+{
+    out.push(tag)?;
+    put_four(out, mark)
+}
+
+#[cycle(put_expressions)]
+fn put_exp(out: &mut Vec<u8>, e: &Exp) -> Result<(), AllocError>
+    ensures { OnOk result (out.new.items ≡ out.old.items ++ exp (exp_view e.now)) }
+{
+    match e {
+        Exp::Binary {
+            operator,
+            mark,
+            left,
+            right,
+        } => {
+            put_node(out, operator_byte(*operator), *mark)?;
+            put_exp(out, left)?;
+            put_exp(out, right)?;
+        }
+        Exp::Index { mark, array, index } => {
+            put_node(out, 0x05, *mark)?;
+            put_exp(out, array)?;
+            put_exp(out, index)?;
+        }
+        Exp::Length { mark, array } => {
+            put_node(out, 0x06, *mark)?;
+            put_exp(out, array)?;
+        }
+        Exp::Call {
+            mark,
+            receiver,
+            method,
+            arguments,
+        } => {
+            put_node(out, 0x07, *mark)?;
+            put_exp(out, receiver)?;
+            put_name(out, method)?;
+            put_eight(out, arguments.len())?;
+            put_exps(out, arguments)?;
+        }
+        Exp::Literal { mark, value } => {
+            put_node(out, 0x08, *mark)?;
+            put_four(out, *value as usize)?;
+        }
+        Exp::Boolean { mark, value } => put_node(out, boolean_byte(*value), *mark)?,
+        Exp::Variable { mark, name } => {
+            put_node(out, 0x0b, *mark)?;
+            put_name(out, name)?;
+        }
+        Exp::This { mark } => put_node(out, 0x0c, *mark)?,
+        Exp::NewArray { mark, length } => {
+            put_node(out, 0x0d, *mark)?;
+            put_exp(out, length)?;
+        }
+        Exp::NewObject { mark, class } => {
+            put_node(out, 0x0e, *mark)?;
+            put_name(out, class)?;
+        }
+        Exp::Not { mark, operand } => {
+            put_node(out, 0x0f, *mark)?;
+            put_exp(out, operand)?;
+        }
+        Exp::Parenthesized { mark, inner } => {
+            put_node(out, 0x10, *mark)?;
+            put_exp(out, inner)?;
+        }
+    }
+    Ok(())
+}
+
+#[cycle(put_expressions)]
+fn put_exps(out: &mut Vec<u8>, es: &[Exp]) -> Result<(), AllocError>
+    ensures { OnOk result (out.new.items ≡ out.old.items ++ exps (exps_view es.now)) }
+{
+    for e in es {
+        put_exp(out, e)?;
+    }
+    Ok(())
+}
+
+#[cycle(put_statements)]
+fn put_stmt(out: &mut Vec<u8>, s: &Stmt) -> Result<(), AllocError>
+    ensures { OnOk result (out.new.items ≡ out.old.items ++ stmt (stmt_view s.now)) }
+{
+    match s {
+        Stmt::Block { mark, body } => {
+            put_node(out, 0x00, *mark)?;
+            put_eight(out, body.len())?;
+            put_stmts(out, body)?;
+        }
+        Stmt::If {
+            mark,
+            condition,
+            then_branch,
+            else_branch,
+        } => {
+            put_node(out, 0x01, *mark)?;
+            put_exp(out, condition)?;
+            put_stmt(out, then_branch)?;
+            put_stmt(out, else_branch)?;
+        }
+        Stmt::While {
+            mark,
+            condition,
+            body,
+        } => {
+            put_node(out, 0x02, *mark)?;
+            put_exp(out, condition)?;
+            put_stmt(out, body)?;
+        }
+        Stmt::Print { mark, value } => {
+            put_node(out, 0x03, *mark)?;
+            put_exp(out, value)?;
+        }
+        Stmt::Assign {
+            mark,
+            name,
+            name_mark,
+            value,
+        } => {
+            put_node(out, 0x04, *mark)?;
+            put_name(out, name)?;
+            put_four(out, *name_mark)?;
+            put_exp(out, value)?;
+        }
+        Stmt::Store {
+            mark,
+            name,
+            name_mark,
+            index,
+            value,
+        } => {
+            put_node(out, 0x05, *mark)?;
+            put_name(out, name)?;
+            put_four(out, *name_mark)?;
+            put_exp(out, index)?;
+            put_exp(out, value)?;
+        }
+    }
+    Ok(())
+}
+
+#[cycle(put_statements)]
+fn put_stmts(out: &mut Vec<u8>, ss: &[Stmt]) -> Result<(), AllocError>
+    ensures { OnOk result (out.new.items ≡ out.old.items ++ stmts (stmts_view ss.now)) }
+{
+    for s in ss {
+        put_stmt(out, s)?;
+    }
+    Ok(())
+}
+
+/// Writes the statement of `main`.
+pub fn put_top_stmt(out: &mut Vec<u8>, s: &Stmt) -> Result<(), AllocError>
+    ensures { OnOk result (out.new.items ≡ out.old.items ++ stmt (stmt_view s.now)) }
+{
+    put_stmt(out, s)
+}
+
+/// Writes a method.
+#[tactic(auto, unfolding(crate::specs::Spelling::method))]
+pub fn put_method(out: &mut Vec<u8>, m: &MethodTree) -> Result<(), AllocError>
+    ensures { OnOk result (out.new.items ≡ out.old.items ++ method (method_view m.now)) }
+{
+    put_name(out, &m.name)?;
+    put_ty(out, &m.returns)?;
+    put_list::<VariableFormat>(out, &m.formals)?;
+    put_list::<VariableFormat>(out, &m.locals)?;
+    put_body(out, &m.body)?;
+    put_exp(out, &m.returned)?;
+    put_four(out, m.return_mark)
+}
+
+/// Writes the number of statements, and the statements.
+fn put_body(out: &mut Vec<u8>, ss: &[Stmt]) -> Result<(), AllocError>
+    ensures { OnOk result (out.new.items ≡ out.old.items ++ (eight (count_stmts (stmts_view ss.now)) ++ stmts (stmts_view ss.now))) }
+{
+    put_eight(out, ss.len())?;
+    put_stmts(out, ss)
+}
+
+fn put_methods(out: &mut Vec<u8>, ms: &[MethodTree]) -> Result<(), AllocError>
+    ensures { OnOk result (out.new.items ≡ out.old.items ++ list tagged_method (map method_view ms.now)) }
+{
+    put_eight(out, ms.len())?;
+    for m in ms {
+        out.push(0x01)?;
+        put_method(out, m)?;
+    }
+    Ok(())
+}
+
+fn put_main(out: &mut Vec<u8>, m: &Option<MainTree>) -> Result<(), AllocError>
+    ensures { OnOk result (out.new.items ≡ out.old.items ++ option main (option_map main_view m.now)) }
+{
+    match m {
+        None => out.push(0x00)?,
+        Some(m) => {
+            out.push(0x01)?;
+            put_name(out, &m.name)?;
+            put_stmt(out, &m.statement)?;
+        }
+    }
+    Ok(())
+}
+
+#[tactic(auto, unfolding(crate::specs::Spelling::class))]
+fn put_class(out: &mut Vec<u8>, c: &ClassTree) -> Result<(), AllocError>
+    ensures { OnOk result (out.new.items ≡ out.old.items ++ class (class_view c.now)) }
+{
+    put_name(out, &c.name)?;
+    put_option::<NameFormat>(out, &c.superclass)?;
+    put_list::<FieldFormat>(out, &c.fields)?;
+    put_methods(out, &c.methods)
+}
+
+fn put_classes(out: &mut Vec<u8>, cs: &[ClassTree]) -> Result<(), AllocError>
+    ensures { OnOk result (out.new.items ≡ out.old.items ++ list class (map class_view cs.now)) }
+{
+    put_eight(out, cs.len())?;
+    for c in cs {
+        put_class(out, c)?;
+    }
+    Ok(())
+}
+
+/// Writes a file.
+#[tactic(auto, unfolding(crate::specs::Spelling::file))]
+pub fn put_file(out: &mut Vec<u8>, f: &FileTree) -> Result<(), AllocError>
+    ensures { OnOk result (out.new.items ≡ out.old.items ++ file (file_view f.now)) }
+{
+    put_main(out, &f.main)?;
+    put_classes(out, &f.classes)
+}
