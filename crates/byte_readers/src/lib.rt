@@ -16,6 +16,3 @@ pub use format::{Format, Ordered};
 pub use lists::{check_list, put_list, read_ascending, read_list};
 pub use names::{NameFormat, check_name, put_name, read_name};
 pub use options::{check_option, put_option, read_option};
-
-#[cfg(test)]
-mod tests;

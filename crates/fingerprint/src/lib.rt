@@ -6,6 +6,3 @@ mod sealed;
 
 pub use print::Print;
 pub use sealed::{OpenFault, Sealed, open_sealed, seal};
-
-#[cfg(test)]
-mod tests;

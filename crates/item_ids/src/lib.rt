@@ -8,6 +8,3 @@ mod laws;
 pub use key::Key;
 pub use kind::{Kind, rank};
 pub use laws::{keys_in_order, ranks_in_order};
-
-#[cfg(test)]
-mod tests;

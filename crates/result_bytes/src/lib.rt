@@ -18,6 +18,3 @@ pub use reading::decode;
 pub use refusal::Refusal;
 pub use value::Value;
 pub use writing::encode;
-
-#[cfg(test)]
-mod tests;

@@ -1,10 +1,7 @@
-use crate::reading::decode;
-use crate::refusal::Refusal;
-use crate::value::Value;
-use crate::writing::encode;
 use answer_bytes::WholeAnswer;
 use item_ids::Kind;
 use mj_answer::render;
+use result_bytes::{Refusal, Value, decode, encode};
 use std::test::*;
 
 // What spells a value. The project of the first rows is the file M.java with the main class M, whose statement prints 1.

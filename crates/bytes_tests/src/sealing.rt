@@ -1,5 +1,4 @@
-use crate::print::Print;
-use crate::sealed::{OpenFault, open_sealed, seal};
+use fingerprint::{OpenFault, Print, open_sealed, seal};
 use item_ids::Kind;
 use result_bytes::{Refusal, decode};
 use std::test::*;

@@ -1,6 +1,4 @@
-use crate::key::Key;
-use crate::kind::{Kind, rank};
-use crate::laws::{keys_in_order, ranks_in_order};
+use item_ids::{Key, Kind, keys_in_order, rank, ranks_in_order};
 use mj_lexer::Name;
 use std::test::*;
 

@@ -1,8 +1,7 @@
-use crate::breach::{Breach, ReadError};
-use crate::fields::{put_eight, put_four, put_two, read_byte, read_eight, read_four, read_two};
-use crate::lists::{put_list, read_list};
-use crate::names::NameFormat;
-use crate::options::{put_option, read_option};
+use byte_readers::{
+    Breach, NameFormat, ReadError, put_eight, put_four, put_list, put_option, put_two, read_byte,
+    read_eight, read_four, read_list, read_option, read_two,
+};
 use mj_lexer::Name;
 use std::test::*;
 

@@ -1,0 +1,66 @@
+//! Does one thing with the canonical bytes of a tree again and again, for `bench/codec.py`: its words are what is done,
+//! how often, and a file of such bytes. It ends with status 2 where the words or the bytes are no good.
+#![tactic(auto)]
+
+use fingerprint::seal;
+use item_ids::Kind;
+use result_bytes::{Value, decode, encode};
+use std::alloc::Global;
+use std::io::ErrorKind;
+use std::process::ExitCode;
+use std::rt::{Env, Files};
+use std::{env, fs, io};
+
+fn main(rt: HostRuntime) -> ExitCode {
+    match repeat(&rt) {
+        Ok(()) => ExitCode::from(0),
+        Err(_) => ExitCode::from(2),
+    }
+}
+
+fn invalid() -> io::Error {
+    io::Error::from(ErrorKind::InvalidInput)
+}
+
+fn repeat<R: Env + Files + AllocGlobal>(rt: &R) -> io::Result<()> {
+    let alloc = rt.alloc();
+    let mut words = Vec::new(alloc);
+    for word in env::args(rt)? {
+        words.push(word)?;
+    }
+    let [_, step, count, file] = words.as_slice() else {
+        return Err(invalid());
+    };
+    let Ok(count) = count.parse::<u32>() else {
+        return Err(invalid());
+    };
+    let bytes = fs::read(rt, file.as_str())?;
+    for _ in 0..count {
+        once(alloc, step.as_str(), bytes.as_slice())?;
+    }
+    Ok(())
+}
+
+/// The bytes are read; then their value is spelled or sealed where the step says so.
+fn once(alloc: Global, step: &str, bytes: &[u8]) -> io::Result<()> {
+    let value = read(alloc, bytes)?;
+    match step {
+        "decode" => Ok(()),
+        "encode" => {
+            encode(alloc, &value)?;
+            Ok(())
+        }
+        "seal" => {
+            seal(alloc, value)?;
+            Ok(())
+        }
+        _ => Err(invalid()),
+    }
+}
+
+fn read(alloc: Global, bytes: &[u8]) -> io::Result<Value> {
+    match decode(alloc, Kind::Tree, bytes) {
+        Ok(value) => Ok(value),
+        Err(_) => Err(invalid()),
+    }
+}
