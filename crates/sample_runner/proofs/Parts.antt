@@ -1,12 +1,18 @@
 -- The parts of a phrase, one after the other.
-use Rattle.std.proofs.Common.{◌≡◌, ℕ, List, [], ◌∷◌, map, Option, Result, Ok, Err, IfOk, IfErr, sym, subst, refl}
+use Rattle.std.proofs.Common.{◌≡◌, ℕ, List, [], ◌∷◌, map, Option, Result, Ok, Err, IfOk, IfErr, sym, ◌∙◌, ap, subst, refl}
+use Rattle.std.specs.Global.{Vec, Box}
 use Rattle.recorder.specs.Recording.{Recording}
 use Rattle.recorder.specs.Programs.{Prog, Stands, Goes, GivesUp, each}
 use Rattle.recorder.specs.declared.runner.RunFault.{RunFault}
 use Rattle.sample_runner.specs.Phrases.{Phrase as SpecPhrase, Called, phrases_of}
 use Rattle.sample_runner.specs.Programs.{phrase_step, phrases_step, part_step, meet_step}
-use Rattle.sample_runner.specs.View.{view_of}
+use Rattle.sample_runner.specs.View.{view_of, view_step}
 use Rattle.sample_runner.specs.declared.phrase.Phrase.{Phrase}
+use Rattle.sample_runner.specs.declared.phrase.Phrase.TheVariants.{Call, rolls-Call}
+use Rattle.sample_runner.specs.declared.phrase.Phrase.TheFolds.{fold-roll-Phrase}
+
+pub view_call : (front : Box Phrase) (parts : Vec Phrase) → view_of (Call front parts) ≡ Called (view_of front.value) (phrases_of (map view_of parts.items))
+view_call front parts = ap view_of (sym (rolls-Call front parts)) ∙ fold-roll-Phrase SpecPhrase view_step _
 
 each_part : (parts : List Phrase) (s : Option (List ℕ)) (k : Option (List ℕ) → Prog) → phrases_step (phrases_of (map view_of parts)) s k ≡ each (λ e. part_step (view_of e)) parts s k
 unfolding phrases_step each

@@ -61,7 +61,7 @@ fn bytes_in(value: &Value) -> Option<&Text>
 
 /// The header of a file with these bytes.
 fn header_for(alloc: Global, text: Option<&Text>) -> Option<Header>
-    ensures { result ≡ header_of (option_copied text) }
+    ensures { result ≡ header_of (option_copied text.entry) }
 {
     match text {
         Some(text) => {
@@ -93,7 +93,7 @@ fn signature_for(
     header: Option<&Header>,
     other: Option<&Header>,
 ) -> Result<Option<Signature>, AllocError>
-    ensures { IfOk result (λ s. s ≡ signature_of (option_copied header) (option_copied other)) }
+    ensures { IfOk result (λ s. s ≡ signature_of (option_copied header.entry) (option_copied other.entry)) }
 {
     let Some(header) = header else {
         return Ok(None);

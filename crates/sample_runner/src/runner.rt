@@ -46,10 +46,10 @@ fn empty_value(alloc: Global, key: &Key) -> Value
         Key::Supers(_) => Value::Supers(None),
         Key::Members(_) => Value::Members(None),
         Key::Diags(_) => Value::Diags(Faults::new(Vec::new(alloc))),
-        Key::Answer => Value::Answer(WholeAnswer::new(Answer {
-            faults: Vec::new(alloc),
-            classes: Vec::new(alloc),
-        })),
+        Key::Answer => {
+            let answer = Answer::new(Vec::new(alloc), Vec::new(alloc));
+            Value::Answer(WholeAnswer::new(answer))
+        }
         _ => Value::Tree(None),
     }
 }
