@@ -1,5 +1,5 @@
 -- Query programs: which keys are asked, one after the other, and what comes of the answers.
-use Rattle.std.specs.Prelude.{◌≡◌, ◌<◌, ℕ, Bool, true, false, if◌then◌else◌, List, [], ◌∷◌, ◌++◌, Contains, drop, None, IfSome}
+use Rattle.std.specs.Prelude.{◌≡◌, ◌<◌, ℕ, Bool, true, false, if◌then◌else◌, List, [], ◌∷◌, ◌++◌, Contains, drop, None, IfSome, Result, IfOk, IfErr}
 use Rattle.std.specs.Ordering.{is_eq}
 use Rattle.item_ids.specs.declared.key.Key.{Key}
 use Rattle.item_ids.specs.declared.key.Key.TheVariants.{Files, Source}
@@ -80,6 +80,15 @@ pub record Goes {X D : Type 0} (step : (X → Prog) → Prog) (old : Recording D
 -- Whatever program begins with the step has given up in it.
 pub record GivesUp {X D : Type 0} (step : (X → Prog) → Prog) (old : Recording D) (e : RunFault) (new : Recording D) : Type 0 where
   pub halts : (prog : Prog) (k : X → Prog) → Stands prog old (step k) → Halts prog e new
+
+-- With a recorder that hadn't read, a step was performed that is the whole of prog.
+pub record Performs {D : Type 0} (prog : Prog) (old : Recording D) (result : Result Value RunFault) (new : Recording D) : Type 0 where
+  pub unread : old.told ≡ []
+  pub unrefused : old.refused ≡ None
+  pub step : (Value → Prog) → Prog
+  pub whole : step Ret ≡ prog
+  pub ok : IfOk result (λ v. Goes step old v new)
+  pub err : IfErr result (λ e. GivesUp step old e new)
 
 -- a step for each of a list, which takes a state along
 unfoldable pub each : {A S : Type 0} → (A → S → (S → Prog) → Prog) → List A → S → (S → Prog) → Prog
