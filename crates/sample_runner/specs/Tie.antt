@@ -60,6 +60,7 @@ meet_runs p (Some s) (Some t) k = go (bytes_eq s t)
 
 mutual
   unfolding runs sample_mean phrase_step phrases_step
+
   phrase_runs : (p : Project) (e : Phrase) (k : Option (List ℕ) → Prog) → runs (phrase_step e k) (sample_mean p) ≡ runs (k (type_of p e)) (sample_mean p)
   phrase_runs p (Named n) k = refl
   phrase_runs p (Called e rest) k = phrase_runs p e (λ s. phrases_step rest s k) ∙ phrases_runs p rest (type_of p e) k
@@ -106,6 +107,7 @@ module _ (f g : List ℕ) where
 
   mutual
     unfolding Fits phrase_step phrases_step
+
     phrase_fits : (e : Phrase) (k : Option (List ℕ) → Prog) → ((u : Option (List ℕ)) → Fits (keys.CheckBody f g) (k u)) → Fits (keys.CheckBody f g) (phrase_step e k)
     phrase_fits (Named n) k h = (omega arith, λ v. h (if is_some (header_in v) then Some n else None))
     phrase_fits (Called e rest) k h = phrase_fits e (λ s. phrases_step rest s k) (λ s. phrases_fits rest s k h)
@@ -149,13 +151,13 @@ no_reads p _ e = absurd (omega (arith, e))
 pub sample_tied : Tied prog_of sample_mean sample_reads
 unfolding sample_mean
 sample_tied = record {
-    files = λ p i. refl;
-    source = λ p f i. refl;
-    no_reads = λ p q i e. no_reads p q e;
-    means = λ p q i a. means p q a;
-    asked = λ p q i a. refl;
-    fits = fits;
-  }
+  files = λ p i. refl;
+  source = λ p f i. refl;
+  no_reads = λ p q i e. no_reads p q e;
+  means = λ p q i a. means p q a;
+  asked = λ p q i a. refl;
+  fits = fits;
+}
 
 pub sample_laws : RunnerLaws sample_mean sample_reads
 sample_laws = program_laws prog_of sample_mean sample_reads sample_tied

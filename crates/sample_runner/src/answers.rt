@@ -22,7 +22,6 @@ impl Model for AnswerList {
     ghost use Rattle.std.specs.Prelude.{List};
     ghost use Rattle.std.specs.List.{AllByRecursion};
     ghost use Rattle.recorder.specs.Backed.{Told, IsOfKind};
-
     ghost use Rattle.result_bytes.specs.contracts.value.Value as value_contracts;
     ghost use Rattle.std.specs.Coded.{codes};
 

@@ -84,10 +84,7 @@ fn look_at_all<D: Reader>(
 }
 
 /// A fault where some file is empty.
-pub fn check_class<D: Reader>(
-    alloc: Global,
-    recorder: &mut Recorder<D>,
-) -> Result<Value, RunFault>
+pub fn check_class<D: Reader>(alloc: Global, recorder: &mut Recorder<D>) -> Result<Value, RunFault>
     ensures ok { IfOk result (λ v. Goes class_steps recorder.old v recorder.new) }
     ensures err { IfErr result (λ e. GivesUp class_steps recorder.old e recorder.new) }
     ensures follows { D.follows recorder.old.inner recorder.new.inner }

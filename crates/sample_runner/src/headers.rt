@@ -102,7 +102,11 @@ fn signature_for(
     if !header.is_main() {
         formals.push(Ty::Int)?;
     }
-    let returns = if other.is_some() { Ty::Boolean } else { Ty::Int };
+    let returns = if other.is_some() {
+        Ty::Boolean
+    } else {
+        Ty::Int
+    };
     Ok(Some(Signature::new(formals, returns)))
 }
 
