@@ -1,11 +1,11 @@
 -- A runner whose values and reads are those of programs meets the laws of runners.
-use Rattle.std.proofs.Common.{◌≡◌, ◌≢◌, ◌⊎◌, inl, inr, ℕ, zero, suc, ◌<◌, ◌≤◌, Bool, true, false, List, [], ◌∷◌, ◌++◌, take, sym, ◌∙◌, ap, subst, refl, arith}
+use Rattle.std.proofs.Common.{◌≡◌, ◌≢◌, ℕ, zero, suc, ◌<◌, Bool, true, false, List, [], ◌∷◌, ◌++◌, take, sym, ◌∙◌, ap, subst, refl, arith}
 use Rattle.std.specs.List.{AllByRecursion}
 use Rattle.item_ids.specs.declared.key.Key.{Key}
 use Rattle.item_ids.specs.declared.key.Key.TheVariants.{Files, Source, Tree, Index, Header, Method, Sig, Supers, Members, CheckClass, CheckBody, Diags, Answer}
 use Rattle.result_bytes.specs.declared.value.Value.{Value}
 use Rattle.result_bytes.specs.Values.{kind_of as kind_of_value}
-use Rattle.recorder.specs.Projects.{Project, IsProject, names_of, bytes_at}
+use Rattle.recorder.specs.Projects.{Project, IsProject}
 use Rattle.recorder.specs.Backed.{Meaning, ReadLists, rank, IsOfKind, AreLower, NoneTwice, Alike, RunnerLaws}
 use Rattle.recorder.specs.Programs.{Prog, Ret, Ask, runs, asks, is_seen, Fits, Tied}
 use Rattle.recorder.proofs.Recorded.{all_last, all_map}
@@ -34,6 +34,7 @@ asks_unseen (Ask k f) m seen = go (asks_unseen (f (m k)) m seen) (asks_unseen (f
   where
     U : List Key → List Key → Type 0
     U s = AllByRecursion (λ x. is_seen s x ≡ false)
+
     go : U seen (asks (f (m k)) m seen) → U (seen ++ k ∷ []) (asks (f (m k)) m (seen ++ k ∷ [])) → (b : Bool) → is_seen seen k ≡ b → U seen (asks (Ask k f) m seen)
     go i j true e = subst (U seen) (sym (asks_seen k f m seen e)) i
     go i j false e = subst (U seen) (sym (asks_new k f m seen e)) (e, all_map (λ x. is_seen (seen ++ k ∷ []) x ≡ false) (λ x. is_seen seen x ≡ false) (λ x h. (unseen_last seen k x h).0) (asks (f (m k)) m (seen ++ k ∷ [])) j)
@@ -45,6 +46,7 @@ asks_once (Ask k f) m seen = go (asks_once (f (m k)) m seen) (asks_once (f (m k)
   where
     N : List Key → Type 0
     N = NoneTwice (λ k. k)
+
     go : N (asks (f (m k)) m seen) → N (asks (f (m k)) m (seen ++ k ∷ [])) → (b : Bool) → is_seen seen k ≡ b → N (asks (Ask k f) m seen)
     go i j true e = subst N (sym (asks_seen k f m seen e)) i
     go i j false e = subst N (sym (asks_new k f m seen e)) (all_map (λ x. is_seen (seen ++ k ∷ []) x ≡ false) (λ x. x ≢ k) (λ x h. (unseen_last seen k x h).1) (asks (f (m k)) m (seen ++ k ∷ [])) (asks_unseen (f (m k)) m (seen ++ k ∷ [])), j)
@@ -59,8 +61,10 @@ asks_next (Ask k f) m n seen i s a = go i (λ j. asks_next (f (m k)) m n seen j 
         ap (take (suc j)) (asks_seen k f m seen e) ∙ h
         ∙ ap (λ v. take (suc j) (asks (f v) n seen)) (seen_alike m n seen k e s)
         ∙ ap (take (suc j)) (sym (asks_seen k f n seen e))
+
     new_both : is_seen seen k ≡ false → (j : ℕ) → take (suc j) (k ∷ asks (f (m k)) m (seen ++ k ∷ [])) ≡ take (suc j) (k ∷ asks (f (n k)) n (seen ++ k ∷ [])) → take (suc j) (asks (Ask k f) m seen) ≡ take (suc j) (asks (Ask k f) n seen)
     new_both e j h = ap (take (suc j)) (asks_new k f m seen e) ∙ h ∙ ap (take (suc j)) (sym (asks_new k f n seen e))
+
     go : (i : ℕ) → ((j : ℕ) → Alike m n (take j (asks (f (m k)) m seen)) → take (suc j) (asks (f (m k)) m seen) ≡ take (suc j) (asks (f (m k)) n seen))
         → ((j : ℕ) → Alike m n (seen ++ k ∷ []) → Alike m n (take j (asks (f (m k)) m (seen ++ k ∷ []))) → take (suc j) (asks (f (m k)) m (seen ++ k ∷ [])) ≡ take (suc j) (asks (f (m k)) n (seen ++ k ∷ [])))
         → (b : Bool) → is_seen seen k ≡ b → Alike m n (take i (asks (Ask k f) m seen)) → take (suc i) (asks (Ask k f) m seen) ≡ take (suc i) (asks (Ask k f) n seen)
@@ -77,6 +81,7 @@ asks_same (Ask k f) m n seen s a = go (asks_same (f (m k)) m n seen s) (asks_sam
   where
     next : m k ≡ n k → runs (f (m k)) m ≡ runs (f (m k)) n → runs (Ask k f) m ≡ runs (Ask k f) n
     next e h = h ∙ ap (λ v. runs (f v) n) e
+
     go : (Alike m n (asks (f (m k)) m seen) → runs (f (m k)) m ≡ runs (f (m k)) n) → (Alike m n (seen ++ k ∷ []) → Alike m n (asks (f (m k)) m (seen ++ k ∷ [])) → runs (f (m k)) m ≡ runs (f (m k)) n)
         → (b : Bool) → is_seen seen k ≡ b → runs (Ask k f) m ≡ runs (Ask k f) n
     go i j true e = next (seen_alike m n seen k e s) (i (subst (Alike m n) (asks_seen k f m seen e) a))
@@ -133,14 +138,14 @@ module _ (prog_of : Key → Prog) (mean : Meaning) (reads : ReadLists) (t : Tied
 
   pub program_laws : RunnerLaws mean reads
   program_laws = record {
-      files = t.files;
-      source = t.source;
-      no_reads = t.no_reads;
-      kind = λ p q h. kind_law p q h (place_of q);
-      lower = λ p q h. lower_law p q h (place_of q);
-      once = λ p q h. once_law p q h (place_of q);
-      next = λ p r q i h g a. next_law p r q i h g (place_of q) a;
-      same = λ p r q h g above a. t.means p q h above
-          ∙ asks_same (prog_of q) (mean p) (mean r) [] tt (subst (Alike (mean p) (mean r)) (t.asked p q h above) a)
-          ∙ sym (t.means r q g above);
-    }
+    files = t.files;
+    source = t.source;
+    no_reads = t.no_reads;
+    kind = λ p q h. kind_law p q h (place_of q);
+    lower = λ p q h. lower_law p q h (place_of q);
+    once = λ p q h. once_law p q h (place_of q);
+    next = λ p r q i h g a. next_law p r q i h g (place_of q) a;
+    same = λ p r q h g above a. t.means p q h above
+        ∙ asks_same (prog_of q) (mean p) (mean r) [] tt (subst (Alike (mean p) (mean r)) (t.asked p q h above) a)
+        ∙ sym (t.means r q g above);
+  }

@@ -1,5 +1,5 @@
 -- What a run of a program has read when it stands at a place.
-use Rattle.std.proofs.Common.{◌≡◌, ◌⊎◌, inl, inr, Contains, ℕ, suc, ◌<◌, ◌≤◌, true, false, List, [], ◌∷◌, ◌++◌, length, length-append, map, take, sym, ◌∙◌, ap, subst, refl, arith, append_assoc, if◌then◌else◌}
+use Rattle.std.proofs.Common.{◌≡◌, inl, inr, suc, ◌<◌, ◌≤◌, true, false, List, [], ◌∷◌, ◌++◌, length, length-append, take, sym, ◌∙◌, ap, subst, refl, arith, append_assoc, if◌then◌else◌}
 use Rattle.std.specs.List.{AllByRecursion}
 use Rattle.std.proofs.lemmas.List.{take-append-le, take_all, append-nil}
 use Rattle.std.proofs.Math.Nat.{eq-or-lt_of_le}
@@ -64,25 +64,26 @@ module _ (mean : Meaning) (reads : ReadLists) (q : Key) where
   asked_more told t a n i h p g =
       let long : i ≤ length told = omega (arith, length-append told (t ∷ [])) in
       elim (eq-or-lt_of_le long) [
-        inl e ↦
-          let e1 : take i (told ++ t ∷ []) ≡ told = take-append-le i told (t ∷ []) long ∙ take_all i told (omega arith) in
-          let e2 : take (suc i) (told ++ t ∷ []) ≡ told ++ t ∷ [] = take_all (suc i) (told ++ t ∷ []) (omega (arith, length-append told (t ∷ []))) in
-          subst (λ ks. BeginsWith ks (reads p q)) (sym (ap keys e2 ∙ keys_last told t)) (n p (subst (Gives mean p) e1 g))
-      | inr l ↦
-          let e1 : take i (told ++ t ∷ []) ≡ take i told = take-append-le i told (t ∷ []) long in
-          let e2 : take (suc i) (told ++ t ∷ []) ≡ take (suc i) told = take-append-le (suc i) told (t ∷ []) (omega arith) in
-          subst (λ ks. BeginsWith ks (reads p q)) (sym (ap keys e2)) (a i l p (subst (Gives mean p) e1 g))
+        | inl e ↦
+            let e1 : take i (told ++ t ∷ []) ≡ told = take-append-le i told (t ∷ []) long ∙ take_all i told (omega arith) in
+            let e2 : take (suc i) (told ++ t ∷ []) ≡ told ++ t ∷ [] = take_all (suc i) (told ++ t ∷ []) (omega (arith, length-append told (t ∷ []))) in
+            subst (λ ks. BeginsWith ks (reads p q)) (sym (ap keys e2 ∙ keys_last told t)) (n p (subst (Gives mean p) e1 g))
+        | inr l ↦
+            let e1 : take i (told ++ t ∷ []) ≡ take i told = take-append-le i told (t ∷ []) long in
+            let e2 : take (suc i) (told ++ t ∷ []) ≡ take (suc i) told = take-append-le (suc i) told (t ∷ []) (omega arith) in
+            subst (λ ks. BeginsWith ks (reads p q)) (sym (ap keys e2)) (a i l p (subst (Gives mean p) e1 g))
       ]
 
 module _ (mean : Meaning) (reads : ReadLists) (q : Key) (prog : Prog) (tie : (p : Project) → IsProject p → reads p q ≡ asks prog (mean p) []) where
   pub reached_next : (told : List Told) (k : Key) (f : Value → Prog) → Reached prog told (Ask k f) → IsUnread k told → IsNext mean reads q told k
   reached_next told k f h u p g =
-      let rest = asks (f (mean p k)) (mean p) (keys told ++ k ∷ []) in
-      (rest,
+      let rest = asks (f (mean p k)) (mean p) (keys told ++ k ∷ []) in (
+        rest,
         append_assoc (keys told) (k ∷ []) rest
-        ∙ ap (λ l. keys told ++ l) (sym (asks_new k f (mean p) (keys told) (unseen_unread told k u)))
-        ∙ sym (reached_asks prog (mean p) told (Ask k f) h g.each)
-        ∙ sym (tie p g.project))
+            ∙ ap (λ l. keys told ++ l) (sym (asks_new k f (mean p) (keys told) (unseen_unread told k u)))
+            ∙ sym (reached_asks prog (mean p) told (Ask k f) h g.each)
+            ∙ sym (tie p g.project),
+      )
 
   pub reached_asked : (told : List Told) (p : Prog) → Reached prog told p → Asked mean reads q told
   reached_asked _ _ Start = λ i l. absurd (omega (arith, l))
@@ -93,7 +94,7 @@ module _ (mean : Meaning) (reads : ReadLists) (q : Key) (prog : Prog) (tie : (p 
   pub reached_backed : ((p : Project) → IsProject p → mean p q ≡ runs prog (mean p)) → (told : List Told) (v : Value) → Reached prog told (Ret v) → Backed mean reads q told v
   unfolding asks runs
   reached_backed means told v h = record {
-      asked = reached_asked told (Ret v) h;
-      whole = λ p g. tie p g.project ∙ reached_asks prog (mean p) told (Ret v) h g.each ∙ append-nil (keys told);
-      means = λ p g. means p g.project ∙ reached_runs prog (mean p) told (Ret v) h g.each;
-    }
+    asked = reached_asked told (Ret v) h;
+    whole = λ p g. tie p g.project ∙ reached_asks prog (mean p) told (Ret v) h g.each ∙ append-nil (keys told);
+    means = λ p g. means p g.project ∙ reached_runs prog (mean p) told (Ret v) h g.each;
+  }

@@ -1,5 +1,5 @@
 -- Lists of reads that grow.
-use Rattle.std.proofs.Common.{◌≡◌, ◌≢◌, ◌⊎◌, Contains, ℕ, suc, ◌<◌, List, [], ◌∷◌, ◌++◌, length, take, sym, ◌∙◌, ap, subst, refl, None, Some}
+use Rattle.std.proofs.Common.{◌≢◌, Contains, List, [], ◌∷◌, ◌++◌, sym, None}
 use Rattle.std.specs.List.{AllByRecursion}
 use Rattle.std.proofs.lemmas.List.Elements.{All-contains, All-from_recursion}
 use Rattle.item_ids.specs.declared.key.Key.{Key}
@@ -26,17 +26,17 @@ once_last key (y ∷ ys) x d u = (all_last (λ z. key z ≢ key y) ys x d.0 (λ 
 -- the reader may still give what it gave
 pub keeps_after : (A B : Key → Value → Type 0) (F G : Key → ReadFault → Type 0) → ((q : Key) (v : Value) → A q v → B q v) → (told : List Told) → Keeps A F told None → Keeps B G told None
 keeps_after A B F G f told k = record {
-    answers = all_map (λ t. A t.key t.value) (λ t. B t.key t.value) (λ t. f t.key t.value) told k.answers;
-    kinds = k.kinds;
-    once = k.once;
-    refusal = tt;
-  }
+  answers = all_map (λ t. A t.key t.value) (λ t. B t.key t.value) (λ t. f t.key t.value) told k.answers;
+  kinds = k.kinds;
+  once = k.once;
+  refusal = tt;
+}
 
 -- and its new answer too
 pub keeps_last : (A : Key → Value → Type 0) (F : Key → ReadFault → Type 0) (told : List Told) (k : Key) (v : Value) → Keeps A F told None → A k v → IsOfKind k v → IsUnread k told → Keeps A F (told ++ record { key = k; value = v } ∷ []) None
 keeps_last A F told k v h a o u = record {
-    answers = all_last (λ t. A t.key t.value) told (record { key = k; value = v }) h.answers a;
-    kinds = all_last (λ t. IsOfKind t.key t.value) told (record { key = k; value = v }) h.kinds o;
-    once = once_last (λ t. t.key) told (record { key = k; value = v }) h.once u;
-    refusal = tt;
-  }
+  answers = all_last (λ t. A t.key t.value) told (record { key = k; value = v }) h.answers a;
+  kinds = all_last (λ t. IsOfKind t.key t.value) told (record { key = k; value = v }) h.kinds o;
+  once = once_last (λ t. t.key) told (record { key = k; value = v }) h.once u;
+  refusal = tt;
+}

@@ -38,9 +38,9 @@ seen_cases (x ∷ xs) k = go (seen_cases xs k) (is_eq (key_cmp x k)) refl
     go : (is_seen xs k ≡ true) ⊎ AllByRecursion (λ y. y ≢ k) xs → (b : Bool) → is_eq (key_cmp x k) ≡ b → (is_seen (x ∷ xs) k ≡ true) ⊎ AllByRecursion (λ y. y ≢ k) (x ∷ xs)
     go ih true e = inl (ap (λ b. if b then true else is_seen xs k) e)
     go ih false e = elim ih [
-        inl h ↦ inl (ap (λ b. if b then true else is_seen xs k) e ∙ h)
+      | inl h ↦ inl (ap (λ b. if b then true else is_seen xs k) e ∙ h)
       | inr h ↦ inr ((λ same. differs (sym e ∙ test_itself x k same)), h)
-      ]
+    ]
 
 by_keys : (P : Key → Type 0) (told : List Told) → AllByRecursion P (keys told) → AllByRecursion (λ t. P t.key) told
 by_keys P [] h = tt
@@ -48,9 +48,9 @@ by_keys P (t ∷ ts) h = (h.0, by_keys P ts h.1)
 
 pub seen_told : (told : List Told) (t : Told) → Contains told t → is_seen (keys told) t.key ≡ true
 seen_told told t c = elim (seen_cases (keys told) t.key) [
-    inl h ↦ h
+  | inl h ↦ h
   | inr h ↦ absurd (all_at (λ s. s.key ≢ t.key) told t c (by_keys (λ k. k ≢ t.key) told h) refl)
-  ]
+]
 
 pub unseen_unread : (told : List Told) (k : Key) → IsUnread k told → is_seen (keys told) k ≡ false
 unseen_unread [] k u = refl

@@ -1,8 +1,8 @@
 -- Rules for steps.
-use Rattle.std.proofs.Common.{◌≡◌, ◌≢◌, ◌⊎◌, inl, inr, List, [], ◌∷◌, ◌++◌, sym, ◌∙◌, ap, subst, refl, IfSome, Option, Some, None}
+use Rattle.std.proofs.Common.{◌≡◌, ◌⊎◌, inl, inr, sym, ◌∙◌, ap, subst, refl, IfSome, Option, Some, None}
 use Rattle.item_ids.specs.declared.key.Key.{Key}
 use Rattle.result_bytes.specs.declared.value.Value.{Value}
-use Rattle.recorder.specs.Recording.{Recording, key_of, fault_of, IsUnread, IsForMemory, IsByReader, Answers, RefusesFirst, Refuses}
+use Rattle.recorder.specs.Recording.{Recording, key_of, IsUnread, IsForMemory, IsByReader, Answers, Refuses}
 use Rattle.recorder.specs.Programs.{Prog, Ask, Reached, Again, First, Stands, Halts, IsAsked, Goes, GivesUp}
 use Rattle.recorder.specs.declared.reader.ReadFault.{ReadFault}
 use Rattle.recorder.specs.declared.refused.Refused.{Refused}
@@ -13,12 +13,12 @@ use Rattle.recorder.specs.declared.runner.RunFault.TheVariants.{Read, OutOfMemor
 
 pub ask_answered : {D : Type 0} (prog : Prog) (k : Key) (f : Value → Prog) (v : Value) (old new : Recording D) → Answers old k v new → Stands prog old (Ask k f) → Stands prog new (f v)
 ask_answered prog k f v old new a s = record {
-    reached = elim a.told [
-        inl h ↦ subst (λ r. Reached prog r.told (f v)) (sym h.0) (Again old.told k f v s.reached h.1)
-      | inr h ↦ subst (λ told. Reached prog told (f v)) (sym h.0) (First old.told k f v s.reached h.1)
-      ];
-    unrefused = a.after;
-  }
+  reached = elim a.told [
+    | inl h ↦ subst (λ r. Reached prog r.told (f v)) (sym h.0) (Again old.told k f v s.reached h.1)
+    | inr h ↦ subst (λ told. Reached prog told (f v)) (sym h.0) (First old.told k f v s.reached h.1)
+  ];
+  unrefused = a.after;
+}
 
 module _ {D : Type 0} (prog : Prog) (faults : Key → ReadFault → Type 0) (k : Key) (f : Value → Prog) (e : ReadFault) (old new : Recording D) where
   abbrev Kept : Option Refused → Type 0
@@ -27,9 +27,9 @@ module _ {D : Type 0} (prog : Prog) (faults : Key → ReadFault → Type 0) (k :
   kept_first : (o : Option Refused) → IfSome o (λ r. IsForMemory r ⊎ (IsByReader faults k r × IsUnread k old.told)) → Kept o
   kept_first None h = tt
   kept_first (Some x) h = elim h [
-      inl m ↦ subst (λ o. IfSome o (IsAsked old.told (Ask k f))) (sym m.1) tt
+    | inl m ↦ subst (λ o. IfSome o (IsAsked old.told (Ask k f))) (sym m.1) tt
     | inr m ↦ subst (λ o. IfSome o (IsAsked old.told (Ask k f))) (sym m.0.0) (m.1, (f, refl))
-    ]
+  ]
 
   key_kept : (o : Option Refused) → Kept o → IfSome (key_of {D = D} (record { inner = new.inner; told = new.told; refused = o })) (IsAsked old.told (Ask k f))
   key_kept None h = tt
@@ -37,23 +37,23 @@ module _ {D : Type 0} (prog : Prog) (faults : Key → ReadFault → Type 0) (k :
 
   pub ask_refused : Refuses faults old k e new → Stands prog old (Ask k f) → Halts prog (Read e) new
   ask_refused r s = record {
-      rest = Ask k f;
-      reached = subst (λ told. Reached prog told (Ask k f)) (sym r.told) s.reached;
-      refused = subst (λ told. IfSome (key_of new) (IsAsked told (Ask k f))) (sym r.told)
-          (key_kept new.refused (elim r.since [
-              inl h ↦ subst Kept (sym s.unrefused ∙ sym (ap (λ r. r.refused) h)) tt
-            | inr h ↦ kept_first new.refused h.kept
-            ]));
-      fault = λ g same. let h : e ≡ g = cc in r.fault ∙ ap Some h;
-    }
+    rest = Ask k f;
+    reached = subst (λ told. Reached prog told (Ask k f)) (sym r.told) s.reached;
+    refused = subst (λ told. IfSome (key_of new) (IsAsked told (Ask k f))) (sym r.told)
+        (key_kept new.refused (elim r.since [
+          | inl h ↦ subst Kept (sym s.unrefused ∙ sym (ap (λ r. r.refused) h)) tt
+          | inr h ↦ kept_first new.refused h.kept
+        ]));
+    fault = λ g same. let h : e ≡ g = cc in r.fault ∙ ap Some h;
+  }
 
 pub halts_memory : {D : Type 0} (prog p : Prog) (r : Recording D) → Stands prog r p → Halts prog OutOfMemory r
 halts_memory prog p r s = record {
-    rest = p;
-    reached = s.reached;
-    refused = none r.refused s.unrefused;
-    fault = λ g e. cc;
-  }
+  rest = p;
+  reached = s.reached;
+  refused = none r.refused s.unrefused;
+  fault = λ g e. cc;
+}
   where
     none : (o : Option Refused) → o ≡ None → IfSome (key_of {D = _} (record { inner = r.inner; told = r.told; refused = o })) (IsAsked r.told p)
     none None e = tt

@@ -45,16 +45,13 @@ pub record RunnerLaws (mean : Meaning) (reads : ReadLists) : Type 0 where
   pub files : (p : Project) → IsProject p → mean p Files ≡ values.Files (names_of p)
   pub source : (p : Project) (file : List ℕ) → IsProject p → mean p (Source file) ≡ values.Source (bytes_at p file)
   pub no_reads : (p : Project) (q : Key) → IsProject p → rank q ≡ 0 → reads p q ≡ []
-
   -- each key has a value of its kind, and reads keys of lower rank, none twice
   pub kind : (p : Project) (q : Key) → IsProject p → IsOfKind q (mean p q)
   pub lower : (p : Project) (q : Key) → IsProject p → AreLower q (reads p q)
   pub once : (p : Project) (q : Key) → IsProject p → NoneTwice (λ k. k) (reads p q)
-
   -- where two projects agree on the first i reads of q in p, these are its first reads in r too, and both lists end
   -- there or go on with the same key
   pub next : (p r : Project) (q : Key) (i : ℕ) → IsProject p → IsProject r → Alike (mean p) (mean r) (take i (reads p q)) → take (suc i) (reads p q) ≡ take (suc i) (reads r q)
-
   -- where two projects agree on all reads of q, they agree on q
   pub same : (p r : Project) (q : Key) → IsProject p → IsProject r → 0 < rank q → Alike (mean p) (mean r) (reads p q) → mean p q ≡ mean r q
 

@@ -1,5 +1,5 @@
 -- What a run of a query keeps to.
-use Rattle.std.specs.Prelude.{◌≡◌, ◌⊎◌, ◌<◌, List, [], ◌∷◌, ◌++◌, Some, IfSome, Result, Err, IfOk, IfErr}
+use Rattle.std.specs.Prelude.{◌≡◌, ◌<◌, List, [], ◌∷◌, ◌++◌, Some, IfSome, Result, IfOk, IfErr}
 use Rattle.item_ids.specs.declared.key.Key.{Key}
 use Rattle.result_bytes.specs.declared.value.Value.{Value}
 use Rattle.recorder.specs.Backed.{Meaning, ReadLists, Told, rank, keys, IsOfKind, AreLower, NoneTwice, Asked, IsNext, Backed}
@@ -16,17 +16,20 @@ IsNextRefused mean reads q r = IfSome (key_of r) (λ k. (rank k < rank q) × IsN
 abbrev pub IsFaultKept : {D : Type 0} → Recording D → RunFault → Type 0
 IsFaultKept r e = (f : ReadFault) → e ≡ Read f → fault_of r ≡ Some f
 
+-- the fault is one of the reader, which the recorder keeps
+abbrev pub IsReadFault : {D : Type 0} → Recording D → RunFault → Type 0
+IsReadFault r (Read f) = fault_of r ≡ Some f
+IsReadFault r OutOfMemory = ⊥
+
 -- a run of q that left this recorder and this result
 pub record IsRun (mean : Meaning) (reads : ReadLists) (q : Key) {D : Type 0} (r : Recording D) (result : Result Value RunFault) : Type 0 where
   -- each key asked, a refused one too, is the next read of q, and of lower rank
   pub asked : Asked mean reads q r.told
   pub lower : AreLower q (keys r.told)
   pub refused : IsNextRefused mean reads q r
-
   -- the value is of the key's kind and follows from the reads
   pub kind : IfOk result (λ v. IsOfKind q v)
   pub backed : IfOk result (λ v. Backed mean reads q r.told v)
-
   pub fault : IfErr result (λ e. IsFaultKept r e)
 
 -- the log grew by q

@@ -1,7 +1,7 @@
-use Rattle.std.proofs.Common.{rules, ◌≡◌, ◌⊎◌, inl, inr, sym, ap, subst, refl, ◌∙◌, ◌++◌, ◌∷◌, [], None, List}
+use Rattle.std.proofs.Common.{inl, inr, sym, subst, refl, ◌∙◌, None, List}
 use Rattle.std.specs.Arc.{arc_value}
 use Rattle.recorder.specs.Backed.{Told}
-use Rattle.recorder.specs.Recording.{Keeps, IsForMemory, IsByReader}
+use Rattle.recorder.specs.Recording.{Keeps}
 use Rattle.recorder.proofs.Recorded.{keeps_after, keeps_last}
 use Rattle.recorder.proofs.recorder.first_answer.Goals as goal
 
@@ -21,7 +21,10 @@ returns-in-Err-clause-keeps g c =
     keeps_after (g.D.Reader.answers c.args.inner.now) (g.D.Reader.answers c.read.new.self) (g.D.Reader.faults c.args.inner.now) (g.D.Reader.faults c.read.new.self) (λ q v a. g.met.D.Reader.kept c.args.inner.now c.read.new.self q v c.in-Err.ensures.follows a) c.args.reads.now.items c.requires.keeps
 
 pub returns-in-Err-clause-err : goal.returns-in-Err-clause-err
-returns-in-Err-clause-err g c = (refl, elim c.refusal_of.ensures [
-    inl m ↦ inl m
-  | inr r ↦ inr (r.0, (λ e. r.2 (sym r.1 ∙ e)), subst (g.D.Reader.faults c.read.new.self c.args.key.now) (sym r.1) c.in-Err.ensures.fault)
-  ])
+returns-in-Err-clause-err g c = (
+  refl,
+  elim c.refusal_of.ensures [
+    | inl m ↦ inl m
+    | inr r ↦ inr (r.0, (λ e. r.2 (sym r.1 ∙ e)), subst (g.D.Reader.faults c.read.new.self c.args.key.now) (sym r.1) c.in-Err.ensures.fault)
+  ],
+)

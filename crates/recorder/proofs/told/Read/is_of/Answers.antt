@@ -1,4 +1,4 @@
-use Rattle.std.proofs.Common.{rules, ◌≡◌, ◌↔◌, IsTrue, sym, subst}
+use Rattle.std.proofs.Common.{rules}
 use Rattle.recorder.proofs.Seen.{key_tests}
 use Rattle.recorder.proofs.told.Read.is_of.Goals as goal
 
