@@ -1,0 +1,7 @@
+pub mod Recorded
+pub mod Seen
+pub mod Reach
+pub mod ProgramLaws
+pub mod Whole
+pub mod StepRules
+pub mod LoopRules

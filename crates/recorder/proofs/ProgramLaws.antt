@@ -1,0 +1,151 @@
+-- A runner whose values and reads are those of programs meets the laws of runners.
+use Rattle.std.proofs.Common.{◌≡◌, ◌≢◌, ℕ, zero, suc, ◌<◌, Bool, true, false, List, [], ◌∷◌, ◌++◌, take, sym, ◌∙◌, ap, subst, refl, arith}
+use Rattle.std.specs.List.{AllByRecursion}
+use Rattle.item_ids.specs.declared.key.Key.{Key}
+use Rattle.item_ids.specs.declared.key.Key.TheVariants.{Files, Source, Tree, Index, Header, Method, Sig, Supers, Members, CheckClass, CheckBody, Diags, Answer}
+use Rattle.result_bytes.specs.declared.value.Value.{Value}
+use Rattle.result_bytes.specs.Values.{kind_of as kind_of_value}
+use Rattle.recorder.specs.Projects.{Project, IsProject}
+use Rattle.recorder.specs.Backed.{Meaning, ReadLists, rank, IsOfKind, AreLower, NoneTwice, Alike, RunnerLaws}
+use Rattle.recorder.specs.Programs.{Prog, Ret, Ask, runs, asks, is_seen, Fits, Tied}
+use Rattle.recorder.proofs.Recorded.{all_last, all_map}
+use Rattle.recorder.proofs.Seen.{seen_alike, unseen_last}
+use Rattle.recorder.proofs.Reach.{asks_seen, asks_new}
+
+runs_kind : (q : Key) (p : Prog) (m : Key → Value) → Fits q p → IsOfKind q (runs p m)
+unfolding runs Fits
+runs_kind q (Ret v) m h = h
+runs_kind q (Ask k f) m h = runs_kind q (f (m k)) m (h.1 (m k))
+
+asks_lower : (q : Key) (p : Prog) (m : Key → Value) (seen : List Key) → Fits q p → AreLower q (asks p m seen)
+unfolding asks Fits
+asks_lower q (Ret v) m seen h = tt
+asks_lower q (Ask k f) m seen h = go (asks_lower q (f (m k)) m seen (h.1 (m k))) (asks_lower q (f (m k)) m (seen ++ k ∷ []) (h.1 (m k))) (is_seen seen k) refl
+  where
+    go : AreLower q (asks (f (m k)) m seen) → AreLower q (asks (f (m k)) m (seen ++ k ∷ [])) → (b : Bool) → is_seen seen k ≡ b → AreLower q (asks (Ask k f) m seen)
+    go i j true e = subst (AreLower q) (sym (asks_seen k f m seen e)) i
+    go i j false e = subst (AreLower q) (sym (asks_new k f m seen e)) (h.0, j)
+
+-- no key is asked that was seen
+asks_unseen : (p : Prog) (m : Key → Value) (seen : List Key) → AllByRecursion (λ x. is_seen seen x ≡ false) (asks p m seen)
+unfolding asks
+asks_unseen (Ret v) m seen = tt
+asks_unseen (Ask k f) m seen = go (asks_unseen (f (m k)) m seen) (asks_unseen (f (m k)) m (seen ++ k ∷ [])) (is_seen seen k) refl
+  where
+    U : List Key → List Key → Type 0
+    U s = AllByRecursion (λ x. is_seen s x ≡ false)
+
+    go : U seen (asks (f (m k)) m seen) → U (seen ++ k ∷ []) (asks (f (m k)) m (seen ++ k ∷ [])) → (b : Bool) → is_seen seen k ≡ b → U seen (asks (Ask k f) m seen)
+    go i j true e = subst (U seen) (sym (asks_seen k f m seen e)) i
+    go i j false e = subst (U seen) (sym (asks_new k f m seen e)) (e, all_map (λ x. is_seen (seen ++ k ∷ []) x ≡ false) (λ x. is_seen seen x ≡ false) (λ x h. (unseen_last seen k x h).0) (asks (f (m k)) m (seen ++ k ∷ [])) j)
+
+asks_once : (p : Prog) (m : Key → Value) (seen : List Key) → NoneTwice (λ k. k) (asks p m seen)
+unfolding asks
+asks_once (Ret v) m seen = tt
+asks_once (Ask k f) m seen = go (asks_once (f (m k)) m seen) (asks_once (f (m k)) m (seen ++ k ∷ [])) (is_seen seen k) refl
+  where
+    N : List Key → Type 0
+    N = NoneTwice (λ k. k)
+
+    go : N (asks (f (m k)) m seen) → N (asks (f (m k)) m (seen ++ k ∷ [])) → (b : Bool) → is_seen seen k ≡ b → N (asks (Ask k f) m seen)
+    go i j true e = subst N (sym (asks_seen k f m seen e)) i
+    go i j false e = subst N (sym (asks_new k f m seen e)) (all_map (λ x. is_seen (seen ++ k ∷ []) x ≡ false) (λ x. x ≢ k) (λ x h. (unseen_last seen k x h).1) (asks (f (m k)) m (seen ++ k ∷ [])) (asks_unseen (f (m k)) m (seen ++ k ∷ [])), j)
+
+asks_next : (p : Prog) (m n : Key → Value) (seen : List Key) (i : ℕ) → Alike m n seen → Alike m n (take i (asks p m seen)) → take (suc i) (asks p m seen) ≡ take (suc i) (asks p n seen)
+unfolding asks
+asks_next (Ret v) m n seen i s a = refl
+asks_next (Ask k f) m n seen i s a = go i (λ j. asks_next (f (m k)) m n seen j s) (λ j t. asks_next (f (m k)) m n (seen ++ k ∷ []) j t) (is_seen seen k) refl a
+  where
+    seen_both : is_seen seen k ≡ true → (j : ℕ) → take (suc j) (asks (f (m k)) m seen) ≡ take (suc j) (asks (f (m k)) n seen) → take (suc j) (asks (Ask k f) m seen) ≡ take (suc j) (asks (Ask k f) n seen)
+    seen_both e j h =
+        ap (take (suc j)) (asks_seen k f m seen e) ∙ h
+        ∙ ap (λ v. take (suc j) (asks (f v) n seen)) (seen_alike m n seen k e s)
+        ∙ ap (take (suc j)) (sym (asks_seen k f n seen e))
+
+    new_both : is_seen seen k ≡ false → (j : ℕ) → take (suc j) (k ∷ asks (f (m k)) m (seen ++ k ∷ [])) ≡ take (suc j) (k ∷ asks (f (n k)) n (seen ++ k ∷ [])) → take (suc j) (asks (Ask k f) m seen) ≡ take (suc j) (asks (Ask k f) n seen)
+    new_both e j h = ap (take (suc j)) (asks_new k f m seen e) ∙ h ∙ ap (take (suc j)) (sym (asks_new k f n seen e))
+
+    go : (i : ℕ) → ((j : ℕ) → Alike m n (take j (asks (f (m k)) m seen)) → take (suc j) (asks (f (m k)) m seen) ≡ take (suc j) (asks (f (m k)) n seen))
+        → ((j : ℕ) → Alike m n (seen ++ k ∷ []) → Alike m n (take j (asks (f (m k)) m (seen ++ k ∷ []))) → take (suc j) (asks (f (m k)) m (seen ++ k ∷ [])) ≡ take (suc j) (asks (f (m k)) n (seen ++ k ∷ [])))
+        → (b : Bool) → is_seen seen k ≡ b → Alike m n (take i (asks (Ask k f) m seen)) → take (suc i) (asks (Ask k f) m seen) ≡ take (suc i) (asks (Ask k f) n seen)
+    go i known new true e a = seen_both e i (known i (subst (λ l. Alike m n (take i l)) (asks_seen k f m seen e) a))
+    go zero known new false e a = new_both e zero refl
+    go (suc j) known new false e a =
+        let b : Alike m n (k ∷ take j (asks (f (m k)) m (seen ++ k ∷ []))) = subst (λ l. Alike m n (take (suc j) l)) (asks_new k f m seen e) a in
+        new_both e (suc j) (ap (λ l. k ∷ l) (new j (all_last (λ x. m x ≡ n x) seen k s b.0) b.1 ∙ ap (λ v. take (suc j) (asks (f v) n (seen ++ k ∷ []))) b.0))
+
+asks_same : (p : Prog) (m n : Key → Value) (seen : List Key) → Alike m n seen → Alike m n (asks p m seen) → runs p m ≡ runs p n
+unfolding asks runs
+asks_same (Ret v) m n seen s a = refl
+asks_same (Ask k f) m n seen s a = go (asks_same (f (m k)) m n seen s) (asks_same (f (m k)) m n (seen ++ k ∷ [])) (is_seen seen k) refl
+  where
+    next : m k ≡ n k → runs (f (m k)) m ≡ runs (f (m k)) n → runs (Ask k f) m ≡ runs (Ask k f) n
+    next e h = h ∙ ap (λ v. runs (f v) n) e
+
+    go : (Alike m n (asks (f (m k)) m seen) → runs (f (m k)) m ≡ runs (f (m k)) n) → (Alike m n (seen ++ k ∷ []) → Alike m n (asks (f (m k)) m (seen ++ k ∷ [])) → runs (f (m k)) m ≡ runs (f (m k)) n)
+        → (b : Bool) → is_seen seen k ≡ b → runs (Ask k f) m ≡ runs (Ask k f) n
+    go i j true e = next (seen_alike m n seen k e s) (i (subst (Alike m n) (asks_seen k f m seen e) a))
+    go i j false e =
+        let b : Alike m n (k ∷ asks (f (m k)) m (seen ++ k ∷ [])) = subst (Alike m n) (asks_new k f m seen e) a in
+        next b.0 (j (all_last (λ x. m x ≡ n x) seen k s b.0) b.1)
+
+-- ---- the laws
+
+-- an input, or a key above
+data Place : Key → Type 0 where
+  IsFiles : Place Files
+  IsSource : (file : List ℕ) → Place (Source file)
+  IsAbove : {q : Key} → 0 < rank q → Place q
+
+place_of : (q : Key) → Place q
+place_of Files = IsFiles
+place_of (Source file) = IsSource file
+place_of (Tree file) = IsAbove (omega arith)
+place_of Index = IsAbove (omega arith)
+place_of (Header class) = IsAbove (omega arith)
+place_of (Method class member) = IsAbove (omega arith)
+place_of (Sig class member) = IsAbove (omega arith)
+place_of (Supers class) = IsAbove (omega arith)
+place_of (Members class) = IsAbove (omega arith)
+place_of (CheckClass class) = IsAbove (omega arith)
+place_of (CheckBody class member) = IsAbove (omega arith)
+place_of (Diags class) = IsAbove (omega arith)
+place_of Answer = IsAbove (omega arith)
+
+module _ (prog_of : Key → Prog) (mean : Meaning) (reads : ReadLists) (t : Tied prog_of mean reads) where
+  kind_law : (p : Project) (q : Key) → IsProject p → Place q → IsOfKind q (mean p q)
+  kind_law p _ h IsFiles = ap kind_of_value (t.files p h)
+  kind_law p _ h (IsSource file) = ap kind_of_value (t.source p file h)
+  kind_law p q h (IsAbove above) = subst (IsOfKind q) (sym (t.means p q h above)) (runs_kind q (prog_of q) (mean p) (t.fits q above))
+
+  lower_law : (p : Project) (q : Key) → IsProject p → Place q → AreLower q (reads p q)
+  lower_law p _ h IsFiles = subst (AreLower Files) (sym (t.no_reads p Files h refl)) tt
+  lower_law p _ h (IsSource file) = subst (AreLower (Source file)) (sym (t.no_reads p (Source file) h refl)) tt
+  lower_law p q h (IsAbove above) = subst (AreLower q) (sym (t.asked p q h above)) (asks_lower q (prog_of q) (mean p) [] (t.fits q above))
+
+  once_law : (p : Project) (q : Key) → IsProject p → Place q → NoneTwice (λ k. k) (reads p q)
+  once_law p _ h IsFiles = subst (NoneTwice (λ k. k)) (sym (t.no_reads p Files h refl)) tt
+  once_law p _ h (IsSource file) = subst (NoneTwice (λ k. k)) (sym (t.no_reads p (Source file) h refl)) tt
+  once_law p q h (IsAbove above) = subst (NoneTwice (λ k. k)) (sym (t.asked p q h above)) (asks_once (prog_of q) (mean p) [])
+
+  next_law : (p r : Project) (q : Key) (i : ℕ) → IsProject p → IsProject r → Place q → Alike (mean p) (mean r) (take i (reads p q)) → take (suc i) (reads p q) ≡ take (suc i) (reads r q)
+  next_law p r _ i h g IsFiles a = ap (take (suc i)) (t.no_reads p Files h refl ∙ sym (t.no_reads r Files g refl))
+  next_law p r _ i h g (IsSource file) a = ap (take (suc i)) (t.no_reads p (Source file) h refl ∙ sym (t.no_reads r (Source file) g refl))
+  next_law p r q i h g (IsAbove above) a =
+      ap (take (suc i)) (t.asked p q h above)
+      ∙ asks_next (prog_of q) (mean p) (mean r) [] i tt (subst (λ l. Alike (mean p) (mean r) (take i l)) (t.asked p q h above) a)
+      ∙ ap (take (suc i)) (sym (t.asked r q g above))
+
+  pub program_laws : RunnerLaws mean reads
+  program_laws = record {
+    files = t.files;
+    source = t.source;
+    no_reads = t.no_reads;
+    kind = λ p q h. kind_law p q h (place_of q);
+    lower = λ p q h. lower_law p q h (place_of q);
+    once = λ p q h. once_law p q h (place_of q);
+    next = λ p r q i h g a. next_law p r q i h g (place_of q) a;
+    same = λ p r q h g above a. t.means p q h above
+        ∙ asks_same (prog_of q) (mean p) (mean r) [] tt (subst (Alike (mean p) (mean r)) (t.asked p q h above) a)
+        ∙ sym (t.means r q g above);
+  }

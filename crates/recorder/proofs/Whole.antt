@@ -1,0 +1,67 @@
+-- A run of a runner whose values and reads are those of programs keeps to the contract of runs.
+use Rattle.std.proofs.Common.{◌≡◌, ◌<◌, [], sym, ◌∙◌, ap, subst, IfSome, Option, Some, None, Result, Ok, Err, IfOk, IfErr}
+use Rattle.item_ids.specs.declared.key.Key.{Key}
+use Rattle.result_bytes.specs.declared.value.Value.{Value}
+use Rattle.recorder.specs.Projects.{Project, IsProject}
+use Rattle.recorder.specs.Backed.{Meaning, ReadLists, rank, IsOfKind, IsNext}
+use Rattle.recorder.specs.Recording.{Recording, key_of}
+use Rattle.recorder.specs.Runs.{IsRun}
+use Rattle.recorder.specs.Programs.{Prog, Ret, Ask, runs, asks, Fits, Reached, Start, Stands, IsAsked, Goes, GivesUp, Tied}
+use Rattle.recorder.specs.declared.runner.RunFault.{RunFault}
+use Rattle.recorder.proofs.Reach.{reached_lower, reached_next, reached_asked, reached_backed}
+
+ask_lower : (q k : Key) (f : Value → Prog) → Fits q (Ask k f) → rank k < rank q
+unfolding Fits
+ask_lower q k f h = h.0
+
+ret_kind : (q : Key) (v : Value) → Fits q (Ret v) → IsOfKind q v
+unfolding Fits
+ret_kind q v h = h
+
+pub run_performed : (prog_of : Key → Prog) (mean : Meaning) (reads : ReadLists) → Tied prog_of mean reads
+    → (q : Key) → 0 < rank q → {D : Type 0} (old new : Recording D) (result : Result Value RunFault) → old.told ≡ [] → old.refused ≡ None
+    → (step : (Value → Prog) → Prog) → step Ret ≡ prog_of q → IfOk result (λ v. Goes step old v new) → IfErr result (λ e. GivesUp step old e new) → IsRun mean reads q new result
+run_performed prog_of mean reads t q h {D = D} old new result unread unrefused step same ok err = by_result result ok err
+  where
+    tie : (p : Project) → IsProject p → reads p q ≡ asks (step Ret) (mean p) []
+    tie p i = t.asked p q i h ∙ ap (λ g. asks g (mean p) []) (sym same)
+
+    means : (p : Project) → IsProject p → mean p q ≡ runs (step Ret) (mean p)
+    means p i = t.means p q i h ∙ ap (λ g. runs g (mean p)) (sym same)
+
+    fits : Fits q (step Ret)
+    fits = subst (Fits q) (sym same) (t.fits q h)
+
+    IsGood : Option Key → Type 0
+    IsGood o = IfSome o (λ k. (rank k < rank q) × IsNext mean reads q new.told k)
+
+    next_at : (rest : Prog) → Reached (step Ret) new.told rest → (o : Option Key) → IfSome o (IsAsked new.told rest) → IsGood o
+    next_at rest r None a = tt
+    next_at rest r (Some k) a = go a.1.0 (subst (Reached (step Ret) new.told) a.1.1 r)
+      where
+        go : (f : Value → Prog) → Reached (step Ret) new.told (Ask k f) → (rank k < rank q) × IsNext mean reads q new.told k
+        go f r = (ask_lower q k f (reached_lower (step Ret) q fits new.told (Ask k f) r).1, reached_next mean reads q (step Ret) tie new.told k f r a.0)
+
+    nothing_refused : new.refused ≡ None → IsGood (key_of new)
+    nothing_refused e = subst (λ o. IsGood (key_of {D = D} (record { inner = new.inner; told = new.told; refused = o }))) (sym e) tt
+
+    start : Stands (step Ret) old (step Ret)
+    start = record { reached = subst (λ told. Reached (step Ret) told (step Ret)) (sym unread) Start; unrefused = unrefused }
+
+    by_result : (result : Result Value RunFault) → IfOk result (λ v. Goes step old v new) → IfErr result (λ e. GivesUp step old e new) → IsRun mean reads q new result
+    by_result (Ok v) g _ = let s = g.goes (step Ret) Ret start in record {
+      asked = reached_asked mean reads q (step Ret) tie new.told (Ret v) s.reached;
+      lower = (reached_lower (step Ret) q fits new.told (Ret v) s.reached).0;
+      refused = nothing_refused s.unrefused;
+      kind = ret_kind q v (reached_lower (step Ret) q fits new.told (Ret v) s.reached).1;
+      backed = reached_backed mean reads q (step Ret) tie means new.told v s.reached;
+      fault = tt;
+    }
+    by_result (Err e) _ g = let s = g.halts (step Ret) Ret start in record {
+      asked = reached_asked mean reads q (step Ret) tie new.told s.rest s.reached;
+      lower = (reached_lower (step Ret) q fits new.told s.rest s.reached).0;
+      refused = next_at s.rest s.reached (key_of new) s.refused;
+      kind = tt;
+      backed = tt;
+      fault = s.fault;
+    }

@@ -1,0 +1,93 @@
+-- What queries mean and read in a project, and what the reads of a run say of its result.
+use Rattle.std.specs.Prelude.{◌≡◌, ◌≢◌, ℕ, suc, ◌<◌, List, [], ◌∷◌, ◌++◌, length, take, map}
+use Rattle.std.specs.List.{AllByRecursion}
+use Rattle.item_ids.specs.declared.key.Key.{Key}
+use Rattle.item_ids.specs.declared.key.Key.TheVariants.{Files, Source}
+use Rattle.item_ids.specs.Kinds.{rank_of}
+use Rattle.item_ids.specs.Keys.{kind_of}
+use Rattle.result_bytes.specs.declared.value.Value.{Value}
+use Rattle.result_bytes.specs.declared.value.Value.TheVariants as values
+use Rattle.result_bytes.specs.Values.{kind_of as kind_of_value}
+use Rattle.recorder.specs.Projects.{Project, names_of, IsProject, bytes_at}
+
+-- the value of each key in a project
+abbrev pub Meaning : Type 0
+Meaning = Project → Key → Value
+
+-- what each key reads in a project, in order
+abbrev pub ReadLists : Type 0
+ReadLists = Project → Key → List Key
+
+abbrev pub rank : Key → ℕ
+rank k = rank_of (kind_of k)
+
+-- a value is of the kind of a key
+abbrev pub IsOfKind : Key → Value → Type 0
+IsOfKind k v = kind_of_value v ≡ kind_of k
+
+-- each of the keys is of lower rank than q
+abbrev pub AreLower : Key → List Key → Type 0
+AreLower q ks = AllByRecursion (λ k. rank k < rank q) ks
+
+-- no two of them have the same key
+abbrev pub NoneTwice : {A : Type 0} → (A → Key) → List A → Type 0
+NoneTwice key [] = Unit {0}
+NoneTwice key (x ∷ xs) = AllByRecursion (λ y. key y ≢ key x) xs × NoneTwice key xs
+
+-- ---- what a runner's meaning and reads keep
+
+-- two meanings agree at these keys
+abbrev pub Alike : (Key → Value) → (Key → Value) → List Key → Type 0
+Alike m n ks = AllByRecursion (λ k. m k ≡ n k) ks
+
+pub record RunnerLaws (mean : Meaning) (reads : ReadLists) : Type 0 where
+  -- the inputs are the names and the bytes of the files, and read nothing
+  pub files : (p : Project) → IsProject p → mean p Files ≡ values.Files (names_of p)
+  pub source : (p : Project) (file : List ℕ) → IsProject p → mean p (Source file) ≡ values.Source (bytes_at p file)
+  pub no_reads : (p : Project) (q : Key) → IsProject p → rank q ≡ 0 → reads p q ≡ []
+  -- each key has a value of its kind, and reads keys of lower rank, none twice
+  pub kind : (p : Project) (q : Key) → IsProject p → IsOfKind q (mean p q)
+  pub lower : (p : Project) (q : Key) → IsProject p → AreLower q (reads p q)
+  pub once : (p : Project) (q : Key) → IsProject p → NoneTwice (λ k. k) (reads p q)
+  -- where two projects agree on the first i reads of q in p, these are its first reads in r too, and both lists end
+  -- there or go on with the same key
+  pub next : (p r : Project) (q : Key) (i : ℕ) → IsProject p → IsProject r → Alike (mean p) (mean r) (take i (reads p q)) → take (suc i) (reads p q) ≡ take (suc i) (reads r q)
+  -- where two projects agree on all reads of q, they agree on q
+  pub same : (p r : Project) (q : Key) → IsProject p → IsProject r → 0 < rank q → Alike (mean p) (mean r) (reads p q) → mean p q ≡ mean r q
+
+-- ---- what the reads of a run say
+
+-- a key that was read, and the answer
+pub record Told : Type 0 where
+  pub key : Key
+  pub value : Value
+
+abbrev pub keys : List Told → List Key
+keys told = map (λ t. t.key) told
+
+-- these answers are the values
+abbrev pub GivesEach : (Key → Value) → List Told → Type 0
+GivesEach m told = AllByRecursion (λ t. m t.key ≡ t.value) told
+
+-- a project in which these answers are the values
+pub record Gives (mean : Meaning) (p : Project) (told : List Told) : Type 0 where
+  pub project : IsProject p
+  pub each : GivesEach (mean p) told
+
+abbrev pub BeginsWith : List Key → List Key → Type 0
+BeginsWith front all = (rest : List Key) × (front ++ rest ≡ all)
+
+-- each key is the next read of q in every project that gives the answers before it
+abbrev pub Asked : Meaning → ReadLists → Key → List Told → Type 0
+Asked mean reads q told = (i : ℕ) → i < length told → (p : Project) → Gives mean p (take i told) → BeginsWith (keys (take (suc i) told)) (reads p q)
+
+-- k is the next read of q in every project that gives these answers
+abbrev pub IsNext : Meaning → ReadLists → Key → List Told → Key → Type 0
+IsNext mean reads q told k = (p : Project) → Gives mean p told → BeginsWith (keys told ++ k ∷ []) (reads p q)
+
+-- v follows from these reads: in every project that gives their answers they are the reads of q, one after the other,
+-- and v is its value
+pub record Backed (mean : Meaning) (reads : ReadLists) (q : Key) (told : List Told) (v : Value) : Type 0 where
+  pub asked : Asked mean reads q told
+  pub whole : (p : Project) → Gives mean p told → reads p q ≡ keys told
+  pub means : (p : Project) → Gives mean p told → mean p q ≡ v

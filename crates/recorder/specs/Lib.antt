@@ -1,0 +1,5 @@
+pub mod Projects
+pub mod Backed
+pub mod Recording
+pub mod Runs
+pub mod Programs

@@ -1,0 +1,100 @@
+-- Query programs: which keys are asked, one after the other, and what comes of the answers.
+use Rattle.std.specs.Prelude.{◌≡◌, ◌<◌, ℕ, Bool, true, false, if◌then◌else◌, List, [], ◌∷◌, ◌++◌, Contains, drop, None, IfSome, Result, IfOk, IfErr}
+use Rattle.std.specs.Ordering.{is_eq}
+use Rattle.item_ids.specs.declared.key.Key.{Key}
+use Rattle.item_ids.specs.declared.key.Key.TheVariants.{Files, Source}
+use Rattle.item_ids.specs.Keys.{key_cmp}
+use Rattle.result_bytes.specs.declared.value.Value.{Value}
+use Rattle.result_bytes.specs.declared.value.Value.TheVariants as values
+use Rattle.recorder.specs.Projects.{Project, names_of, IsProject, bytes_at}
+use Rattle.recorder.specs.Backed.{Meaning, ReadLists, Told, rank, IsOfKind}
+use Rattle.recorder.specs.Recording.{Recording, IsUnread, key_of}
+use Rattle.recorder.specs.Runs.{IsFaultKept}
+use Rattle.recorder.specs.declared.runner.RunFault.{RunFault}
+
+-- a value, or a key to ask and what follows each answer
+pub data Prog : Type 0 where
+  Ret : Value → Prog
+  Ask : Key → (Value → Prog) → Prog
+
+-- ---- what a program means, where m answers
+
+-- the value that comes out
+unfoldable pub runs : Prog → (Key → Value) → Value
+runs (Ret v) m = v
+runs (Ask k f) m = runs (f (m k)) m
+
+abbrev pub is_seen : List Key → Key → Bool
+is_seen [] k = false
+is_seen (x ∷ xs) k = if is_eq (key_cmp x k) then true else is_seen xs k
+
+-- the keys that are asked after those seen, each where it is asked first
+unfoldable pub asks : Prog → (Key → Value) → List Key → List Key
+asks (Ret v) m seen = []
+asks (Ask k f) m seen = if is_seen seen k then asks (f (m k)) m seen else k ∷ asks (f (m k)) m (seen ++ k ∷ [])
+
+-- whatever the answers, keys of lower rank than q are asked and a value of q's kind comes out
+unfoldable pub Fits : Key → Prog → Type 0
+Fits q (Ret v) = IsOfKind q v
+Fits q (Ask k f) = (rank k < rank q) × ((v : Value) → Fits q (f v))
+
+-- The values and the reads of the keys that are no inputs are those of their programs.
+pub record Tied (prog_of : Key → Prog) (mean : Meaning) (reads : ReadLists) : Type 0 where
+  pub files : (p : Project) → IsProject p → mean p Files ≡ values.Files (names_of p)
+  pub source : (p : Project) (file : List ℕ) → IsProject p → mean p (Source file) ≡ values.Source (bytes_at p file)
+  pub no_reads : (p : Project) (q : Key) → IsProject p → rank q ≡ 0 → reads p q ≡ []
+  pub means : (p : Project) (q : Key) → IsProject p → 0 < rank q → mean p q ≡ runs (prog_of q) (mean p)
+  pub asked : (p : Project) (q : Key) → IsProject p → 0 < rank q → reads p q ≡ asks (prog_of q) (mean p) []
+  pub fits : (q : Key) → 0 < rank q → Fits q (prog_of q)
+
+-- ---- how far a run has come
+
+-- after these first reads the program stands at the last one
+pub data Reached (prog : Prog) : List Told → Prog → Type 0 where
+  Start : Reached prog [] prog
+  Again : (told : List Told) (k : Key) (f : Value → Prog) (v : Value) → Reached prog told (Ask k f) → Contains told (record { key = k; value = v }) → Reached prog told (f v)
+  First : (told : List Told) (k : Key) (f : Value → Prog) (v : Value) → Reached prog told (Ask k f) → IsUnread k told → Reached prog (told ++ record { key = k; value = v } ∷ []) (f v)
+
+-- with this recorder a run of prog stands at p
+pub record Stands {D : Type 0} (prog : Prog) (r : Recording D) (p : Prog) : Type 0 where
+  pub reached : Reached prog r.told p
+  pub unrefused : r.refused ≡ None
+
+-- p asks k, for the first time
+abbrev pub IsAsked : List Told → Prog → Key → Type 0
+IsAsked told p k = IsUnread k told × ((f : Value → Prog) × (p ≡ Ask k f))
+
+-- with this recorder a run of prog has given up: at a key that was refused, or for want of memory
+pub record Halts {D : Type 0} (prog : Prog) (e : RunFault) (r : Recording D) : Type 0 where
+  pub rest : Prog
+  pub reached : Reached prog r.told rest
+  pub refused : IfSome (key_of r) (IsAsked r.told rest)
+  pub fault : IsFaultKept r e
+
+-- ---- steps: parts of a program, which go on with the value that they give
+
+-- Whatever program begins with the step stands behind it, with its value x.
+pub record Goes {X D : Type 0} (step : (X → Prog) → Prog) (old : Recording D) (x : X) (new : Recording D) : Type 0 where
+  pub goes : (prog : Prog) (k : X → Prog) → Stands prog old (step k) → Stands prog new (k x)
+
+-- Whatever program begins with the step has given up in it.
+pub record GivesUp {X D : Type 0} (step : (X → Prog) → Prog) (old : Recording D) (e : RunFault) (new : Recording D) : Type 0 where
+  pub halts : (prog : Prog) (k : X → Prog) → Stands prog old (step k) → Halts prog e new
+
+-- With a recorder that hadn't read, a step was performed that is the whole of prog.
+pub record Performs {D : Type 0} (prog : Prog) (old : Recording D) (result : Result Value RunFault) (new : Recording D) : Type 0 where
+  pub unread : old.told ≡ []
+  pub unrefused : old.refused ≡ None
+  pub step : (Value → Prog) → Prog
+  pub whole : step Ret ≡ prog
+  pub ok : IfOk result (λ v. Goes step old v new)
+  pub err : IfErr result (λ e. GivesUp step old e new)
+
+-- a step for each of a list, which takes a state along
+unfoldable pub each : {A S : Type 0} → (A → S → (S → Prog) → Prog) → List A → S → (S → Prog) → Prog
+each step [] s k = k s
+each step (a ∷ rest) s k = step a s (λ t. each step rest t k)
+
+-- A loop over xs that began with s at old stands before the item i, with t at new.
+pub record LoopAt {A S D : Type 0} (step : A → S → (S → Prog) → Prog) (xs : List A) (s : S) (old : Recording D) (i : ℕ) (t : S) (new : Recording D) : Type 0 where
+  pub goes : (prog : Prog) (k : S → Prog) → Stands prog old (each step xs s k) → Stands prog new (each step (drop i xs) t k)

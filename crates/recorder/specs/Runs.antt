@@ -1,0 +1,51 @@
+-- What a run of a query keeps to.
+use Rattle.std.specs.Prelude.{◌≡◌, ◌<◌, List, [], ◌∷◌, ◌++◌, Some, IfSome, Result, IfOk, IfErr}
+use Rattle.item_ids.specs.declared.key.Key.{Key}
+use Rattle.result_bytes.specs.declared.value.Value.{Value}
+use Rattle.recorder.specs.Backed.{Meaning, ReadLists, Told, rank, keys, IsOfKind, AreLower, NoneTwice, Asked, IsNext, Backed}
+use Rattle.recorder.specs.Recording.{Recording, fault_of, key_of}
+use Rattle.recorder.specs.declared.reader.ReadFault.{ReadFault}
+use Rattle.recorder.specs.declared.runner.RunFault.{RunFault}
+use Rattle.recorder.specs.declared.runner.RunFault.TheVariants.{Read, OutOfMemory}
+
+-- the key that is kept of a refused read is the next read of q, and of lower rank
+abbrev pub IsNextRefused : Meaning → ReadLists → Key → {D : Type 0} → Recording D → Type 0
+IsNextRefused mean reads q r = IfSome (key_of r) (λ k. (rank k < rank q) × IsNext mean reads q r.told k)
+
+-- a fault of the reader is the one that the recorder keeps
+abbrev pub IsFaultKept : {D : Type 0} → Recording D → RunFault → Type 0
+IsFaultKept r e = (f : ReadFault) → e ≡ Read f → fault_of r ≡ Some f
+
+-- the fault is one of the reader, which the recorder keeps
+abbrev pub IsReadFault : {D : Type 0} → Recording D → RunFault → Type 0
+IsReadFault r (Read f) = fault_of r ≡ Some f
+IsReadFault r OutOfMemory = ⊥
+
+-- a run of q that left this recorder and this result
+pub record IsRun (mean : Meaning) (reads : ReadLists) (q : Key) {D : Type 0} (r : Recording D) (result : Result Value RunFault) : Type 0 where
+  -- each key asked, a refused one too, is the next read of q, and of lower rank
+  pub asked : Asked mean reads q r.told
+  pub lower : AreLower q (keys r.told)
+  pub refused : IsNextRefused mean reads q r
+  -- the value is of the key's kind and follows from the reads
+  pub kind : IfOk result (λ v. IsOfKind q v)
+  pub backed : IfOk result (λ v. Backed mean reads q r.told v)
+  pub fault : IfErr result (λ e. IsFaultKept r e)
+
+-- the log grew by q
+abbrev pub Logs : Key → List Key → List Key → Type 0
+Logs q old new = new ≡ old ++ q ∷ []
+
+-- ---- the outcome of a run
+
+-- a key, what was read for it, and its value
+pub record Ran : Type 0 where
+  pub key : Key
+  pub told : List Told
+  pub value : Value
+
+pub record IsOutcome (mean : Meaning) (reads : ReadLists) (o : Ran) : Type 0 where
+  pub kind : IsOfKind o.key o.value
+  pub backed : Backed mean reads o.key o.told o.value
+  pub lower : AreLower o.key (keys o.told)
+  pub once : NoneTwice (λ t. t.key) o.told

@@ -1,0 +1,21 @@
+//! What holds of runners by programs.
+ghost use Rattle.std.specs.Prelude.{◌<◌, Result};
+ghost use Rattle.item_ids.specs.declared.key.Key.{Key};
+ghost use Rattle.result_bytes.specs.declared.value.Value.{Value};
+ghost use Rattle.recorder.specs.Backed.{Meaning, ReadLists, rank, RunnerLaws};
+ghost use Rattle.recorder.specs.Recording.{Recording};
+ghost use Rattle.recorder.specs.Runs.{IsRun};
+ghost use Rattle.recorder.specs.Programs.{Prog, Tied, Performs};
+ghost use Rattle.recorder.specs.declared.runner.RunFault.{RunFault};
+
+use crate::reader::Reader;
+
+/// Values and reads that are those of programs keep to the laws of runners.
+pub fn programs_keep_the_laws()
+    ensures { (prog_of : Key → Prog) (mean : Meaning) (reads : ReadLists) → Tied prog_of mean reads → RunnerLaws mean reads }
+{}
+
+/// What performs the program of a key is a run of the key, where values and reads are those of programs.
+pub fn programs_are_runs<D: Reader>()
+    ensures { (prog_of : Key → Prog) (mean : Meaning) (reads : ReadLists) → Tied prog_of mean reads → (q : Key) → 0 < rank q → (old new : Recording D) (result : Result Value RunFault) → Performs (prog_of q) old result new → IsRun mean reads q new result }
+{}

@@ -1,0 +1,20 @@
+//! Runs of queries: readers, what a run reads and what it leaves, and programs that say what a run does.
+#![tactic(auto)]
+
+mod laws;
+mod outcome;
+mod reader;
+mod recorder;
+mod refused;
+mod runner;
+mod steps;
+mod told;
+
+pub use laws::{programs_are_runs, programs_keep_the_laws};
+pub use outcome::{Outcome, record};
+pub use reader::{ReadFault, Reader};
+pub use recorder::Recorder;
+pub use refused::Refused;
+pub use runner::{RunFault, Runner};
+pub use steps::ask_key;
+pub use told::Read;

@@ -1,0 +1,107 @@
+//! The outcome of a run.
+ghost use Rattle.std.specs.Prelude.{◌≡◌, ◌⊎◌, ◌<◌, [], IfOk, IfErr, None, Err};
+ghost use Rattle.std.specs.Arc.{arc_value};
+ghost use Rattle.recorder.specs.Backed.{rank, keys, AreLower, Asked};
+ghost use Rattle.recorder.specs.Runs.{IsOutcome, IsNextRefused, IsFaultKept, Logs};
+
+use crate::reader::Reader;
+use crate::recorder::Recorder;
+use crate::runner::{RunFault, Runner};
+use crate::told::{Read, copy_reads};
+use fingerprint::{Sealed, seal};
+use item_ids::Key;
+use result_bytes::Value;
+use std::alloc::{AllocError, AllocFailed, Global};
+use std::marker::{Model, PhantomData};
+use std::sync::Arc;
+
+/// What a run of the runner read, and its result, which follows from these reads.
+#[derive(Drop)]
+pub struct Outcome<R: Runner> {
+    key: Key,
+    reads: Vec<Read>,
+    sealed: Arc<Sealed>,
+    runner: PhantomData<R>,
+}
+
+impl<R: Runner> Model for Outcome<R> {
+    ghost use Rattle.std.specs.Arc.{arc_value};
+    ghost use Rattle.recorder.specs.Runs.{Ran, IsOutcome};
+    ghost use Rattle.result_bytes.specs.contracts.value.Value as value_contracts;
+    ghost use Rattle.std.specs.Coded.{codes};
+
+    ghost Value = { Ran };
+
+    ghost coded = { Prim.hlevel (codes, value_contracts.the_row.coded) };
+
+    ghost view = { λ o. record { key = o.key; told = o.reads.items; value = arc_value o.sealed } };
+
+    ghost invariant = { λ o. IsOutcome R.mean R.reads (record { key = o.key; told = o.reads.items; value = arc_value o.sealed }) };
+}
+
+impl<R: Runner> Outcome<R> {
+    /// The key.
+    pub fn key(&self) -> &Key
+        ensures { result.now ≡ self.now.key }
+    {
+        &self.key
+    }
+
+    /// What was read, in order.
+    pub fn reads(&self) -> &[Read]
+        ensures { result.now ≡ self.now.told }
+    {
+        self.reads.as_slice()
+    }
+
+    /// The sealed result.
+    pub fn sealed(&self) -> &Arc<Sealed>
+        ensures value { arc_value result.now ≡ self.now.value }
+        ensures outcome { IsOutcome R.mean R.reads self.now }
+    {
+        &self.sealed
+    }
+}
+
+/// Runs a key that is no input, with a recorder that hasn't read, and seals its result. After a refusal the recorder
+/// keeps what it read.
+pub fn record<R: Runner, D: Reader>(
+    alloc: Global,
+    runner: &mut R,
+    key: &Key,
+    recorder: &mut Recorder<D>,
+) -> Result<Outcome<R>, RunFault>
+    requires no_input { 0 < rank key.now }
+    requires unread { recorder.old.told ≡ [] }
+    requires unrefused { recorder.old.refused ≡ None }
+
+    // The outcome is that of the run.
+    ensures of_run { IfOk result (λ o. (o.key ≡ key.now) × (o.told ≡ recorder.new.told)) }
+    ensures outcome { IfOk result (λ o. IsOutcome R.mean R.reads o) }
+
+    // Whatever came of it, the run kept to its contract.
+    ensures asked { Asked R.mean R.reads key.now recorder.new.told }
+    ensures lower { AreLower key.now (keys recorder.new.told) }
+    ensures refused { IsNextRefused R.mean R.reads key.now recorder.new }
+    ensures fault { IfErr result (λ e. IsFaultKept recorder.new e) }
+    ensures log { Logs key.now (R.log runner.old) (R.log runner.new) ⊎ ((result ≡ Err RunFault.OutOfMemory) × (R.log runner.new ≡ R.log runner.old) × (recorder.new ≡ recorder.old)) }
+    ensures follows { D.follows recorder.old.inner recorder.new.inner }
+{
+    let value = runner.run(alloc, key, recorder)?;
+    let reads = copy_reads(alloc, recorder.reads())?;
+    let sealed = shared(alloc, value)?;
+    let key = key.copy(alloc)?;
+    Ok(Outcome {
+        key,
+        reads,
+        sealed,
+        runner: PhantomData,
+    })
+}
+
+/// The sealed value, to be shared.
+fn shared(alloc: Global, value: Value) -> Result<Arc<Sealed>, AllocError>
+    ensures { IfOk result (λ a. arc_value a ≡ value) }
+{
+    Ok(Arc::new(alloc, seal(alloc, value)?)?)
+}

@@ -1,0 +1,80 @@
+//! A key that was read, with its answer.
+ghost use Rattle.std.specs.Prelude.{◌≡◌, ◌↔◌, IfOk, IsTrue};
+ghost use Rattle.std.specs.Arc.{arc_value};
+
+use fingerprint::Sealed;
+use item_ids::Key;
+use std::alloc::{AllocError, Global};
+use std::marker::Model;
+use std::sync::Arc;
+
+/// A key that was read, with its answer.
+#[derive(Drop)]
+pub struct Read {
+    key: Key,
+    answer: Arc<Sealed>,
+}
+
+impl Model for Read {
+    ghost use Rattle.std.specs.Arc.{arc_value};
+    ghost use Rattle.recorder.specs.Backed.{Told};
+    ghost use Rattle.result_bytes.specs.contracts.value.Value as value_contracts;
+    ghost use Rattle.std.specs.Coded.{codes};
+
+    ghost Value = { Told };
+
+    ghost coded = { Prim.hlevel (codes, value_contracts.the_row.coded) };
+
+    ghost view = { λ r. record { key = r.key; value = arc_value r.answer } };
+}
+
+impl Read {
+    /// A key and its answer.
+    pub fn new(key: Key, answer: Arc<Sealed>) -> Self
+        ensures { result ≡ record { key = key; value = arc_value answer } }
+    {
+        Read { key, answer }
+    }
+
+    /// The key.
+    pub fn key(&self) -> &Key
+        ensures { result.now ≡ self.now.key }
+    {
+        &self.key
+    }
+
+    /// The answer.
+    pub fn answer(&self) -> &Arc<Sealed>
+        ensures { arc_value result.now ≡ self.now.value }
+    {
+        &self.answer
+    }
+
+    /// Whether the key was read.
+    pub fn is_of(&self, key: &Key) -> bool
+        ensures { IsTrue result ↔ (self.now.key ≡ key.now) }
+    {
+        self.key == *key
+    }
+
+    /// The same key with one more owner of the answer.
+    pub fn copy(&self, alloc: Global) -> Result<Self, AllocError>
+        ensures { IfOk result (λ r. r ≡ self.now) }
+    {
+        Ok(Read {
+            key: self.key.copy(alloc)?,
+            answer: Arc::try_clone(&self.answer)?,
+        })
+    }
+}
+
+/// The reads again, each answer with one more owner.
+pub(crate) fn copy_reads(alloc: Global, reads: &[Read]) -> Result<Vec<Read>, AllocError>
+    ensures { IfOk result (λ v. v.items ≡ reads.now) }
+{
+    let mut copies = Vec::new(alloc);
+    for read in reads {
+        copies.push(read.copy(alloc)?)?;
+    }
+    Ok(copies)
+}

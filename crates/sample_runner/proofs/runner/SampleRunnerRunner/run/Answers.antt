@@ -1,0 +1,9 @@
+use Rattle.std.proofs.Common.{◌≡◌, refl}
+use Rattle.recorder.proofs.Whole.{run_performed}
+use Rattle.sample_runner.specs.Meaning.{sample_mean}
+use Rattle.sample_runner.specs.Programs.{sample_reads, prog_of, steps_of}
+use Rattle.sample_runner.specs.Tie.{sample_tied}
+use Rattle.sample_runner.proofs.runner.SampleRunnerRunner.run.Goals as goal
+
+pub returns-clause-run : goal.returns-clause-run
+returns-clause-run g c = run_performed prog_of sample_mean sample_reads sample_tied c.args.key.now c.requires.no_input c.args.recorder.now c.run_kind.new.recorder c.run_kind.result c.requires.unread c.requires.unrefused (steps_of c.args.key.now) refl c.run_kind.ensures.ok c.run_kind.ensures.err

@@ -1,0 +1,5 @@
+pub mod Meaning
+pub mod Phrases
+pub mod Programs
+pub mod View
+pub mod Tie
