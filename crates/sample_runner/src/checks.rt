@@ -12,7 +12,8 @@ use mj_answer::{Code, Diagnostic};
 use mj_lexer::Name;
 use mj_parser::Place;
 use recorder::{Reader, Recorder, RunFault, ask_key};
-use result_bytes::{Faults, Value};
+use answer_bytes::Faults;
+use result_bytes::Value;
 use std::alloc::{AllocError, Global};
 
 /// The names that an answer tells.

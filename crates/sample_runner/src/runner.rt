@@ -9,7 +9,8 @@ use crate::headers::{run_header, run_signature};
 use item_ids::Key;
 use mj_answer::Answer;
 use recorder::{Reader, Recorder, RunFault, Runner};
-use result_bytes::{Faults, Index, Value, WholeAnswer};
+use answer_bytes::{Faults, WholeAnswer};
+use result_bytes::{Index, Value};
 use std::alloc::{AllocError, AllocFailed, Global};
 
 /// A runner that only asks which files are there, and which of them are empty.
