@@ -1,5 +1,4 @@
 -- What contracts see of a phrase.
-use Rattle.std.specs.Prelude.{ℕ, List}
 use Rattle.sample_runner.specs.Phrases.{Phrase as SpecPhrase, Named, Called, phrases_of}
 use Rattle.sample_runner.specs.declared.phrase.Phrase.{Phrase, fold-Phrase}
 use Rattle.sample_runner.specs.declared.phrase.Phrase.TheOpen.{Phrase-F, Name, Call}

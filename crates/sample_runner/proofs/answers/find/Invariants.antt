@@ -1,4 +1,4 @@
-use Rattle.std.proofs.Common.{◌≡◌, take}
+use Rattle.std.proofs.Common.{take}
 use Rattle.recorder.specs.Recording.{IsUnread}
 use Rattle.sample_runner.proofs.answers.find.Given as goal
 

@@ -1,4 +1,4 @@
-use Rattle.std.proofs.Common.{rules, ◌≡◌, false}
+use Rattle.std.proofs.Common.{rules, false}
 use Rattle.recorder.specs.Programs.{GivesUp, each}
 use Rattle.recorder.proofs.LoopRules.{loop_more, loop_up}
 use Rattle.sample_runner.specs.Programs.{main_step}

@@ -1,4 +1,4 @@
-use Rattle.std.proofs.Common.{◌≡◌, false}
+use Rattle.std.proofs.Common.{false}
 use Rattle.recorder.specs.Programs.{LoopAt}
 use Rattle.sample_runner.specs.Programs.{main_step}
 use Rattle.sample_runner.proofs.checks.look_at_all.Given as goal

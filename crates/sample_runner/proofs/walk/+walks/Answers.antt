@@ -1,4 +1,4 @@
-use Rattle.std.proofs.Common.{rules, refl, ◌≡◌, List, ℕ, Option, IfOk, IfErr, map, ap, ◌∙◌, subst, sym}
+use Rattle.std.proofs.Common.{rules, ◌≡◌, IfOk, IfErr, map, ap, ◌∙◌, subst, sym}
 use Rattle.recorder.specs.Programs.{Goes, GivesUp, each}
 use Rattle.recorder.proofs.LoopRules.{loop_more, loop_up, loop_end}
 use Rattle.sample_runner.specs.Phrases.{Phrase as SpecPhrase, Called, phrases_of}

@@ -1,4 +1,3 @@
-use Rattle.std.proofs.Common.{◌≡◌}
 use Rattle.recorder.specs.Programs.{LoopAt}
 use Rattle.sample_runner.specs.Programs.{part_step}
 use Rattle.sample_runner.specs.View.{view_of}
