@@ -11,6 +11,3 @@ mod walk;
 
 pub use answers::{AnswerList, Refusing};
 pub use runner::SampleRunner;
-
-#[cfg(test)]
-mod tests;
