@@ -7,12 +7,12 @@ ghost use Rattle.sample_runner.specs.Programs.{names_in as names_told, header_in
 use crate::headers::{ask_header, header_in};
 use crate::phrase::phrase_of;
 use crate::walk::walk;
+use answer_bytes::Faults;
 use item_ids::Key;
 use mj_answer::{Code, Diagnostic};
 use mj_lexer::Name;
 use mj_parser::Place;
 use recorder::{Reader, Recorder, RunFault, ask_key};
-use answer_bytes::Faults;
 use result_bytes::Value;
 use std::alloc::{AllocError, Global};
 

@@ -6,10 +6,10 @@ ghost use Rattle.sample_runner.specs.Programs.{steps_of};
 
 use crate::checks::{check_body, check_class};
 use crate::headers::{run_header, run_signature};
+use answer_bytes::{Faults, WholeAnswer};
 use item_ids::Key;
 use mj_answer::Answer;
 use recorder::{Reader, Recorder, RunFault, Runner};
-use answer_bytes::{Faults, WholeAnswer};
 use result_bytes::{Index, Value};
 use std::alloc::{AllocError, AllocFailed, Global};
 
