@@ -9,7 +9,7 @@ ghost use Rattle.mj_rules.specs.Rules.{IsAnswerFor, AreClassAnswers, Rules};
 
 use crate::body_faults::add_body_faults;
 use crate::declaration_faults::declaration_faults;
-use crate::project::Project;
+use mj_project::Project;
 use crate::project_faults::project_faults;
 use crate::reading::read_files;
 use crate::tables::class_table;

@@ -6,10 +6,8 @@ mod checker;
 mod declaration_faults;
 mod laws;
 mod places;
-mod project;
 mod project_faults;
 mod reading;
-mod repeats;
 mod tables;
 mod world;
 
@@ -19,4 +17,4 @@ pub use mj_answer::{
     Answer, ClassAnswer, ClassTable, Code, Diagnostic, FieldRow, MethodRow, render,
 };
 pub use places::{FaultLine, fault_lines};
-pub use project::{Project, ProjectFault};
+pub use mj_project::{Project, ProjectFault};
