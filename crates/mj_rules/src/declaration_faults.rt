@@ -12,12 +12,12 @@ ghost use Rattle.mj_rules.specs.FaultLists.{when_fault, each_numbered, superclas
 ghost use Rattle.mj_parser.specs.declared.place.Place.TheVariants as places;
 ghost use Rattle.mj_answer.specs.declared.code.Code.TheVariants.{E202};
 
-use mj_project::repeats;
 use crate::tables::method_rows;
 use mj_answer::{Code, Diagnostic, MethodRow, find_by_name};
 use mj_classes::{ClassChain, ClassRef, Declarations, End};
 use mj_lexer::Name;
 use mj_parser::{Field, MethodTree, Place, Ty, Variable};
+use mj_project::repeats;
 use std::alloc::{AllocError, Global};
 
 fn is_declared(declarations: &Declarations, name: &Name) -> bool

@@ -16,5 +16,5 @@ pub use laws::{answer_laws, class_fault_laws, project_fault_laws, sentence_laws,
 pub use mj_answer::{
     Answer, ClassAnswer, ClassTable, Code, Diagnostic, FieldRow, MethodRow, render,
 };
-pub use places::{FaultLine, fault_lines};
 pub use mj_project::{Project, ProjectFault};
+pub use places::{FaultLine, fault_lines};

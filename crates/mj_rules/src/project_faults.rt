@@ -7,12 +7,11 @@ ghost use Rattle.mj_project.specs.Repeats.{repeats};
 ghost use Rattle.mj_rules.specs.Sentences.{trees_of, classes_in};
 ghost use Rattle.mj_rules.specs.FaultLists.{has_main, any_main, file_faults, files_faults, repeated_class, repeated_class_faults, class_names, each_numbered, project_faults};
 
-use mj_project::Project;
-use mj_project::repeats;
 use mj_answer::{Code, Diagnostic};
 use mj_classes::ClassRef;
 use mj_lexer::Name;
 use mj_parser::{FileTree, Place};
+use mj_project::{Project, repeats};
 use std::alloc::{AllocError, Global};
 
 /// Adds what is wrong with a file, where an earlier one has a main class or none has.
