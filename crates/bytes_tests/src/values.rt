@@ -35,7 +35,7 @@ const SPELLINGS: [(Kind, &str); 17] = [
 ];
 
 // What spells nothing, and why.
-const REFUSALS: [(Kind, &str, Refusal); 22] = [
+const REFUSALS: [(Kind, &str, Refusal); 24] = [
     (Kind::Files, "", Refusal::Short),
     (Kind::CheckClass, "09", Refusal::Short),
     (Kind::CheckClass, "09ffffffffffffffff", Refusal::Short),
@@ -105,6 +105,17 @@ const REFUSALS: [(Kind, &str, Refusal); 22] = [
         Kind::Diags,
         "0b00000000000000020000ca0000c9",
         Refusal::NotCanonical(12),
+    ),
+    // Faults of the project that don't ascend, and classes that don't.
+    (
+        Kind::Answer,
+        "0c00000000000000020101610065000066",
+        Refusal::NotCanonical(14),
+    ),
+    (
+        Kind::Answer,
+        "0c0000000000000000000000000000000201420000000000000000000000000000000000000000000000000141000000000000000000000000000000000000000000000000",
+        Refusal::NotCanonical(43),
     ),
     // The statement of `main` as a method of a class.
     (
