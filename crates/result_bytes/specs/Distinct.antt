@@ -1,31 +1,15 @@
 -- Names that are admitted where none in front is the same differ, and the other way round.
-use Rattle.std.proofs.Common.{◌≡◌, ℕ, suc, Bool, true, false, cond, List, [], ◌∷◌, ◌++◌, refl, sym, ap, subst, ◌∙◌, arith, ◌⊎◌, inl, inr}
+use Rattle.std.proofs.Common.{◌≡◌, ℕ, Bool, true, false, List, [], ◌∷◌, ◌++◌, refl, sym, ap, subst, ◌∙◌, arith, inl, inr}
 use Rattle.std.specs.Prelude.{Contains, not, ◌||◌}
-use Rattle.std.specs.List.{AllByRecursion, list_any}
+use Rattle.std.specs.List.{list_any}
 use Rattle.std.specs.Str.{bytes_eq}
-use Rattle.std.specs.Ordering.{nat_cmp, is_lt, is_eq, ordering_reverse}
-use Rattle.std.specs.declared.cmp.Ordering.{Ordering}
-use Rattle.std.specs.declared.cmp.Ordering.TheVariants.{Less, Equal, Greater}
-use Rattle.std.specs.Cmp.Lexicographic.{slice_cmp}
 use Rattle.std.proofs.lemmas.Slice.Eq.{bytes_eq-Decides}
-use Rattle.std.proofs.lemmas.List.Elements.{Contains-append_left, Contains-append_right, Contains-push, Contains-push_cases, at_from_Contains}
-use Rattle.mj_answer.specs.declared.diagnostic.Diagnostic.{Diagnostic}
-use Rattle.mj_answer.specs.contracts.diagnostic.DiagnosticOrd.TheImpl.{cmp-value}
-use Rattle.mj_answer.specs.contracts.diagnostic.DiagnosticPartialEq.TheImpl.{eq-value}
-use Rattle.mj_answer.specs.contracts.diagnostic.DiagnosticOrd.TheImpl.Laws.{total-law, matches_eq-law}
-use Rattle.mj_answer.specs.Order.{NameBefore, Before, IsAscendingBy, IsAscendingByName, IsStrictTotalOrder}
-use Rattle.mj_answer.proofs.Orders.{names, faults}
-use Rattle.mj_answer.proofs.Compared.{fault_less, fault_equal}
+use Rattle.std.proofs.lemmas.List.Elements.{Contains-append_left, Contains-push, Contains-push_cases, at_from_Contains}
+use Rattle.mj_answer.proofs.Orders.{names}
 use Rattle.mj_answer.proofs.Alike.{Contains-cases, Contains-first, Contains-later}
-use Rattle.byte_readers.specs.Orders.{is_after}
-use Rattle.byte_readers.specs.Lawful.{Lawful, Admitted, FitsList}
-use Rattle.byte_readers.specs.Reading.{Reader, list_at}
-use Rattle.byte_readers.specs.Spelling.{list}
-use Rattle.byte_readers.specs.Laws.{lawful_list, lawful_where}
+use Rattle.byte_readers.specs.Lawful.{Admitted}
 use Rattle.result_bytes.specs.Fits.{AreDistinct}
-use Rattle.answer_bytes.specs.Fits.{ByName, OrderedFits}
 use Rattle.result_bytes.specs.Reading.{is_new}
-use Rattle.answer_bytes.specs.Reading.{by_name, by_place}
 
 pub nowhere : (x : List ℕ) → Contains [] x → ⊥
 nowhere x h = let a = at_from_Contains [] x h in absurd (omega (arith, a.1))

@@ -1,33 +1,22 @@
 -- The items that values are made of: what is read is spelled so, and what is spelled so is read.
-use Rattle.std.proofs.Common.{◌≡◌, ℕ, zero, suc, ◌+◌, ◌<◌, ◌≤◌, ◌^◌, Bool, true, false, cond, eqb, ltb, List, [], ◌∷◌, ◌++◌, length, take, drop, Option, Some, None, Result, Ok, Err, refl, sym, ap, subst, ◌∙◌, append_assoc, arith, lit<}
-use Rattle.std.specs.Prelude.{◌≢◌, not, ◌||◌}
+use Rattle.std.proofs.Common.{◌≡◌, ℕ, zero, suc, ◌<◌, ◌≤◌, Bool, true, false, cond, eqb, ltb, List, [], ◌∷◌, ◌++◌, length, take, drop, Result, Ok, Err, refl, sym, ap, subst, ◌∙◌, append_assoc, arith}
+use Rattle.std.specs.Prelude.{◌≢◌}
 use Rattle.std.specs.List.{flat_map}
-use Rattle.std.proofs.lemmas.Bool.{ltb-false, le-ltb, eqb-true, eqb-false, ne_eqb}
+use Rattle.std.proofs.lemmas.Bool.{ltb-false, le-ltb, eqb-false, ne_eqb}
 use Rattle.std.proofs.lemmas.List.{take_at, drop_at, take-append-drop, length-append, length-take-le}
-use Rattle.mj_parser.specs.declared.place.Place.{Place}
-use Rattle.mj_parser.specs.declared.place.Place.TheVariants as places
-use Rattle.mj_answer.specs.declared.code.Code.{Code}
-use Rattle.mj_answer.specs.declared.code.Code.TheVariants.{E101}
-use Rattle.mj_answer.specs.declared.diagnostic.Diagnostic.{Diagnostic}
-use Rattle.mj_answer.specs.Codes.{number_of, all_codes, code_of}
-use Rattle.mj_answer.proofs.Orders.{code_back}
 use Rattle.byte_readers.specs.declared.breach.Breach.{Breach}
 use Rattle.byte_readers.specs.declared.breach.Breach.TheVariants.{Short, NotCanonical}
-use Rattle.byte_readers.specs.Names.{IsName}
-use Rattle.byte_readers.specs.Spelling.{two, four, eight, name, option, list}
-use Rattle.byte_readers.specs.Reading.{◌>>=◌, Reader, refused, any, two_at, four_at, eight_at, name_at, pair_at, made_at, list_from}
-use Rattle.byte_readers.specs.Lawful.{IsBytes, Takes, Lawful, Admitted, FitsList}
-use Rattle.byte_readers.specs.Laws.{IsBytes-rest, IsBytes-drop, bind_ok, guard_ok, guard_so, ok_is, Takes-then, takes_nothing, takes_behind, found_passes, made_takes, made_again, lawful_two, lawful_four, lawful_eight, lawful_name, lawful_pair, lawful_option, lawful_list, list_takes, list_again, whole_list, lawful_made, lawful_where, any_admits}
+use Rattle.byte_readers.specs.Spelling.{eight, name, list}
+use Rattle.byte_readers.specs.Reading.{refused, any, eight_at, name_at, list_from}
+use Rattle.byte_readers.specs.Lawful.{IsBytes, Takes, Lawful}
+use Rattle.byte_readers.specs.Laws.{IsBytes-drop, bind_ok, guard_ok, guard_so, ok_is, Takes-then, made_again, lawful_eight, lawful_name, lawful_pair, lawful_option, lawful_list, list_takes, list_again, whole_list, lawful_made, lawful_where, any_admits}
 use Rattle.tree_bytes.specs.TypeLaws.{lawful_ty, lawful_field}
 use Rattle.result_bytes.specs.declared.parts.ChainEnd.{ChainEnd}
 use Rattle.result_bytes.specs.declared.parts.ChainEnd.TheVariants.{Top, Undeclared, Repeated}
 use Rattle.result_bytes.specs.Canon.{text, index_row, boolean, header, signature, chain_end, chain}
-use Rattle.answer_bytes.specs.Canon.{field_row, method_row, table, project_place, class_place, project_fault, class_fault, class_answer, answer}
-use Rattle.answer_bytes.specs.Fits.{IsCount, FieldRowFits, MethodRowFits, TableFits, IsProjectPlace, IsClassPlace, PlaceNameFits, ProjectFaultFits, ClassFaultFits, ProjectFaultsFit, ClassFaultsFit, ClassAnswerFits, AnswerFits}
 use Rattle.result_bytes.specs.Fits.{most_files, FileNamesFit, TextFits, IndexRowFits, IndexFits, HeaderFits, SignatureFits, ChainEndFits, ChainFits}
 use Rattle.result_bytes.specs.Reading.{is_new, is_file_count, file_names_at, text_at, index_row_of, index_row_at, index_at, boolean_at, header_of, header_at, signature_of, signature_at, chain_end_at, chain_of, chain_at}
-use Rattle.answer_bytes.specs.Reading.{field_row_of, field_row_at, method_row_of, method_row_at, table_of, table_at, class_of, project_place_at, inside_of, class_place_at, coded, code_at, fault_of, project_fault_at, class_fault_at, project_faults_at, class_faults_at, class_answer_of, class_answer_at, answer_of, answer_at}
-use Rattle.answer_bytes.specs.OrderLaws.{lawful_by_name, lawful_by_place}
+use Rattle.answer_bytes.specs.OrderLaws.{lawful_by_name}
 use Rattle.result_bytes.specs.Distinct.{or_false, not_true, to_distinct, from_distinct, nowhere}
 use Rattle.answer_bytes.specs.AnswerLaws.{leaf_takes, tag_takes}
 

@@ -1,21 +1,11 @@
 -- Reading the items that values are made of, from left to right.
-use Rattle.std.specs.Prelude.{ℕ, zero, suc, ◌-◌, Bool, true, false, not, ◌||◌, List, [], ◌∷◌, length, take, drop, Result, Ok, Err, Option, Some, None, nat_lt, ◌==◌, if◌then◌else◌}
+use Rattle.std.specs.Prelude.{ℕ, zero, suc, Bool, true, false, not, ◌||◌, List, [], ◌∷◌, length, take, drop, Ok, Err, Option, nat_lt, ◌==◌, if◌then◌else◌}
 use Rattle.std.specs.Str.{bytes_eq}
 use Rattle.std.specs.List.{list_any}
-use Rattle.std.specs.Ordering.{nat_cmp, is_lt}
-use Rattle.std.specs.Cmp.Lexicographic.{slice_cmp}
 use Rattle.mj_parser.specs.declared.tree.Ty.{Ty}
 use Rattle.mj_parser.specs.declared.tree.Field.{Field}
-use Rattle.mj_parser.specs.declared.place.Place.{Place}
-use Rattle.mj_parser.specs.declared.place.Place.TheVariants as places
-use Rattle.mj_answer.specs.declared.code.Code.{Code}
-use Rattle.mj_answer.specs.declared.diagnostic.Diagnostic.{Diagnostic}
-use Rattle.mj_answer.specs.declared.table.FieldRow.{FieldRow}
-use Rattle.mj_answer.specs.contracts.diagnostic.DiagnosticOrd.TheImpl.{cmp-value}
-use Rattle.mj_answer.specs.Codes.{code_of}
-use Rattle.mj_answer.specs.Answers.{MethodRowValue, ClassTableValue, ClassAnswerValue, AnswerValue}
 use Rattle.byte_readers.specs.declared.breach.Breach.TheVariants.{Short}
-use Rattle.byte_readers.specs.Reading.{◌>>=◌, Reader, refused, any, byte_at, two_at, four_at, eight_at, name_at, pair_at, made_at, option_at, list_from, list_at}
+use Rattle.byte_readers.specs.Reading.{◌>>=◌, Reader, refused, any, eight_at, name_at, pair_at, made_at, option_at, list_from, list_at}
 use Rattle.byte_readers.specs.Orders.{is_after}
 use Rattle.tree_bytes.specs.Reading.{ty_at, field_at}
 use Rattle.result_bytes.specs.declared.parts.ChainEnd.{ChainEnd}

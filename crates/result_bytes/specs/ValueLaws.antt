@@ -1,5 +1,5 @@
 -- Values: what is read is spelled so, and what is spelled so is read; no spelling has two values.
-use Rattle.std.proofs.Common.{◌≡◌, ℕ, zero, suc, Bool, true, false, cond, eqb, List, [], ◌∷◌, ◌++◌, length, Result, Ok, Err, refl, sym, ap, subst, eq-eqb, ◌∙◌, arith}
+use Rattle.std.proofs.Common.{◌≡◌, ℕ, Bool, true, false, cond, eqb, List, [], ◌∷◌, ◌++◌, length, Result, Ok, Err, refl, sym, ap, subst, eq-eqb, ◌∙◌}
 use Rattle.std.proofs.lemmas.Bool.{eqb-true}
 use Rattle.std.proofs.lemmas.List.{append-nil, nil_from_length}
 use Rattle.item_ids.specs.declared.kind.Kind.{Kind}
@@ -11,10 +11,10 @@ use Rattle.byte_readers.specs.Reading.{Reader, made_at}
 use Rattle.byte_readers.specs.Laws.{IsBytes-rest, lawful_option, made_takes, made_again}
 use Rattle.tree_bytes.specs.FileLaws.{lawful_file, lawful_body}
 use Rattle.result_bytes.specs.declared.refusal.Refusal.{Refusal}
-use Rattle.result_bytes.specs.declared.refusal.Refusal.TheVariants.{Short, Trailing, WrongKind, OutOfMemory}
+use Rattle.result_bytes.specs.declared.refusal.Refusal.TheVariants.{Trailing, WrongKind}
 use Rattle.result_bytes.specs.declared.value.Value.{Value}
 use Rattle.result_bytes.specs.declared.value.Value.TheVariants.{Files, Source, Tree, Index, Header, Method, Sig, Supers, Members, CheckClass, CheckBody, Diags, Answer}
-use Rattle.result_bytes.specs.Values.{kind_of, content, canon, IsValue, content_at, refusal, whole, decoded}
+use Rattle.result_bytes.specs.Values.{kind_of, content, canon, IsValue, content_at, whole, decoded}
 use Rattle.result_bytes.specs.ItemLaws.{lawful_file_names, lawful_text, lawful_index, lawful_header, lawful_signature, lawful_chain}
 use Rattle.answer_bytes.specs.AnswerLaws.{lawful_table, lawful_class_faults, lawful_answer}
 

@@ -1,12 +1,12 @@
 -- The canonical bytes of a value, kind by kind, and reading them.
-use Rattle.std.specs.Prelude.{◌≡◌, ℕ, ◌-◌, Bool, true, List, [], ◌∷◌, ◌++◌, length, Option, Some, None, IfSome, Result, Ok, Err, ◌==◌, if◌then◌else◌}
+use Rattle.std.specs.Prelude.{◌≡◌, ℕ, ◌-◌, List, [], ◌∷◌, length, IfSome, Result, Ok, Err, ◌==◌, if◌then◌else◌}
 use Rattle.item_ids.specs.declared.kind.Kind.{Kind}
 use Rattle.item_ids.specs.declared.kind.Kind.TheVariants as kinds
 use Rattle.item_ids.specs.Kinds.{number_of}
 use Rattle.byte_readers.specs.declared.breach.Breach.{Breach}
 use Rattle.byte_readers.specs.declared.breach.Breach.TheVariants as breaches
 use Rattle.byte_readers.specs.Spelling.{name, option, list}
-use Rattle.byte_readers.specs.Reading.{Reader, byte_at, made_at, option_at}
+use Rattle.byte_readers.specs.Reading.{Reader, made_at, option_at}
 use Rattle.tree_bytes.specs.Spelling.{file}
 use Rattle.tree_bytes.specs.Fits.{FileFits}
 use Rattle.tree_bytes.specs.Reading.{file_at}

@@ -1,4 +1,4 @@
-use Rattle.std.proofs.Common.{◌≡◌, arith}
+use Rattle.std.proofs.Common.{arith}
 use Rattle.result_bytes.specs.ItemLaws.{lawful_file_names}
 use Rattle.result_bytes.proofs.files.read_file_names.Goals as goal
 

@@ -1,4 +1,4 @@
-use Rattle.std.proofs.Common.{◌≡◌, arith}
+use Rattle.std.proofs.Common.{arith}
 use Rattle.result_bytes.specs.ItemLaws.{lawful_index}
 use Rattle.result_bytes.specs.Reading.{index_at}
 use Rattle.result_bytes.proofs.files.read_index.Goals as goal

@@ -1,6 +1,6 @@
-use Rattle.std.proofs.Common.{◌≡◌, ◌∷◌, ◌++◌, [], refl, sym, ◌∙◌}
+use Rattle.std.proofs.Common.{sym, ◌∙◌}
 use Rattle.std.proofs.lemmas.Result.{err_from_is_err_and}
-use Rattle.byte_readers.specs.Reading.{list_from, name_at}
+use Rattle.byte_readers.specs.Reading.{name_at}
 use Rattle.byte_readers.proofs.Loop.{goes_on, is_refused, ends, is_done}
 use Rattle.result_bytes.specs.Reading.{is_new}
 use Rattle.result_bytes.proofs.files.read_new_names.Goals as goal
