@@ -2,8 +2,7 @@
 use Rattle.std.proofs.Common.{◌≡◌, Bool, true, false, ◌&&◌, ◌==◌, List, [], ◌∷◌, length, map, refl}
 use Rattle.std.specs.Prelude.{flat_map}
 use Rattle.std.specs.List.{list_all}
-use Rattle.mj_answer.specs.declared.diagnostic.Diagnostic.{Diagnostic}
-use Rattle.mj_answer.specs.Answers.{ClassAnswerValue, AnswerValue}
+use Rattle.mj_rules.specs.Answers.{Diagnostic, ClassAnswerValue, AnswerValue}
 use Rattle.mj_rules.specs.FaultCodes.{answer_codes}
 use Rattle.cli.specs.Lines.{is_clean}
 

@@ -1,12 +1,9 @@
 -- The lines of standard error.
 use Rattle.std.specs.Prelude.{◌≡◌, ◌==◌, ◌&&◌, ◌++◌, ℕ, Bool, List, Option, Some, None, option_map, codes, decimal, flat_map, length}
 use Rattle.std.specs.List.{list_all}
-use Rattle.mj_answer.specs.Answers.{AnswerValue}
-use Rattle.mj_answer.specs.Codes.{number_of}
+use Rattle.mj_rules.specs.Answers.{AnswerValue, number_of, ProjectFault, RepeatedFile, NoFiles, TooManyFiles, BadFileName, OutOfMemory}
 use Rattle.mj_rules.specs.FaultCodes.{codes_of, answer_codes}
 use Rattle.mj_rules.specs.declared.places.FaultLine.{FaultLine}
-use Rattle.mj_rules.specs.declared.project.ProjectFault.{ProjectFault}
-use Rattle.mj_rules.specs.declared.project.ProjectFault.TheVariants as fault
 
 -- neither the project nor a class has a fault
 abbrev pub is_clean : AnswerValue → Bool
@@ -30,8 +27,8 @@ pub record AreLinesOf (answer : AnswerValue) (text : List ℕ) : Type 0 where
 
 -- why files are no project; want of memory has no text
 abbrev pub refusal_words : ProjectFault → List ℕ
-refusal_words (fault.RepeatedFile file) = codes "refused: 3.1 RepeatedFile(" ++ decimal file ++ codes ")\n"
-refusal_words fault.NoFiles = codes "refused: 3.2 NoFiles\n"
-refusal_words fault.TooManyFiles = codes "refused: 3.3 TooManyFiles\n"
-refusal_words (fault.BadFileName file) = codes "refused: 3.4 BadFileName(" ++ decimal file ++ codes ")\n"
-refusal_words fault.OutOfMemory = codes ""
+refusal_words (RepeatedFile file) = codes "refused: 3.1 RepeatedFile(" ++ decimal file ++ codes ")\n"
+refusal_words NoFiles = codes "refused: 3.2 NoFiles\n"
+refusal_words TooManyFiles = codes "refused: 3.3 TooManyFiles\n"
+refusal_words (BadFileName file) = codes "refused: 3.4 BadFileName(" ++ decimal file ++ codes ")\n"
+refusal_words OutOfMemory = codes ""

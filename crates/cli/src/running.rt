@@ -1,6 +1,6 @@
 //! One run of the program.
 ghost use Rattle.std.specs.Prelude.{◌≡◌, [], IfOk, string_bytes};
-ghost use Rattle.mj_answer.specs.Text.{text_of};
+ghost use Rattle.mj_rules.specs.Answers.{text_of};
 ghost use Rattle.cli.specs.Endings.{status_of_answer, status_of_failure};
 ghost use Rattle.cli.specs.Lines.{is_clean, AreLinesOf};
 ghost use Rattle.cli.specs.Statuses.{IsStatus};
