@@ -1,5 +1,6 @@
 -- An answer without faults has no codes.
-use Rattle.std.proofs.Common.{◌≡◌, Bool, true, false, ◌&&◌, ◌==◌, List, [], ◌∷◌, length, map, refl}
+use Rattle.std.proofs.Common.{◌≡◌, Bool, true, false, ◌&&◌, ◌==◌, List, [], ◌∷◌, length, map, refl, arith}
+use Rattle.std.proofs.lemmas.Bool.Decides.{nat_tests}
 use Rattle.std.specs.Prelude.{flat_map}
 use Rattle.std.specs.List.{list_all}
 use Rattle.mj_rules.specs.Answers.{Diagnostic, ClassAnswerValue, AnswerValue}
@@ -12,7 +13,9 @@ both_true false t e = absurd cc
 
 no_code : (faults : List Diagnostic) → (length faults == 0) ≡ true → map (λ fault. fault.code) faults ≡ []
 no_code [] e = refl
-no_code (fault ∷ faults) e = absurd cc
+no_code (fault ∷ faults) e =
+    let none : length (fault ∷ faults) ≡ 0 = grind (arith, nat_tests) in
+    absurd (omega arith)
 
 no_code_in_any : (classes : List ClassAnswerValue) → list_all (λ class. length class.faults == 0) classes ≡ true → flat_map (λ class. map (λ fault. fault.code) class.faults) classes ≡ []
 no_code_in_any [] e = refl

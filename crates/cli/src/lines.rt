@@ -1,19 +1,22 @@
 //! The lines of standard error: one for each fault, with its place in its file.
-ghost use Rattle.std.specs.Prelude.{◌≡◌, ◌++◌, IfOk, OnOk, flat_map, string_bytes};
+ghost use Rattle.std.specs.Prelude.{◌≡◌, ◌==◌, ◌++◌, IfOk, OnOk, flat_map, length, string_bytes};
+ghost use Rattle.std.specs.List.{list_all};
 ghost use Rattle.cli.specs.Lines.{is_clean, line_text, AreLinesOf, refusal_words};
 
-use mj_rules::{Answer, FaultLine, Project, ProjectFault, fault_lines};
+use mj_rules::{Answer, ClassAnswer, FaultLine, Project, ProjectFault, fault_lines};
 use std::alloc::{AllocError, Global};
 
 /// Whether an answer has no fault.
 pub(crate) fn is_clean(answer: &Answer) -> bool
     ensures { result ≡ is_clean answer.now }
 {
-    answer.faults().is_empty()
-        && answer
-            .classes()
-            .iter()
-            .all(|class| class.faults().is_empty())
+    answer.faults().is_empty() && are_clean(answer.classes())
+}
+
+fn are_clean(classes: &[ClassAnswer]) -> bool
+    ensures { result ≡ list_all (λ class. length class.faults == 0) classes.now }
+{
+    classes.iter().all(|class| class.faults().is_empty())
 }
 
 /// A line for each fault of the project's answer, in the order of the answer's text.
