@@ -1,4 +1,7 @@
 //! Why a run ends before it has an answer.
+ghost use Rattle.std.specs.Prelude.{◌≡◌};
+ghost use Rattle.cli.specs.declared.failure.Failure.TheVariants as failure;
+
 use command_line::WordsFault;
 use mj_rules::ProjectFault;
 use std::alloc::{AllocError, AllocFailed};
@@ -17,24 +20,32 @@ pub enum Failure {
 }
 
 impl From<WordsFault> for Failure {
+    ghost from_gives = { λ fault e. e ≡ failure.Words fault };
+
     fn from(fault: WordsFault) -> Failure {
         Failure::Words(fault)
     }
 }
 
 impl From<ProjectFault> for Failure {
+    ghost from_gives = { λ fault e. e ≡ failure.Project fault };
+
     fn from(fault: ProjectFault) -> Failure {
         Failure::Project(fault)
     }
 }
 
 impl From<AllocError> for Failure {
+    ghost from_gives = { λ _ e. e ≡ failure.OutOfMemory };
+
     fn from(_error: AllocError) -> Failure {
         Failure::OutOfMemory
     }
 }
 
 impl<T: Drop> From<AllocFailed<T>> for Failure {
+    ghost from_gives = { λ _ e. e ≡ failure.OutOfMemory };
+
     fn from(_error: AllocFailed<T>) -> Failure {
         Failure::OutOfMemory
     }

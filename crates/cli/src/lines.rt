@@ -1,14 +1,22 @@
 //! The lines of standard error: one for each fault, with its place in its file.
-use mj_rules::{Answer, FaultLine, Project, ProjectFault, fault_lines};
+ghost use Rattle.std.specs.Prelude.{◌≡◌, ◌==◌, ◌++◌, IfOk, OnOk, flat_map, length, string_bytes};
+ghost use Rattle.std.specs.List.{list_all};
+ghost use Rattle.cli.specs.Lines.{is_clean, line_text, AreLinesOf, refusal_words};
+
+use mj_rules::{Answer, ClassAnswer, FaultLine, Project, ProjectFault, fault_lines};
 use std::alloc::{AllocError, Global};
 
 /// Whether an answer has no fault.
-pub(crate) fn is_clean(answer: &Answer) -> bool {
-    answer.faults().is_empty()
-        && answer
-            .classes()
-            .iter()
-            .all(|class| class.faults().is_empty())
+pub(crate) fn is_clean(answer: &Answer) -> bool
+    ensures { result ≡ is_clean answer.now }
+{
+    answer.faults().is_empty() && are_clean(answer.classes())
+}
+
+fn are_clean(classes: &[ClassAnswer]) -> bool
+    ensures { result ≡ list_all (λ class. length class.faults == 0) classes.now }
+{
+    classes.iter().all(|class| class.faults().is_empty())
 }
 
 /// A line for each fault of the project's answer, in the order of the answer's text.
@@ -16,18 +24,30 @@ pub(crate) fn fault_text(
     alloc: Global,
     project: &Project,
     answer: &Answer,
-) -> Result<String, AllocError> {
+) -> Result<String, AllocError>
+    ensures { IfOk result (λ text. AreLinesOf answer.now (string_bytes text)) }
+{
     let mut text = String::new(alloc);
     if is_clean(answer) {
         return Ok(text);
     }
-    for line in &fault_lines(alloc, project, answer)? {
-        write_line(&mut text, line)?;
-    }
+    let lines = fault_lines(alloc, project, answer)?;
+    write_lines(&mut text, &lines)?;
     Ok(text)
 }
 
-fn write_line(text: &mut String, line: &FaultLine<'_>) -> Result<(), AllocError> {
+fn write_lines(text: &mut String, lines: &[FaultLine<'_>]) -> Result<(), AllocError>
+    ensures { OnOk result (string_bytes text.new ≡ string_bytes text.old ++ flat_map line_text lines.now) }
+{
+    for line in lines {
+        write_line(text, line)?;
+    }
+    Ok(())
+}
+
+fn write_line(text: &mut String, line: &FaultLine<'_>) -> Result<(), AllocError>
+    ensures { OnOk result (string_bytes text.new ≡ string_bytes text.old ++ line_text line.now) }
+{
     let code = line.code.number();
     match (line.file, line.at) {
         (Some(file), Some((row, column))) => writeln!(text, "{file}:{row}:{column}: E{code}"),
@@ -37,7 +57,9 @@ fn write_line(text: &mut String, line: &FaultLine<'_>) -> Result<(), AllocError>
 }
 
 /// A refusal of the files, with its number, its name and its argument. Want of memory has no text.
-pub(crate) fn refusal_text(alloc: Global, fault: ProjectFault) -> Result<String, AllocError> {
+pub(crate) fn refusal_text(alloc: Global, fault: ProjectFault) -> Result<String, AllocError>
+    ensures { IfOk result (λ text. string_bytes text ≡ refusal_words fault) }
+{
     match fault {
         ProjectFault::RepeatedFile(file) => {
             format!(in alloc; "refused: 3.1 RepeatedFile({file})\n")

@@ -1,11 +1,15 @@
 //! One run of the program.
+ghost use Rattle.std.specs.Prelude.{◌≡◌, [], IfOk, string_bytes};
+ghost use Rattle.mj_rules.specs.Answers.{text_of};
+ghost use Rattle.cli.specs.Endings.{status_of_answer, status_of_failure};
+ghost use Rattle.cli.specs.Lines.{is_clean, AreLinesOf};
 ghost use Rattle.cli.specs.Statuses.{IsStatus};
 
 use crate::failure::Failure;
 use crate::lines::{fault_text, is_clean, refusal_text};
 use crate::report::{Report, Status, deliver, no_memory};
 use command_line::{Words, WordsFault, words};
-use mj_rules::{Project, render};
+use mj_rules::{Answer, Project, render};
 use std::alloc::{AllocError, Global};
 use std::fs;
 use std::io::{ErrorKind, Write};
@@ -42,14 +46,23 @@ fn scratch<R: Files + AllocGlobal>(rt: &R, names: Vec<String>) -> Result<Report,
     let alloc = rt.alloc();
     let project = Project::new(alloc, read_files(rt, names)?)?;
     let answer = mj_rules::scratch(alloc, &project)?;
-    let status = if is_clean(&answer) {
+    Ok(answered(alloc, &project, &answer)?)
+}
+
+// What is written of an answer.
+fn answered(alloc: Global, project: &Project, answer: &Answer) -> Result<Report, AllocError>
+    ensures notes { IfOk result (λ report. AreLinesOf answer.now (string_bytes report.notes)) }
+    ensures answer { IfOk result (λ report. string_bytes report.answer ≡ text_of answer.now) }
+    ensures status { IfOk result (λ report. report.status ≡ status_of_answer (is_clean answer.now)) }
+{
+    let status = if is_clean(answer) {
         Status::Clean
     } else {
         Status::Diagnostics
     };
     Ok(Report {
-        notes: fault_text(alloc, &project, &answer)?,
-        answer: render(alloc, &answer)?,
+        notes: fault_text(alloc, project, answer)?,
+        answer: render(alloc, answer)?,
         status,
     })
 }
@@ -73,7 +86,10 @@ fn read_files<R: Files + AllocGlobal>(
 }
 
 // What is written of a failure. Want of memory has no text, which would take memory.
-fn explained(alloc: Global, failure: Failure) -> Result<Report, AllocError> {
+fn explained(alloc: Global, failure: Failure) -> Result<Report, AllocError>
+    ensures status { IfOk result (λ report. report.status ≡ status_of_failure failure) }
+    ensures no_answer { IfOk result (λ report. report.status ≡ Status.Refused → string_bytes report.answer ≡ []) }
+{
     match failure {
         Failure::Words(WordsFault::Help(text)) => Ok(Report::help(alloc, text)),
         Failure::Words(WordsFault::Refused(text)) => Ok(Report::refusal(alloc, text)),

@@ -1,3 +1,4 @@
+pub mod Answers
 pub mod Sentences
 pub mod ProjectFaults
 pub mod Worlds

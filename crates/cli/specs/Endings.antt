@@ -1,0 +1,21 @@
+-- How a run ends.
+use Rattle.std.specs.Prelude.{Bool, true, false}
+use Rattle.cli.specs.declared.failure.Failure.{Failure}
+use Rattle.cli.specs.declared.failure.Failure.TheVariants as failure
+use Rattle.cli.specs.declared.report.Status.{Status}
+use Rattle.cli.specs.declared.report.Status.TheVariants as status
+use Rattle.command_line.specs.declared.asked.WordsFault.TheVariants as words
+
+-- an answer without faults is clean
+abbrev pub status_of_answer : Bool → Status
+status_of_answer true = status.Clean
+status_of_answer false = status.Diagnostics
+
+-- help that was asked for is clean, and every other failure but want of memory is refused
+abbrev pub status_of_failure : Failure → Status
+status_of_failure (failure.Words (words.Help text)) = status.Clean
+status_of_failure (failure.Words (words.Refused text)) = status.Refused
+status_of_failure (failure.Words words.OutOfMemory) = status.OutOfMemory
+status_of_failure (failure.CannotRead name) = status.Refused
+status_of_failure (failure.Project fault) = status.Refused
+status_of_failure failure.OutOfMemory = status.OutOfMemory
