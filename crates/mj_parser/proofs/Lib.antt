@@ -13,3 +13,4 @@ pub mod FileFound
 pub mod FileAgain
 pub mod Whole
 pub mod Bounds
+pub mod Locations

@@ -9,5 +9,6 @@ pub mod Steps
 pub mod ExpressionReading
 pub mod StatementReading
 pub mod FileReading
+pub mod Locations
 pub mod Laws
 pub mod MarkBounds

@@ -1,11 +1,13 @@
 //! The tokens of places.
-ghost use Rattle.std.specs.Prelude.{◌<◌, ◌≤◌, ◌+◌, length, IfSome};
+ghost use Rattle.std.specs.Prelude.{◌≡◌, ◌<◌, ◌≤◌, ◌+◌, ◌-◌, length, IfSome};
+ghost use Rattle.mj_parser.specs.Locations.{nth, existing, class_start, class_end, class_name, field_name, method_name, method_start, token_of};
 
 use crate::place::Place;
 use crate::tokens::{has, name};
 use mj_lexer::{Name, Terminal, Token};
 
 /// The place of a terminal, the one with this number among those from `start` to before `end`.
+#[tactic(auto, using(crate::proofs::Locations::nth_ends, crate::proofs::Locations::nth_found, crate::proofs::Locations::nth_counts, crate::proofs::Locations::nth_passes))]
 fn nth(
     tokens: &[Token],
     start: usize,
@@ -13,7 +15,8 @@ fn nth(
     terminal: Terminal,
     number: usize,
 ) -> Option<usize>
-    ensures { IfSome result (λ at. at < length tokens.now) }
+    ensures value { result ≡ nth tokens.now terminal (end - start) start number }
+    ensures within { IfSome result (λ at. at < length tokens.now) }
 {
     let mut left = number;
     for at in start..end {
@@ -29,7 +32,8 @@ fn nth(
 
 /// The place of a class's word `class`.
 fn class_start(tokens: &[Token], class: usize) -> Option<usize>
-    ensures { IfSome result (λ at. at < length tokens.now) }
+    ensures value { result ≡ class_start tokens.now class }
+    ensures within { IfSome result (λ at. at < length tokens.now) }
 {
     nth(tokens, 0, tokens.len(), Terminal::Class, class)
 }
@@ -37,7 +41,8 @@ fn class_start(tokens: &[Token], class: usize) -> Option<usize>
 /// The place after the class that begins at a place.
 fn class_end(tokens: &[Token], start: usize) -> usize
     requires { start < length tokens.now }
-    ensures { result ≤ length tokens.now }
+    ensures value { result ≡ class_end tokens.now start }
+    ensures within { result ≤ length tokens.now }
 {
     match nth(tokens, start + 1, tokens.len(), Terminal::Class, 0) {
         Some(next) => next,
@@ -48,7 +53,8 @@ fn class_end(tokens: &[Token], start: usize) -> usize
 /// The place of the name of the method that begins at a place, or of `main`.
 fn method_name(tokens: &[Token], start: usize) -> usize
     requires { start < length tokens.now }
-    ensures { result ≤ start + 4 }
+    ensures value { result ≡ method_name tokens.now start }
+    ensures within { result ≤ start + 4 }
 {
     if has(tokens, start + 1, Terminal::Static) {
         start + 3
@@ -61,14 +67,16 @@ fn method_name(tokens: &[Token], start: usize) -> usize
 
 /// A place, if a token stands there.
 fn existing(tokens: &[Token], at: usize) -> Option<usize>
-    ensures { IfSome result (λ place. place < length tokens.now) }
+    ensures value { result ≡ existing tokens.now at }
+    ensures within { IfSome result (λ place. place < length tokens.now) }
 {
     if at < tokens.len() { Some(at) } else { None }
 }
 
 /// The place of a class's name.
 fn class_name(tokens: &[Token], class: usize) -> Option<usize>
-    ensures { IfSome result (λ at. at < length tokens.now) }
+    ensures value { result ≡ class_name tokens.now class }
+    ensures within { IfSome result (λ at. at < length tokens.now) }
 {
     let start = class_start(tokens, class)?;
     existing(tokens, start + 1)
@@ -76,7 +84,8 @@ fn class_name(tokens: &[Token], class: usize) -> Option<usize>
 
 /// The place of a field's name, which stands before its semicolon.
 fn field_name(tokens: &[Token], class: usize, number: usize) -> Option<usize>
-    ensures { IfSome result (λ at. at < length tokens.now) }
+    ensures value { result ≡ field_name tokens.now class number }
+    ensures within { IfSome result (λ at. at < length tokens.now) }
 {
     let start = class_start(tokens, class)?;
     let end = class_end(tokens, start);
@@ -85,8 +94,10 @@ fn field_name(tokens: &[Token], class: usize, number: usize) -> Option<usize>
 }
 
 /// The place of the `public` of a class's first method of a name, or of its `main`.
+#[tactic(auto, using(crate::proofs::Locations::methods_end, crate::proofs::Locations::method_found, crate::proofs::Locations::other_method, crate::proofs::Locations::nameless, crate::proofs::Locations::not_public))]
 fn method_start(tokens: &[Token], class: usize, method: &Name) -> Option<usize>
-    ensures { IfSome result (λ at. at < length tokens.now) }
+    ensures value { result ≡ method_start tokens.now class method.now }
+    ensures within { IfSome result (λ at. at < length tokens.now) }
 {
     let start = class_start(tokens, class)?;
     let end = class_end(tokens, start);
@@ -105,7 +116,8 @@ fn method_start(tokens: &[Token], class: usize, method: &Name) -> Option<usize>
 /// The token of a place in the class with this number; that of a whole file or project is none. Classes are numbered
 /// from 0, the main class first. The tokens are those of a file.
 pub fn locate(tokens: &[Token], class: usize, place: &Place) -> Option<usize>
-    ensures { IfSome result (λ at. at < length tokens.now) }
+    ensures value { result ≡ token_of tokens.now class place.now }
+    ensures within { IfSome result (λ at. at < length tokens.now) }
 {
     match place {
         Place::Project | Place::File(_) => None,
