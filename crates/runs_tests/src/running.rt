@@ -1,4 +1,4 @@
-ghost use Rattle.std.specs.Prelude.{◌<◌};
+ghost use Rattle.std.specs.Prelude.{◌<◌, IfOk};
 ghost use Rattle.recorder.specs.Backed.{rank as rank_of};
 
 use crate::given::{Asked, Given, are_reads, bytes_of, key_of, list_of};
@@ -97,6 +97,17 @@ const RUNS: [(Given, &[Given]); 21] = [
     ),
 ];
 
+/// A key that is no input.
+fn query(rt: HostRuntime, asked: &Asked) -> Result<Key, Fail>
+    ensures { IfOk result (λ key. 0 < rank_of key) }
+{
+    let key = key_of(rt, asked)?;
+    if rank(key.kind()) == 0 {
+        return Err("a key that is no input".into());
+    }
+    Ok(key)
+}
+
 /// The outcome of a run over these answers, which needs no other.
 fn outcome(rt: HostRuntime, key: &Key, given: &[Given]) -> Result<Outcome<SampleRunner>, Fail>
     requires { 0 < rank_of key.now }
@@ -117,10 +128,7 @@ fn outcome(rt: HostRuntime, key: &Key, given: &[Given]) -> Result<Outcome<Sample
 #[test]
 fn runs_of_each_kind(rt: HostRuntime) -> Result<(), Fail> {
     for ((asked, digits), given) in &RUNS {
-        let key = key_of(rt, asked)?;
-        if rank(key.kind()) == 0 {
-            return Err("a key that is no input".into());
-        }
+        let key = query(rt, asked)?;
         let outcome = outcome(rt, &key, given)?;
         let bytes = bytes_of(rt, digits)?;
         assert!(rt; *outcome.key() == key);
@@ -135,7 +143,7 @@ fn key_that_is_not_held(rt: HostRuntime) -> Result<(), Fail> {
     let mut runner = SampleRunner::new(rt.alloc());
     assert!(rt; runner.log().is_empty());
     let mut recorder = Recorder::new(rt.alloc(), list_of(rt, &[HEADER_A])?);
-    let key = key_of(rt, &SIG_A_B.0)?;
+    let key = query(rt, &SIG_A_B.0)?;
     let result = runner.run(rt.alloc(), &key, &mut recorder);
     assert!(rt; matches!(result, Err(RunFault::Read(ReadFault::NotHeld))));
 
@@ -161,7 +169,7 @@ fn reads_that_are_refused(rt: HostRuntime) -> Result<(), Fail> {
         let fault = *fault;
         let mut runner = SampleRunner::new(rt.alloc());
         let mut recorder = Recorder::new(rt.alloc(), Refusing(fault));
-        let key = key_of(rt, &HEADER_A.0)?;
+        let key = query(rt, &HEADER_A.0)?;
         match record(rt.alloc(), &mut runner, &key, &mut recorder) {
             Err(RunFault::Read(of)) => assert!(rt; of == fault),
             _ => return Err("a refused read".into()),
