@@ -8,13 +8,13 @@ use Rattle.mj_answer.specs.Order.{NameBefore, Before}
 use Rattle.mj_answer.proofs.Alike.{Contains-first, Contains-later}
 use Rattle.mj_classes.specs.Declarations.{ClassDecl, decl}
 use Rattle.mj_classes.specs.Laws.{ChainLaws, MemberLaws}
-use Rattle.mj_rules.specs.Projects.{SourceFile}
+use Rattle.mj_project.specs.Projects.{SourceFile}
 use Rattle.mj_rules.specs.Sentences.{classes_in}
 use Rattle.mj_rules.specs.Rules.{IsAnswerFor, Rules}
 use Rattle.mj_rules.specs.FaultLists.{project_faults, class_faults, class_names}
 use Rattle.mj_rules.specs.Answering.{set_of, name_order, fault_order, class_answer, rules_of}
 use Rattle.mj_rules.specs.Laws.{SentenceLaw, BodyLaws}
-use Rattle.mj_rules.proofs.Listed.{place_of, at_map}
+use Rattle.mj_project.proofs.Listed.{place_of, at_map}
 use Rattle.mj_rules.proofs.Overriding.{decl-name}
 use Rattle.mj_rules.proofs.RowLemmas.{finds_one}
 use Rattle.mj_rules.proofs.Sets.{names_compare, faults_compare, set_ascends, from_set, to_set}

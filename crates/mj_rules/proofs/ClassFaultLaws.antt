@@ -17,13 +17,13 @@ use Rattle.mj_classes.specs.Members.{nearest, own_method}
 use Rattle.mj_classes.specs.Laws.{ChainLaws}
 use Rattle.mj_typing.specs.declared.verdict.Mistake.{Mistake}
 use Rattle.mj_typing.specs.Bodies.{method_faults, main_faults}
-use Rattle.mj_rules.specs.Repeats.{is_in, repeats}
+use Rattle.mj_project.specs.Repeats.{is_in, repeats}
 use Rattle.mj_rules.specs.Worlds.{sig_of, world_of}
 use Rattle.mj_rules.specs.ClassFaults.{FaultOfClass, UndeclaredSuperclass, CyclicChain, RepeatedField, RepeatedMethod, OtherSignature, UndeclaredFieldType, InMethod, InMain, IsFirstMethod, main_word, main_of}
 use Rattle.mj_rules.specs.FaultLists.{fault, when_fault, each_numbered, superclass_faults, is_cycle, chain_faults, is_undeclared, field_faults, same_signature, override_faults, inside, rest_of, nearest_sig, method_faults_of, body_faults_of, main_method_faults, field_names, method_names, declaration_faults, body_faults, class_faults}
 use Rattle.mj_rules.specs.Laws.{BodyLaws, ClassFaultLaw}
-use Rattle.mj_rules.proofs.Listed.{place_before, contains_before, contains_at, at_map, map_at, place_of}
-use Rattle.mj_rules.proofs.RepeatLemmas.{Contains-is_in, is_in-Contains, repeats-at, flag_at}
+use Rattle.mj_project.proofs.Listed.{place_before, contains_before, contains_at, at_map, map_at, place_of}
+use Rattle.mj_project.proofs.RepeatLemmas.{Contains-is_in, is_in-Contains, repeats-at, flag_at}
 use Rattle.mj_rules.proofs.Numbered.{nowhere, only, from_when, to_when, IsFlagged, from_all, to_all}
 use Rattle.mj_rules.proofs.Signatures.{signature_from, signature_to}
 use Rattle.mj_rules.proofs.Overriding.{overridden_from, overridden_to}

@@ -6,13 +6,13 @@ use Rattle.mj_answer.specs.Answers.{ClassAnswerValue, AnswerValue}
 use Rattle.mj_answer.specs.Order.{NameBefore, IsAscendingBy, IsAscending}
 use Rattle.mj_classes.specs.Declarations.{ClassDecl, decl}
 use Rattle.mj_classes.specs.Laws.{ChainLaws, MemberLaws}
-use Rattle.mj_rules.specs.Projects.{SourceFile}
+use Rattle.mj_project.specs.Projects.{SourceFile}
 use Rattle.mj_rules.specs.Sentences.{classes_in}
 use Rattle.mj_rules.specs.Tables.{table_of}
 use Rattle.mj_rules.specs.Rules.{IsTableOf, IsAnswerFor, AreClassAnswers, Rules}
 use Rattle.mj_rules.specs.FaultLists.{fault, project_faults, class_faults, class_names}
 use Rattle.mj_rules.specs.Laws.{SentenceLaw, BodyLaws}
-use Rattle.mj_rules.proofs.Listed.{contains_at, place_of, map_at}
+use Rattle.mj_project.proofs.Listed.{contains_at, place_of, map_at}
 use Rattle.mj_rules.proofs.ProjectFaultLaws.{project_fault_law}
 use Rattle.mj_rules.proofs.ClassFaultLaws.{class_fault_law}
 use Rattle.mj_rules.proofs.TableLaws.{table_law, ascend_by_names}

@@ -1,11 +1,8 @@
-pub mod Listed
-pub mod RepeatLemmas
 pub mod Numbered
 pub mod ProjectFaultLaws
 pub mod Signatures
 pub mod Overriding
 pub mod ClassFaultLaws
-pub mod ProjectLemmas
 pub mod TableLaws
 pub mod Steps
 pub mod RowLemmas

@@ -12,11 +12,11 @@ use Rattle.mj_answer.specs.Order.{NameBefore, Before}
 use Rattle.mj_answer.proofs.Orders.{names, faults}
 use Rattle.mj_answer.proofs.Alike.{one_list_by}
 use Rattle.mj_classes.specs.Declarations.{ClassDecl, decl}
-use Rattle.mj_rules.specs.Projects.{SourceFile}
+use Rattle.mj_project.specs.Projects.{SourceFile}
 use Rattle.mj_rules.specs.Sentences.{classes_in}
 use Rattle.mj_rules.specs.ClassFaults.{FaultOfClass}
 use Rattle.mj_rules.specs.Rules.{AreTheFaults, IsTableOf, IsAnswerFor, Rules}
-use Rattle.mj_rules.proofs.Listed.{contains_at, place_of, at_map}
+use Rattle.mj_project.proofs.Listed.{contains_at, place_of, at_map}
 use Rattle.mj_rules.proofs.Overriding.{decl-name}
 use Rattle.mj_rules.proofs.RowLemmas.{found_stands}
 

@@ -12,14 +12,14 @@ use Rattle.mj_answer.specs.declared.code.Code.TheVariants.{E101, E102, E103, E10
 use Rattle.mj_answer.specs.declared.diagnostic.Diagnostic.{Diagnostic}
 use Rattle.mj_answer.proofs.Alike.{Contains-first}
 use Rattle.mj_classes.specs.Declarations.{ClassDecl}
-use Rattle.mj_rules.specs.Projects.{SourceFile}
-use Rattle.mj_rules.specs.Repeats.{is_in, repeats}
+use Rattle.mj_project.specs.Projects.{SourceFile}
+use Rattle.mj_project.specs.Repeats.{is_in, repeats}
 use Rattle.mj_rules.specs.Sentences.{IsSentence, file_of, classes_in}
 use Rattle.mj_rules.specs.ProjectFaults.{FaultOfProject, NoSentence, NoMain, SecondMain, RepeatedClass, HasMain}
 use Rattle.mj_rules.specs.FaultLists.{fault, when_fault, each_numbered, has_main, any_main, file_faults, files_faults, repeated_class, repeated_class_faults, class_names, project_faults}
 use Rattle.mj_rules.specs.Laws.{SentenceLaw, ProjectFaultLaw}
-use Rattle.mj_rules.proofs.Listed.{contains_at, place_before, contains_before, at_map, map_at, place_of}
-use Rattle.mj_rules.proofs.RepeatLemmas.{Contains-is_in, is_in-Contains, repeats-at, flag_at}
+use Rattle.mj_project.proofs.Listed.{contains_at, place_before, contains_before, at_map, map_at, place_of}
+use Rattle.mj_project.proofs.RepeatLemmas.{Contains-is_in, is_in-Contains, repeats-at, flag_at}
 use Rattle.mj_rules.proofs.Numbered.{nowhere, only, from_when, to_when, IsFlagged, from_all, to_all}
 
 both_true : (a b : Bool) → (a && b) ≡ true → (a ≡ true) × (b ≡ true)

@@ -23,7 +23,7 @@ use Rattle.mj_classes.specs.Classes.{classes_view, class_ref_view}
 use Rattle.mj_classes.specs.declared.class.ClassRef.{ClassRef}
 use Rattle.mj_rules.specs.Worlds.{sig_of}
 use Rattle.mj_rules.specs.Tables.{method_row, row_sig, sig_in}
-use Rattle.mj_rules.proofs.Listed.{place_of}
+use Rattle.mj_project.proofs.Listed.{place_of}
 use Rattle.mj_rules.proofs.TableLaws.{found_name, mapped}
 
 -- the table of some classes has the nearest method of each name

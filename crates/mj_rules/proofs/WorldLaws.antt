@@ -10,7 +10,7 @@ use Rattle.mj_classes.specs.Members.{FieldOf, MethodOf, field_of, method_of}
 use Rattle.mj_typing.specs.Inquiries.{Sig}
 use Rattle.mj_rules.specs.Worlds.{sig_of}
 use Rattle.mj_rules.specs.Laws.{WorldLaw}
-use Rattle.mj_rules.proofs.RepeatLemmas.{Contains-is_in, is_in-Contains}
+use Rattle.mj_project.proofs.RepeatLemmas.{Contains-is_in, is_in-Contains}
 use Rattle.mj_rules.proofs.LowerLaws.{chain_laws, member_laws}
 
 module _ (cs : List ClassDecl) where

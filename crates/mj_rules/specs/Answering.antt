@@ -9,7 +9,7 @@ use Rattle.mj_answer.specs.Answers.{ClassAnswerValue, AnswerValue}
 use Rattle.mj_answer.specs.Codes.{number_of}
 use Rattle.mj_answer.specs.Order.{kind_of, name_in, number_in}
 use Rattle.mj_classes.specs.Declarations.{ClassDecl, decl}
-use Rattle.mj_rules.specs.Projects.{SourceFile}
+use Rattle.mj_project.specs.Projects.{SourceFile}
 use Rattle.mj_rules.specs.Sentences.{classes_in}
 use Rattle.mj_rules.specs.Tables.{table_of}
 use Rattle.mj_rules.specs.FaultLists.{project_faults, class_faults, class_names}

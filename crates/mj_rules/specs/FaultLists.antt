@@ -18,8 +18,8 @@ use Rattle.mj_classes.specs.Members.{nearest, own_method}
 use Rattle.mj_typing.specs.declared.verdict.Mistake.{Mistake}
 use Rattle.mj_typing.specs.Inquiries.{Sig}
 use Rattle.mj_typing.specs.Bodies.{method_faults, main_faults}
-use Rattle.mj_rules.specs.Projects.{SourceFile}
-use Rattle.mj_rules.specs.Repeats.{repeats}
+use Rattle.mj_project.specs.Projects.{SourceFile}
+use Rattle.mj_project.specs.Repeats.{repeats}
 use Rattle.mj_rules.specs.Sentences.{file_of, classes_in}
 use Rattle.mj_rules.specs.Worlds.{sig_of, world_of}
 use Rattle.mj_rules.specs.ClassFaults.{main_word, main_of}

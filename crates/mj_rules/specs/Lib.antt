@@ -1,5 +1,3 @@
-pub mod Projects
-pub mod Repeats
 pub mod Sentences
 pub mod ProjectFaults
 pub mod Worlds

@@ -10,7 +10,7 @@ use Rattle.mj_answer.specs.Answers.{MethodRowValue, ClassTableValue, ClassAnswer
 use Rattle.mj_answer.specs.Order.{IsAscending, IsAscendingByName}
 use Rattle.mj_classes.specs.Declarations.{ClassDecl, decl}
 use Rattle.mj_classes.specs.Members.{FieldOf, MethodOf}
-use Rattle.mj_rules.specs.Projects.{SourceFile}
+use Rattle.mj_project.specs.Projects.{SourceFile}
 use Rattle.mj_rules.specs.Sentences.{classes_in}
 use Rattle.mj_rules.specs.ProjectFaults.{FaultOfProject}
 use Rattle.mj_rules.specs.ClassFaults.{FaultOfClass}

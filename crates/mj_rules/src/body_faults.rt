@@ -4,7 +4,7 @@ ghost use Rattle.mj_parser.specs.Views.{method_view};
 ghost use Rattle.mj_classes.specs.Classes.{class_ref_view};
 ghost use Rattle.mj_classes.specs.Index.{declared_in};
 ghost use Rattle.mj_typing.specs.Bodies.{method_faults};
-ghost use Rattle.mj_rules.specs.Repeats.{repeats};
+ghost use Rattle.mj_project.specs.Repeats.{repeats};
 ghost use Rattle.mj_rules.specs.Worlds.{world_of};
 ghost use Rattle.mj_rules.specs.FaultLists.{each_numbered, inside, body_faults_of, main_method_faults, body_faults};
 

@@ -9,13 +9,13 @@ ghost use Rattle.mj_rules.specs.Rules.{IsAnswerFor, AreClassAnswers, Rules};
 
 use crate::body_faults::add_body_faults;
 use crate::declaration_faults::declaration_faults;
-use crate::project::Project;
 use crate::project_faults::project_faults;
 use crate::reading::read_files;
 use crate::tables::class_table;
 use mj_answer::{Answer, ClassAnswer, fault_set, name_set};
 use mj_classes::{ClassRef, Declarations};
 use mj_lexer::Name;
+use mj_project::Project;
 use std::alloc::{AllocError, Global};
 
 /// The answer for a class, the first one of its name.

@@ -6,10 +6,8 @@ mod checker;
 mod declaration_faults;
 mod laws;
 mod places;
-mod project;
 mod project_faults;
 mod reading;
-mod repeats;
 mod tables;
 mod world;
 
@@ -18,5 +16,5 @@ pub use laws::{answer_laws, class_fault_laws, project_fault_laws, sentence_laws,
 pub use mj_answer::{
     Answer, ClassAnswer, ClassTable, Code, Diagnostic, FieldRow, MethodRow, render,
 };
+pub use mj_project::{Project, ProjectFault};
 pub use places::{FaultLine, fault_lines};
-pub use project::{Project, ProjectFault};

@@ -2,11 +2,11 @@
 ghost use Rattle.std.specs.Prelude.{◌≡◌, ◌++◌, map, IfOk, OnOk};
 ghost use Rattle.mj_rules.specs.FaultCodes.{codes_of, answer_codes};
 
-use crate::project::Project;
 use mj_answer::{Answer, ClassAnswer, Code, Diagnostic};
 use mj_classes::Declarations;
 use mj_lexer::{LexFault, Name, Token, lex, line_col};
 use mj_parser::{FileTree, ParseFault, Place, locate, parse};
+use mj_project::Project;
 use std::alloc::{AllocError, Global};
 use std::collections::BTreeMap;
 

@@ -2,17 +2,16 @@
 ghost use Rattle.std.specs.Prelude.{◌≡◌, [], ◌++◌, if◌then◌else◌, ◌||◌, ◌<◌, ◌≤◌, ℕ, List, map, option_map, length, false, All, IfOk, OnOk, slice_get};
 ghost use Rattle.mj_parser.specs.Views.{file_view};
 ghost use Rattle.mj_classes.specs.Classes.{class_ref_view, classes_view, files_view};
-ghost use Rattle.mj_rules.specs.Projects.{sources_view, names_of, IsFileName};
-ghost use Rattle.mj_rules.specs.Repeats.{repeats};
+ghost use Rattle.mj_project.specs.Projects.{sources_view, names_of, IsFileName};
+ghost use Rattle.mj_project.specs.Repeats.{repeats};
 ghost use Rattle.mj_rules.specs.Sentences.{trees_of, classes_in};
 ghost use Rattle.mj_rules.specs.FaultLists.{has_main, any_main, file_faults, files_faults, repeated_class, repeated_class_faults, class_names, each_numbered, project_faults};
 
-use crate::project::Project;
-use crate::repeats::repeats;
 use mj_answer::{Code, Diagnostic};
 use mj_classes::ClassRef;
 use mj_lexer::Name;
 use mj_parser::{FileTree, Place};
+use mj_project::{Project, repeats};
 use std::alloc::{AllocError, Global};
 
 /// Adds what is wrong with a file, where an earlier one has a main class or none has.

@@ -6,9 +6,9 @@ ghost use Rattle.mj_parser.specs.Views.{file_view};
 ghost use Rattle.mj_classes.specs.Classes.{files_view};
 ghost use Rattle.mj_rules.specs.Sentences.{file_of, trees_of};
 
-use crate::project::Project;
 use mj_lexer::{LexFault, lex};
 use mj_parser::{FileTree, ParseFault, parse};
+use mj_project::Project;
 use std::alloc::{AllocError, Global};
 
 /// A text that isn't cut into tokens is no sentence.

@@ -5,7 +5,8 @@ use Rattle.std.proofs.lemmas.List.{take-append-le, take_all, append-nil}
 use Rattle.std.proofs.Math.Nat.{eq-or-lt_of_le}
 use Rattle.item_ids.specs.declared.key.Key.{Key}
 use Rattle.result_bytes.specs.declared.value.Value.{Value}
-use Rattle.recorder.specs.Projects.{Project, IsProject}
+use Rattle.mj_project.specs.Projects.{IsProject}
+use Rattle.recorder.specs.Projects.{Project}
 use Rattle.recorder.specs.Backed.{Meaning, ReadLists, Told, keys, rank, AreLower, Gives, GivesEach, BeginsWith, Asked, IsNext, Backed}
 use Rattle.recorder.specs.Recording.{IsUnread}
 use Rattle.recorder.specs.Programs.{Prog, Ret, Ask, runs, asks, is_seen, Fits, Reached, Start, Again, First}

@@ -2,7 +2,8 @@
 use Rattle.std.proofs.Common.{◌≡◌, ◌<◌, [], sym, ◌∙◌, ap, subst, IfSome, Option, Some, None, Result, Ok, Err, IfOk, IfErr}
 use Rattle.item_ids.specs.declared.key.Key.{Key}
 use Rattle.result_bytes.specs.declared.value.Value.{Value}
-use Rattle.recorder.specs.Projects.{Project, IsProject}
+use Rattle.mj_project.specs.Projects.{IsProject}
+use Rattle.recorder.specs.Projects.{Project}
 use Rattle.recorder.specs.Backed.{Meaning, ReadLists, rank, IsOfKind, IsNext}
 use Rattle.recorder.specs.Recording.{Recording, key_of}
 use Rattle.recorder.specs.Runs.{IsRun}

@@ -8,7 +8,8 @@ use Rattle.item_ids.specs.Keys.{kind_of}
 use Rattle.result_bytes.specs.declared.value.Value.{Value}
 use Rattle.result_bytes.specs.declared.value.Value.TheVariants as values
 use Rattle.result_bytes.specs.Values.{kind_of as kind_of_value}
-use Rattle.recorder.specs.Projects.{Project, names_of, IsProject, bytes_at}
+use Rattle.mj_project.specs.Projects.{names_of, IsProject}
+use Rattle.recorder.specs.Projects.{Project, bytes_at}
 
 -- the value of each key in a project
 abbrev pub Meaning : Type 0

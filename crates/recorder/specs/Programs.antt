@@ -6,7 +6,8 @@ use Rattle.item_ids.specs.declared.key.Key.TheVariants.{Files, Source}
 use Rattle.item_ids.specs.Keys.{key_cmp}
 use Rattle.result_bytes.specs.declared.value.Value.{Value}
 use Rattle.result_bytes.specs.declared.value.Value.TheVariants as values
-use Rattle.recorder.specs.Projects.{Project, names_of, IsProject, bytes_at}
+use Rattle.mj_project.specs.Projects.{names_of, IsProject}
+use Rattle.recorder.specs.Projects.{Project, bytes_at}
 use Rattle.recorder.specs.Backed.{Meaning, ReadLists, Told, rank, IsOfKind}
 use Rattle.recorder.specs.Recording.{Recording, IsUnread, key_of}
 use Rattle.recorder.specs.Runs.{IsFaultKept}

@@ -9,7 +9,8 @@ use Rattle.mj_answer.specs.declared.diagnostic.Diagnostic.{Diagnostic}
 use Rattle.result_bytes.specs.Payloads.{HeaderValue, SignatureValue}
 use Rattle.result_bytes.specs.declared.value.Value.{Value}
 use Rattle.result_bytes.specs.declared.value.Value.TheVariants.{Files, Source, Tree, Index, Header, Method, Sig, Supers, Members, CheckClass, CheckBody, Diags, Answer}
-use Rattle.recorder.specs.Projects.{Project, names_of, bytes_at}
+use Rattle.mj_project.specs.Projects.{names_of}
+use Rattle.recorder.specs.Projects.{Project, bytes_at}
 use Rattle.sample_runner.specs.Phrases.{Phrase, Phrases, Named, Called, NoMore, More, phrase_for}
 
 -- a file that is there has a header, which says of an empty one that it is main

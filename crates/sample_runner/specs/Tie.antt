@@ -5,7 +5,8 @@ use Rattle.item_ids.specs.declared.key.Key.{Key}
 use Rattle.item_ids.specs.declared.key.Key.TheVariants as keys
 use Rattle.result_bytes.specs.Payloads.{HeaderValue}
 use Rattle.result_bytes.specs.declared.value.Value.TheVariants.{Header, Sig, CheckClass, CheckBody}
-use Rattle.recorder.specs.Projects.{Project, names_of}
+use Rattle.mj_project.specs.Projects.{names_of}
+use Rattle.recorder.specs.Projects.{Project}
 use Rattle.recorder.specs.Backed.{rank, RunnerLaws}
 use Rattle.recorder.specs.Programs.{Prog, Ret, Ask, runs, asks, Fits, Tied}
 use Rattle.recorder.proofs.ProgramLaws.{program_laws}

@@ -8,7 +8,7 @@ use Rattle.mj_classes.specs.Declarations.{decl}
 use Rattle.mj_classes.specs.Classes.{class_ref_view}
 use Rattle.mj_classes.specs.Index.{declared_in}
 use Rattle.mj_rules.specs.Rules.{IsAnswerFor}
-use Rattle.mj_rules.proofs.Listed.{contains_at}
+use Rattle.mj_project.proofs.Listed.{contains_at}
 use Rattle.mj_rules.proofs.Steps.{item_at}
 use Rattle.mj_rules.proofs.Overriding.{decl-name}
 use Rattle.mj_rules.proofs.Answering.{is_named}

@@ -2,7 +2,7 @@ use Rattle.std.proofs.Common.{◌<◌, ◌∙◌, length, map, arith}
 use Rattle.std.proofs.lemmas.List.{length-map}
 use Rattle.mj_parser.specs.declared.tree.Field.{Field}
 use Rattle.mj_classes.specs.Index.{declared_in}
-use Rattle.mj_rules.specs.Repeats.{repeats}
+use Rattle.mj_project.specs.Repeats.{repeats}
 use Rattle.mj_rules.specs.FaultLists.{field_faults}
 use Rattle.mj_rules.proofs.Steps.{each_step, flag_read, flag_within, item_at}
 use Rattle.mj_rules.proofs.declaration_faults.add_fields.Goals as goal

@@ -2,10 +2,10 @@ use Rattle.std.proofs.Common.{◌<◌, ◌∙◌, List, ℕ, length, map, arith}
 use Rattle.std.proofs.lemmas.List.{length-map}
 use Rattle.mj_parser.specs.Trees.{Method}
 use Rattle.mj_parser.specs.Views.{method_view}
-use Rattle.mj_rules.specs.Repeats.{repeats}
+use Rattle.mj_project.specs.Repeats.{repeats}
 use Rattle.mj_rules.specs.Tables.{sig_in}
 use Rattle.mj_rules.specs.FaultLists.{method_faults_of}
-use Rattle.mj_rules.proofs.Listed.{map_at}
+use Rattle.mj_project.proofs.Listed.{map_at}
 use Rattle.mj_rules.proofs.Steps.{each_step, flag_read, flag_within, item_at}
 use Rattle.mj_rules.proofs.declaration_faults.add_methods.Goals as goal
 

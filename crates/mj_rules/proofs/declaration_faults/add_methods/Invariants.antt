@@ -1,6 +1,6 @@
 use Rattle.std.proofs.Common.{◌≡◌, ◌++◌, map, drop}
 use Rattle.mj_parser.specs.Views.{method_view}
-use Rattle.mj_rules.specs.Repeats.{repeats}
+use Rattle.mj_project.specs.Repeats.{repeats}
 use Rattle.mj_rules.specs.Tables.{sig_in}
 use Rattle.mj_rules.specs.FaultLists.{method_faults_of, each_numbered}
 use Rattle.mj_rules.proofs.declaration_faults.add_methods.Given as goal

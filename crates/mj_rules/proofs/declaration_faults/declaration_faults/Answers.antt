@@ -9,7 +9,7 @@ use Rattle.mj_classes.specs.Chains.{chain_of}
 use Rattle.mj_classes.specs.Classes.{class_ref_view, classes_view, end_view}
 use Rattle.mj_classes.specs.Index.{declared_in}
 use Rattle.mj_classes.specs.Tables.{methods_along}
-use Rattle.mj_rules.specs.Repeats.{repeats}
+use Rattle.mj_project.specs.Repeats.{repeats}
 use Rattle.mj_rules.specs.Tables.{method_row, sig_in}
 use Rattle.mj_rules.specs.FaultLists.{superclass_faults, chain_faults, is_cycle, when_fault, field_faults, method_faults_of, nearest_sig, rest_of, each_numbered, field_names, method_names, declaration_faults}
 use Rattle.mj_rules.proofs.RowLemmas.{rows_ascend, methods_same, view_behind}

@@ -1,9 +1,9 @@
 use Rattle.std.proofs.Common.{◌≡◌, ◌||◌, ◌<◌, ◌∙◌, length, option_map, ap, sym, arith}
 use Rattle.mj_parser.specs.Views.{file_view}
-use Rattle.mj_rules.specs.Projects.{source_view, sources_view}
+use Rattle.mj_project.specs.Projects.{source_view, sources_view}
 use Rattle.mj_rules.specs.FaultLists.{has_main}
 use Rattle.mj_rules.specs.Sentences.{file_of}
-use Rattle.mj_rules.proofs.ProjectLemmas.{file_at, good_at}
+use Rattle.mj_project.proofs.ProjectLemmas.{file_at, good_at}
 use Rattle.mj_rules.proofs.Steps.{files_step, tree_at, any_step}
 use Rattle.mj_rules.proofs.project_faults.add_file_faults.Goals as goal
 use Rattle.mj_rules.proofs.project_faults.add_file_faults.Goals.{then-main_before, else-main_before}

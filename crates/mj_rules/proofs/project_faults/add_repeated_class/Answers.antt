@@ -1,7 +1,7 @@
 use Rattle.std.proofs.Common.{◌≡◌, ◌<◌, ◌≤◌, ◌∙◌, length, true, false, arith, inl, inr}
 use Rattle.std.proofs.lemmas.Bool.Decides.{nat_tests}
-use Rattle.mj_rules.specs.Projects.{source_view}
-use Rattle.mj_rules.proofs.ProjectLemmas.{file_at, good_at, past_end}
+use Rattle.mj_project.specs.Projects.{source_view}
+use Rattle.mj_project.proofs.ProjectLemmas.{file_at, good_at, past_end}
 use Rattle.mj_rules.proofs.Steps.{none_added, one_added}
 use Rattle.mj_rules.proofs.project_faults.add_repeated_class.Goals as goal
 use Rattle.mj_rules.proofs.project_faults.add_repeated_class.Goals.{then-not-repeated-via-then-not-repeated, then-not-repeated-via-else-not-repeated+then-file-files}

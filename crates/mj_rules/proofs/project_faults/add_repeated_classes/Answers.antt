@@ -2,10 +2,10 @@ use Rattle.std.proofs.Common.{◌<◌, ◌++◌, get_or, false, ◌∙◌, ℕ, 
 use Rattle.std.proofs.lemmas.List.{length-map}
 use Rattle.mj_classes.specs.Classes.{class_ref_view, classes_view}
 use Rattle.mj_classes.specs.Declarations.{ClassDecl}
-use Rattle.mj_rules.specs.Projects.{sources_view}
-use Rattle.mj_rules.specs.Repeats.{repeats}
+use Rattle.mj_project.specs.Projects.{sources_view}
+use Rattle.mj_project.specs.Repeats.{repeats}
 use Rattle.mj_rules.specs.FaultLists.{class_names, repeated_class, repeated_class_faults}
-use Rattle.mj_rules.proofs.Listed.{map_at}
+use Rattle.mj_project.proofs.Listed.{map_at}
 use Rattle.mj_rules.proofs.Steps.{each_step, flag_read, flag_within, item_at, class_file, class_number}
 use Rattle.mj_rules.proofs.project_faults.add_repeated_classes.Goals as goal
 

@@ -1,7 +1,7 @@
 use Rattle.std.proofs.Common.{◌≡◌, ◌++◌, drop}
 use Rattle.mj_classes.specs.Classes.{classes_view}
-use Rattle.mj_rules.specs.Repeats.{repeats}
-use Rattle.mj_rules.specs.Projects.{sources_view}
+use Rattle.mj_project.specs.Repeats.{repeats}
+use Rattle.mj_project.specs.Projects.{sources_view}
 use Rattle.mj_rules.specs.FaultLists.{class_names, repeated_class_faults, each_numbered}
 use Rattle.mj_rules.proofs.project_faults.add_repeated_classes.Given as goal
 

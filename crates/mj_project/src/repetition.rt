@@ -1,6 +1,6 @@
 //! Names that stand in a list more than once.
 ghost use Rattle.std.specs.Prelude.{◌≡◌, map, IfOk};
-ghost use Rattle.mj_rules.specs.Repeats.{repeats};
+ghost use Rattle.mj_project.specs.Repeats.{repeats};
 
 use std::alloc::{AllocError, Global};
 use std::collections::BTreeSet;

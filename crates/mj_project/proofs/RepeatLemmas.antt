@@ -8,8 +8,8 @@ use Rattle.std.proofs.lemmas.Option.{none-some, same_Some, slice_get-get_or, sli
 use Rattle.std.proofs.lemmas.List.{take_more, map-append}
 use Rattle.std.proofs.lemmas.List.Folds.{Any-from_list_any, list_any_at, list_any-append}
 use Rattle.std.proofs.lemmas.Slice.Eq.{bytes_eq-Decides}
-use Rattle.mj_rules.specs.Repeats.{is_in, repeats_behind, repeats}
-use Rattle.mj_rules.proofs.Listed.{contains_at}
+use Rattle.mj_project.specs.Repeats.{is_in, repeats_behind, repeats}
+use Rattle.mj_project.proofs.Listed.{contains_at}
 
 pub Contains-is_in : (names : List (List ℕ)) (name : List ℕ) → is_in names name ≡ true → Contains names name
 Contains-is_in names name h =

@@ -7,12 +7,12 @@ use Rattle.std.proofs.lemmas.Option.{none-some, slice_get-get_or, slice_get_with
 use Rattle.std.proofs.lemmas.List.Quantifiers.{position-Some}
 use Rattle.std.proofs.lemmas.List.{length-map}
 use Rattle.std.proofs.lemmas.List.Sums.{fails_before_first}
-use Rattle.mj_rules.specs.declared.project.ProjectFault.{ProjectFault}
-use Rattle.mj_rules.specs.declared.project.ProjectFault.TheVariants.{NoFiles, TooManyFiles, BadFileName, RepeatedFile, OutOfMemory}
-use Rattle.mj_rules.specs.Repeats.{repeats}
-use Rattle.mj_rules.specs.Projects.{SourceFile, source_view, sources_view, names_of, IsFileName, is_file_name, HasProjectSize, IsRepeated, IsProject, IsFirst, Refuses}
-use Rattle.mj_rules.proofs.Listed.{map_at}
-use Rattle.mj_rules.proofs.RepeatLemmas.{Contains-is_in, is_in-Contains, flag_at, length-repeats}
+use Rattle.mj_project.specs.declared.project.ProjectFault.{ProjectFault}
+use Rattle.mj_project.specs.declared.project.ProjectFault.TheVariants.{NoFiles, TooManyFiles, BadFileName, RepeatedFile, OutOfMemory}
+use Rattle.mj_project.specs.Repeats.{repeats}
+use Rattle.mj_project.specs.Projects.{SourceFile, source_view, sources_view, names_of, IsFileName, is_file_name, HasProjectSize, IsRepeated, IsProject, IsFirst, Refuses}
+use Rattle.mj_project.proofs.Listed.{map_at}
+use Rattle.mj_project.proofs.RepeatLemmas.{Contains-is_in, is_in-Contains, flag_at, length-repeats}
 
 past : (a b : ℕ) → cond (nat_lt a b) (Some a) None ≡ None → b ≤ a
 past a b e = test (nat_lt a b) refl e

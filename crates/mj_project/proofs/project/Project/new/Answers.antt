@@ -1,9 +1,9 @@
 use Rattle.std.proofs.Common.{◌<◌, ◌≤◌, length, sym, ◌∙◌, arith, inl}
 use Rattle.std.proofs.lemmas.Bool.Decides.{nat_tests}
-use Rattle.mj_rules.specs.Projects.{sources_view, IsProject, Refuses}
-use Rattle.mj_rules.specs.declared.project.ProjectFault.TheVariants.{BadFileName, RepeatedFile}
-use Rattle.mj_rules.proofs.ProjectLemmas.{is_size, names_good, bad_refusal, repeated_refusal, is_project, none_by, project_refuses, one_refusal}
-use Rattle.mj_rules.proofs.project.Project.new.Goals as goal
+use Rattle.mj_project.specs.Projects.{sources_view, IsProject, Refuses}
+use Rattle.mj_project.specs.declared.project.ProjectFault.TheVariants.{BadFileName, RepeatedFile}
+use Rattle.mj_project.proofs.ProjectLemmas.{is_size, names_good, bad_refusal, repeated_refusal, is_project, none_by, project_refuses, one_refusal}
+use Rattle.mj_project.proofs.project.Project.new.Goals as goal
 
 is_bad_name : (c : goal.After-drop-files-in-Some) → Refuses (sources_view c.args.files.items) (BadFileName c.in-Some.number)
 is_bad_name c =

@@ -1,7 +1,7 @@
 use Rattle.std.proofs.Common.{◌∙◌, sym, ap, [], ◌∷◌, ◌++◌, List, ℕ, map, take, get_or, not, Bor}
-use Rattle.mj_rules.specs.Repeats.{is_in, repeats}
-use Rattle.mj_rules.proofs.RepeatLemmas.{names-insert, names_more, not_not, repeats-push}
-use Rattle.mj_rules.proofs.repeats.repeats.Goals as goal
+use Rattle.mj_project.specs.Repeats.{is_in, repeats}
+use Rattle.mj_project.proofs.RepeatLemmas.{names-insert, names_more, not_not, repeats-push}
+use Rattle.mj_project.proofs.repetition.repeats.Goals as goal
 
 pub loop-name-init : goal.loop-name-init
 unfolding repeats

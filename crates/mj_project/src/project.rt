@@ -1,11 +1,11 @@
 //! Projects: named files in their order.
 ghost use Rattle.std.specs.Prelude.{◌≡◌, ◌≢◌, ◌⊎◌, ℕ, List, map, position, Bool, not, IfOk, IfErr, MatchResult, string_bytes};
-ghost use Rattle.mj_rules.specs.Projects.{sources_view, names_of, IsProject, Refuses, is_file_name};
-ghost use Rattle.mj_rules.specs.Repeats.{repeats};
-ghost use Rattle.mj_rules.specs.declared.project.ProjectFault.{ProjectFault};
-ghost use Rattle.mj_rules.specs.declared.project.ProjectFault.TheVariants.{OutOfMemory};
+ghost use Rattle.mj_project.specs.Projects.{sources_view, names_of, IsProject, Refuses, is_file_name};
+ghost use Rattle.mj_project.specs.Repeats.{repeats};
+ghost use Rattle.mj_project.specs.declared.project.ProjectFault.{ProjectFault};
+ghost use Rattle.mj_project.specs.declared.project.ProjectFault.TheVariants.{OutOfMemory};
 
-use crate::repeats::repeats;
+use crate::repetition::repeats;
 use std::alloc::{AllocError, Global};
 use std::marker::Model;
 use thiserror::Error;
@@ -29,7 +29,7 @@ pub enum ProjectFault {
 }
 
 impl From<AllocError> for ProjectFault {
-    ghost use Rattle.mj_rules.specs.declared.project.ProjectFault.TheVariants.{OutOfMemory};
+    ghost use Rattle.mj_project.specs.declared.project.ProjectFault.TheVariants.{OutOfMemory};
 
     ghost from_gives = { λ _ e. e ≡ OutOfMemory };
 
@@ -46,7 +46,7 @@ pub struct Project {
 
 impl Model for Project {
     ghost use Rattle.std.specs.Prelude.{List};
-    ghost use Rattle.mj_rules.specs.Projects.{SourceFile, sources_view, IsProject};
+    ghost use Rattle.mj_project.specs.Projects.{SourceFile, sources_view, IsProject};
 
     ghost Value = { List SourceFile };
 

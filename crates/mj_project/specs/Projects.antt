@@ -1,8 +1,8 @@
 -- Projects: named files in their order.
 use Rattle.std.specs.Prelude.{◌≡◌, ℕ, ◌<◌, ◌≤◌, Bool, ◌&&◌, nat_lt, nat_le, List, [], map, length, take, slice_get, Some, All, Contains, string_bytes, String, Vec}
 use Rattle.std.specs.declared.alloc.Global.{Global}
-use Rattle.mj_rules.specs.declared.project.ProjectFault.{ProjectFault}
-use Rattle.mj_rules.specs.declared.project.ProjectFault.TheVariants.{NoFiles, TooManyFiles, BadFileName, RepeatedFile, OutOfMemory}
+use Rattle.mj_project.specs.declared.project.ProjectFault.{ProjectFault}
+use Rattle.mj_project.specs.declared.project.ProjectFault.TheVariants.{NoFiles, TooManyFiles, BadFileName, RepeatedFile, OutOfMemory}
 
 -- a file: its name and its bytes
 pub record SourceFile : Type 0 where

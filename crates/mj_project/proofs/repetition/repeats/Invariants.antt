@@ -1,7 +1,7 @@
 use Rattle.std.proofs.Common.{◌≡◌, map, take}
-use Rattle.mj_rules.specs.Repeats.{repeats}
-use Rattle.mj_rules.proofs.RepeatLemmas.{HasNames}
-use Rattle.mj_rules.proofs.repeats.repeats.Given as goal
+use Rattle.mj_project.specs.Repeats.{repeats}
+use Rattle.mj_project.proofs.RepeatLemmas.{HasNames}
+use Rattle.mj_project.proofs.repetition.repeats.Given as goal
 
 abbrev pub invariant-loop-name : goal.invariant-loop-name
 invariant-loop-name l = record {
