@@ -1,0 +1,9 @@
+//! Tests of the crates of runs: expected reads and results are worked by hand from the sample runner's meaning, their bytes from the formats.
+#![tactic(auto)]
+
+#[cfg(test)]
+mod given;
+#[cfg(test)]
+mod reading;
+#[cfg(test)]
+mod running;

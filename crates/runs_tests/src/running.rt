@@ -1,0 +1,195 @@
+ghost use Rattle.std.specs.Prelude.{◌<◌, IfOk};
+ghost use Rattle.recorder.specs.Backed.{rank as rank_of};
+
+use crate::given::{Asked, Given, are_reads, bytes_of, key_of, list_of};
+use item_ids::{Key, Kind, rank};
+use recorder::{
+    Outcome, ReadFault, Recorder, RunFault, Runner, programs_are_runs, programs_keep_the_laws,
+    record,
+};
+use sample_runner::{AnswerList, Refusing, SampleRunner};
+use std::test::*;
+
+// What the queries of a file a with bytes, an empty file b and no file c answer.
+const SOURCE_A: Given = ((Kind::Source, "a", ""), "0101000000000000000141");
+
+const SOURCE_B: Given = ((Kind::Source, "b", ""), "01010000000000000000");
+
+const SOURCE_C: Given = ((Kind::Source, "c", ""), "0100");
+
+const HEADER_A: Given = (
+    (Kind::Header, "a", ""),
+    "0401000000000000000000000000000000000000",
+);
+
+const HEADER_B: Given = (
+    (Kind::Header, "b", ""),
+    "0401010000000000000000000000000000000000",
+);
+
+const HEADER_C: Given = ((Kind::Header, "c", ""), "0400");
+
+// The file a takes an int, the file b nothing. Each gives a boolean with a file that is there, else an int.
+const SIG_A_B: Given = ((Kind::Sig, "a", "b"), "060100000000000000010001");
+
+const SIG_A_A: Given = ((Kind::Sig, "a", "a"), "060100000000000000010001");
+
+const SIG_A_C: Given = ((Kind::Sig, "a", "c"), "060100000000000000010000");
+
+const SIG_B_A: Given = ((Kind::Sig, "b", "a"), "0601000000000000000001");
+
+const SIG_C_A: Given = ((Kind::Sig, "c", "a"), "0600");
+
+// An answer that no project gives beside the headers.
+const NO_SIG_A_B: Given = ((Kind::Sig, "a", "b"), "0600");
+
+// The files a and b, and a alone.
+const BOTH: Given = ((Kind::Files, "", ""), "00000000000000000201610162");
+
+const ONE: Given = ((Kind::Files, "", ""), "0000000000000000010161");
+
+// What each run reads, in order, and its result.
+const RUNS: [(Given, &[Given]); 21] = [
+    (HEADER_A, &[SOURCE_A]),
+    (HEADER_B, &[SOURCE_B]),
+    (HEADER_C, &[SOURCE_C]),
+    (SIG_A_B, &[HEADER_A, HEADER_B]),
+    (SIG_A_A, &[HEADER_A]),
+    (SIG_A_C, &[HEADER_A, HEADER_C]),
+    (SIG_B_A, &[HEADER_B, HEADER_A]),
+    (SIG_C_A, &[HEADER_C]),
+    // One fault where some file is empty: E310 at the class.
+    (
+        ((Kind::CheckClass, "a", ""), "090000000000000001000136"),
+        &[BOTH, HEADER_A, HEADER_B],
+    ),
+    (
+        ((Kind::CheckClass, "b", ""), "090000000000000000"),
+        &[ONE, HEADER_A],
+    ),
+    // One fault where the phrase of both names has no type.
+    (
+        ((Kind::CheckBody, "a", "b"), "0a0000000000000000"),
+        &[HEADER_A, HEADER_B, SIG_A_B, SIG_B_A],
+    ),
+    (
+        ((Kind::CheckBody, "a", "b"), "0a0000000000000001000136"),
+        &[HEADER_A, HEADER_B, NO_SIG_A_B, SIG_B_A],
+    ),
+    (
+        ((Kind::CheckBody, "a", "a"), "0a0000000000000000"),
+        &[HEADER_A],
+    ),
+    (
+        ((Kind::CheckBody, "c", "a"), "0a0000000000000001000136"),
+        &[HEADER_C, HEADER_A],
+    ),
+    // Kinds that tell nothing.
+    (((Kind::Tree, "a", ""), "0200"), &[]),
+    (((Kind::Index, "", ""), "030000000000000000"), &[]),
+    (((Kind::Method, "a", "b"), "0500"), &[]),
+    (((Kind::Supers, "a", ""), "0700"), &[]),
+    (((Kind::Members, "a", ""), "0800"), &[]),
+    (((Kind::Diags, "a", ""), "0b0000000000000000"), &[]),
+    (
+        ((Kind::Answer, "", ""), "0c00000000000000000000000000000000"),
+        &[],
+    ),
+];
+
+/// A key that is no input.
+fn query(rt: HostRuntime, asked: &Asked) -> Result<Key, Fail>
+    ensures { IfOk result (λ key. 0 < rank_of key) }
+{
+    let key = key_of(rt, asked)?;
+    if rank(key.kind()) == 0 {
+        return Err("a key that is no input".into());
+    }
+    Ok(key)
+}
+
+/// The outcome of a run over these answers, which needs no other.
+fn outcome(rt: HostRuntime, key: &Key, given: &[Given]) -> Result<Outcome<SampleRunner>, Fail>
+    requires { 0 < rank_of key.now }
+{
+    let mut runner = SampleRunner::new(rt.alloc());
+    let mut recorder = Recorder::new(rt.alloc(), list_of(rt, given)?);
+    match record(rt.alloc(), &mut runner, key, &mut recorder) {
+        Ok(outcome) => {
+            if recorder.fault().is_some() || recorder.refused().is_some() {
+                return Err("no refused read".into());
+            }
+            Ok(outcome)
+        }
+        Err(_) => Err("a result".into()),
+    }
+}
+
+#[test]
+fn runs_of_each_kind(rt: HostRuntime) -> Result<(), Fail> {
+    for ((asked, digits), given) in &RUNS {
+        let key = query(rt, asked)?;
+        let outcome = outcome(rt, &key, given)?;
+        let bytes = bytes_of(rt, digits)?;
+        assert!(rt; *outcome.key() == key);
+        assert!(rt; are_reads(rt, outcome.reads(), given)?);
+        assert_eq!(rt; outcome.sealed().bytes(), bytes.as_slice());
+    }
+    Ok(())
+}
+
+#[test]
+fn key_that_is_not_held(rt: HostRuntime) -> Result<(), Fail> {
+    let mut runner = SampleRunner::new(rt.alloc());
+    assert!(rt; runner.log().is_empty());
+    let mut recorder = Recorder::new(rt.alloc(), list_of(rt, &[HEADER_A])?);
+    let key = query(rt, &SIG_A_B.0)?;
+    let result = runner.run(rt.alloc(), &key, &mut recorder);
+    assert!(rt; matches!(result, Err(RunFault::Read(ReadFault::NotHeld))));
+
+    // The first read, and of the second one the fault and the key.
+    assert!(rt; are_reads(rt, recorder.reads(), &[HEADER_A])?);
+    assert!(rt; recorder.fault() == Some(ReadFault::NotHeld));
+    let refused = recorder.refused().ok_or("the key of the refused read")?;
+    assert!(rt; *refused == key_of(rt, &HEADER_B.0)?);
+
+    // The call is logged.
+    assert_eq!(rt; runner.log().len(), 1);
+    assert!(rt; runner.log()[0] == key);
+    Ok(())
+}
+
+#[test]
+fn reads_that_are_refused(rt: HostRuntime) -> Result<(), Fail> {
+    for fault in &[
+        ReadFault::Stopped,
+        ReadFault::OutOfMemory,
+        ReadFault::NotHeld,
+    ] {
+        let fault = *fault;
+        let mut runner = SampleRunner::new(rt.alloc());
+        let mut recorder = Recorder::new(rt.alloc(), Refusing(fault));
+        let key = query(rt, &HEADER_A.0)?;
+        match record(rt.alloc(), &mut runner, &key, &mut recorder) {
+            Err(RunFault::Read(of)) => assert!(rt; of == fault),
+            _ => return Err("a refused read".into()),
+        }
+        assert!(rt; recorder.reads().is_empty());
+        assert!(rt; recorder.fault() == Some(fault));
+
+        // The key of a refused read, but none where memory ran out.
+        let source = key_of(rt, &SOURCE_A.0)?;
+        match recorder.refused() {
+            Some(refused) => assert!(rt; fault != ReadFault::OutOfMemory && *refused == source),
+            None => assert!(rt; fault == ReadFault::OutOfMemory),
+        }
+        assert!(rt; runner.log().len() == 1);
+    }
+    Ok(())
+}
+
+#[test]
+fn laws(_rt: HostRuntime) {
+    programs_keep_the_laws();
+    programs_are_runs::<AnswerList>();
+}
