@@ -75,24 +75,35 @@ fn class(alloc: Global, sketch: &Sketch) -> Result<ClassTree, AllocError> {
     })
 }
 
-/// A file of these classes, with the main class `M` where it has one.
-fn file(alloc: Global, has_main: bool, sketches: &[Sketch]) -> Result<FileTree, AllocError> {
+fn classes(alloc: Global, sketches: &[Sketch]) -> Result<Vec<ClassTree>, AllocError> {
     let mut classes = Vec::new(alloc);
     for sketch in sketches {
         classes.push(class(alloc, sketch)?)?;
     }
-    let statement = Stmt::Block {
-        mark: 11,
-        body: Vec::new(alloc),
-    };
+    Ok(classes)
+}
+
+/// The main class `M`.
+fn main_class(alloc: Global) -> Result<MainTree, AllocError> {
+    Ok(MainTree {
+        name: name(alloc, "M")?,
+        statement: Stmt::Block {
+            mark: 11,
+            body: Vec::new(alloc),
+        },
+    })
+}
+
+/// A file of these classes, with the main class `M` where it has one.
+fn file(alloc: Global, has_main: bool, sketches: &[Sketch]) -> Result<FileTree, AllocError> {
     let main = match has_main {
-        true => Some(MainTree {
-            name: name(alloc, "M")?,
-            statement,
-        }),
+        true => Some(main_class(alloc)?),
         false => None,
     };
-    Ok(FileTree { main, classes })
+    Ok(FileTree {
+        main,
+        classes: classes(alloc, sketches)?,
+    })
 }
 
 /// `name(file.number)`, the names behind it in the chain, and its end.
@@ -160,12 +171,26 @@ fn project(alloc: Global) -> Result<Vec<Option<FileTree>>, AllocError> {
     Ok(files)
 }
 
+/// The chain of a class with its place and its end.
+fn chain_of(alloc: Global, declarations: &Declarations, class: &str) -> Result<String, Fail> {
+    let name = name(alloc, class)?;
+    let found = declarations.find(&name).ok_or("not declared")?;
+    let climbed = declarations.chain(alloc, &name)?.ok_or("no chain")?;
+    Ok(chain_text(alloc, &found, &climbed)?)
+}
+
+/// All members of a class with their owners.
+fn members_of(alloc: Global, declarations: &Declarations, class: &str) -> Result<String, Fail> {
+    let name = name(alloc, class)?;
+    let climbed = declarations.chain(alloc, &name)?.ok_or("no chain")?;
+    Ok(members_text(alloc, &climbed)?)
+}
+
 #[test]
 fn chains_and_members(rt: HostRuntime) -> Result<(), Fail> {
     let alloc = rt.alloc();
     let files = project(alloc)?;
     let declarations = Declarations::new(alloc, &files)?;
-    assert_eq!(rt; declarations.classes().len(), 9);
     for (class, chain, members) in [
         ("M", "M(0.0) M top", ""),
         (
@@ -184,16 +209,18 @@ fn chains_and_members(rt: HostRuntime) -> Result<(), Fail> {
         ("F", "F(2.4) F again F", ""),
         ("G", "G(2.5) G undeclared Missing", "x from G; "),
     ] {
-        let name = name(alloc, class)?;
-        let found = declarations.find(&name).ok_or("not declared")?;
-        let climbed = declarations.chain(alloc, &name)?.ok_or("no chain")?;
-        assert_eq!(rt; chain_text(alloc, &found, &climbed)?.as_str(), chain);
-        assert_eq!(rt;
-            members_text(alloc, &climbed)?.as_str(),
-            members,
-            "of {class}"
-        );
+        assert_eq!(rt; chain_of(alloc, &declarations, class)?.as_str(), chain);
+        assert_eq!(rt; members_of(alloc, &declarations, class)?.as_str(), members);
     }
+    Ok(())
+}
+
+#[test]
+fn undeclared_class(rt: HostRuntime) -> Result<(), Fail> {
+    let alloc = rt.alloc();
+    let files = project(alloc)?;
+    let declarations = Declarations::new(alloc, &files)?;
+    assert_eq!(rt; declarations.classes().len(), 9);
     let missing = name(alloc, "Missing")?;
     assert!(rt; declarations.find(&missing).is_none());
     assert!(rt; declarations.chain(alloc, &missing)?.is_none());
@@ -226,31 +253,52 @@ fn acceptance(rt: HostRuntime) -> Result<(), Fail> {
     Ok(())
 }
 
+/// The owners of the nearest field and of the nearest method of a name.
+fn owners(
+    alloc: Global,
+    declarations: &Declarations,
+    class: &str,
+    member: &str,
+) -> Result<String, AllocError> {
+    let (class, member) = (name(alloc, class)?, name(alloc, member)?);
+    let field = declarations.field(&class, &member);
+    let method = declarations.method(&class, &member);
+    format!(in alloc;
+        "{}/{}",
+        field.map_or("", |found| found.owner.as_str()),
+        method.map_or("", |found| found.owner.as_str())
+    )
+}
+
 #[test]
 fn nearest_members(rt: HostRuntime) -> Result<(), Fail> {
     let alloc = rt.alloc();
     let files = project(alloc)?;
     let declarations = Declarations::new(alloc, &files)?;
-    for (class, member, field_owner, method_owner) in [
-        ("B", "x", "B", ""),
-        ("B", "y", "A", ""),
-        ("B", "f", "", "B"),
-        ("B", "g", "", "A"),
-        ("E", "n", "D", ""),
-        ("E", "x", "", ""),
-        ("F", "x", "", ""),
-        ("M", "main", "", ""),
-        ("Missing", "x", "", ""),
+    for (class, member, wanted) in [
+        ("B", "x", "B/"),
+        ("B", "y", "A/"),
+        ("B", "f", "/B"),
+        ("B", "g", "/A"),
+        ("E", "n", "D/"),
+        ("E", "x", "/"),
+        ("F", "x", "/"),
+        ("M", "main", "/"),
+        ("Missing", "x", "/"),
     ] {
-        let (class, member) = (name(alloc, class)?, name(alloc, member)?);
-        let field = declarations.field(&class, &member);
-        assert_eq!(rt; field.map_or("", |found| found.owner.as_str()), field_owner);
-        let method = declarations.method(&class, &member);
         assert_eq!(rt;
-            method.map_or("", |found| found.owner.as_str()),
-            method_owner
+            owners(alloc, &declarations, class, member)?.as_str(),
+            wanted
         );
     }
+    Ok(())
+}
+
+#[test]
+fn types_of_nearest_members(rt: HostRuntime) -> Result<(), Fail> {
+    let alloc = rt.alloc();
+    let files = project(alloc)?;
+    let declarations = Declarations::new(alloc, &files)?;
     let (a, b) = (name(alloc, "A")?, name(alloc, "B")?);
     let (x, f) = (name(alloc, "x")?, name(alloc, "f")?);
     let first = declarations.field(&a, &x).ok_or("no field")?;

@@ -94,14 +94,24 @@ fn reads_after_a_refused_one(rt: HostRuntime) -> Result<(), Fail> {
     Ok(())
 }
 
-#[test]
-fn a_read_and_its_copy(rt: HostRuntime) -> Result<(), Fail> {
+/// The first read that is given.
+fn first_read(rt: HostRuntime) -> Result<Read, Fail> {
     let first = key_of(rt, &FIRST.0)?;
     let answer = sealed_of(rt, &first, FIRST.1)?;
-    let read = Read::new(first.copy(rt.alloc())?, answer);
-    let copy = read.copy(rt.alloc())?;
-    assert!(rt; copy.is_of(&first));
+    Ok(Read::new(first, answer))
+}
+
+#[test]
+fn a_read_and_its_copy(rt: HostRuntime) -> Result<(), Fail> {
+    let copy = first_read(rt)?.copy(rt.alloc())?;
+    assert!(rt; copy.is_of(&key_of(rt, &FIRST.0)?));
     assert!(rt; !copy.is_of(&key_of(rt, &SECOND.0)?));
+    Ok(())
+}
+
+#[test]
+fn a_copy_has_key_and_answer(rt: HostRuntime) -> Result<(), Fail> {
+    let copy = first_read(rt)?.copy(rt.alloc())?;
     assert!(rt; are_reads(rt, &[copy], &[FIRST])?);
     Ok(())
 }

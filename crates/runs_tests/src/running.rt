@@ -159,32 +159,46 @@ fn key_that_is_not_held(rt: HostRuntime) -> Result<(), Fail> {
     Ok(())
 }
 
+/// A recorder behind a run whose reads are refused with this fault, and how many runs the runner's log has.
+fn after_refusal(rt: HostRuntime, fault: ReadFault) -> Result<(Recorder<Refusing>, usize), Fail> {
+    let mut runner = SampleRunner::new(rt.alloc());
+    let mut recorder = Recorder::new(rt.alloc(), Refusing(fault));
+    let key = query(rt, &HEADER_A.0)?;
+    match record(rt.alloc(), &mut runner, &key, &mut recorder) {
+        Err(RunFault::Read(of)) if of == fault => Ok((recorder, runner.log().len())),
+        _ => Err("a refused read".into()),
+    }
+}
+
 #[test]
 fn reads_that_are_refused(rt: HostRuntime) -> Result<(), Fail> {
-    for fault in &[
+    for fault in [
         ReadFault::Stopped,
         ReadFault::OutOfMemory,
         ReadFault::NotHeld,
     ] {
-        let fault = *fault;
-        let mut runner = SampleRunner::new(rt.alloc());
-        let mut recorder = Recorder::new(rt.alloc(), Refusing(fault));
-        let key = query(rt, &HEADER_A.0)?;
-        match record(rt.alloc(), &mut runner, &key, &mut recorder) {
-            Err(RunFault::Read(of)) => assert!(rt; of == fault),
-            _ => return Err("a refused read".into()),
-        }
+        let (recorder, runs) = after_refusal(rt, fault)?;
         assert!(rt; recorder.reads().is_empty());
         assert!(rt; recorder.fault() == Some(fault));
-
-        // The key of a refused read, but none where memory ran out.
-        let source = key_of(rt, &SOURCE_A.0)?;
-        match recorder.refused() {
-            Some(refused) => assert!(rt; fault != ReadFault::OutOfMemory && *refused == source),
-            None => assert!(rt; fault == ReadFault::OutOfMemory),
-        }
-        assert!(rt; runner.log().len() == 1);
+        assert!(rt; runs == 1);
     }
+    Ok(())
+}
+
+#[test]
+fn key_of_a_refused_read(rt: HostRuntime) -> Result<(), Fail> {
+    let source = key_of(rt, &SOURCE_A.0)?;
+    for fault in [ReadFault::Stopped, ReadFault::NotHeld] {
+        let (recorder, _) = after_refusal(rt, fault)?;
+        assert!(rt; recorder.refused() == Some(&source));
+    }
+    Ok(())
+}
+
+#[test]
+fn no_key_where_memory_ran_out(rt: HostRuntime) -> Result<(), Fail> {
+    let (recorder, _) = after_refusal(rt, ReadFault::OutOfMemory)?;
+    assert!(rt; recorder.refused().is_none());
     Ok(())
 }
 
