@@ -50,18 +50,37 @@ fn recorder(rt: HostRuntime) -> Result<Recorder<Counting>, Fail> {
     Ok(Recorder::new(rt.alloc(), Counting { list, count: 0 }))
 }
 
-#[test]
-fn repeated_reads(rt: HostRuntime) -> Result<(), Fail> {
+/// Whether the key, asked twice, has the same answer, a source.
+fn is_answered_twice(recorder: &mut Recorder<Counting>, key: &Key) -> Result<bool, Fail> {
+    let answer = recorder.read(key).ok().ok_or("an answer")?;
+    let same = ask_key(recorder, key).ok().ok_or("the answer again")?;
+    Ok(answer.value().kind() == Kind::Source && answer.bytes() == same.bytes())
+}
+
+/// A recorder that was asked for each of two keys four times.
+fn asked_again(rt: HostRuntime) -> Result<Recorder<Counting>, Fail> {
     let mut recorder = recorder(rt)?;
     let first = key_of(rt, &FIRST.0)?;
     let second = key_of(rt, &SECOND.0)?;
-    assert!(rt; recorder.reads().is_empty());
     for key in [&second, &first, &second, &first] {
-        let answer = recorder.read(key).ok().ok_or("an answer")?;
-        let same = ask_key(&mut recorder, key).ok().ok_or("the answer again")?;
-        assert!(rt; answer.value().kind() == Kind::Source);
-        assert!(rt; answer.bytes() == same.bytes());
+        if !is_answered_twice(&mut recorder, key)? {
+            return Err("another answer".into());
+        }
     }
+    Ok(recorder)
+}
+
+#[test]
+fn new_recorder(rt: HostRuntime) -> Result<(), Fail> {
+    let recorder = recorder(rt)?;
+    assert!(rt; recorder.reads().is_empty());
+    assert_eq!(rt; recorder.into_reader().count, 0);
+    Ok(())
+}
+
+#[test]
+fn repeated_reads(rt: HostRuntime) -> Result<(), Fail> {
+    let recorder = asked_again(rt)?;
     assert!(rt; are_reads(rt, recorder.reads(), &[SECOND, FIRST])?);
     assert!(rt; recorder.fault().is_none() && recorder.refused().is_none());
 
