@@ -57,15 +57,18 @@ fn is_answered_twice(recorder: &mut Recorder<Counting>, key: &Key) -> Result<boo
     Ok(answer.value().kind() == Kind::Source && answer.bytes() == same.bytes())
 }
 
-/// A recorder that was asked for both keys, and for the second again.
+/// Whether both keys, the second before the first, have an answer that is given again.
+fn are_answered_twice(rt: HostRuntime, recorder: &mut Recorder<Counting>) -> Result<bool, Fail> {
+    let second = key_of(rt, &SECOND.0)?;
+    let is_answered = is_answered_twice(recorder, &second)?;
+    let first = key_of(rt, &FIRST.0)?;
+    Ok(is_answered_twice(recorder, &first)? && is_answered)
+}
+
+/// A recorder that was asked for both keys again and again.
 fn asked_again(rt: HostRuntime) -> Result<Recorder<Counting>, Fail> {
     let mut recorder = recorder(rt)?;
-    let first = key_of(rt, &FIRST.0)?;
-    let second = key_of(rt, &SECOND.0)?;
-    let are_alike = is_answered_twice(&mut recorder, &second)?
-        && is_answered_twice(&mut recorder, &first)?
-        && is_answered_twice(&mut recorder, &second)?;
-    if are_alike {
+    if are_answered_twice(rt, &mut recorder)? && are_answered_twice(rt, &mut recorder)? {
         return Ok(recorder);
     }
     Err("another answer".into())
