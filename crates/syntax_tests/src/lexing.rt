@@ -99,6 +99,17 @@ fn limits(rt: HostRuntime) -> Result<(), Fail> {
     Ok(())
 }
 
+// A whole file of comments, each inside the one before.
+#[test]
+fn nested_comments(rt: HostRuntime) -> Result<(), Fail> {
+    let alloc = rt.alloc();
+    let mut text = "/*".repeat(alloc, 262144)?;
+    text.push_str("*/".repeat(alloc, 262144)?.as_str())?;
+    assert_eq!(rt; text.len(), 1048576);
+    assert!(rt; lex(alloc, text.as_bytes())?.is_empty());
+    Ok(())
+}
+
 #[test]
 fn lines_and_columns(rt: HostRuntime) {
     let rows = [
