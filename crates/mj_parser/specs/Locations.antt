@@ -1,19 +1,22 @@
 -- The tokens of places.
-use Rattle.std.specs.Prelude.{ℕ, zero, suc, ◌+◌, ◌-◌, ◌==◌, ◌&&◌, nat_lt, Bool, List, length, Option, Some, None, if◌then◌else◌, unwrap_or}
+use Rattle.std.specs.Prelude.{ℕ, zero, suc, ◌+◌, ◌-◌, ◌&&◌, nat_lt, Bool, List, length, Option, Some, None, if◌then◌else◌, unwrap_or, slice_get, filter, find}
+use Rattle.std.specs.List.{range_with_len}
 use Rattle.mj_lexer.specs.declared.token.Token.{Token}
 use Rattle.mj_lexer.specs.declared.token.Terminal.{Terminal}
 use Rattle.mj_lexer.specs.declared.token.Terminal.TheVariants as terminals
 use Rattle.mj_parser.specs.declared.place.Place.{Place}
-use Rattle.mj_parser.specs.declared.place.Place.TheVariants as places
+use Rattle.mj_parser.specs.declared.place.Place.TheVariants as place
 use Rattle.mj_parser.specs.Tokens.{has, name_at, is_word}
 use Rattle.mj_parser.specs.Trees.{Name}
 use Rattle.mj_parser.specs.Steps.{◌>>=◌}
 
--- of the next so many tokens from a place on: the place of this terminal that has so many others before it
-unfoldable pub nth : List Token → Terminal → ℕ → ℕ → ℕ → Option ℕ
-nth ts t zero at n = None
-nth ts t (suc more) at n =
-    if has ts at t then (if n == 0 then Some at else nth ts t more (at + 1) (n - 1)) else nth ts t more (at + 1) n
+-- the numbers from `low` to before `high`
+abbrev pub numbers : ℕ → ℕ → List ℕ
+numbers low high = range_with_len low (high - low)
+
+-- where a terminal stands, from `low` to before `high`
+abbrev pub all_of : List Token → Terminal → ℕ → ℕ → List ℕ
+all_of ts t low high = filter (λ at. has ts at t) (numbers low high)
 
 -- a place, if a token stands there
 abbrev pub existing : List Token → ℕ → Option ℕ
@@ -21,11 +24,15 @@ existing ts at = if nat_lt at (length ts) then Some at else None
 
 -- the word `class` of the class with a number
 abbrev pub class_start : List Token → ℕ → Option ℕ
-class_start ts class = nth ts terminals.Class (length ts) 0 class
+class_start ts class = slice_get (all_of ts terminals.Class 0 (length ts)) class
 
 -- the next word `class`, or the end
 abbrev pub class_end : List Token → ℕ → ℕ
-class_end ts start = unwrap_or (nth ts terminals.Class (length ts - (start + 1)) (start + 1) 0) (length ts)
+class_end ts start = unwrap_or (slice_get (all_of ts terminals.Class (start + 1) (length ts)) 0) (length ts)
+
+-- where a terminal stands in the class that begins at a place
+abbrev pub all_in_class : List Token → Terminal → ℕ → List ℕ
+all_in_class ts t start = all_of ts t start (class_end ts start)
 
 -- the name behind `class`
 abbrev pub class_name : List Token → ℕ → Option ℕ
@@ -37,7 +44,7 @@ before (suc at) = Some at
 
 -- the name before a semicolon of the class
 abbrev pub field_name : List Token → ℕ → ℕ → Option ℕ
-field_name ts class number = class_start ts class >>= λ start. nth ts terminals.Semicolon (class_end ts start - start) start number >>= before
+field_name ts class number = class_start ts class >>= λ start. slice_get (all_in_class ts terminals.Semicolon start) number >>= before
 
 -- the name of the method, or the word `main`, behind a `public`
 abbrev pub method_name : List Token → ℕ → ℕ
@@ -47,20 +54,20 @@ method_name ts start =
 abbrev pub begins_method : List Token → Name → ℕ → Bool
 begins_method ts name at = has ts at terminals.Public && is_word name (name_at ts (method_name ts at))
 
--- of the next so many places: the first at which a method of this name begins
-unfoldable pub first_method : List Token → Name → ℕ → ℕ → Option ℕ
-first_method ts name zero at = None
-first_method ts name (suc more) at = if begins_method ts name at then Some at else first_method ts name more (at + 1)
-
+-- where the first method of this name begins
 abbrev pub method_start : List Token → ℕ → Name → Option ℕ
-method_start ts class name = class_start ts class >>= λ start. first_method ts name (class_end ts start - start) start
+method_start ts class name = class_start ts class >>= λ start. find (begins_method ts name) (numbers start (class_end ts start))
+
+-- the name behind a `public` of the class
+abbrev pub name_of_method : List Token → ℕ → ℕ → Option ℕ
+name_of_method ts class number = class_start ts class >>= λ start. slice_get (all_in_class ts terminals.Public start) number >>= λ method. existing ts (method_name ts method)
 
 -- the token of a place in a class of a file
 abbrev pub token_of : List Token → ℕ → Place → Option ℕ
-token_of ts class places.Project = None
-token_of ts class (places.File name) = None
-token_of ts class (places.ClassOf name number) = class_name ts number
-token_of ts class places.Class = class_name ts class
-token_of ts class (places.Field number) = field_name ts class number
-token_of ts class (places.Method number) = class_start ts class >>= λ start. nth ts terminals.Public (class_end ts start - start) start number >>= λ method. existing ts (method_name ts method)
-token_of ts class (places.Inside method token) = method_start ts class method >>= λ start. existing ts (start + token)
+token_of ts class place.Project = None
+token_of ts class (place.File name) = None
+token_of ts class (place.ClassOf name number) = class_name ts number
+token_of ts class place.Class = class_name ts class
+token_of ts class (place.Field number) = field_name ts class number
+token_of ts class (place.Method number) = name_of_method ts class number
+token_of ts class (place.Inside method token) = method_start ts class method >>= λ start. existing ts (start + token)

@@ -1,13 +1,13 @@
 //! The tokens of places.
-ghost use Rattle.std.specs.Prelude.{◌≡◌, ◌<◌, ◌≤◌, ◌+◌, ◌-◌, length, IfSome};
-ghost use Rattle.mj_parser.specs.Locations.{nth, existing, class_start, class_end, class_name, field_name, method_name, method_start, token_of};
+ghost use Rattle.std.specs.Prelude.{◌≡◌, ◌<◌, ◌≤◌, ◌+◌, length, IfSome, slice_get};
+ghost use Rattle.mj_parser.specs.Locations.{all_of, existing, class_start, class_end, class_name, field_name, method_name, method_start, name_of_method, token_of};
 
 use crate::place::Place;
 use crate::tokens::{has, name};
 use mj_lexer::{Name, Terminal, Token};
 
 /// The place of a terminal, the one with this number among those from `start` to before `end`.
-#[tactic(auto, using(crate::proofs::Locations::nth_ends, crate::proofs::Locations::nth_found, crate::proofs::Locations::nth_counts, crate::proofs::Locations::nth_passes))]
+#[tactic(auto, using(crate::proofs::Locations::none_left, crate::proofs::Locations::here, crate::proofs::Locations::one_less, crate::proofs::Locations::passes))]
 fn nth(
     tokens: &[Token],
     start: usize,
@@ -15,7 +15,7 @@ fn nth(
     terminal: Terminal,
     number: usize,
 ) -> Option<usize>
-    ensures value { result ≡ nth tokens.now terminal (end - start) start number }
+    ensures value { result ≡ slice_get (all_of tokens.now terminal start end) number }
     ensures within { IfSome result (λ at. at < length tokens.now) }
 {
     let mut left = number;
@@ -113,6 +113,17 @@ fn method_start(tokens: &[Token], class: usize, method: &Name) -> Option<usize>
     None
 }
 
+/// The place of the name of a class's method, or of `main`.
+fn name_of_method(tokens: &[Token], class: usize, number: usize) -> Option<usize>
+    ensures value { result ≡ name_of_method tokens.now class number }
+    ensures within { IfSome result (λ at. at < length tokens.now) }
+{
+    let start = class_start(tokens, class)?;
+    let end = class_end(tokens, start);
+    let method = nth(tokens, start, end, Terminal::Public, number)?;
+    existing(tokens, method_name(tokens, method))
+}
+
 /// The token of a place in the class with this number; that of a whole file or project is none. Classes are numbered
 /// from 0, the main class first. The tokens are those of a file.
 pub fn locate(tokens: &[Token], class: usize, place: &Place) -> Option<usize>
@@ -124,12 +135,7 @@ pub fn locate(tokens: &[Token], class: usize, place: &Place) -> Option<usize>
         Place::ClassOf(_, number) => class_name(tokens, *number),
         Place::Class => class_name(tokens, class),
         Place::Field(number) => field_name(tokens, class, *number),
-        Place::Method(number) => {
-            let start = class_start(tokens, class)?;
-            let end = class_end(tokens, start);
-            let method = nth(tokens, start, end, Terminal::Public, *number)?;
-            existing(tokens, method_name(tokens, method))
-        }
+        Place::Method(number) => name_of_method(tokens, class, *number),
         Place::Inside(method, token) => {
             let start = method_start(tokens, class, method)?;
             existing(tokens, start.checked_add(*token)?)
