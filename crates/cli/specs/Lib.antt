@@ -1,3 +1,4 @@
 pub mod Endings
 pub mod Lines
+pub mod Runs
 pub mod Statuses

@@ -18,7 +18,7 @@ fn main(rt: HostRuntime) -> ExitCode {
     let mut err = rt.stderr();
     let status = match given(&rt) {
         Ok(list) => run(&rt, list, &mut out, &mut err),
-        Err(error) => report::no_words(&error, &mut err) as u8,
+        Err(error) => report::no_words(&error, &mut err).number(),
     };
     ExitCode::from(status)
 }

@@ -1,9 +1,12 @@
 //! What a run writes, all of it made before the first byte is written.
-ghost use Rattle.std.specs.Prelude.{◌≡◌, ◌⊎◌, [], string_bytes};
+ghost use Rattle.std.specs.Prelude.{◌≡◌, ◌⊎◌, [], OnOk, codes, string_bytes};
+ghost use Rattle.std.specs.Io.KnownBytes.{Appends};
+ghost use Rattle.std.specs.IoError.{error_kind};
+ghost use Rattle.cli.specs.Runs.{IsWritten, number_of};
 
 use std::alloc::Global;
 use std::io;
-use std::io::Write;
+use std::io::{ErrorKind, Write};
 
 /// How a run ends. The numbers are the program's exit statuses.
 #[derive(Clone, Copy, Debug, PartialEq, Eq)]
@@ -16,6 +19,15 @@ pub enum Status {
     Refused = 2,
     /// Memory ran out.
     OutOfMemory = 4,
+}
+
+impl Status {
+    /// The exit status.
+    pub fn number(self) -> u8
+        ensures { result ≡ number_of self }
+    {
+        self as u8
+    }
 }
 
 /// The texts of a run and its end.
@@ -58,7 +70,7 @@ impl Report {
 
 /// Writes the notes, and then the answer. Where one of them can't be written the run is refused.
 pub fn deliver<W: Write, E: Write>(report: &Report, out: &mut W, err: &mut E) -> Status
-    ensures { (result ≡ report.now.status) ⊎ (result ≡ Status.Refused) }
+    ensures { (result ≡ Status.Refused) ⊎ ((result ≡ report.now.status) × IsWritten report.now (W.contents out.old) (W.contents out.new) (E.contents err.old) (E.contents err.new)) }
 {
     if write(err, report.notes.as_bytes()).is_err() {
         return Status::Refused;
@@ -70,9 +82,9 @@ pub fn deliver<W: Write, E: Write>(report: &Report, out: &mut W, err: &mut E) ->
     report.status
 }
 
-/// Says that memory ran out, and takes none for it.
+/// Says that memory ran out, and takes none for it. Where that can't be written the run is refused.
 pub fn no_memory<E: Write>(err: &mut E) -> Status
-    ensures { (result ≡ Status.OutOfMemory) ⊎ (result ≡ Status.Refused) }
+    ensures { (result ≡ Status.Refused) ⊎ ((result ≡ Status.OutOfMemory) × Appends (E.contents err.old) (E.contents err.new) (codes "out of memory\n")) }
 {
     match write(err, b"out of memory\n") {
         Ok(()) => Status::OutOfMemory,
@@ -82,16 +94,20 @@ pub fn no_memory<E: Write>(err: &mut E) -> Status
 
 /// Says why the system gave no words.
 pub fn no_words<E: Write>(error: &io::Error, err: &mut E) -> Status
-    ensures { (result ≡ Status.OutOfMemory) ⊎ (result ≡ Status.Refused) }
+    ensures { (result ≡ Status.Refused) ⊎ ((result ≡ Status.OutOfMemory) × (error_kind error.now ≡ ErrorKind.OutOfMemory) × Appends (E.contents err.old) (E.contents err.new) (codes "out of memory\n")) }
 {
-    if error.kind() == io::ErrorKind::OutOfMemory {
+    if error.kind() == ErrorKind::OutOfMemory {
         return no_memory(err);
     }
     let _ = write(err, b"error: a word of the command line isn't UTF-8\n");
     Status::Refused
 }
 
-fn write<W: Write>(writer: &mut W, bytes: &[u8]) -> io::Result<()> {
+// Writes and flushes.
+#[tactic(auto, using(crate::proofs::Streams::appends_kept))]
+fn write<W: Write>(writer: &mut W, bytes: &[u8]) -> io::Result<()>
+    ensures { OnOk result (Appends (W.contents writer.old) (W.contents writer.new) bytes.now) }
+{
     writer.write_all(bytes)?;
     writer.flush()
 }

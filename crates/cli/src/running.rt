@@ -1,8 +1,10 @@
 //! One run of the program.
-ghost use Rattle.std.specs.Prelude.{◌≡◌, [], IfOk, string_bytes};
+ghost use Rattle.std.specs.Prelude.{◌≡◌, ◌≢◌, ◌⊎◌, ℕ, List, map, Some, [], IfOk, IfErr, IsTrue, string_bytes};
+ghost use Rattle.command_line.specs.CommandLine.{scratch_files, asks_plainly};
 ghost use Rattle.mj_rules.specs.Answers.{text_of};
 ghost use Rattle.cli.specs.Endings.{status_of_answer, status_of_failure};
 ghost use Rattle.cli.specs.Lines.{is_clean, AreLinesOf};
+ghost use Rattle.cli.specs.Runs.{ReportsOn, Prints};
 ghost use Rattle.cli.specs.Statuses.{IsStatus};
 
 use crate::failure::Failure;
@@ -23,26 +25,45 @@ pub fn run<R: Files + AllocGlobal, W: Write, E: Write>(
     out: &mut W,
     err: &mut E,
 ) -> u8
-    ensures { IsStatus result }
+    ensures status { IsStatus result }
+    ensures answer { (names : List (List ℕ)) → scratch_files (map string_bytes list.items) ≡ Some names
+        → IsTrue (asks_plainly (map string_bytes list.items)) → (result ≡ 0) ⊎ (result ≡ 1)
+        → Prints names result (W.contents out.old) (W.contents out.new) (E.contents err.old) (E.contents err.new) }
 {
-    let report = match perform(rt, list) {
-        Ok(report) => Ok(report),
-        Err(failure) => explained(rt.alloc(), failure),
-    };
-    let status = match report {
+    let status = match report_of(rt, list) {
         Ok(report) => deliver(&report, out, err),
         Err(AllocError) => no_memory(err),
     };
-    status as u8
+    status.number()
 }
 
-fn perform<R: Files + AllocGlobal>(rt: &R, list: Vec<String>) -> Result<Report, Failure> {
+// The texts of a run, whose words are these, and its end.
+fn report_of<R: Files + AllocGlobal>(rt: &R, list: Vec<String>) -> Result<Report, AllocError>
+    ensures { (names : List (List ℕ)) → scratch_files (map string_bytes list.items) ≡ Some names
+        → IsTrue (asks_plainly (map string_bytes list.items))
+        → IfOk result (λ report. (report.status ≡ Status.Clean) ⊎ (report.status ≡ Status.Diagnostics) → ReportsOn names report) }
+{
+    match perform(rt, list) {
+        Ok(report) => Ok(report),
+        Err(failure) => explained(rt.alloc(), failure),
+    }
+}
+
+// What the words ask for.
+fn perform<R: Files + AllocGlobal>(rt: &R, list: Vec<String>) -> Result<Report, Failure>
+    ensures reports { (names : List (List ℕ)) → scratch_files (map string_bytes list.items) ≡ Some names → IfOk result (ReportsOn names) }
+    ensures plain { IsTrue (asks_plainly (map string_bytes list.items)) → IfErr result (λ failure. status_of_failure failure ≢ Status.Clean) }
+{
     match words(rt.alloc(), list)? {
         Words::Scratch(names) => scratch(rt, names),
     }
 }
 
-fn scratch<R: Files + AllocGlobal>(rt: &R, names: Vec<String>) -> Result<Report, Failure> {
+// The report on the files of these names.
+fn scratch<R: Files + AllocGlobal>(rt: &R, names: Vec<String>) -> Result<Report, Failure>
+    ensures reports { IfOk result (ReportsOn (map string_bytes names.items)) }
+    ensures failed { IfErr result (λ failure. status_of_failure failure ≢ Status.Clean) }
+{
     let alloc = rt.alloc();
     let project = Project::new(alloc, read_files(rt, names)?)?;
     let answer = mj_rules::scratch(alloc, &project)?;
@@ -71,7 +92,10 @@ fn answered(alloc: Global, project: &Project, answer: &Answer) -> Result<Report,
 fn read_files<R: Files + AllocGlobal>(
     rt: &R,
     names: Vec<String>,
-) -> Result<Vec<(String, Vec<u8>)>, Failure> {
+) -> Result<Vec<(String, Vec<u8>)>, Failure>
+    ensures named { IfOk result (λ files. map (λ file. string_bytes file.0) files.items ≡ map string_bytes names.items) }
+    ensures failed { IfErr result (λ failure. status_of_failure failure ≢ Status.Clean) }
+{
     let mut files = Vec::new(rt.alloc());
     for name in names {
         match fs::read(rt, name.as_str()) {

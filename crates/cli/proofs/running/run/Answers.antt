@@ -1,0 +1,15 @@
+use Rattle.std.proofs.Common.{◌∙◌, sym, ap}
+use Rattle.cli.proofs.Runs.{is_status, prints, silent}
+use Rattle.cli.proofs.running.run.Goals as goal
+use Rattle.cli.proofs.running.run.Goals.{in-Ok, in-Err}
+
+-- src/running.rt:22:1
+pub returns-clause-status : goal.returns-clause-status
+returns-clause-status g c = rw c.number.ensures (is_status c.match-report_of.status)
+
+-- src/running.rt:22:1
+pub returns-clause-answer : goal.returns-clause-answer
+returns-clause-answer g c = λ names asked plain. rw c.number.ensures (elim c.match-report_of.branch [
+  | in-Ok w ↦ (rw (w.out-is, w.err-is, w.status-is) (prints names _ _ _ _ _ _ (w.in-Ok.ensures names asked plain) w.deliver-status.ensures))
+  | in-Err w ↦ (rw w.status-is (λ ends. absurd (silent _ _ w.no_memory-status.ensures ends)))
+])

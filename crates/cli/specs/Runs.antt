@@ -1,0 +1,40 @@
+-- What a run of `scratch` writes.
+use Rattle.std.specs.Prelude.{◌≡◌, ◌⊎◌, ℕ, List, Option, string_bytes}
+use Rattle.std.specs.Io.KnownBytes.{Appends}
+use Rattle.mj_project.specs.Projects.{SourceFile, names_of}
+use Rattle.mj_rules.specs.Answers.{AnswerValue, text_of}
+use Rattle.mj_rules.specs.Rules.{Rules}
+use Rattle.cli.specs.Endings.{status_of_answer}
+use Rattle.cli.specs.Lines.{is_clean, AreLinesOf}
+use Rattle.cli.specs.declared.report.Report.{Report}
+use Rattle.cli.specs.declared.report.Status.{Status}
+use Rattle.cli.specs.declared.report.Status.TheVariants as status
+
+-- The answer that the rules give files of these names: its text, a line for each of its faults, and the status that it ends with.
+pub record ReportsOn (names : List (List ℕ)) (report : Report) : Type 0 where
+  pub files : List SourceFile
+  pub answer : AnswerValue
+  pub named : names_of files ≡ names
+  pub rules : Rules files answer
+  pub text : string_bytes report.answer ≡ text_of answer
+  pub lines : AreLinesOf answer (string_bytes report.notes)
+  pub status : report.status ≡ status_of_answer (is_clean answer)
+
+-- Both texts of a report stand behind what the two streams held before.
+pub record IsWritten (report : Report) (out_old out_new err_old err_new : Option (List ℕ)) : Type 0 where
+  pub notes : Appends err_old err_new (string_bytes report.notes)
+  pub answer : Appends out_old out_new (string_bytes report.answer)
+
+-- the exit status
+abbrev pub number_of : Status → ℕ
+number_of status.Clean = 0
+number_of status.Diagnostics = 1
+number_of status.Refused = 2
+number_of status.OutOfMemory = 4
+
+-- A report on files of these names is written, and the run ends with its status.
+pub record Prints (names : List (List ℕ)) (status : ℕ) (out_old out_new err_old err_new : Option (List ℕ)) : Type 0 where
+  pub report : Report
+  pub reports : ReportsOn names report
+  pub written : IsWritten report out_old out_new err_old err_new
+  pub ends : status ≡ number_of report.status
