@@ -6,7 +6,8 @@ ghost use Rattle.byte_readers.specs.Spelling.{name, four, eight, option, list};
 ghost use Rattle.tree_bytes.specs.Tags.{operator_byte, boolean_byte};
 ghost use Rattle.tree_bytes.specs.Spelling.{node, exp, exps, stmt, stmts, count_exps, count_stmts, method, tagged_method, main, class, file};
 
-use crate::types::{FieldFormat, VariableFormat, put_ty};
+use crate::types::{FieldFormat, put_ty};
+use crate::variables::VariableFormat;
 use byte_readers::{NameFormat, put_eight, put_four, put_list, put_name, put_option};
 use mj_lexer::Name;
 use mj_parser::{ClassTree, Exp, FileTree, MainTree, MethodTree, Operator, Stmt};
