@@ -87,6 +87,5 @@ pub fn read_file(alloc: Global, bytes: &[u8]) -> Result<(FileTree, &[u8]), ReadE
     ensures { Gives (λ x. (file_view x.0, x.1.now)) result (file_at bytes.now) }
 {
     let (main, rest) = read_perhaps_main(alloc, bytes)?;
-    let (classes, rest) = read_classes(alloc, rest)?;
-    Ok((FileTree { main, classes }, rest))
+    read_classes(alloc, rest).map(|(classes, rest)| (FileTree { main, classes }, rest))
 }

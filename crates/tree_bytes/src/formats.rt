@@ -31,7 +31,7 @@ impl Format for TreeFormat {
     ghost lawful = { lawful_file };
 
     fn check(item: &Tree) {
-        let _root = item.root();
+        let _file = item.root();
     }
 
     fn write(out: &mut Vec<u8>, item: &Tree) -> Result<(), AllocError> {
@@ -64,7 +64,7 @@ impl Format for BodyFormat {
     ghost lawful = { lawful_body };
 
     fn check(item: &Body) {
-        let _root = item.root();
+        let _part = item.root();
     }
 
     fn write(out: &mut Vec<u8>, item: &Body) -> Result<(), AllocError> {

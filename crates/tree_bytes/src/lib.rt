@@ -9,6 +9,7 @@ mod statements;
 mod tag;
 mod tree;
 mod types;
+mod variables;
 mod writing;
 
 pub use formats::{BodyFormat, TreeFormat};

@@ -6,7 +6,8 @@ ghost use Rattle.tree_bytes.specs.Reading.{method_at, tagged_method_at};
 
 use crate::expressions::read_top_exp;
 use crate::statements::read_top_stmts;
-use crate::types::{VariableFormat, read_ty};
+use crate::types::read_ty;
+use crate::variables::VariableFormat;
 use byte_readers::{Breach, ReadError, read_eight, read_four, read_list, read_name, refused};
 use mj_parser::MethodTree;
 use std::alloc::Global;

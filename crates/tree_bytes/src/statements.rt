@@ -120,14 +120,14 @@ fn read_if(
     ensures { Gives (λ x. (stmt_view x.0, x.1.now)) result (stmt_body_at (exp_at room) (stmt_at room) StmtTag.If mark bytes.now) }
 {
     let (condition, rest) = read_exp(alloc, bytes, room)?;
-    let (then_branch, rest) = read_stmt(alloc, rest, room)?;
-    let (else_branch, rest) = read_stmt(alloc, rest, room)?;
+    let (then_branch, rest) = read_boxed(alloc, rest, room)?;
+    let (else_branch, rest) = read_boxed(alloc, rest, room)?;
     Ok((
         Stmt::If {
             mark,
             condition,
-            then_branch: Box::new(alloc, then_branch)?,
-            else_branch: Box::new(alloc, else_branch)?,
+            then_branch,
+            else_branch,
         },
         rest,
     ))
@@ -144,15 +144,24 @@ fn read_while(
     ensures { Gives (λ x. (stmt_view x.0, x.1.now)) result (stmt_body_at (exp_at room) (stmt_at room) StmtTag.While mark bytes.now) }
 {
     let (condition, rest) = read_exp(alloc, bytes, room)?;
-    let (body, rest) = read_stmt(alloc, rest, room)?;
+    let (body, rest) = read_boxed(alloc, rest, room)?;
     Ok((
         Stmt::While {
             mark,
             condition,
-            body: Box::new(alloc, body)?,
+            body,
         },
         rest,
     ))
+}
+
+#[cycle(statements)]
+#[inline(never)]
+fn read_boxed(alloc: Global, bytes: &[u8], room: usize) -> Result<(Box<Stmt>, &[u8]), ReadError>
+    ensures { Gives (λ x. (stmt_view x.0.value, x.1.now)) result (stmt_at room bytes.now) }
+{
+    let (part, rest) = read_stmt(alloc, bytes, room)?;
+    Ok((Box::new(alloc, part)?, rest))
 }
 
 #[inline(never)]

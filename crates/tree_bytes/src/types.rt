@@ -1,14 +1,12 @@
-//! Declared types, and what is declared with them.
+//! Declared types and fields.
 ghost use Rattle.std.specs.Prelude.{◌≡◌, ◌++◌, OnOk};
 ghost use Rattle.byte_readers.specs.Reading.{Gives};
 ghost use Rattle.tree_bytes.specs.Spelling.{ty};
 ghost use Rattle.tree_bytes.specs.Fits.{TyFits};
 ghost use Rattle.tree_bytes.specs.Reading.{ty_at};
 
-use byte_readers::{
-    Breach, Format, ReadError, check_name, put_four, put_name, read_four, read_name, refused,
-};
-use mj_parser::{Field, Ty, Variable};
+use byte_readers::{Breach, Format, ReadError, check_name, put_name, read_name, refused};
+use mj_parser::{Field, Ty};
 use std::alloc::{AllocError, Global};
 
 /// A type has a spelling.
@@ -123,46 +121,5 @@ impl Format for FieldFormat {
         let (name, rest) = read_name(alloc, bytes)?;
         let (ty, rest) = read_ty(alloc, rest)?;
         Ok((Field { name, ty }, rest))
-    }
-}
-
-/// Formals and locals: the name, the type, and the first token of the type.
-pub struct VariableFormat;
-
-impl Format for VariableFormat {
-    ghost use Rattle.tree_bytes.specs.Spelling.{variable};
-    ghost use Rattle.tree_bytes.specs.Fits.{VariableFits, IsMark};
-    ghost use Rattle.tree_bytes.specs.Reading.{variable_at};
-    ghost use Rattle.tree_bytes.specs.TypeLaws.{lawful_variable};
-
-    type Item = Variable;
-
-    ghost is_storable = { λ v. IsMark v.mark };
-
-    ghost has_spelling = { VariableFits };
-
-    ghost spelling = { variable };
-
-    ghost reading = { variable_at };
-
-    ghost lawful = { lawful_variable };
-
-    fn check(item: &Variable) {
-        check_name(&item.name);
-        check_ty(&item.ty);
-    }
-
-    fn write(out: &mut Vec<u8>, item: &Variable) -> Result<(), AllocError> {
-        put_name(out, &item.name)?;
-        put_ty(out, &item.ty)?;
-        put_four(out, item.mark)
-    }
-
-    fn read(alloc: Global, bytes: &[u8]) -> Result<(Variable, &[u8]), ReadError> {
-        let (name, rest) = read_name(alloc, bytes)?;
-        let (ty, rest) = read_ty(alloc, rest)?;
-        let (mark, rest) = read_four(rest)?;
-        let mark = mark as usize;
-        Ok((Variable { name, ty, mark }, rest))
     }
 }

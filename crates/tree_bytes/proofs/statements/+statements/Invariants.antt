@@ -19,6 +19,9 @@ decreases-read_if l = 8 * l.room + 6
 abbrev pub decreases-read_while : goal.decreases-read_while
 decreases-read_while l = 8 * l.room + 6
 
+abbrev pub decreases-read_boxed : goal.decreases-read_boxed
+decreases-read_boxed l = 8 * l.room + 1
+
 abbrev pub decreases-read_stmts : goal.decreases-read_stmts
 decreases-read_stmts l = 8 * l.room + 3
 

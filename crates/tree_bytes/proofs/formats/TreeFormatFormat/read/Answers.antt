@@ -4,3 +4,6 @@ use Rattle.tree_bytes.proofs.formats.TreeFormatFormat.read.Goals as goal
 
 pub new-requires : goal.new-requires
 new-requires c = (lawful_file.takes c.args.bytes.now _ _ (λ i. omega (arith, c.type_inv.bytes i)) c.in_ok-root.ensures).1
+
+pub returns : goal.returns
+returns c = rw c.new.ensures c.in_ok-root.ensures
