@@ -13,10 +13,10 @@ use std::sync::Arc;
 use std::test::*;
 
 /// The kind of a key and its names, each empty where there is none.
-pub type Asked<'a> = (Kind, &'a str, &'a str);
+pub(crate) type Asked<'a> = (Kind, &'a str, &'a str);
 
 /// A key, and the canonical bytes of its answer in hexadecimal digits.
-pub type Given<'a> = (Asked<'a>, &'a str);
+pub(crate) type Given<'a> = (Asked<'a>, &'a str);
 
 fn name(rt: HostRuntime, text: &str) -> Result<Option<Name>, Fail> {
     if text.is_empty() {
@@ -29,13 +29,13 @@ fn name(rt: HostRuntime, text: &str) -> Result<Option<Name>, Fail> {
 }
 
 /// The key of this kind with these names.
-pub fn key_of(rt: HostRuntime, asked: &Asked) -> Result<Key, Fail> {
+pub(crate) fn key_of(rt: HostRuntime, asked: &Asked) -> Result<Key, Fail> {
     let (kind, class, member) = asked;
     Ok(Key::new(*kind, name(rt, class)?, name(rt, member)?).ok_or("names of the kind")?)
 }
 
 /// Bytes from hexadecimal digits.
-pub fn bytes_of(rt: HostRuntime, digits: &str) -> Result<Vec<u8>, Fail> {
+pub(crate) fn bytes_of(rt: HostRuntime, digits: &str) -> Result<Vec<u8>, Fail> {
     Ok(
         hex::decode(rt.alloc(), digits)
             .ok()
@@ -44,7 +44,7 @@ pub fn bytes_of(rt: HostRuntime, digits: &str) -> Result<Vec<u8>, Fail> {
 }
 
 /// The value that these digits spell, of the key's kind.
-pub fn sealed_of(rt: HostRuntime, key: &Key, digits: &str) -> Result<Arc<Sealed>, Fail>
+pub(crate) fn sealed_of(rt: HostRuntime, key: &Key, digits: &str) -> Result<Arc<Sealed>, Fail>
     ensures { IfOk result (λ a. IsOfKind key.now (arc_value a)) }
 {
     let bytes = bytes_of(rt, digits)?;
@@ -58,7 +58,7 @@ pub fn sealed_of(rt: HostRuntime, key: &Key, digits: &str) -> Result<Arc<Sealed>
 }
 
 /// The list of these answers.
-pub fn list_of(rt: HostRuntime, given: &[Given]) -> Result<AnswerList, Fail> {
+pub(crate) fn list_of(rt: HostRuntime, given: &[Given]) -> Result<AnswerList, Fail> {
     let mut list = AnswerList::new(rt.alloc());
     for (asked, digits) in given {
         let key = key_of(rt, asked)?;
@@ -69,7 +69,7 @@ pub fn list_of(rt: HostRuntime, given: &[Given]) -> Result<AnswerList, Fail> {
 }
 
 /// Whether just these keys were read, in this order, and so answered.
-pub fn are_reads(rt: HostRuntime, reads: &[Read], given: &[Given]) -> Result<bool, Fail> {
+pub(crate) fn are_reads(rt: HostRuntime, reads: &[Read], given: &[Given]) -> Result<bool, Fail> {
     if reads.len() != given.len() {
         return Ok(false);
     }
