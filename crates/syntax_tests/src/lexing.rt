@@ -28,57 +28,55 @@ fn told_token(alloc: Global, token: &Token) -> Result<String, AllocError> {
     }
 }
 
-#[test]
-fn tokens_and_faults(rt: HostRuntime) -> Result<(), Fail> {
-    let rows = [
-        ("", ""),
-        (
-            "class M { public static void main(String[] a) { System.out.println(1); } }",
-            "Class 0-5;`M` 6-7;LeftBrace 8-9;Public 10-16;Static 17-23;Void 24-28;`main` 29-33;LeftParenthesis 33-34;`String` 34-40;LeftBracket 40-41;RightBracket 41-42;`a` 43-44;RightParenthesis 44-45;LeftBrace 46-47;`System` 48-54;Dot 54-55;`out` 55-58;Dot 58-59;`println` 59-66;LeftParenthesis 66-67;1 67-68;RightParenthesis 68-69;Semicolon 69-70;RightBrace 71-72;RightBrace 73-74;",
-        ),
-        (
-            "{}()[];,.=&&<+-*!",
-            "LeftBrace 0-1;RightBrace 1-2;LeftParenthesis 2-3;RightParenthesis 3-4;LeftBracket 4-5;RightBracket 5-6;Semicolon 6-7;Comma 7-8;Dot 8-9;Assign 9-10;And 10-12;Less 12-13;Plus 13-14;Minus 14-15;Times 15-16;Not 16-17;",
-        ),
-        (
-            "class public static void extends return int boolean if else while true false this new",
-            "Class 0-5;Public 6-12;Static 13-19;Void 20-24;Extends 25-32;Return 33-39;Int 40-43;Boolean 44-51;If 52-54;Else 55-59;While 60-65;True 66-70;False 71-76;This 77-81;New 82-85;",
-        ),
-        (
-            "classy Class x_1 length",
-            "`classy` 0-6;`Class` 7-12;`x_1` 13-16;`length` 17-23;",
-        ),
-        ("2147483647 0000 007", "2147483647 0-10;0 11-15;7 16-19;"),
-        ("2147483648 2147483649", "2147483648 0-10;2147483648 11-21;"),
-        ("99999999999999999999999999", "2147483648 0-26;"),
-        ("1a", "1 0-1;`a` 1-2;"),
-        ("a\t\n\r\x0Cb", "`a` 0-1;`b` 5-6;"),
-        ("/* a /* b */ c */x", "`x` 17-18;"),
-        ("/**/x/* // */y", "`x` 4-5;`y` 13-14;"),
-        ("// /* x\ny//", "`y` 8-9;"),
-        ("//x\ry", "`y` 4-5;"),
-        ("/* /* */", "the comment at byte 0 isn't closed"),
-        ("x /*/", "the comment at byte 2 isn't closed"),
-        ("x /", "byte 2 begins no token"),
-        ("&&& &&", "byte 2 begins no token"),
-        ("_a", "byte 0 begins no token"),
-        ("a \u{e9}", "byte 2 begins no token"),
-        ("# /*", "byte 0 begins no token"),
-        ("/* #", "the comment at byte 0 isn't closed"),
-    ];
-    for (text, want) in rows {
-        assert_eq!(rt; told(rt.alloc(), text.as_bytes())?.as_str(), want, "{text}");
-    }
-    Ok(())
+/// Texts, each with its tokens in words or with its fault.
+const TOLD: &[(&str, &str)] = &[
+    ("", ""),
+    (
+        "class M { public static void main(String[] a) { System.out.println(1); } }",
+        "Class 0-5;`M` 6-7;LeftBrace 8-9;Public 10-16;Static 17-23;Void 24-28;`main` 29-33;LeftParenthesis 33-34;`String` 34-40;LeftBracket 40-41;RightBracket 41-42;`a` 43-44;RightParenthesis 44-45;LeftBrace 46-47;`System` 48-54;Dot 54-55;`out` 55-58;Dot 58-59;`println` 59-66;LeftParenthesis 66-67;1 67-68;RightParenthesis 68-69;Semicolon 69-70;RightBrace 71-72;RightBrace 73-74;",
+    ),
+    (
+        "{}()[];,.=&&<+-*!",
+        "LeftBrace 0-1;RightBrace 1-2;LeftParenthesis 2-3;RightParenthesis 3-4;LeftBracket 4-5;RightBracket 5-6;Semicolon 6-7;Comma 7-8;Dot 8-9;Assign 9-10;And 10-12;Less 12-13;Plus 13-14;Minus 14-15;Times 15-16;Not 16-17;",
+    ),
+    (
+        "class public static void extends return int boolean if else while true false this new",
+        "Class 0-5;Public 6-12;Static 13-19;Void 20-24;Extends 25-32;Return 33-39;Int 40-43;Boolean 44-51;If 52-54;Else 55-59;While 60-65;True 66-70;False 71-76;This 77-81;New 82-85;",
+    ),
+    (
+        "classy Class x_1 length",
+        "`classy` 0-6;`Class` 7-12;`x_1` 13-16;`length` 17-23;",
+    ),
+    ("2147483647 0000 007", "2147483647 0-10;0 11-15;7 16-19;"),
+    ("2147483648 2147483649", "2147483648 0-10;2147483648 11-21;"),
+    ("99999999999999999999999999", "2147483648 0-26;"),
+    ("1a", "1 0-1;`a` 1-2;"),
+    ("a\t\n\r\x0Cb", "`a` 0-1;`b` 5-6;"),
+    ("/* a /* b */ c */x", "`x` 17-18;"),
+    ("/**/x/* // */y", "`x` 4-5;`y` 13-14;"),
+    ("// /* x\ny//", "`y` 8-9;"),
+    ("//x\ry", "`y` 4-5;"),
+    ("/* /* */", "the comment at byte 0 isn't closed"),
+    ("x /*/", "the comment at byte 2 isn't closed"),
+    ("x /", "byte 2 begins no token"),
+    ("&&& &&", "byte 2 begins no token"),
+    ("_a", "byte 0 begins no token"),
+    ("a \u{e9}", "byte 2 begins no token"),
+    ("# /*", "byte 0 begins no token"),
+    ("/* #", "the comment at byte 0 isn't closed"),
+];
+
+/// Whether the tokens of a text, or its fault, read so.
+fn is_told(alloc: Global, text: &[u8], want: &str) -> Result<bool, AllocError> {
+    Ok(told(alloc, text)?.as_str() == want)
 }
 
-/// A text of this byte alone.
-fn repeated(alloc: Global, byte: u8, count: usize) -> Result<Vec<u8>, AllocError> {
-    let mut text = Vec::with_capacity(alloc, count)?;
-    for _ in 0..count {
-        text.push(byte)?;
+#[test]
+fn tokens_and_faults(rt: HostRuntime) -> Result<(), Fail> {
+    for (text, want) in TOLD {
+        assert!(rt; is_told(rt.alloc(), text.as_bytes(), want)?, "{text}");
     }
-    Ok(text)
+    Ok(())
 }
 
 #[test]
@@ -89,11 +87,16 @@ fn limits(rt: HostRuntime) -> Result<(), Fail> {
         (b' ', 1048577, "the text has more than 1048576 bytes"),
         (b'#', 1048577, "the text has more than 1048576 bytes"),
     ];
-    for (byte, count, want) in rows {
-        let text = repeated(rt.alloc(), byte, count)?;
-        assert_eq!(rt; told(rt.alloc(), &text)?.as_str(), want, "{count} bytes");
+    for (byte, count, want) in &rows {
+        let text = vec![in rt.alloc(); *byte; *count]?;
+        assert!(rt; is_told(rt.alloc(), &text, want)?, "{count} bytes");
     }
-    let tokens = lex(rt.alloc(), &repeated(rt.alloc(), b'a', 255)?)?;
+    Ok(())
+}
+
+#[test]
+fn longest_name(rt: HostRuntime) -> Result<(), Fail> {
+    let tokens = lex(rt.alloc(), &vec![in rt.alloc(); b'a'; 255]?)?;
     assert_eq!(rt; tokens.len(), 1);
     assert_eq!(rt; tokens[0].end, 255);
     Ok(())
@@ -133,21 +136,42 @@ fn hash_of(name: &Name) -> u64 {
     state.finish()
 }
 
+fn named(alloc: Global, text: &str) -> Result<Name, Fail> {
+    Ok(Name::try_new(alloc, text)?.ok_or("a name")?)
+}
+
+/// Whether the name reads as the text, and is printed as it.
+fn is_spelled(alloc: Global, name: &Name, text: &str) -> Result<bool, AllocError> {
+    Ok(name.as_str() == text && name.to_string(alloc)?.as_str() == text)
+}
+
+/// Whether a copy has the bytes of the text, and equals the name and hashes as it does.
+fn has_copy(alloc: Global, name: &Name, text: &str) -> Result<bool, AllocError> {
+    let copy = name.copy(alloc)?;
+    Ok(copy.bytes() == text.as_bytes() && *name == copy && hash_of(name) == hash_of(&copy))
+}
+
 #[test]
 fn names(rt: HostRuntime) -> Result<(), Fail> {
-    let alloc = rt.alloc();
-    let name = Name::try_new(alloc, "ab")?.ok_or("a name")?;
-    let copy = name.copy(alloc)?;
-    assert_eq!(rt; name.as_str(), "ab");
-    assert_eq!(rt; copy.bytes(), b"ab".as_slice());
-    assert_eq!(rt; name.to_string(alloc)?.as_str(), "ab");
-    assert!(rt; name == copy && hash_of(&name) == hash_of(&copy));
-    for (less, greater) in [("a", "b"), ("a", "ab"), ("B", "a"), ("z", "\u{e9}")] {
-        let one = Name::new(alloc, less)?;
-        let other = Name::new(alloc, greater)?;
-        assert!(rt; one < other && one != other, "{less} {greater}");
+    let name = named(rt.alloc(), "ab")?;
+    assert!(rt; is_spelled(rt.alloc(), &name, "ab")?);
+    assert!(rt; has_copy(rt.alloc(), &name, "ab")?);
+    assert!(rt; Name::try_new(rt.alloc(), "")?.is_none());
+    Ok(())
+}
+
+/// Whether the first of two names is less than the other, and no equal.
+fn is_less(alloc: Global, less: &str, greater: &str) -> Result<bool, Fail> {
+    let one = named(alloc, less)?;
+    let other = named(alloc, greater)?;
+    Ok(one < other && one != other)
+}
+
+#[test]
+fn names_in_order(rt: HostRuntime) -> Result<(), Fail> {
+    for (less, greater) in &[("a", "b"), ("a", "ab"), ("B", "a"), ("z", "\u{e9}")] {
+        assert!(rt; is_less(rt.alloc(), less, greater)?, "{less} {greater}");
     }
-    assert!(rt; Name::try_new(alloc, "")?.is_none());
     Ok(())
 }
 

@@ -1,16 +1,17 @@
 //! Tests: expected values are from the language's rules and its worked examples.
-use mj_lexer::{Name, Token, lex};
+use mj_lexer::{LexFault, Name, Token, lex};
+use mj_parser::ParseFault::{NotAFile, TooDeep};
 use mj_parser::{Exp, ParseFault, Place, Stmt, Ty, grammar_laws, locate, mark_laws, parse};
 use std::alloc::{AllocError, Global};
 use std::test::Fail;
 
-/// Why the text is no file, if it is none.
-fn fault_of(alloc: Global, text: &str) -> Result<Option<ParseFault>, Fail> {
+/// A fault of a text that is no file, or nothing where it is one.
+type Fault = Option<ParseFault>;
+
+/// Whether this is why the text is no file.
+fn has_fault(alloc: Global, text: &str, want: Fault) -> Result<bool, LexFault> {
     let tokens = lex(alloc, text.as_bytes())?;
-    match parse(alloc, &tokens) {
-        Ok(_) => Ok(None),
-        Err(fault) => Ok(Some(fault)),
-    }
+    Ok(parse(alloc, &tokens).err() == want)
 }
 
 /// The inner text in so many pairs of brackets, between the two texts of a frame.
@@ -21,26 +22,32 @@ fn nested(
     inner: &str,
     count: usize,
 ) -> Result<String, AllocError> {
-    let mut text = String::from_str(alloc, frame[0])?;
-    for _ in 0..count {
-        text.push_str(brackets[0])?;
-    }
-    text.push_str(inner)?;
-    for _ in 0..count {
-        text.push_str(brackets[1])?;
-    }
-    text.push_str(frame[1])?;
-    Ok(text)
+    let opening = brackets[0].repeat(alloc, count)?;
+    let closing = brackets[1].repeat(alloc, count)?;
+    format!(in alloc; "{}{opening}{inner}{closing}{}", frame[0], frame[1])
 }
 
-/// A text with a part as often as said, between the two texts of a frame.
-fn repeated(
+/// Whether this is the fault of the inner text in so many pairs of brackets.
+fn has_fault_in(
+    alloc: Global,
+    frame: [&str; 2],
+    brackets: [&str; 2],
+    row: &(usize, &str, Fault),
+) -> Result<bool, LexFault> {
+    let (count, inner, want) = row;
+    let text = nested(alloc, frame, brackets, inner, *count)?;
+    has_fault(alloc, text.as_str(), *want)
+}
+
+/// Whether this is the fault of a text with a part as often as said, between the two texts of a frame.
+fn has_fault_with(
     alloc: Global,
     frame: [&str; 2],
     part: &str,
     count: usize,
-) -> Result<String, AllocError> {
-    nested(alloc, frame, [part, ""], "", count)
+    want: Fault,
+) -> Result<bool, LexFault> {
+    has_fault_in(alloc, frame, [part, ""], &(count, "", want))
 }
 
 /// A main class that prints a value, which begins at token 20.
@@ -52,122 +59,142 @@ const PRINTING: [&str; 2] = [
 /// A class with a method of a body, which begins at token 9.
 const BODY: [&str; 2] = ["class A { public int f() { ", " return 1; } }"];
 
-const NO_FAULT: Option<ParseFault> = None;
+const NO_FAULT: Fault = None;
 
-fn at(place: usize) -> Option<ParseFault> {
-    Some(ParseFault::NotAFile(place))
-}
+const TOO_DEEP: Fault = Some(TooDeep);
+
+/// Texts, each with its fault.
+const FILES: &[(&str, Fault)] = &[
+    ("", NO_FAULT),
+    (
+        "class A { } class B extends A { int[] v; C c; int v; }",
+        NO_FAULT,
+    ),
+    (
+        "class Factorial { public static void main(String[] a) { System.out.println(new Fac().ComputeFac(10)); } } class Fac { public int ComputeFac(int num) { int num_aux; if (num < 1) num_aux = 1; else num_aux = num * (this.ComputeFac(num-1)); return num_aux; } }",
+        NO_FAULT,
+    ),
+    ("x", Some(NotAFile(0))),
+    ("class {", Some(NotAFile(1))),
+    ("class A", Some(NotAFile(2))),
+    ("class A {", Some(NotAFile(3))),
+    ("class A { } }", Some(NotAFile(4))),
+    ("class A extends { }", Some(NotAFile(3))),
+    ("class A { x ; }", Some(NotAFile(4))),
+    ("class A { int[ x; }", Some(NotAFile(5))),
+    ("class A { int x }", Some(NotAFile(5))),
+    ("class A { static }", Some(NotAFile(3))),
+    ("class A { public void f() { } }", Some(NotAFile(4))),
+    ("class A { public int f(int) { } }", Some(NotAFile(8))),
+    ("class A { public int f(int x,) { } }", Some(NotAFile(10))),
+    ("class A { public int f() { } }", Some(NotAFile(9))),
+    ("class A { public int f() { return 1;", Some(NotAFile(12))),
+    (
+        "class A { public int f() { return 1; } int x; }",
+        Some(NotAFile(13)),
+    ),
+    ("class M { public static int main", Some(NotAFile(5))),
+    ("class M { public static void f", Some(NotAFile(6))),
+    (
+        "class M { public static void main(string[] a) { }",
+        Some(NotAFile(8)),
+    ),
+    (
+        "class M { public static void main(String[] a) { }",
+        Some(NotAFile(14)),
+    ),
+    (
+        "class A { } class M { public static void main",
+        Some(NotAFile(8)),
+    ),
+];
 
 #[test]
 fn files(rt: HostRuntime) -> Result<(), Fail> {
     grammar_laws();
     mark_laws();
-    let rows = [
-        ("", NO_FAULT),
-        (
-            "class A { } class B extends A { int[] v; C c; int v; }",
-            NO_FAULT,
-        ),
-        (
-            "class Factorial { public static void main(String[] a) { System.out.println(new Fac().ComputeFac(10)); } } class Fac { public int ComputeFac(int num) { int num_aux; if (num < 1) num_aux = 1; else num_aux = num * (this.ComputeFac(num-1)); return num_aux; } }",
-            NO_FAULT,
-        ),
-        ("x", at(0)),
-        ("class {", at(1)),
-        ("class A", at(2)),
-        ("class A {", at(3)),
-        ("class A { } }", at(4)),
-        ("class A extends { }", at(3)),
-        ("class A { x ; }", at(4)),
-        ("class A { int[ x; }", at(5)),
-        ("class A { int x }", at(5)),
-        ("class A { static }", at(3)),
-        ("class A { public void f() { } }", at(4)),
-        ("class A { public int f(int) { } }", at(8)),
-        ("class A { public int f(int x,) { } }", at(10)),
-        ("class A { public int f() { } }", at(9)),
-        ("class A { public int f() { return 1;", at(12)),
-        ("class A { public int f() { return 1; } int x; }", at(13)),
-        ("class M { public static int main", at(5)),
-        ("class M { public static void f", at(6)),
-        ("class M { public static void main(string[] a) { }", at(8)),
-        ("class M { public static void main(String[] a) { }", at(14)),
-        ("class A { } class M { public static void main", at(8)),
-    ];
-    for (text, want) in rows {
-        assert_eq!(rt; fault_of(rt.alloc(), text)?, want, "at {text}");
+    for (text, want) in FILES {
+        assert!(rt; has_fault(rt.alloc(), text, *want)?, "at {text}");
     }
     Ok(())
 }
+
+/// Statements of a method, each with the fault of its class.
+const STATEMENTS: &[(&str, Fault)] = &[
+    ("int x; x y; System z; boolean b; int[] w;", NO_FAULT),
+    (
+        "x = 1; x[1] = 2; System = 3; { x = 1; { } } System.out.println(1);",
+        NO_FAULT,
+    ),
+    ("if (true) x = 1; else while (true) { }", NO_FAULT),
+    ("if (true) x = 1;", Some(NotAFile(17))),
+    ("if true", Some(NotAFile(10))),
+    ("while ()", Some(NotAFile(11))),
+    ("x;", Some(NotAFile(10))),
+    ("x.y(1);", Some(NotAFile(10))),
+    ("System.in", Some(NotAFile(11))),
+    ("System.out.print(1);", Some(NotAFile(13))),
+    ("x = ;", Some(NotAFile(11))),
+    ("x[] = 1;", Some(NotAFile(11))),
+    ("x[1];", Some(NotAFile(13))),
+    ("x = 1; int y;", Some(NotAFile(13))),
+    ("{ int x; }", Some(NotAFile(10))),
+    ("{", Some(NotAFile(10))),
+    ("else", Some(NotAFile(9))),
+];
 
 #[test]
 fn statements(rt: HostRuntime) -> Result<(), Fail> {
-    let rows = [
-        ("int x; x y; System z; boolean b; int[] w;", NO_FAULT),
-        (
-            "x = 1; x[1] = 2; System = 3; { x = 1; { } } System.out.println(1);",
-            NO_FAULT,
-        ),
-        ("if (true) x = 1; else while (true) { }", NO_FAULT),
-        ("if (true) x = 1;", at(17)),
-        ("if true", at(10)),
-        ("while ()", at(11)),
-        ("x;", at(10)),
-        ("x.y(1);", at(10)),
-        ("System.in", at(11)),
-        ("System.out.print(1);", at(13)),
-        ("x = ;", at(11)),
-        ("x[] = 1;", at(11)),
-        ("x[1];", at(13)),
-        ("x = 1; int y;", at(13)),
-        ("{ int x; }", at(10)),
-        ("{", at(10)),
-        ("else", at(9)),
-    ];
-    for (body, want) in rows {
-        let text = repeated(rt.alloc(), BODY, body, 1)?;
-        assert_eq!(rt; fault_of(rt.alloc(), text.as_str())?, want, "at {body}");
+    for (body, want) in STATEMENTS {
+        assert!(rt;
+            has_fault_with(rt.alloc(), BODY, body, 1, *want)?,
+            "at {body}"
+        );
     }
     Ok(())
 }
 
+/// Values that are printed, each with the fault of its class.
+const EXPRESSIONS: &[(&str, Fault)] = &[
+    ("a && 2 < 3 + 4 - 5 * !!true", NO_FAULT),
+    ("new int[3].length", NO_FAULT),
+    ("(new int[3])[0]", NO_FAULT),
+    ("a.length", NO_FAULT),
+    ("a.length() + a.length(1, 2)", NO_FAULT),
+    ("new A().f(this, false)[1]", NO_FAULT),
+    ("new int[3][0]", Some(NotAFile(25))),
+    ("a.b", Some(NotAFile(23))),
+    ("new", Some(NotAFile(21))),
+    ("new A", Some(NotAFile(22))),
+    ("new A(1)", Some(NotAFile(23))),
+    ("new int", Some(NotAFile(22))),
+    ("1 +", Some(NotAFile(22))),
+    ("1 && && 2", Some(NotAFile(22))),
+    ("!", Some(NotAFile(21))),
+    ("()", Some(NotAFile(21))),
+    ("(1", Some(NotAFile(23))),
+    ("1 2", Some(NotAFile(21))),
+    ("a[1", Some(NotAFile(23))),
+    ("f(1)", Some(NotAFile(21))),
+    ("a.f(,", Some(NotAFile(24))),
+    ("a.f(1", Some(NotAFile(26))),
+    ("this.x.length", Some(NotAFile(23))),
+];
+
 #[test]
 fn expressions(rt: HostRuntime) -> Result<(), Fail> {
-    let rows = [
-        ("a && 2 < 3 + 4 - 5 * !!true", NO_FAULT),
-        ("new int[3].length", NO_FAULT),
-        ("(new int[3])[0]", NO_FAULT),
-        ("a.length", NO_FAULT),
-        ("a.length() + a.length(1, 2)", NO_FAULT),
-        ("new A().f(this, false)[1]", NO_FAULT),
-        ("new int[3][0]", at(25)),
-        ("a.b", at(23)),
-        ("new", at(21)),
-        ("new A", at(22)),
-        ("new A(1)", at(23)),
-        ("new int", at(22)),
-        ("1 +", at(22)),
-        ("1 && && 2", at(22)),
-        ("!", at(21)),
-        ("()", at(21)),
-        ("(1", at(23)),
-        ("1 2", at(21)),
-        ("a[1", at(23)),
-        ("f(1)", at(21)),
-        ("a.f(,", at(24)),
-        ("a.f(1", at(26)),
-        ("this.x.length", at(23)),
-    ];
-    for (value, want) in rows {
-        let text = repeated(rt.alloc(), PRINTING, value, 1)?;
-        assert_eq!(rt; fault_of(rt.alloc(), text.as_str())?, want, "at {value}");
+    for (value, want) in EXPRESSIONS {
+        assert!(rt;
+            has_fault_with(rt.alloc(), PRINTING, value, 1, *want)?,
+            "at {value}"
+        );
     }
     Ok(())
 }
 
 #[test]
 fn a_second_bracket_stands_at_column_78(rt: HostRuntime) -> Result<(), Fail> {
-    let text = repeated(rt.alloc(), PRINTING, "new int[3][0]", 1)?;
+    let text = nested(rt.alloc(), PRINTING, ["", ""], "new int[3][0]", 1)?;
     let tokens = lex(rt.alloc(), text.as_bytes())?;
     assert_eq!(rt; start_of(&tokens, Some(25)), Some(77));
     Ok(())
@@ -211,80 +238,89 @@ fn marks(rt: HostRuntime) -> Result<(), Fail> {
     Ok(())
 }
 
+/// How many parentheses stand around a value, the value, and the fault of its class.
+const LEVELS: &[(usize, &str, Fault)] = &[
+    (498, "1", NO_FAULT),
+    (499, "1", TOO_DEEP),
+    (498, "!1", TOO_DEEP),
+    (498, "!;", TOO_DEEP),
+    (498, ";", Some(NotAFile(518))),
+    (498, "1;", Some(NotAFile(519))),
+    (499, ";", TOO_DEEP),
+    (498, "new int[1]", TOO_DEEP),
+    (498, "new A()", NO_FAULT),
+    (498, "a.length", TOO_DEEP),
+    (497, "a.length", NO_FAULT),
+];
+
 #[test]
 fn levels(rt: HostRuntime) -> Result<(), Fail> {
-    for (count, inner, want) in [
-        (498, "1", NO_FAULT),
-        (499, "1", Some(ParseFault::TooDeep)),
-        (498, "!1", Some(ParseFault::TooDeep)),
-        (498, "!;", Some(ParseFault::TooDeep)),
-        (498, ";", at(518)),
-        (498, "1;", at(519)),
-        (499, ";", Some(ParseFault::TooDeep)),
-        (498, "new int[1]", Some(ParseFault::TooDeep)),
-        (498, "new A()", NO_FAULT),
-        (498, "a.length", Some(ParseFault::TooDeep)),
-        (497, "a.length", NO_FAULT),
-    ] {
-        let text = nested(rt.alloc(), PRINTING, ["(", ")"], inner, count)?;
-        assert_eq!(rt;
-            fault_of(rt.alloc(), text.as_str())?,
-            want,
-            "at {count} times {inner}"
+    for row in LEVELS {
+        assert!(rt;
+            has_fault_in(rt.alloc(), PRINTING, ["(", ")"], row)?,
+            "at {row:?}"
         );
     }
     Ok(())
 }
+
+/// How many blocks stand around a statement, the statement, and the fault of its class.
+const LEVELS_OF_STATEMENTS: &[(usize, &str, Fault)] = &[
+    (500, "", NO_FAULT),
+    (501, "", TOO_DEEP),
+    (499, "x = 1;", TOO_DEEP),
+    (498, "x = 1;", NO_FAULT),
+    (500, "x = 1;", TOO_DEEP),
+    (500, "=", Some(NotAFile(509))),
+];
 
 #[test]
 fn levels_of_statements(rt: HostRuntime) -> Result<(), Fail> {
-    for (count, inner, want) in [
-        (500, "", NO_FAULT),
-        (501, "", Some(ParseFault::TooDeep)),
-        (499, "x = 1;", Some(ParseFault::TooDeep)),
-        (498, "x = 1;", NO_FAULT),
-        (500, "x = 1;", Some(ParseFault::TooDeep)),
-        (500, "=", at(509)),
-    ] {
-        let text = nested(rt.alloc(), BODY, ["{", "}"], inner, count)?;
-        assert_eq!(rt;
-            fault_of(rt.alloc(), text.as_str())?,
-            want,
-            "at {count} times {inner}"
+    for row in LEVELS_OF_STATEMENTS {
+        assert!(rt;
+            has_fault_in(rt.alloc(), BODY, ["{", "}"], row)?,
+            "at {row:?}"
         );
     }
     Ok(())
 }
 
+/// A class that returns a value.
+const RETURNING: [&str; 2] = ["class A { public int f() { return 1", "; } }"];
+
 #[test]
 fn levels_of_operators(rt: HostRuntime) -> Result<(), Fail> {
-    let frame = ["class A { public int f() { return 1", "; } }"];
-    for part in ["&&1", "<1", "+1", "-1", "*1"] {
-        let text = repeated(rt.alloc(), frame, part, 499)?;
-        assert_eq!(rt; fault_of(rt.alloc(), text.as_str())?, NO_FAULT, "at {part}");
-        let text = repeated(rt.alloc(), frame, part, 500)?;
-        assert_eq!(rt;
-            fault_of(rt.alloc(), text.as_str())?,
-            Some(ParseFault::TooDeep),
+    for part in &["&&1", "<1", "+1", "-1", "*1"] {
+        assert!(rt;
+            has_fault_with(rt.alloc(), RETURNING, part, 499, NO_FAULT)?,
+            "at {part}"
+        );
+        assert!(rt;
+            has_fault_with(rt.alloc(), RETURNING, part, 500, TOO_DEEP)?,
             "at {part}"
         );
     }
     Ok(())
 }
 
+/// Files before, in and behind a part that stands there 100,000 times.
+const LONG_FILES: &[(&str, &str, &str)] = &[
+    ("class A { ", "int x;", "}"),
+    ("class A { public int f() { ", "int x;", "return 1; } }"),
+    ("class A { public int f() { ", "x=1;", "return 1; } }"),
+    ("class A { public int f() { {", "x=1;", "} return 1; } }"),
+    ("class A { public int f() { return a.f(1", ",1", "); } }"),
+    ("class A { public int f(int x", ",A y", ") { return 1; } }"),
+    ("", "class A{}", ""),
+];
+
 #[test]
 fn long_files(rt: HostRuntime) -> Result<(), Fail> {
-    for (before, part, after) in [
-        ("class A { ", "int x;", "}"),
-        ("class A { public int f() { ", "int x;", "return 1; } }"),
-        ("class A { public int f() { ", "x=1;", "return 1; } }"),
-        ("class A { public int f() { {", "x=1;", "} return 1; } }"),
-        ("class A { public int f() { return a.f(1", ",1", "); } }"),
-        ("class A { public int f(int x", ",A y", ") { return 1; } }"),
-        ("", "class A{}", ""),
-    ] {
-        let text = repeated(rt.alloc(), [before, after], part, 100000)?;
-        assert_eq!(rt; fault_of(rt.alloc(), text.as_str())?, NO_FAULT, "at {part}");
+    for (before, part, after) in LONG_FILES {
+        assert!(rt;
+            has_fault_with(rt.alloc(), [*before, *after], part, 100000, NO_FAULT)?,
+            "at {part}"
+        );
     }
     Ok(())
 }
@@ -294,38 +330,99 @@ fn start_of(tokens: &[Token], place: Option<usize>) -> Option<usize> {
     Some(token.start)
 }
 
+const PLACED: &str =
+    "class /* c */ M { public static void main(String[] a) { System.out.println(1); } } class A extends M { int[] x; A y; public /* d */ int[] f(int z) { return x; } public A g() { return y; } public A f() { return y; } }";
+
+/// Whether the token of the place starts at this byte.
+fn is_at(
+    alloc: Global,
+    class: usize,
+    place: &Place,
+    want: Option<usize>,
+) -> Result<bool, LexFault> {
+    let tokens = lex(alloc, PLACED.as_bytes())?;
+    Ok(start_of(&tokens, locate(&tokens, class, place)) == want)
+}
+
+/// Numbers of classes, and the byte at which the class's token starts.
+const CLASSES: &[(usize, Option<usize>)] = &[(0, Some(14)), (1, Some(89)), (2, None)];
+
 #[test]
-fn places(rt: HostRuntime) -> Result<(), Fail> {
-    let alloc = rt.alloc();
-    let text =
-        "class /* c */ M { public static void main(String[] a) { System.out.println(1); } } class A extends M { int[] x; A y; public /* d */ int[] f(int z) { return x; } public A g() { return y; } public A f() { return y; } }";
-    let tokens = lex(alloc, text.as_bytes())?;
-    let rows = [
-        (0, Place::Project, None),
-        (0, Place::File(Name::new(alloc, "M.java")?), None),
-        (0, Place::Class, Some(14)),
-        (1, Place::Class, Some(89)),
-        (2, Place::Class, None),
-        (0, Place::ClassOf(Name::new(alloc, "M.java")?, 1), Some(89)),
-        (1, Place::Field(0), Some(109)),
-        (1, Place::Field(1), Some(114)),
-        (1, Place::Method(0), Some(138)),
-        (1, Place::Method(1), Some(170)),
-        (1, Place::Method(2), Some(197)),
-        (1, Place::Method(3), None),
-        (0, Place::Inside(Name::new(alloc, "main")?, 11), Some(56)),
-        (0, Place::Inside(Name::new(alloc, "main")?, 17), Some(75)),
-        (1, Place::Inside(Name::new(alloc, "f")?, 0), Some(117)),
-        (1, Place::Inside(Name::new(alloc, "f")?, 4), Some(138)),
-        (1, Place::Inside(Name::new(alloc, "g")?, 7), Some(183)),
-        (1, Place::Inside(Name::new(alloc, "h")?, 0), None),
-    ];
-    for (class, place, want) in &rows {
-        assert_eq!(rt;
-            start_of(&tokens, locate(&tokens, *class, place)),
-            *want,
-            "at {place:?}"
+fn places_of_classes(rt: HostRuntime) -> Result<(), Fail> {
+    for (class, want) in CLASSES {
+        assert!(rt;
+            is_at(rt.alloc(), *class, &Place::Class, *want)?,
+            "at {class}"
         );
+    }
+    assert!(rt; is_at(rt.alloc(), 0, &Place::Project, None)?);
+    Ok(())
+}
+
+/// Numbers of the fields of class 1, and the byte at which the field's token starts.
+const FIELDS: &[(usize, Option<usize>)] = &[(0, Some(109)), (1, Some(114))];
+
+/// Numbers of the methods of class 1, and the byte at which the method's token starts.
+const METHODS: &[(usize, Option<usize>)] = &[
+    (0, Some(138)),
+    (1, Some(170)),
+    (2, Some(197)),
+    (3, None),
+];
+
+#[test]
+fn places_of_members(rt: HostRuntime) -> Result<(), Fail> {
+    for (field, want) in FIELDS {
+        assert!(rt;
+            is_at(rt.alloc(), 1, &Place::Field(*field), *want)?,
+            "at {field}"
+        );
+    }
+    for (method, want) in METHODS {
+        assert!(rt;
+            is_at(rt.alloc(), 1, &Place::Method(*method), *want)?,
+            "at {method}"
+        );
+    }
+    Ok(())
+}
+
+#[test]
+fn places_of_files(rt: HostRuntime) -> Result<(), Fail> {
+    let file = Place::File(Name::new(rt.alloc(), "M.java")?);
+    assert!(rt; is_at(rt.alloc(), 0, &file, None)?);
+    let class = Place::ClassOf(Name::new(rt.alloc(), "M.java")?, 1);
+    assert!(rt; is_at(rt.alloc(), 0, &class, Some(89))?);
+    Ok(())
+}
+
+/// A phrase of a class: its method and mark, and the byte at which its token starts.
+type Phrase<'a> = (usize, &'a str, usize, Option<usize>);
+
+const PHRASES: &[Phrase] = &[
+    (0, "main", 11, Some(56)),
+    (0, "main", 17, Some(75)),
+    (1, "f", 0, Some(117)),
+    (1, "f", 4, Some(138)),
+    (1, "g", 7, Some(183)),
+    (1, "h", 0, None),
+];
+
+fn inside(alloc: Global, method: &str, mark: usize) -> Result<Place, Fail> {
+    let name = Name::try_new(alloc, method)?.ok_or("a name")?;
+    Ok(Place::Inside(name, mark))
+}
+
+fn is_inside(alloc: Global, phrase: &Phrase) -> Result<bool, Fail> {
+    let (class, method, mark, want) = phrase;
+    let place = inside(alloc, method, *mark)?;
+    Ok(is_at(alloc, *class, &place, *want)?)
+}
+
+#[test]
+fn places_of_phrases(rt: HostRuntime) -> Result<(), Fail> {
+    for phrase in PHRASES {
+        assert!(rt; is_inside(rt.alloc(), phrase)?, "at {phrase:?}");
     }
     Ok(())
 }
