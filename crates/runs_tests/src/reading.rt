@@ -1,6 +1,6 @@
 ghost use Rattle.std.specs.Prelude.{◌≡◌, ◌⊎◌};
 
-use crate::given::{Given, are_reads, key_of, list_of, sealed_of};
+use crate::given::{Asked, Given, are_reads, is_read, is_refused, key_of, list_of, sealed_of};
 use fingerprint::Sealed;
 use item_ids::{Key, Kind};
 use recorder::{Read, ReadFault, Reader, Recorder, RunFault, ask_key};
@@ -57,18 +57,25 @@ fn is_answered_twice(recorder: &mut Recorder<Counting>, key: &Key) -> Result<boo
     Ok(answer.value().kind() == Kind::Source && answer.bytes() == same.bytes())
 }
 
+/// Whether the key of these names has an answer that is given again.
+fn is_given_again(
+    rt: HostRuntime,
+    recorder: &mut Recorder<Counting>,
+    asked: &Asked,
+) -> Result<bool, Fail> {
+    let key = key_of(rt, asked)?;
+    is_answered_twice(recorder, &key)
+}
+
 /// Whether both keys, the second before the first, have an answer that is given again.
-fn are_answered_twice(rt: HostRuntime, recorder: &mut Recorder<Counting>) -> Result<bool, Fail> {
-    let second = key_of(rt, &SECOND.0)?;
-    let is_answered = is_answered_twice(recorder, &second)?;
-    let first = key_of(rt, &FIRST.0)?;
-    Ok(is_answered_twice(recorder, &first)? && is_answered)
+fn are_given_again(rt: HostRuntime, recorder: &mut Recorder<Counting>) -> Result<bool, Fail> {
+    Ok(is_given_again(rt, recorder, &SECOND.0)? && is_given_again(rt, recorder, &FIRST.0)?)
 }
 
 /// A recorder that was asked for both keys again and again.
 fn asked_again(rt: HostRuntime) -> Result<Recorder<Counting>, Fail> {
     let mut recorder = recorder(rt)?;
-    if are_answered_twice(rt, &mut recorder)? && are_answered_twice(rt, &mut recorder)? {
+    if are_given_again(rt, &mut recorder)? && are_given_again(rt, &mut recorder)? {
         return Ok(recorder);
     }
     Err("another answer".into())
@@ -93,48 +100,89 @@ fn repeated_reads(rt: HostRuntime) -> Result<(), Fail> {
     Ok(())
 }
 
-#[test]
-fn reads_after_a_refused_one(rt: HostRuntime) -> Result<(), Fail> {
+/// Whether the key has an answer.
+fn is_answered<R: Reader>(rt: HostRuntime, reader: &mut R, asked: &Asked) -> Result<bool, Fail> {
+    let key = key_of(rt, asked)?;
+    Ok(reader.read(&key).is_ok())
+}
+
+/// Whether no answer is held for the key.
+fn is_not_held<R: Reader>(rt: HostRuntime, reader: &mut R, asked: &Asked) -> Result<bool, Fail> {
+    let key = key_of(rt, asked)?;
+    Ok(matches!(reader.read(&key), Err(ReadFault::NotHeld)))
+}
+
+/// Whether a step that asks the key gives up, as no answer is held.
+fn gives_up(
+    rt: HostRuntime,
+    recorder: &mut Recorder<Counting>,
+    asked: &Asked,
+) -> Result<bool, Fail> {
+    let key = key_of(rt, asked)?;
+    let result = ask_key(recorder, &key);
+    Ok(matches!(result, Err(RunFault::Read(ReadFault::NotHeld))))
+}
+
+/// A recorder whose second read was refused.
+fn refused(rt: HostRuntime) -> Result<Recorder<Counting>, Fail> {
     let mut recorder = recorder(rt)?;
-    let first = key_of(rt, &FIRST.0)?;
-    let second = key_of(rt, &SECOND.0)?;
-    let missing = key_of(rt, &MISSING.0)?;
-    assert!(rt; recorder.read(&first).is_ok());
-    assert!(rt; matches!(recorder.read(&missing), Err(ReadFault::NotHeld)));
+    if is_answered(rt, &mut recorder, &FIRST.0)? && is_not_held(rt, &mut recorder, &MISSING.0)? {
+        return Ok(recorder);
+    }
+    Err("a refused read after an answer".into())
+}
 
-    // The fault is the answer from then on, also for a key that was read.
-    assert!(rt; matches!(recorder.read(&second), Err(ReadFault::NotHeld)));
-    let again = ask_key(&mut recorder, &first);
-    assert!(rt; matches!(again, Err(RunFault::Read(ReadFault::NotHeld))));
+/// The same, asked twice more: the fault is the answer from then on, also for a key that was read.
+fn refused_again(rt: HostRuntime) -> Result<Recorder<Counting>, Fail> {
+    let mut recorder = refused(rt)?;
+    if is_not_held(rt, &mut recorder, &SECOND.0)? && gives_up(rt, &mut recorder, &FIRST.0)? {
+        return Ok(recorder);
+    }
+    Err("the fault again".into())
+}
+
+#[test]
+fn what_is_kept_of_a_refused_read(rt: HostRuntime) -> Result<(), Fail> {
+    let recorder = refused_again(rt)?;
     assert!(rt; recorder.fault() == Some(ReadFault::NotHeld));
-    assert!(rt; *recorder.refused().ok_or("the refused key")? == missing);
+    assert!(rt; is_refused(rt, &recorder, &MISSING.0)?);
     assert!(rt; are_reads(rt, recorder.reads(), &[FIRST])?);
-
-    // The reader was asked no more, and answers still.
-    let mut reader = recorder.into_reader();
-    assert_eq!(rt; reader.count, 2);
-    assert!(rt; reader.read(&second).is_ok());
     Ok(())
 }
 
-/// The first read that is given.
-fn first_read(rt: HostRuntime) -> Result<Read, Fail> {
+#[test]
+fn reader_after_a_refused_read(rt: HostRuntime) -> Result<(), Fail> {
+    // The reader was asked no more, and answers still.
+    let mut reader = refused_again(rt)?.into_reader();
+    assert_eq!(rt; reader.count, 2);
+    assert!(rt; is_answered(rt, &mut reader, &SECOND.0)?);
+    Ok(())
+}
+
+/// A copy of the first read that is given.
+fn copy_of_the_first(rt: HostRuntime) -> Result<Read, Fail> {
     let first = key_of(rt, &FIRST.0)?;
     let answer = sealed_of(rt, &first, FIRST.1)?;
-    Ok(Read::new(first, answer))
+    Ok(Read::new(first, answer).copy(rt.alloc())?)
+}
+
+/// Whether the read is of the key.
+fn is_of(rt: HostRuntime, read: &Read, asked: &Asked) -> Result<bool, Fail> {
+    let key = key_of(rt, asked)?;
+    Ok(read.is_of(&key))
 }
 
 #[test]
 fn a_read_and_its_copy(rt: HostRuntime) -> Result<(), Fail> {
-    let copy = first_read(rt)?.copy(rt.alloc())?;
-    assert!(rt; copy.is_of(&key_of(rt, &FIRST.0)?));
-    assert!(rt; !copy.is_of(&key_of(rt, &SECOND.0)?));
+    let copy = copy_of_the_first(rt)?;
+    assert!(rt; is_of(rt, &copy, &FIRST.0)?);
+    assert!(rt; !is_of(rt, &copy, &SECOND.0)?);
     Ok(())
 }
 
 #[test]
 fn a_copy_has_key_and_answer(rt: HostRuntime) -> Result<(), Fail> {
-    let copy = first_read(rt)?.copy(rt.alloc())?;
-    assert!(rt; are_reads(rt, &[copy], &[FIRST])?);
+    let copy = copy_of_the_first(rt)?;
+    assert!(rt; is_read(rt, &copy, &FIRST)?);
     Ok(())
 }

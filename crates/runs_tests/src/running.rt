@@ -1,7 +1,7 @@
 ghost use Rattle.std.specs.Prelude.{◌<◌, IfOk};
 ghost use Rattle.recorder.specs.Backed.{rank as rank_of};
 
-use crate::given::{Asked, Given, are_reads, bytes_of, key_of, list_of};
+use crate::given::{Asked, Given, are_reads, is_key, is_refused, is_spelled, key_of, list_of};
 use item_ids::{Key, Kind, rank};
 use recorder::{
     Outcome, ReadFault, Recorder, RunFault, Runner, programs_are_runs, programs_keep_the_laws,
@@ -59,30 +59,38 @@ fn query(rt: HostRuntime, asked: &Asked) -> Result<Key, Fail>
     Ok(key)
 }
 
-/// The outcome of a run over these answers, which needs no other.
-fn outcome(rt: HostRuntime, key: &Key, given: &[Given]) -> Result<Outcome<SampleRunner>, Fail>
+/// The outcome of a run over this list, which needs no other answer.
+fn outcome(rt: HostRuntime, key: &Key, list: AnswerList) -> Result<Outcome<SampleRunner>, Fail>
     requires { 0 < rank_of key.now }
 {
     let mut runner = SampleRunner::new(rt.alloc());
-    let mut recorder = Recorder::new(rt.alloc(), list_of(rt, given)?);
+    let mut recorder = Recorder::new(rt.alloc(), list);
     match record(rt.alloc(), &mut runner, key, &mut recorder) {
-        Ok(outcome) => {
-            if recorder.fault().is_some() || recorder.refused().is_some() {
-                return Err("no refused read".into());
-            }
-            Ok(outcome)
-        }
-        Err(_) => Err("a result".into()),
+        Ok(outcome) if recorder.fault().is_none() && recorder.refused().is_none() => Ok(outcome),
+        _ => Err("a result, and no refused read".into()),
     }
+}
+
+/// The outcome of a run of the key over these answers.
+fn outcome_of(
+    rt: HostRuntime,
+    asked: &Asked,
+    given: &[Given],
+) -> Result<Outcome<SampleRunner>, Fail> {
+    let key = query(rt, asked)?;
+    let list = list_of(rt, given)?;
+    outcome(rt, &key, list)
+}
+
+/// Whether the outcome is of this key and has this result.
+fn is_outcome(rt: HostRuntime, outcome: &Outcome<SampleRunner>, run: &Given) -> Result<bool, Fail> {
+    Ok(is_key(rt, outcome.key(), &run.0)? && is_spelled(rt, outcome.sealed(), run.1)?)
 }
 
 /// Whether a run of the key reads just these answers, in their order, and has this result.
 fn gives(rt: HostRuntime, run: Given, reads: &[Given]) -> Result<bool, Fail> {
-    let key = query(rt, &run.0)?;
-    let outcome = outcome(rt, &key, reads)?;
-    let bytes = bytes_of(rt, run.1)?;
-    let are_reads = are_reads(rt, outcome.reads(), reads)?;
-    Ok(are_reads && *outcome.key() == key && outcome.sealed().bytes() == bytes.as_slice())
+    let outcome = outcome_of(rt, &run.0, reads)?;
+    Ok(are_reads(rt, outcome.reads(), reads)? && is_outcome(rt, &outcome, &run)?)
 }
 
 #[test]
@@ -144,31 +152,58 @@ fn runs_that_read_nothing(rt: HostRuntime) -> Result<(), Fail> {
 }
 
 #[test]
-fn key_that_is_not_held(rt: HostRuntime) -> Result<(), Fail> {
-    let mut runner = SampleRunner::new(rt.alloc());
+fn log_of_a_new_runner(rt: HostRuntime) {
+    let runner = SampleRunner::new(rt.alloc());
     assert!(rt; runner.log().is_empty());
-    let mut recorder = Recorder::new(rt.alloc(), list_of(rt, &[HEADER_A])?);
-    let key = query(rt, &SIG_A_B.0)?;
-    let result = runner.run(rt.alloc(), &key, &mut recorder);
-    assert!(rt; matches!(result, Err(RunFault::Read(ReadFault::NotHeld))));
+}
 
-    // The first read, and of the second one the fault and the key.
+/// A runner and a recorder behind a run that wants a key that is not in the list.
+fn after_want(
+    rt: HostRuntime,
+    key: &Key,
+    list: AnswerList,
+) -> Result<(SampleRunner, Recorder<AnswerList>), Fail>
+    requires { 0 < rank_of key.now }
+{
+    let mut runner = SampleRunner::new(rt.alloc());
+    let mut recorder = Recorder::new(rt.alloc(), list);
+    match runner.run(rt.alloc(), key, &mut recorder) {
+        Err(RunFault::Read(ReadFault::NotHeld)) => Ok((runner, recorder)),
+        _ => Err("a key that is not held".into()),
+    }
+}
+
+/// A runner and a recorder behind a run whose second read has no answer.
+fn half_answered(rt: HostRuntime) -> Result<(SampleRunner, Recorder<AnswerList>), Fail> {
+    let key = query(rt, &SIG_A_B.0)?;
+    let list = list_of(rt, &[HEADER_A])?;
+    after_want(rt, &key, list)
+}
+
+// The first read, and of the second one the fault and the key.
+#[test]
+fn key_that_is_not_held(rt: HostRuntime) -> Result<(), Fail> {
+    let (_, recorder) = half_answered(rt)?;
     assert!(rt; are_reads(rt, recorder.reads(), &[HEADER_A])?);
     assert!(rt; recorder.fault() == Some(ReadFault::NotHeld));
-    let refused = recorder.refused().ok_or("the key of the refused read")?;
-    assert!(rt; *refused == key_of(rt, &HEADER_B.0)?);
+    assert!(rt; is_refused(rt, &recorder, &HEADER_B.0)?);
+    Ok(())
+}
 
-    // The call is logged.
+// The call is logged.
+#[test]
+fn log_of_a_run_without_result(rt: HostRuntime) -> Result<(), Fail> {
+    let (runner, _) = half_answered(rt)?;
     assert_eq!(rt; runner.log().len(), 1);
-    assert!(rt; runner.log()[0] == key);
+    assert!(rt; is_key(rt, &runner.log()[0], &SIG_A_B.0)?);
     Ok(())
 }
 
 /// A recorder behind a run whose reads are refused with this fault, and how many runs the runner's log has.
 fn after_refusal(rt: HostRuntime, fault: ReadFault) -> Result<(Recorder<Refusing>, usize), Fail> {
+    let key = query(rt, &HEADER_A.0)?;
     let mut runner = SampleRunner::new(rt.alloc());
     let mut recorder = Recorder::new(rt.alloc(), Refusing(fault));
-    let key = query(rt, &HEADER_A.0)?;
     match record(rt.alloc(), &mut runner, &key, &mut recorder) {
         Err(RunFault::Read(of)) if of == fault => Ok((recorder, runner.log().len())),
         _ => Err("a refused read".into()),
@@ -192,10 +227,9 @@ fn reads_that_are_refused(rt: HostRuntime) -> Result<(), Fail> {
 
 #[test]
 fn key_of_a_refused_read(rt: HostRuntime) -> Result<(), Fail> {
-    let source = key_of(rt, &SOURCE_A.0)?;
     for fault in [ReadFault::Stopped, ReadFault::NotHeld] {
         let (recorder, _) = after_refusal(rt, fault)?;
-        assert!(rt; recorder.refused() == Some(&source));
+        assert!(rt; is_refused(rt, &recorder, &SOURCE_A.0)?);
     }
     Ok(())
 }
