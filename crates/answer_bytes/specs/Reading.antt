@@ -2,9 +2,9 @@
 use Rattle.std.specs.Prelude.{ℕ, zero, suc, Bool, List, [], ◌∷◌, Ok, Err, Option, Some, None}
 use Rattle.std.specs.Ordering.{nat_cmp, is_lt}
 use Rattle.std.specs.Cmp.Lexicographic.{slice_cmp}
-use Rattle.mj_parser.specs.declared.tree.Ty.{Ty}
-use Rattle.mj_parser.specs.declared.place.Place.{Place}
-use Rattle.mj_parser.specs.declared.place.Place.TheVariants as places
+use Rattle.mj_tree.specs.declared.tree.Ty.{Ty}
+use Rattle.mj_tree.specs.declared.place.Place.{Place}
+use Rattle.mj_tree.specs.declared.place.Place.TheVariants as places
 use Rattle.mj_answer.specs.declared.code.Code.{Code}
 use Rattle.mj_answer.specs.declared.diagnostic.Diagnostic.{Diagnostic}
 use Rattle.mj_answer.specs.declared.table.FieldRow.{FieldRow}

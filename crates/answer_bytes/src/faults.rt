@@ -12,7 +12,7 @@ use byte_readers::{
     read_name, read_two, refused,
 };
 use mj_answer::{Code, Diagnostic};
-use mj_parser::Place;
+use mj_tree::Place;
 use std::alloc::{AllocError, Global};
 
 /// The name in a place has a spelling.

@@ -1,9 +1,9 @@
 -- The printed text of an answer. Each line ends in LF.
 use Rattle.std.specs.Prelude.{ℕ, List, [], ◌∷◌, ◌++◌, codes, decimal, flat_map}
-use Rattle.mj_parser.specs.declared.tree.Ty.{Ty}
-use Rattle.mj_parser.specs.declared.tree.Ty.TheVariants.{Int, Boolean, IntArray, Class}
-use Rattle.mj_parser.specs.declared.place.Place.{Place}
-use Rattle.mj_parser.specs.declared.place.Place.TheVariants as places
+use Rattle.mj_tree.specs.declared.tree.Ty.{Ty}
+use Rattle.mj_tree.specs.declared.tree.Ty.TheVariants.{Int, Boolean, IntArray, Class}
+use Rattle.mj_tree.specs.declared.place.Place.{Place}
+use Rattle.mj_tree.specs.declared.place.Place.TheVariants as places
 use Rattle.mj_answer.specs.declared.code.Code.{Code}
 use Rattle.mj_answer.specs.declared.diagnostic.Diagnostic.{Diagnostic}
 use Rattle.mj_answer.specs.declared.table.FieldRow.{FieldRow}

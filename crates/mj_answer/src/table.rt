@@ -3,7 +3,7 @@ ghost use Rattle.std.specs.Prelude.{◌≡◌};
 
 use crate::diagnostic::Diagnostic;
 use mj_lexer::Name;
-use mj_parser::Ty;
+use mj_tree::Ty;
 use std::marker::Model;
 
 /// A field that a class has, with the class that declares it.

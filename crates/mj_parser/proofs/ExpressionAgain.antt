@@ -7,10 +7,10 @@ use Rattle.mj_lexer.specs.declared.token.Terminal.TheVariants as terminals
 use Rattle.mj_lexer.specs.declared.token.Kind.{Kind}
 use Rattle.mj_lexer.specs.declared.token.Kind.TheVariants as kinds
 use Rattle.std.proofs.lemmas.Bool.{cases_lt}
-use Rattle.mj_parser.specs.declared.tree.Operator.{Operator}
-use Rattle.mj_parser.specs.declared.tree.Operator.TheVariants.{And, Less, Plus, Minus, Times}
+use Rattle.mj_tree.specs.declared.tree.Operator.{Operator}
+use Rattle.mj_tree.specs.declared.tree.Operator.TheVariants.{And, Less, Plus, Minus, Times}
 use Rattle.mj_parser.specs.Tokens.{same_terminal, is_terminal, name_of, value_of, kind_at, has, name_at, value_at, says}
-use Rattle.mj_parser.specs.Trees.{Expression, Expressions, Binary, Index, Length, Call, Literal, Boolean, Named, This, NewArray, NewObject, Not, Parenthesized, none, more}
+use Rattle.mj_tree.specs.Trees.{Expression, Expressions, Binary, Index, Length, Call, Literal, Boolean, Named, This, NewArray, NewObject, Not, Parenthesized, none, more}
 use Rattle.mj_parser.specs.Expressions.{tier_of, terminal_of, size, sizes, sizes_more, height, heights, IsExp, AreArguments, AreMore}
 use Rattle.mj_parser.specs.ExpressionReading.{Found, Reader, operator_at, takes_index, new_at, terminal_at, prim_of, prim_at, index_at, member_at, post_at, tier_at, exp_at}
 use Rattle.mj_parser.proofs.Loops.{ChainLeads, PostLeads, chain_ends, chain_goes_on, post_ends, index_goes_on, member_goes_on}

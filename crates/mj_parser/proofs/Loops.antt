@@ -3,11 +3,11 @@ use Rattle.std.proofs.Common.{◌≡◌, ℕ, max, zero, suc, ◌+◌, ◌<◌, 
 use Rattle.std.proofs.lemmas.Bool.{lt-leb}
 use Rattle.mj_lexer.specs.declared.token.Token.{Token}
 use Rattle.mj_lexer.specs.declared.token.Terminal.TheVariants as terminals
-use Rattle.mj_parser.specs.declared.tree.Exp.{Exp}
-use Rattle.mj_parser.specs.declared.tree.Operator.{Operator}
+use Rattle.mj_tree.specs.declared.tree.Exp.{Exp}
+use Rattle.mj_tree.specs.declared.tree.Operator.{Operator}
 use Rattle.mj_parser.specs.Tokens.{has}
-use Rattle.mj_parser.specs.Trees.{Expression, Binary}
-use Rattle.mj_parser.specs.Views.{exp_view, exps_view}
+use Rattle.mj_tree.specs.Trees.{Expression, Binary}
+use Rattle.mj_tree.specs.Views.{exp_view, exps_view}
 use Rattle.mj_parser.specs.Expressions.{height, heights}
 use Rattle.mj_parser.specs.ExpressionReading.{Found, Reader, operator_at, binary_from, takes_index, post_from, index_at, member_at, exp_at}
 

@@ -6,7 +6,7 @@ use Rattle.mj_lexer.specs.declared.token.Terminal.TheVariants as terminals
 use Rattle.mj_parser.specs.declared.fault.ParseFault.{ParseFault}
 use Rattle.mj_parser.specs.declared.fault.ParseFault.TheVariants.{NotAFile, TooDeep, OutOfMemory}
 use Rattle.mj_parser.specs.Tokens.{has, name_at}
-use Rattle.mj_parser.specs.Trees.{Name, Statement}
+use Rattle.mj_tree.specs.Trees.{Name, Statement}
 use Rattle.mj_parser.specs.Statements.{opens_print}
 use Rattle.mj_parser.specs.Steps.{◌>>=◌, when, PartReader, Fails}
 use Rattle.mj_parser.specs.ExpressionReading.{exp_at}

@@ -3,8 +3,8 @@ use Rattle.std.proofs.Common.{◌≡◌, ℕ, zero, suc, ◌+◌, ◌≤◌, Boo
 use Rattle.mj_lexer.specs.declared.token.Token.{Token}
 use Rattle.mj_lexer.specs.declared.token.Terminal.TheVariants as terminals
 use Rattle.mj_parser.specs.Tokens.{has, name_at}
-use Rattle.mj_parser.specs.Trees.{Name, Expression, Statement}
-use Rattle.mj_parser.specs.Views.{statements_of}
+use Rattle.mj_tree.specs.Trees.{Name, Expression, Statement}
+use Rattle.mj_tree.specs.Views.{statements_of}
 use Rattle.mj_parser.specs.Expressions.{size, height, IsExp}
 use Rattle.mj_parser.specs.Statements.{stmt_size, stmts_size, stmt_height, stmts_height, opens_print, IsStmt, AreStmts}
 use Rattle.mj_parser.specs.Steps.{PartReader, items_from}

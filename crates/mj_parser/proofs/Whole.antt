@@ -4,9 +4,9 @@ use Rattle.std.specs.Prelude.{IfOk, MatchResult}
 use Rattle.mj_lexer.specs.declared.token.Token.{Token}
 use Rattle.mj_parser.specs.declared.fault.ParseFault.{ParseFault}
 use Rattle.mj_parser.specs.declared.fault.ParseFault.TheVariants.{NotAFile, TooDeep, OutOfMemory}
-use Rattle.mj_parser.specs.declared.tree.FileTree.{FileTree}
-use Rattle.mj_parser.specs.Trees.{File}
-use Rattle.mj_parser.specs.Views.{file_view}
+use Rattle.mj_tree.specs.declared.tree.FileTree.{FileTree}
+use Rattle.mj_tree.specs.Trees.{File}
+use Rattle.mj_tree.specs.Views.{file_view}
 use Rattle.mj_parser.specs.Declarations.{Derives}
 use Rattle.mj_parser.specs.Steps.{Gives}
 use Rattle.mj_parser.specs.FileReading.{tree_of}

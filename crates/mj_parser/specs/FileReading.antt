@@ -3,13 +3,13 @@ use Rattle.std.specs.Prelude.{ℕ, suc, ◌+◌, Bool, ◌&&◌, ◌||◌, not, 
 use Rattle.mj_lexer.specs.declared.token.Token.{Token}
 use Rattle.mj_lexer.specs.declared.token.Terminal.TheVariants as terminals
 use Rattle.mj_parser.specs.declared.declarations.Signature as parts
-use Rattle.mj_parser.specs.declared.tree.Ty.{Ty}
-use Rattle.mj_parser.specs.declared.tree.Ty.TheVariants as types
-use Rattle.mj_parser.specs.declared.tree.Field.{Field}
-use Rattle.mj_parser.specs.declared.tree.Variable.{Variable}
+use Rattle.mj_tree.specs.declared.tree.Ty.{Ty}
+use Rattle.mj_tree.specs.declared.tree.Ty.TheVariants as types
+use Rattle.mj_tree.specs.declared.tree.Field.{Field}
+use Rattle.mj_tree.specs.declared.tree.Variable.{Variable}
 use Rattle.mj_parser.specs.Tokens.{has, name_at}
-use Rattle.mj_parser.specs.Trees.{Name, Statement, Method, Main, Class, File}
-use Rattle.mj_parser.specs.Views.{statements_of}
+use Rattle.mj_tree.specs.Trees.{Name, Statement, Method, Main, Class, File}
+use Rattle.mj_tree.specs.Views.{statements_of}
 use Rattle.mj_parser.specs.Declarations.{main_head, main_parameter}
 use Rattle.mj_parser.specs.Steps.{◌>>=◌, when, PartReader, items_from, listed_at}
 use Rattle.mj_parser.specs.ExpressionReading.{exp_at}

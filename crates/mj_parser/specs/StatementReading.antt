@@ -3,8 +3,8 @@ use Rattle.std.specs.Prelude.{ℕ, zero, suc, ◌+◌, Bool, ◌&&◌, not, List
 use Rattle.mj_lexer.specs.declared.token.Token.{Token}
 use Rattle.mj_lexer.specs.declared.token.Terminal.TheVariants as terminals
 use Rattle.mj_parser.specs.Tokens.{has, name_at}
-use Rattle.mj_parser.specs.Trees.{Name, Expression, Statement, Block, If, While, Print, Assign, Store}
-use Rattle.mj_parser.specs.Views.{statements_of}
+use Rattle.mj_tree.specs.Trees.{Name, Expression, Statement, Block, If, While, Print, Assign, Store}
+use Rattle.mj_tree.specs.Views.{statements_of}
 use Rattle.mj_parser.specs.Statements.{opens_print}
 use Rattle.mj_parser.specs.Steps.{◌>>=◌, when, PartReader, items_from}
 use Rattle.mj_parser.specs.ExpressionReading.{exp_at}

@@ -1,6 +1,6 @@
 //! Reading types, variables and methods.
 ghost use Rattle.std.specs.Prelude.{◌≡◌, ℕ, ◌+◌, ◌<◌, ◌≤◌, suc, length, map, IfOk, IsTrue};
-ghost use Rattle.mj_parser.specs.Views.{stmt_view, method_view};
+ghost use Rattle.mj_tree.specs.Views.{stmt_view, method_view};
 ghost use Rattle.mj_parser.specs.Steps.{Gives, items_from, listed_at};
 ghost use Rattle.mj_parser.specs.StatementReading.{stmt_at};
 ghost use Rattle.mj_parser.specs.FileReading.{type_at, variable_at, local_at, begins_local, signature_view, signature_at, not_return, method_at};
@@ -9,7 +9,7 @@ use crate::expressions::read;
 use crate::fault::ParseFault;
 use crate::statements::statement;
 use crate::tokens::{Parsed, expect, expect_name, has, name};
-use crate::tree::{MethodTree, Stmt, Ty, Variable};
+use mj_tree::{MethodTree, Stmt, Ty, Variable};
 use mj_lexer::{Name, Terminal, Token};
 use std::alloc::Global;
 

@@ -1,6 +1,6 @@
 //! Reading an expression from left to right.
 ghost use Rattle.std.specs.Prelude.{◌≡◌, ℕ, ◌+◌, ◌^◌, ◌<◌, ◌≤◌, length, map, IfOk, IsSome, IsTrue};
-ghost use Rattle.mj_parser.specs.Views.{exp_view, exps_view};
+ghost use Rattle.mj_tree.specs.Views.{exp_view, exps_view};
 ghost use Rattle.mj_parser.specs.Expressions.{height, heights, is_new_array, tier_of};
 ghost use Rattle.mj_parser.specs.Steps.{Gives, listed_at};
 ghost use Rattle.mj_parser.specs.ExpressionReading.{new_at, prim_at, takes_index, index_at, member_at, post_from, post_at, operator_here, operator_at, binary_from, tier_at, exp_at};
@@ -8,7 +8,7 @@ ghost use Rattle.mj_parser.specs.ExpressionReading.{new_at, prim_at, takes_index
 use crate::fault::ParseFault;
 use crate::nodes;
 use crate::tokens::{expect, expect_name, has, kind, says};
-use crate::tree::{Exp, Operator};
+use mj_tree::{Exp, Operator};
 use mj_lexer::{Kind, Terminal, Token};
 use std::alloc::Global;
 

@@ -1,6 +1,6 @@
 //! Reading classes and the whole file.
 ghost use Rattle.std.specs.Prelude.{◌≡◌, ◌≢◌, ℕ, ◌+◌, ◌<◌, ◌≤◌, suc, length, drop, map, option_map, true, false, IfOk, IfErr, IsTrue};
-ghost use Rattle.mj_parser.specs.Views.{stmt_view, method_view, main_view, class_view, file_view};
+ghost use Rattle.mj_tree.specs.Views.{stmt_view, method_view, main_view, class_view, file_view};
 ghost use Rattle.mj_parser.specs.Declarations.{main_head, main_parameter};
 ghost use Rattle.mj_parser.specs.Steps.{Gives, items_from};
 ghost use Rattle.mj_parser.specs.FileReading.{field_at, begins_type, method_from, at_public, superclass_at, class_at, begins_main, main_method_at, main_from, main_at, main_part_at, before_end, tree_of};
@@ -10,7 +10,7 @@ use crate::declarations::{local, method};
 use crate::fault::ParseFault;
 use crate::statements::statement;
 use crate::tokens::{Parsed, expect, expect_name, expect_word, has, name};
-use crate::tree::{ClassTree, Field, FileTree, MainTree, MethodTree, Stmt};
+use mj_tree::{ClassTree, Field, FileTree, MainTree, MethodTree, Stmt};
 use mj_lexer::{Name, Terminal, Token};
 use std::alloc::Global;
 

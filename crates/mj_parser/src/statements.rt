@@ -1,7 +1,7 @@
 //! Reading a statement from left to right.
 ghost use Rattle.std.specs.Prelude.{◌≡◌, ℕ, ◌+◌, ◌^◌, ◌<◌, ◌≤◌, ◌||◌, suc, length, map, not, true, false, Some, None, ◌≢◌, IfOk, IfErr, IsTrue};
 ghost use Rattle.mj_parser.specs.Tokens.{has, name_at};
-ghost use Rattle.mj_parser.specs.Views.{exp_view, stmt_view};
+ghost use Rattle.mj_tree.specs.Views.{exp_view, stmt_view};
 ghost use Rattle.mj_parser.specs.Statements.{opens_print};
 ghost use Rattle.mj_parser.specs.Steps.{Gives, items_from};
 ghost use Rattle.mj_parser.specs.ExpressionReading.{exp_at};
@@ -13,7 +13,7 @@ use crate::expressions::{Measured, read};
 use crate::fault::ParseFault;
 use crate::nodes;
 use crate::tokens::{Parsed, expect, expect_name, expect_word, has, name, says};
-use crate::tree::Stmt;
+use mj_tree::Stmt;
 use mj_lexer::{Name, Terminal, Token};
 use std::alloc::Global;
 

@@ -2,7 +2,7 @@
 use Rattle.std.proofs.Common.{◌≡◌, List, [], ◌∷◌, map, Option, Some, None, All, Contains, filter_map, refl, sym, ap, ap₂, subst, ◌∙◌, ◌↔◌}
 use Rattle.std.specs.List.{cons_option}
 use Rattle.std.proofs.lemmas.List.Elements.{All-nil, All-cons}
-use Rattle.mj_parser.specs.Trees.{Name}
+use Rattle.mj_tree.specs.Trees.{Name}
 use Rattle.mj_answer.specs.Answers.{ClassAnswerValue, AnswerValue}
 use Rattle.mj_answer.specs.Order.{NameBefore, Before}
 use Rattle.mj_answer.proofs.Alike.{Contains-first, Contains-later}

@@ -1,6 +1,6 @@
 -- The parts of an answer make the answer of the rules.
 use Rattle.std.proofs.Common.{◌≡◌, List, map, Some, All, Contains, sym, ap, subst, ◌∙◌, ◌↔◌}
-use Rattle.mj_parser.specs.Trees.{Name}
+use Rattle.mj_tree.specs.Trees.{Name}
 use Rattle.mj_answer.specs.declared.diagnostic.Diagnostic.{Diagnostic}
 use Rattle.mj_answer.specs.Answers.{ClassAnswerValue, AnswerValue}
 use Rattle.mj_answer.specs.Order.{NameBefore, IsAscendingBy, IsAscending}

@@ -3,7 +3,7 @@ use Rattle.std.specs.Prelude.{List, [], ◌∷◌, map, filter_map}
 use Rattle.std.specs.Ordering.{nat_cmp, ordering_then, match_ordering}
 use Rattle.std.specs.Cmp.Lexicographic.{slice_cmp}
 use Rattle.std.specs.declared.cmp.Ordering.{Ordering}
-use Rattle.mj_parser.specs.Trees.{Name}
+use Rattle.mj_tree.specs.Trees.{Name}
 use Rattle.mj_answer.specs.declared.diagnostic.Diagnostic.{Diagnostic}
 use Rattle.mj_answer.specs.Answers.{ClassAnswerValue, AnswerValue}
 use Rattle.mj_answer.specs.Codes.{number_of}

@@ -1,7 +1,7 @@
 -- What holds of the definitions.
 use Rattle.std.specs.Prelude.{◌≡◌, ◌↔◌, ℕ, List, Some, Contains}
-use Rattle.mj_parser.specs.Trees.{Name, Method, Main, File}
-use Rattle.mj_parser.specs.declared.place.Place.{Place}
+use Rattle.mj_tree.specs.Trees.{Name, Method, Main, File}
+use Rattle.mj_tree.specs.declared.place.Place.{Place}
 use Rattle.mj_answer.specs.declared.code.Code.{Code}
 use Rattle.mj_answer.specs.Answers.{AnswerValue}
 use Rattle.mj_classes.specs.Declarations.{ClassDecl, decl}

@@ -1,8 +1,8 @@
 -- The answer that the static rules give a project.
 use Rattle.std.specs.Prelude.{◌≡◌, ◌↔◌, List, map, Some, All, Contains}
-use Rattle.mj_parser.specs.Trees.{Name, Method}
-use Rattle.mj_parser.specs.declared.place.Place.{Place}
-use Rattle.mj_parser.specs.declared.tree.Field.{Field}
+use Rattle.mj_tree.specs.Trees.{Name, Method}
+use Rattle.mj_tree.specs.declared.place.Place.{Place}
+use Rattle.mj_tree.specs.declared.tree.Field.{Field}
 use Rattle.mj_answer.specs.declared.code.Code.{Code}
 use Rattle.mj_answer.specs.declared.diagnostic.Diagnostic.{Diagnostic}
 use Rattle.mj_answer.specs.declared.table.FieldRow.{FieldRow}

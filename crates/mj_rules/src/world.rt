@@ -7,7 +7,7 @@ ghost use Rattle.mj_classes.specs.Classes.{class_ref_view};
 use crate::tables::{copy_type, formal_types};
 use mj_classes::{ClassRef, Declarations};
 use mj_lexer::Name;
-use mj_parser::Ty;
+use mj_tree::Ty;
 use mj_typing::Signature;
 use std::alloc::{AllocError, Global};
 

@@ -1,9 +1,9 @@
 -- Checks that ask conclude with the mistakes.
 use Rattle.std.proofs.Common.{◌≡◌, ℕ, List, [], ◌∷◌, ◌++◌, Option, Some, None, Result, Ok, Err, IfOk, refl, sym, ap, ◌∙◌, subst}
-use Rattle.mj_parser.specs.Trees.{Name, Statement, Statements, Block, If, While, Print, Assign, Store, done, next, Method, Main}
-use Rattle.mj_parser.specs.declared.tree.Ty.{Ty}
-use Rattle.mj_parser.specs.declared.tree.Ty.TheVariants as ty
-use Rattle.mj_parser.specs.declared.tree.Variable.{Variable}
+use Rattle.mj_tree.specs.Trees.{Name, Statement, Statements, Block, If, While, Print, Assign, Store, done, next, Method, Main}
+use Rattle.mj_tree.specs.declared.tree.Ty.{Ty}
+use Rattle.mj_tree.specs.declared.tree.Ty.TheVariants as ty
+use Rattle.mj_tree.specs.declared.tree.Variable.{Variable}
 use Rattle.mj_typing.specs.declared.verdict.Verdict.{Verdict}
 use Rattle.mj_typing.specs.declared.verdict.Mistake.{Mistake}
 use Rattle.mj_typing.specs.Inquiries.{World, Inquiry, Concludes, AsksDescent, AsksField, AsksMethod, AsksDeclared, conclusion, and_then}

@@ -1,11 +1,11 @@
 -- The walk over phrases and their parts.
 use Rattle.std.proofs.Common.{◌≡◌, ℕ, ◌+◌, ◌<◌, ◌≤◌, List, [], ◌∷◌, ◌++◌, length, drop, get_or, Option, Some, None, Result, Ok, Err, IfOk, IfErr, refl, ap, subst, sym, ◌∙◌, append_assoc, append-nil}
-use Rattle.mj_parser.specs.Trees.{Name, Method}
-use Rattle.mj_parser.specs.Views.{exp_view, exps_view, stmt_view, stmts_view}
-use Rattle.mj_parser.specs.declared.tree.Exp.{Exp}
-use Rattle.mj_parser.specs.declared.tree.Stmt.{Stmt}
-use Rattle.mj_parser.specs.declared.tree.Ty.{Ty}
-use Rattle.mj_parser.specs.declared.tree.Variable.{Variable}
+use Rattle.mj_tree.specs.Trees.{Name, Method}
+use Rattle.mj_tree.specs.Views.{exp_view, exps_view, stmt_view, stmts_view}
+use Rattle.mj_tree.specs.declared.tree.Exp.{Exp}
+use Rattle.mj_tree.specs.declared.tree.Stmt.{Stmt}
+use Rattle.mj_tree.specs.declared.tree.Ty.{Ty}
+use Rattle.mj_tree.specs.declared.tree.Variable.{Variable}
 use Rattle.mj_typing.specs.declared.verdict.Mistake.{Mistake}
 use Rattle.mj_typing.specs.declared.verdict.Verdict.{Verdict}
 use Rattle.mj_typing.specs.Bodies.{variables_of, add_repeated_each, declared_step, method_step, type_step, types_step, mistakes_step, statement_step, statements_step}

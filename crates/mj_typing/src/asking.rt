@@ -6,7 +6,7 @@ ghost use Rattle.mj_typing.specs.declared.asking.Stop.{Stop};
 ghost use Rattle.mj_typing.specs.declared.asking.Stop.TheVariants.{OutOfMemory};
 
 use mj_lexer::Name;
-use mj_parser::Ty;
+use mj_tree::Ty;
 use std::alloc::{AllocError, Global};
 
 /// Why a check ended early.

@@ -1,6 +1,6 @@
 //! The walk over statements.
 ghost use Rattle.std.specs.Prelude.{◌≡◌, IfOk, IfErr, OnOk};
-ghost use Rattle.mj_parser.specs.Views.{exp_view, stmt_view, stmts_view};
+ghost use Rattle.mj_tree.specs.Views.{exp_view, stmt_view, stmts_view};
 ghost use Rattle.mj_typing.specs.Bodies.{mistakes_step, statement_step, statements_step};
 ghost use Rattle.mj_typing.specs.Phrases.{phrase, nothing, part, add_own};
 ghost use Rattle.mj_typing.specs.Steps.{Goes, GivesUp};
@@ -13,7 +13,7 @@ use crate::scope::Scope;
 use crate::verdict::{Mistake, Verdict};
 use crate::walk::{check, name_type};
 use mj_lexer::Name;
-use mj_parser::{Exp, Stmt, Ty};
+use mj_tree::{Exp, Stmt, Ty};
 use std::alloc::Global;
 
 /// The name that is assigned to, with its token and that of `=`.

@@ -1,7 +1,7 @@
 //! Whole bodies.
 ghost use Rattle.std.specs.Prelude.{◌≡◌, ◌++◌, ◌∷◌, [], IfOk, IfErr, OnOk};
 ghost use Rattle.mj_answer.specs.declared.code.Code.TheVariants.{E206};
-ghost use Rattle.mj_parser.specs.Views.{method_view, main_view};
+ghost use Rattle.mj_tree.specs.Views.{method_view, main_view};
 ghost use Rattle.mj_typing.specs.Bodies.{method_step, main_step, declared_step, type_step, types_step};
 ghost use Rattle.mj_typing.specs.Steps.{Goes, GivesUp};
 
@@ -11,7 +11,7 @@ use crate::scope::Scope;
 use crate::verdict::Mistake;
 use mj_answer::Code;
 use mj_lexer::Name;
-use mj_parser::{MainTree, MethodTree, Ty, Variable};
+use mj_tree::{MainTree, MethodTree, Ty, Variable};
 use std::alloc::{AllocError, Global};
 
 /// The token of a method's return type, behind `public`.

@@ -1,6 +1,6 @@
 //! Checks that need no asking.
 ghost use Rattle.std.specs.Prelude.{◌≡◌, IfOk, Ok, refl};
-ghost use Rattle.mj_parser.specs.Views.{method_view, main_view};
+ghost use Rattle.mj_tree.specs.Views.{method_view, main_view};
 ghost use Rattle.mj_typing.specs.Bodies.{method_faults, main_faults};
 ghost use Rattle.mj_typing.specs.Inquiries.{conclusion};
 
@@ -8,7 +8,7 @@ use crate::asking::{Asking, Declarations, Stop};
 use crate::check::{check_main, check_method};
 use crate::verdict::Mistake;
 use mj_lexer::Name;
-use mj_parser::{MainTree, MethodTree, Ty};
+use mj_tree::{MainTree, MethodTree, Ty};
 use std::alloc::{AllocError, Global};
 use std::convert::Infallible;
 

@@ -10,7 +10,7 @@ use crate::types::{copy_of, is_boolean, is_int, is_int_array};
 use crate::verdict::Verdict;
 use mj_answer::Code;
 use mj_lexer::Name;
-use mj_parser::{Operator, Ty};
+use mj_tree::{Operator, Ty};
 use std::alloc::{AllocError, Global};
 
 /// The type of a literal that is small enough.

@@ -1,6 +1,6 @@
 //! The walk over expressions.
 ghost use Rattle.std.specs.Prelude.{◌≡◌, IfOk, IfErr};
-ghost use Rattle.mj_parser.specs.Views.{exp_view, exps_view};
+ghost use Rattle.mj_tree.specs.Views.{exp_view, exps_view};
 ghost use Rattle.mj_typing.specs.Phrases.{phrase_step, parts_step, own_step, and_type, noted, with_type};
 ghost use Rattle.mj_typing.specs.declared.asking.Stop.TheVariants.{OutOfMemory};
 ghost use Rattle.mj_typing.specs.Steps.{Goes, GivesUp};
@@ -12,7 +12,7 @@ use crate::rows;
 use crate::scope::Scope;
 use crate::verdict::{Mistake, Verdict};
 use mj_lexer::Name;
-use mj_parser::{Exp, Ty};
+use mj_tree::{Exp, Ty};
 use std::alloc::{AllocError, Global};
 
 /// Notes what is wrong, and gives the type.

@@ -2,8 +2,8 @@
 use Rattle.std.specs.Prelude.{ℕ, zero, suc, Bool, true, false, not, ◌||◌, List, [], ◌∷◌, length, take, drop, Ok, Err, Option, nat_lt, ◌==◌, if◌then◌else◌}
 use Rattle.std.specs.Str.{bytes_eq}
 use Rattle.std.specs.List.{list_any}
-use Rattle.mj_parser.specs.declared.tree.Ty.{Ty}
-use Rattle.mj_parser.specs.declared.tree.Field.{Field}
+use Rattle.mj_tree.specs.declared.tree.Ty.{Ty}
+use Rattle.mj_tree.specs.declared.tree.Field.{Field}
 use Rattle.byte_readers.specs.declared.breach.Breach.TheVariants.{Short}
 use Rattle.byte_readers.specs.Reading.{◌>>=◌, Reader, refused, any, eight_at, name_at, pair_at, made_at, option_at, list_from, list_at}
 use Rattle.byte_readers.specs.Orders.{is_after}

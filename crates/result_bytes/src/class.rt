@@ -9,7 +9,7 @@ use byte_readers::{
     Format, NameFormat, ReadError, check_list, put_list, put_option, read_list, read_option,
 };
 use mj_lexer::Name;
-use mj_parser::{Field, Ty};
+use mj_tree::{Field, Ty};
 use std::alloc::{AllocError, Global};
 use std::marker::Model;
 use tree_bytes::{FieldFormat, TypeFormat, check_ty, put_ty, read_ty};

@@ -1,10 +1,11 @@
 //! Tests: expected mistakes are those of the language's rules and of its worked examples.
 ghost use Rattle.std.specs.Prelude.{◌≡◌, IfOk, ◌&&◌, ◌||◌, [], ◌∷◌, Some, None, if◌then◌else◌};
-ghost use Rattle.mj_parser.specs.declared.tree.Ty.TheVariants.{Int, Boolean, Class};
+ghost use Rattle.mj_tree.specs.declared.tree.Ty.TheVariants.{Int, Boolean, Class};
 ghost use Rattle.mj_typing.specs.Types.{is_same};
 
 use mj_lexer::{Name, lex};
-use mj_parser::{FileTree, MainTree, Ty, parse};
+use mj_parser::parse;
+use mj_tree::{FileTree, MainTree, Ty};
 use mj_typing::{
     Asking, Declarations, Mistake, Signature, Stop, body_laws, case_laws, check_main, check_method,
     main_mistakes, method_mistakes, row_laws, typing_laws,

@@ -2,7 +2,7 @@
 use Rattle.std.specs.Prelude.{ℕ, zero, suc, List, [], ◌∷◌, Err, refl, ◌≡◌, ◌⊎◌}
 use Rattle.std.specs.Coded.{Coded, code_by, coded⊎}
 use Rattle.std.proofs.Common.{inl, inr}
-use Rattle.mj_parser.specs.Trees.{Statement, Method}
+use Rattle.mj_tree.specs.Trees.{Statement, Method}
 use Rattle.tree_bytes.specs.Spelling.{stmt, method}
 use Rattle.tree_bytes.specs.Fits.{TopStmtFits, MethodFits}
 use Rattle.byte_readers.specs.declared.breach.Breach.TheVariants.{Short}

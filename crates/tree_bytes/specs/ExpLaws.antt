@@ -3,15 +3,15 @@ use Rattle.std.proofs.Common.{◌≡◌, ℕ, zero, suc, ◌^◌, ◌<◌, false
 use Rattle.std.specs.List.{flat_map, AllByRecursion}
 use Rattle.std.proofs.lemmas.List.Concat.{flat_map-cons}
 use Rattle.std.proofs.lemmas.Bool.{ltb-false, le-ltb}
-use Rattle.mj_parser.specs.Trees as trees
+use Rattle.mj_tree.specs.Trees as trees
 use Rattle.byte_readers.specs.declared.breach.Breach.{Breach}
 use Rattle.byte_readers.specs.declared.breach.Breach.TheVariants.{NotCanonical}
 use Rattle.byte_readers.specs.Spelling.{four, eight, name}
 use Rattle.byte_readers.specs.Reading.{◌>>=◌, Reader, refused, any, byte_at, four_at, made_at}
 use Rattle.byte_readers.specs.Lawful.{IsBytes, Takes, Lawful}
 use Rattle.byte_readers.specs.Laws.{IsBytes-rest, bind_ok, guard_ok, ok_is, Takes-then, takes_nothing, made_takes, made_again, lawful_four, lawful_name, lawful_pair, lawful_list, lawful_made, lawful_as, lawful_where, any_admits}
-use Rattle.mj_parser.specs.Trees.{Expression, Expressions, none, more}
-use Rattle.mj_parser.specs.Views.{expressions_of}
+use Rattle.mj_tree.specs.Trees.{Expression, Expressions, none, more}
+use Rattle.mj_tree.specs.Views.{expressions_of}
 use Rattle.tree_bytes.specs.declared.tag.ExpTag.{ExpTag}
 use Rattle.tree_bytes.specs.declared.tag.ExpTag.TheVariants as tags
 use Rattle.tree_bytes.specs.declared.tag.TwoParts.TheVariants as twos

@@ -1,6 +1,6 @@
 -- Methods, classes, files and bodies: what is read is spelled so, and what is spelled so is read.
 use Rattle.std.proofs.Common.{◌≡◌, ℕ, zero, suc, ◌<◌, ◌^◌, List, [], ◌∷◌, ◌++◌, Ok, refl, subst}
-use Rattle.mj_parser.specs.Trees.{Method}
+use Rattle.mj_tree.specs.Trees.{Method}
 use Rattle.byte_readers.specs.Spelling.{eight}
 use Rattle.byte_readers.specs.Reading.{any}
 use Rattle.byte_readers.specs.Lawful.{IsBytes, Takes, Lawful}

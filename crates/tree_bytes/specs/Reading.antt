@@ -1,12 +1,12 @@
 -- Reading trees from left to right.
 use Rattle.std.specs.Prelude.{ℕ, zero, suc, List, [], ◌∷◌, Ok, Err, Option, Some, None, nat_lt, if◌then◌else◌}
-use Rattle.mj_parser.specs.declared.tree.Ty.{Ty}
-use Rattle.mj_parser.specs.declared.tree.Ty.TheVariants.{Int, Boolean, IntArray, Class}
-use Rattle.mj_parser.specs.declared.tree.Field.{Field}
-use Rattle.mj_parser.specs.declared.tree.Variable.{Variable}
-use Rattle.mj_parser.specs.Trees.{Expression, Expressions, Statement, Statements, Method, Main, File}
-use Rattle.mj_parser.specs.Trees as trees
-use Rattle.mj_parser.specs.Views.{expressions_of, statements_of}
+use Rattle.mj_tree.specs.declared.tree.Ty.{Ty}
+use Rattle.mj_tree.specs.declared.tree.Ty.TheVariants.{Int, Boolean, IntArray, Class}
+use Rattle.mj_tree.specs.declared.tree.Field.{Field}
+use Rattle.mj_tree.specs.declared.tree.Variable.{Variable}
+use Rattle.mj_tree.specs.Trees.{Expression, Expressions, Statement, Statements, Method, Main, File}
+use Rattle.mj_tree.specs.Trees as trees
+use Rattle.mj_tree.specs.Views.{expressions_of, statements_of}
 use Rattle.byte_readers.specs.declared.breach.Breach.TheVariants.{Short}
 use Rattle.byte_readers.specs.Reading.{◌>>=◌, Reader, refused, any, byte_at, four_at, name_at, pair_at, made_at, option_at, list_at}
 use Rattle.tree_bytes.specs.declared.tag.ExpTag.{ExpTag}

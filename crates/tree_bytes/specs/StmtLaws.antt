@@ -2,14 +2,14 @@
 use Rattle.std.proofs.Common.{◌≡◌, ℕ, zero, suc, ◌^◌, ◌<◌, List, [], ◌∷◌, ◌++◌, length, Option, Some, None, Result, Ok, refl, sym, ap, subst, ◌∙◌, append_assoc, arith}
 use Rattle.std.specs.List.{flat_map, AllByRecursion}
 use Rattle.std.proofs.lemmas.List.Concat.{flat_map-cons}
-use Rattle.mj_parser.specs.Trees as trees
+use Rattle.mj_tree.specs.Trees as trees
 use Rattle.byte_readers.specs.declared.breach.Breach.{Breach}
 use Rattle.byte_readers.specs.Spelling.{four, eight, name}
 use Rattle.byte_readers.specs.Reading.{◌>>=◌, Reader, any, byte_at, four_at, made_at}
 use Rattle.byte_readers.specs.Lawful.{IsBytes, Takes, Lawful}
 use Rattle.byte_readers.specs.Laws.{IsBytes-rest, bind_ok, Takes-then, made_takes, made_again, lawful_four, lawful_name, lawful_pair, lawful_list, lawful_made, lawful_as, lawful_where, any_admits}
-use Rattle.mj_parser.specs.Trees.{Statement, Statements, done, next}
-use Rattle.mj_parser.specs.Views.{statements_of}
+use Rattle.mj_tree.specs.Trees.{Statement, Statements, done, next}
+use Rattle.mj_tree.specs.Views.{statements_of}
 use Rattle.tree_bytes.specs.declared.tag.StmtTag.{StmtTag}
 use Rattle.tree_bytes.specs.declared.tag.StmtTag.TheVariants as tags
 use Rattle.tree_bytes.specs.Tags.{stmt_byte, stmt_tag_of}

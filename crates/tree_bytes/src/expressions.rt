@@ -1,13 +1,13 @@
 //! Reading expressions.
 ghost use Rattle.std.specs.Prelude.{◌≡◌, List, [], map};
-ghost use Rattle.mj_parser.specs.Trees.{Literal, Named, NewObject};
-ghost use Rattle.mj_parser.specs.Views.{exp_view, exps_view};
+ghost use Rattle.mj_tree.specs.Trees.{Literal, Named, NewObject};
+ghost use Rattle.mj_tree.specs.Views.{exp_view, exps_view};
 ghost use Rattle.byte_readers.specs.Reading.{Gives, made_at, name_at, list_from, any};
 ghost use Rattle.tree_bytes.specs.Reading.{literal_at, two_of, one_of, exp_at, exp_body_at, exps_at, top_exp_at};
 
 use crate::tag::{ExpTag, OnePart, TwoParts, exp_tag_of};
 use byte_readers::{ReadError, read_byte, read_eight, read_four, read_name, refused};
-use mj_parser::Exp;
+use mj_tree::Exp;
 use std::alloc::Global;
 
 /// The levels that a phrase may have.

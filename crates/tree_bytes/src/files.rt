@@ -1,6 +1,6 @@
 //! Reading classes and files.
 ghost use Rattle.std.specs.Prelude.{◌≡◌, List, [], map, option_map};
-ghost use Rattle.mj_parser.specs.Views.{main_view, class_view, file_view};
+ghost use Rattle.mj_tree.specs.Views.{main_view, class_view, file_view};
 ghost use Rattle.byte_readers.specs.Reading.{Gives, option_at, list_at, list_from, any};
 ghost use Rattle.tree_bytes.specs.Reading.{main_at, class_at, file_at};
 
@@ -10,7 +10,7 @@ use crate::types::FieldFormat;
 use byte_readers::{
     Breach, NameFormat, ReadError, read_eight, read_list, read_name, read_option, refused,
 };
-use mj_parser::{ClassTree, FileTree, MainTree};
+use mj_tree::{ClassTree, FileTree, MainTree};
 use std::alloc::Global;
 
 #[tactic(auto, unfolding(crate::specs::Reading::main_at))]

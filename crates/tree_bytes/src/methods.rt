@@ -1,6 +1,6 @@
 //! Reading methods.
 ghost use Rattle.std.specs.Prelude.{◌≡◌, List, [], map};
-ghost use Rattle.mj_parser.specs.Views.{method_view};
+ghost use Rattle.mj_tree.specs.Views.{method_view};
 ghost use Rattle.byte_readers.specs.Reading.{Gives, list_at, list_from, any};
 ghost use Rattle.tree_bytes.specs.Reading.{method_at, tagged_method_at};
 
@@ -9,7 +9,7 @@ use crate::statements::read_top_stmts;
 use crate::types::read_ty;
 use crate::variables::VariableFormat;
 use byte_readers::{Breach, ReadError, read_eight, read_four, read_list, read_name, refused};
-use mj_parser::MethodTree;
+use mj_tree::MethodTree;
 use std::alloc::Global;
 
 /// Reads a method.

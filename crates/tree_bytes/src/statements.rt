@@ -1,13 +1,13 @@
 //! Reading statements.
 ghost use Rattle.std.specs.Prelude.{◌≡◌, List, [], map};
-ghost use Rattle.mj_parser.specs.Views.{stmt_view, stmts_view};
+ghost use Rattle.mj_tree.specs.Views.{stmt_view, stmts_view};
 ghost use Rattle.byte_readers.specs.Reading.{Gives, list_from, any};
 ghost use Rattle.tree_bytes.specs.Reading.{exp_at, stmt_at, stmt_body_at, stmts_at, top_stmt_at, top_stmts_at};
 
 use crate::expressions::{MOST_LEVELS, read_exp};
 use crate::tag::{StmtTag, stmt_tag_of};
 use byte_readers::{ReadError, read_byte, read_eight, read_four, read_name, refused};
-use mj_parser::Stmt;
+use mj_tree::Stmt;
 use std::alloc::Global;
 
 /// Reads a statement of level 1.

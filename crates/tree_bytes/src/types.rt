@@ -6,7 +6,7 @@ ghost use Rattle.tree_bytes.specs.Fits.{TyFits};
 ghost use Rattle.tree_bytes.specs.Reading.{ty_at};
 
 use byte_readers::{Breach, Format, ReadError, check_name, put_name, read_name, refused};
-use mj_parser::{Field, Ty};
+use mj_tree::{Field, Ty};
 use std::alloc::{AllocError, Global};
 
 /// A type has a spelling.

@@ -3,7 +3,7 @@ ghost use Rattle.std.specs.Prelude.{◌≡◌};
 
 use crate::types::{check_ty, put_ty, read_ty};
 use byte_readers::{Format, ReadError, check_name, put_four, put_name, read_four, read_name};
-use mj_parser::Variable;
+use mj_tree::Variable;
 use std::alloc::{AllocError, Global};
 
 /// Formals and locals: the name, the type, and the first token of the type.

@@ -1,5 +1,5 @@
 use Rattle.std.proofs.Common.{rules}
-use Rattle.mj_parser.specs.Views.{stmts_view}
+use Rattle.mj_tree.specs.Views.{stmts_view}
 use Rattle.mj_typing.specs.Bodies.{statement_step, statements_step}
 use Rattle.mj_typing.specs.Steps.{GivesUp}
 use Rattle.mj_typing.proofs.Views.{stmt_view-Assign, stmt_view-Store}

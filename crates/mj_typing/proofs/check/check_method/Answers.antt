@@ -1,5 +1,5 @@
 use Rattle.std.proofs.Common.{rules}
-use Rattle.mj_parser.specs.Views.{method_view}
+use Rattle.mj_tree.specs.Views.{method_view}
 use Rattle.mj_typing.specs.Bodies.{method_step}
 use Rattle.mj_typing.specs.Steps.{GivesUp}
 use Rattle.mj_typing.proofs.Walks.{goes_method, up_return}

@@ -1,5 +1,5 @@
 use Rattle.std.proofs.Common.{◌≡◌, ap}
-use Rattle.mj_parser.specs.Views.{main_view}
+use Rattle.mj_tree.specs.Views.{main_view}
 use Rattle.mj_typing.specs.Bodies.{main_faults}
 use Rattle.mj_typing.proofs.Checks.{main_plainly, handed_on}
 use Rattle.mj_typing.proofs.Walks.{if_ok}

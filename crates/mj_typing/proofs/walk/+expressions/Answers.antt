@@ -1,5 +1,5 @@
 use Rattle.std.proofs.Common.{rules, refl, ap, Some}
-use Rattle.mj_parser.specs.Views.{exp_view, exps_view}
+use Rattle.mj_tree.specs.Views.{exp_view, exps_view}
 use Rattle.mj_typing.specs.declared.asking.Stop.TheVariants.{OutOfMemory}
 use Rattle.mj_typing.specs.Phrases.{phrase_step, parts_step}
 use Rattle.mj_typing.specs.Steps.{GivesUp}
