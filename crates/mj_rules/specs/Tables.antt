@@ -4,7 +4,7 @@ use Rattle.std.specs.Str.{bytes_eq}
 use Rattle.mj_tree.specs.Trees.{Name, Method}
 use Rattle.mj_tree.specs.declared.tree.Field.{Field}
 use Rattle.mj_answer.specs.declared.table.FieldRow.{FieldRow}
-use Rattle.mj_answer.specs.Answers.{MethodRowValue, ClassTableValue}
+use Rattle.mj_answer.specs.AnswerValues.{MethodRowValue, ClassTableValue}
 use Rattle.mj_classes.specs.Declarations.{ClassDecl}
 use Rattle.mj_classes.specs.Chains.{ancestry}
 use Rattle.mj_classes.specs.Tables.{fields_along, methods_along}

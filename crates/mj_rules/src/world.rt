@@ -43,7 +43,7 @@ pub struct World<'d, 'a> {
     pub declarations: &'d Declarations<'a>,
 }
 
-impl<'d, 'a> mj_typing::Declarations for World<'d, 'a> {
+impl<'d, 'a> mj_typing::Environment for World<'d, 'a> {
     ghost use Rattle.mj_classes.specs.Index.{declared_in};
     ghost use Rattle.mj_rules.specs.Worlds.{world_of};
 

@@ -3,7 +3,7 @@ ghost use Rattle.std.specs.Prelude.{◌≡◌, ◌++◌, ◌∷◌, [], IfOk, If
 ghost use Rattle.mj_answer.specs.declared.code.Code.TheVariants.{E206};
 ghost use Rattle.mj_tree.specs.Views.{method_view, main_view};
 ghost use Rattle.mj_typing.specs.Bodies.{method_step, main_step, declared_step, type_step, types_step};
-ghost use Rattle.mj_typing.specs.Steps.{Goes, GivesUp};
+ghost use Rattle.mj_typing.specs.Steps.{Proceeds, Aborts};
 
 use crate::asking::{Asking, Stop};
 use crate::body::{check_return, check_statement, check_statements};
@@ -36,8 +36,8 @@ fn check_type<A: Asking>(
     ty: &Ty,
     mistakes: &mut Vec<Mistake>,
 ) -> Result<(), Stop<A::Refusal>>
-    ensures ok { OnOk result (Goes A.stands (type_step mark ty.now mistakes.old.items) asking.old mistakes.new.items asking.new) }
-    ensures err { IfErr result (λ e. GivesUp A.stands A.halts (type_step mark ty.now mistakes.old.items) asking.old e asking.new) }
+    ensures ok { OnOk result (Proceeds A.stands (type_step mark ty.now mistakes.old.items) asking.old mistakes.new.items asking.new) }
+    ensures err { IfErr result (λ e. Aborts A.stands A.halts (type_step mark ty.now mistakes.old.items) asking.old e asking.new) }
     ensures follows { A.follows asking.old asking.new }
 {
     let Ty::Class(class) = ty else {
@@ -56,8 +56,8 @@ fn check_types<A: Asking>(
     variables: &[Variable],
     mistakes: &mut Vec<Mistake>,
 ) -> Result<(), Stop<A::Refusal>>
-    ensures ok { OnOk result (Goes A.stands (types_step variables.now mistakes.old.items) asking.old mistakes.new.items asking.new) }
-    ensures err { IfErr result (λ e. GivesUp A.stands A.halts (types_step variables.now mistakes.old.items) asking.old e asking.new) }
+    ensures ok { OnOk result (Proceeds A.stands (types_step variables.now mistakes.old.items) asking.old mistakes.new.items asking.new) }
+    ensures err { IfErr result (λ e. Aborts A.stands A.halts (types_step variables.now mistakes.old.items) asking.old e asking.new) }
     ensures follows { A.follows asking.old asking.new }
 {
     for variable in variables {
@@ -74,8 +74,8 @@ fn check_declared<A: Asking>(
     method: &MethodTree,
     mistakes: &mut Vec<Mistake>,
 ) -> Result<(), Stop<A::Refusal>>
-    ensures ok { OnOk result (Goes A.stands (declared_step (method_view method.now) mistakes.old.items) asking.old mistakes.new.items asking.new) }
-    ensures err { IfErr result (λ e. GivesUp A.stands A.halts (declared_step (method_view method.now) mistakes.old.items) asking.old e asking.new) }
+    ensures ok { OnOk result (Proceeds A.stands (declared_step (method_view method.now) mistakes.old.items) asking.old mistakes.new.items asking.new) }
+    ensures err { IfErr result (λ e. Aborts A.stands A.halts (declared_step (method_view method.now) mistakes.old.items) asking.old e asking.new) }
     ensures follows { A.follows asking.old asking.new }
 {
     check_type(alloc, asking, RETURN_TYPE_MARK, &method.returns, mistakes)?;
@@ -91,8 +91,8 @@ pub fn check_method<A: Asking>(
     class: &Name,
     method: &MethodTree,
 ) -> Result<Vec<Mistake>, Stop<A::Refusal>>
-    ensures ok { IfOk result (λ mistakes. Goes A.stands (method_step class.now (method_view method.now)) asking.old mistakes.items asking.new) }
-    ensures err { IfErr result (λ e. GivesUp A.stands A.halts (method_step class.now (method_view method.now)) asking.old e asking.new) }
+    ensures ok { IfOk result (λ mistakes. Proceeds A.stands (method_step class.now (method_view method.now)) asking.old mistakes.items asking.new) }
+    ensures err { IfErr result (λ e. Aborts A.stands A.halts (method_step class.now (method_view method.now)) asking.old e asking.new) }
     ensures follows { A.follows asking.old asking.new }
 {
     let mut mistakes = Vec::new(alloc);
@@ -118,8 +118,8 @@ pub fn check_main<A: Asking>(
     asking: &mut A,
     main: &MainTree,
 ) -> Result<Vec<Mistake>, Stop<A::Refusal>>
-    ensures ok { IfOk result (λ mistakes. Goes A.stands (main_step (main_view main.now)) asking.old mistakes.items asking.new) }
-    ensures err { IfErr result (λ e. GivesUp A.stands A.halts (main_step (main_view main.now)) asking.old e asking.new) }
+    ensures ok { IfOk result (λ mistakes. Proceeds A.stands (main_step (main_view main.now)) asking.old mistakes.items asking.new) }
+    ensures err { IfErr result (λ e. Aborts A.stands A.halts (main_step (main_view main.now)) asking.old e asking.new) }
     ensures follows { A.follows asking.old asking.new }
 {
     let mut mistakes = Vec::new(alloc);

@@ -7,7 +7,7 @@ use mj_lexer::{Name, lex};
 use mj_parser::parse;
 use mj_tree::{FileTree, MainTree, Ty};
 use mj_typing::{
-    Asking, Declarations, Mistake, Signature, Stop, body_laws, case_laws, check_main, check_method,
+    Asking, Environment, Mistake, Signature, Stop, body_laws, case_laws, check_main, check_method,
     main_mistakes, method_mistakes, row_laws, typing_laws,
 };
 use std::alloc::{AllocError, Global};
@@ -65,7 +65,7 @@ fn types_of_f(alloc: Global, base: &Name) -> Result<Types, AllocError>
     })
 }
 
-impl Declarations for Sample {
+impl Environment for Sample {
     type Method = Types;
 
     ghost world = { λ s. record { descends = λ c d. is_same c s.sub && is_same d s.base; field = λ c x. if is_same x s.field then Some Int else None; method = λ c m. if (is_same c s.base || is_same c s.sub) && is_same m s.method then Some (record { formals = Int ∷ Class s.base ∷ []; returns = Boolean }) else None; is_declared = λ c. is_same c s.base || is_same c s.sub } };

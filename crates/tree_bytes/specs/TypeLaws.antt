@@ -7,7 +7,7 @@ use Rattle.byte_readers.specs.Spelling.{name}
 use Rattle.byte_readers.specs.Lawful.{IsBytes, Takes, Lawful}
 use Rattle.byte_readers.specs.Laws.{IsBytes-rest, ok_is, takes_nothing, takes_behind, made_takes, made_again, lawful_name, lawful_four, lawful_pair, lawful_made}
 use Rattle.tree_bytes.specs.Spelling.{ty, field, variable}
-use Rattle.tree_bytes.specs.Fits.{TyFits, FieldFits, VariableFits}
+use Rattle.tree_bytes.specs.Storable.{TyFits, FieldFits, VariableFits}
 use Rattle.tree_bytes.specs.Reading.{ty_at, field_of, field_at, variable_of, variable_at}
 
 abbrev done : {A : Type 0} → A → Result A Breach

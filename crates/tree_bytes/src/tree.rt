@@ -1,7 +1,7 @@
 //! Trees that have a spelling.
 ghost use Rattle.std.specs.Prelude.{◌≡◌};
 ghost use Rattle.mj_tree.specs.Views.{file_view};
-ghost use Rattle.tree_bytes.specs.Fits.{FileFits};
+ghost use Rattle.tree_bytes.specs.Storable.{FileFits};
 
 use mj_tree::{FileTree, MethodTree, Stmt};
 use std::marker::Model;
@@ -22,7 +22,7 @@ impl Model for Tree {
     ghost coded = { file_code };
 
     ghost use Rattle.mj_tree.specs.Views.{file_view};
-    ghost use Rattle.tree_bytes.specs.Fits.{FileFits};
+    ghost use Rattle.tree_bytes.specs.Storable.{FileFits};
 
     ghost view = { λ tree. file_view tree.root };
 

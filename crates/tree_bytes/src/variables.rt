@@ -11,7 +11,7 @@ pub struct VariableFormat;
 
 impl Format for VariableFormat {
     ghost use Rattle.tree_bytes.specs.Spelling.{variable};
-    ghost use Rattle.tree_bytes.specs.Fits.{VariableFits, IsMark};
+    ghost use Rattle.tree_bytes.specs.Storable.{VariableFits, IsMark};
     ghost use Rattle.tree_bytes.specs.Reading.{variable_at};
     ghost use Rattle.tree_bytes.specs.TypeLaws.{lawful_variable};
 

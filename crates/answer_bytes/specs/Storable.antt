@@ -5,10 +5,10 @@ use Rattle.mj_tree.specs.declared.place.Place.{Place}
 use Rattle.mj_tree.specs.declared.place.Place.TheVariants.{Project, File, ClassOf, Class, Field, Method, Inside}
 use Rattle.mj_answer.specs.declared.diagnostic.Diagnostic.{Diagnostic}
 use Rattle.mj_answer.specs.declared.table.FieldRow.{FieldRow}
-use Rattle.mj_answer.specs.Answers.{MethodRowValue, ClassTableValue, ClassAnswerValue, AnswerValue}
+use Rattle.mj_answer.specs.AnswerValues.{MethodRowValue, ClassTableValue, ClassAnswerValue, AnswerValue}
 use Rattle.mj_answer.specs.Order.{NameBefore, Before, IsAscendingBy, IsClassInOrder}
 use Rattle.byte_readers.specs.Names.{IsName}
-use Rattle.tree_bytes.specs.Fits.{TyFits}
+use Rattle.tree_bytes.specs.Storable.{TyFits}
 
 -- a number of items that can be written
 abbrev pub IsCount : ℕ → Type 0
