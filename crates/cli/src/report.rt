@@ -2,7 +2,7 @@
 ghost use Rattle.std.specs.Prelude.{◌≡◌, ◌⊎◌, [], OnOk, codes, string_bytes};
 ghost use Rattle.std.specs.Io.KnownBytes.{Appends};
 ghost use Rattle.std.specs.IoError.{error_kind};
-ghost use Rattle.cli.specs.Runs.{IsWritten, number_of};
+ghost use Rattle.cli.specs.Runs.{IsWritten, status_number};
 
 use std::alloc::Global;
 use std::io;
@@ -24,7 +24,7 @@ pub enum Status {
 impl Status {
     /// The exit status.
     pub fn number(self) -> u8
-        ensures { result ≡ number_of self }
+        ensures { result ≡ status_number self }
     {
         self as u8
     }

@@ -1,7 +1,7 @@
 //! One run of the program.
 ghost use Rattle.std.specs.Prelude.{◌≡◌, ◌≢◌, ◌⊎◌, ℕ, List, map, Some, [], IfOk, IfErr, IsTrue, string_bytes};
 ghost use Rattle.command_line.specs.CommandLine.{scratch_files, asks_plainly};
-ghost use Rattle.mj_rules.specs.Answers.{text_of};
+ghost use Rattle.mj_rules.specs.AnswerWords.{text_of};
 ghost use Rattle.cli.specs.Endings.{status_of_answer, status_of_failure};
 ghost use Rattle.cli.specs.Lines.{is_clean, AreLinesOf};
 ghost use Rattle.cli.specs.Runs.{ReportsOn, Prints};

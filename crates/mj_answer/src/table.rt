@@ -3,7 +3,7 @@ ghost use Rattle.std.specs.Prelude.{◌≡◌};
 
 use crate::diagnostic::Diagnostic;
 use mj_lexer::Name;
-use mj_parser::Ty;
+use mj_tree::Ty;
 use std::marker::Model;
 
 /// A field that a class has, with the class that declares it.
@@ -24,7 +24,7 @@ pub struct MethodRow {
 }
 
 impl Model for MethodRow {
-    ghost use Rattle.mj_answer.specs.Answers.{MethodRowValue};
+    ghost use Rattle.mj_answer.specs.AnswerValues.{MethodRowValue};
 
     ghost Value = { MethodRowValue };
 
@@ -81,7 +81,7 @@ pub struct ClassTable {
 }
 
 impl Model for ClassTable {
-    ghost use Rattle.mj_answer.specs.Answers.{ClassTableValue};
+    ghost use Rattle.mj_answer.specs.AnswerValues.{ClassTableValue};
 
     ghost Value = { ClassTableValue };
 
@@ -120,7 +120,7 @@ pub struct ClassAnswer {
 }
 
 impl Model for ClassAnswer {
-    ghost use Rattle.mj_answer.specs.Answers.{ClassAnswerValue};
+    ghost use Rattle.mj_answer.specs.AnswerValues.{ClassAnswerValue};
 
     ghost Value = { ClassAnswerValue };
 
@@ -170,7 +170,7 @@ pub struct Answer {
 }
 
 impl Model for Answer {
-    ghost use Rattle.mj_answer.specs.Answers.{AnswerValue};
+    ghost use Rattle.mj_answer.specs.AnswerValues.{AnswerValue};
 
     ghost Value = { AnswerValue };
 

@@ -4,7 +4,7 @@ ghost use Rattle.mj_answer.specs.Text.{place_text, fault_line, indented_fault_li
 
 use crate::diagnostic::Diagnostic;
 use crate::table::{Answer, ClassAnswer, FieldRow, MethodRow};
-use mj_parser::{Place, Ty};
+use mj_tree::{Place, Ty};
 use std::alloc::{AllocError, Global};
 use std::fmt::Write;
 

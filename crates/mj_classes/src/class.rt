@@ -2,11 +2,11 @@
 ghost use Rattle.std.specs.Prelude.{◌≡◌, map, find, option_copied, option_map};
 ghost use Rattle.std.specs.Str.{bytes_eq};
 ghost use Rattle.mj_classes.specs.Members.{own_field, own_method};
-ghost use Rattle.mj_parser.specs.Views.{method_view};
+ghost use Rattle.mj_tree.specs.Views.{method_view};
 ghost use Rattle.mj_classes.specs.Classes.{class_ref_view};
 
 use mj_lexer::Name;
-use mj_parser::{ClassTree, Field, MainTree, MethodTree};
+use mj_tree::{ClassTree, Field, MainTree, MethodTree};
 
 /// The tree of a class.
 #[derive(Clone, Copy, Debug)]

@@ -4,13 +4,13 @@ ghost use Rattle.std.specs.Str.{bytes_eq};
 ghost use Rattle.std.specs.BTreeMap.{get};
 ghost use Rattle.std.specs.Cmp.Lexicographic.{slice_cmp};
 ghost use Rattle.std.specs.Ordering.{nat_cmp};
-ghost use Rattle.mj_parser.specs.Views.{class_view, file_view};
+ghost use Rattle.mj_tree.specs.Views.{class_view, file_view};
 ghost use Rattle.mj_classes.specs.Declarations.{classes_of, numbered, declarations, decl};
 ghost use Rattle.mj_classes.specs.Classes.{class_ref_view, classes_view, files_view};
 
 use crate::class::{ClassRef, Tree};
 use mj_lexer::Name;
-use mj_parser::{ClassTree, FileTree};
+use mj_tree::{ClassTree, FileTree};
 use std::alloc::{AllocError, Global};
 use std::collections::BTreeMap;
 

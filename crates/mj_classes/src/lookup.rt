@@ -9,7 +9,7 @@ use crate::class::ClassRef;
 use crate::declarations::Declarations;
 use crate::member::{FieldMember, MethodMember};
 use mj_lexer::Name;
-use mj_parser::Ty;
+use mj_tree::Ty;
 
 /// What a walk up a chain looks for: a class, or one that declares a member.
 #[derive(Clone, Copy)]

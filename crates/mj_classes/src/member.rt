@@ -9,7 +9,7 @@ ghost use Rattle.mj_classes.specs.Classes.{classes_view, class_ref_view, field_m
 
 use crate::class::ClassRef;
 use mj_lexer::Name;
-use mj_parser::{Field, MethodTree};
+use mj_tree::{Field, MethodTree};
 use std::alloc::{AllocError, Global};
 use std::collections::BTreeMap;
 

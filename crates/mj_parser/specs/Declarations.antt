@@ -2,13 +2,13 @@
 use Rattle.std.specs.Prelude.{◌≡◌, ℕ, ◌+◌, ◌≤◌, max, Bool, true, ◌&&◌, is_some, List, [], ◌∷◌, length, drop, Option, Some, None, codes}
 use Rattle.mj_lexer.specs.declared.token.Token.{Token}
 use Rattle.mj_lexer.specs.declared.token.Terminal.TheVariants as terminals
-use Rattle.mj_parser.specs.declared.tree.Ty.{Ty}
-use Rattle.mj_parser.specs.declared.tree.Ty.TheVariants as types
-use Rattle.mj_parser.specs.declared.tree.Field.{Field}
-use Rattle.mj_parser.specs.declared.tree.Variable.{Variable}
+use Rattle.mj_tree.specs.declared.tree.Ty.{Ty}
+use Rattle.mj_tree.specs.declared.tree.Ty.TheVariants as types
+use Rattle.mj_tree.specs.declared.tree.Field.{Field}
+use Rattle.mj_tree.specs.declared.tree.Variable.{Variable}
 use Rattle.mj_parser.specs.Rows.{row_size, row_height, InRow}
 use Rattle.mj_parser.specs.Tokens.{has, says, name_at}
-use Rattle.mj_parser.specs.Trees.{Name, Method, Main, Class, File}
+use Rattle.mj_tree.specs.Trees.{Name, Method, Main, Class, File}
 use Rattle.mj_parser.specs.Expressions.{size, height, IsExp}
 use Rattle.mj_parser.specs.Statements.{stmt_size, stmts_size, stmt_height, stmts_height, IsStmt, AreStmts}
 

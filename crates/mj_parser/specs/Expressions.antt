@@ -3,10 +3,10 @@ use Rattle.std.specs.Prelude.{◌≡◌, ℕ, suc, ◌+◌, ◌<◌, max, Bool, 
 use Rattle.mj_lexer.specs.declared.token.Token.{Token}
 use Rattle.mj_lexer.specs.declared.token.Terminal.{Terminal}
 use Rattle.mj_lexer.specs.declared.token.Terminal.TheVariants as terminals
-use Rattle.mj_parser.specs.declared.tree.Operator.{Operator}
-use Rattle.mj_parser.specs.declared.tree.Operator.TheVariants.{And, Less, Plus, Minus, Times}
+use Rattle.mj_tree.specs.declared.tree.Operator.{Operator}
+use Rattle.mj_tree.specs.declared.tree.Operator.TheVariants.{And, Less, Plus, Minus, Times}
 use Rattle.mj_parser.specs.Tokens.{has, says, name_at, value_at}
-use Rattle.mj_parser.specs.Trees.{Expression, Expressions, Binary, Index, Length, Call, Literal, Boolean, Named, This, NewArray, NewObject, Not, Parenthesized, none, more}
+use Rattle.mj_tree.specs.Trees.{Expression, Expressions, Binary, Index, Length, Call, Literal, Boolean, Named, This, NewArray, NewObject, Not, Parenthesized, none, more}
 
 -- An operand on the right of an operator binds tighter than it, by this number: 0 is a primary with what follows
 -- it, 1 is a unary.

@@ -1,7 +1,7 @@
 -- Laws of the grammar.
 use Rattle.std.specs.Prelude.{◌≡◌, ◌↔◌, List, length, Some}
 use Rattle.mj_lexer.specs.declared.token.Token.{Token}
-use Rattle.mj_parser.specs.Trees.{File}
+use Rattle.mj_tree.specs.Trees.{File}
 use Rattle.mj_parser.specs.Declarations.{Derives}
 use Rattle.mj_parser.specs.FileReading.{tree_of}
 use Rattle.mj_parser.specs.MarkBounds.{FileMarksBelow}

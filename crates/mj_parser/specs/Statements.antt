@@ -3,7 +3,7 @@ use Rattle.std.specs.Prelude.{◌≡◌, ℕ, ◌+◌, max, Bool, true, ◌&&◌
 use Rattle.mj_lexer.specs.declared.token.Token.{Token}
 use Rattle.mj_lexer.specs.declared.token.Terminal.TheVariants as terminals
 use Rattle.mj_parser.specs.Tokens.{has, says, name_at}
-use Rattle.mj_parser.specs.Trees.{Statement, Statements, Block, If, While, Print, Assign, Store, done, next}
+use Rattle.mj_tree.specs.Trees.{Statement, Statements, Block, If, While, Print, Assign, Store, done, next}
 use Rattle.mj_parser.specs.Expressions.{size, height, IsExp}
 
 -- how many tokens a statement has

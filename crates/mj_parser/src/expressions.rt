@@ -1,14 +1,14 @@
 //! Reading an expression from left to right.
 ghost use Rattle.std.specs.Prelude.{◌≡◌, ℕ, ◌+◌, ◌^◌, ◌<◌, ◌≤◌, length, map, IfOk, IsSome, IsTrue};
-ghost use Rattle.mj_parser.specs.Views.{exp_view, exps_view};
+ghost use Rattle.mj_tree.specs.Views.{exp_view, exps_view};
 ghost use Rattle.mj_parser.specs.Expressions.{height, heights, is_new_array, tier_of};
-ghost use Rattle.mj_parser.specs.Steps.{Gives, listed_at};
+ghost use Rattle.mj_parser.specs.Steps.{Finds, listed_at};
 ghost use Rattle.mj_parser.specs.ExpressionReading.{new_at, prim_at, takes_index, index_at, member_at, post_from, post_at, operator_here, operator_at, binary_from, tier_at, exp_at};
 
 use crate::fault::ParseFault;
 use crate::nodes;
 use crate::tokens::{expect, expect_name, has, kind, says};
-use crate::tree::{Exp, Operator};
+use mj_tree::{Exp, Operator};
 use mj_lexer::{Kind, Terminal, Token};
 use std::alloc::Global;
 
@@ -78,7 +78,7 @@ pub fn read(
     requires tiers { tier ≤ 5 }
     requires deep { room ≤ 500 }
     requires within { at ≤ length tokens.now }
-    ensures exact { Gives (λ x. (exp_view x.exp, x.after)) result (exp_at room tokens.now tier at) }
+    ensures exact { Finds (λ x. (exp_view x.exp, x.after)) result (exp_at room tokens.now tier at) }
     ensures within { IfOk result (λ x. (at < x.after) × (x.after ≤ length tokens.now)) }
     ensures height { IfOk result (λ x. x.height ≡ height (exp_view x.exp)) }
     ensures low { IfOk result (λ x. x.height ≤ room) }
@@ -103,7 +103,7 @@ fn tiered(
     requires tiers { tier ≤ 5 }
     requires deep { room ≤ 500 }
     requires within { at ≤ length tokens.now }
-    ensures exact { Gives (λ x. (exp_view x.exp, x.after)) result (tier_at (exp_at room tokens.now) tokens.now room tier at) }
+    ensures exact { Finds (λ x. (exp_view x.exp, x.after)) result (tier_at (exp_at room tokens.now) tokens.now room tier at) }
     ensures within { IfOk result (λ x. (at < x.after) × (x.after ≤ length tokens.now)) }
     ensures height { IfOk result (λ x. x.height ≡ height (exp_view x.exp)) }
     ensures low { IfOk result (λ x. x.height ≤ room + 1) }
@@ -145,7 +145,7 @@ fn chain(
     requires within { first.after ≤ length tokens.now }
     requires height { first.height ≡ height (exp_view first.exp) }
     requires low { first.height ≤ room + 1 }
-    ensures exact { (gas : ℕ) → length tokens.now < gas + first.after → Gives (λ x. (exp_view x.exp, x.after)) result (binary_from gas (exp_at room tokens.now) tokens.now room tier (exp_view first.exp) first.after) }
+    ensures exact { (gas : ℕ) → length tokens.now < gas + first.after → Finds (λ x. (exp_view x.exp, x.after)) result (binary_from gas (exp_at room tokens.now) tokens.now room tier (exp_view first.exp) first.after) }
     ensures within { IfOk result (λ x. (first.after ≤ x.after) × (x.after ≤ length tokens.now)) }
     ensures height { IfOk result (λ x. x.height ≡ height (exp_view x.exp)) }
     ensures low { IfOk result (λ x. x.height ≤ room + 1) }
@@ -172,7 +172,7 @@ fn chain(
 fn post(alloc: Global, tokens: &[Token], at: usize, room: usize) -> Result<Measured, ParseFault>
     requires deep { room ≤ 500 }
     requires within { at ≤ length tokens.now }
-    ensures exact { Gives (λ x. (exp_view x.exp, x.after)) result (post_at (exp_at room tokens.now) tokens.now room at) }
+    ensures exact { Finds (λ x. (exp_view x.exp, x.after)) result (post_at (exp_at room tokens.now) tokens.now room at) }
     ensures within { IfOk result (λ x. (at < x.after) × (x.after ≤ length tokens.now)) }
     ensures height { IfOk result (λ x. x.height ≡ height (exp_view x.exp)) }
     ensures low { IfOk result (λ x. x.height ≤ room + 1) }
@@ -194,7 +194,7 @@ fn followed(
     requires within { first.after ≤ length tokens.now }
     requires height { first.height ≡ height (exp_view first.exp) }
     requires low { first.height ≤ room + 1 }
-    ensures exact { (gas : ℕ) → length tokens.now < gas + first.after → Gives (λ x. (exp_view x.exp, x.after)) result (post_from gas (exp_at room tokens.now) tokens.now room (exp_view first.exp) first.after) }
+    ensures exact { (gas : ℕ) → length tokens.now < gas + first.after → Finds (λ x. (exp_view x.exp, x.after)) result (post_from gas (exp_at room tokens.now) tokens.now room (exp_view first.exp) first.after) }
     ensures within { IfOk result (λ x. (first.after ≤ x.after) × (x.after ≤ length tokens.now)) }
     ensures height { IfOk result (λ x. x.height ≡ height (exp_view x.exp)) }
     ensures low { IfOk result (λ x. x.height ≤ room + 1) }
@@ -244,7 +244,7 @@ fn index(
     requires within { left.after < length tokens.now }
     requires height { left.height ≡ height (exp_view left.exp) }
     requires low { left.height ≤ room }
-    ensures exact { Gives (λ x. (exp_view x.exp, x.after)) result (index_at (exp_at room tokens.now) tokens.now (exp_view left.exp) left.after) }
+    ensures exact { Finds (λ x. (exp_view x.exp, x.after)) result (index_at (exp_at room tokens.now) tokens.now (exp_view left.exp) left.after) }
     ensures within { IfOk result (λ x. (left.after < x.after) × (x.after ≤ length tokens.now)) }
     ensures height { IfOk result (λ x. x.height ≡ height (exp_view x.exp)) }
     ensures low { IfOk result (λ x. x.height ≤ room + 1) }
@@ -272,7 +272,7 @@ fn member(
     requires within { left.after < length tokens.now }
     requires height { left.height ≡ height (exp_view left.exp) }
     requires low { left.height ≤ room }
-    ensures exact { Gives (λ x. (exp_view x.exp, x.after)) result (member_at (exp_at room tokens.now) tokens.now (exp_view left.exp) (left.after + 1)) }
+    ensures exact { Finds (λ x. (exp_view x.exp, x.after)) result (member_at (exp_at room tokens.now) tokens.now (exp_view left.exp) (left.after + 1)) }
     ensures within { IfOk result (λ x. (left.after < x.after) × (x.after ≤ length tokens.now)) }
     ensures height { IfOk result (λ x. x.height ≡ height (exp_view x.exp)) }
     ensures low { IfOk result (λ x. x.height ≤ room + 1) }
@@ -315,7 +315,7 @@ fn arguments(
 ) -> Result<ArgumentList, ParseFault>
     requires deep { room ≤ 500 }
     requires within { at ≤ length tokens.now }
-    ensures exact { Gives (λ x. (map exp_view x.exps.items, x.after)) result (listed_at (exp_at room tokens.now 5) tokens.now at) }
+    ensures exact { Finds (λ x. (map exp_view x.exps.items, x.after)) result (listed_at (exp_at room tokens.now 5) tokens.now at) }
     ensures within { IfOk result (λ x. (at < x.after) × (x.after ≤ length tokens.now)) }
     ensures height { IfOk result (λ x. x.height ≡ heights (exps_view x.exps.items)) }
     ensures low { IfOk result (λ x. x.height ≤ room) }
@@ -352,7 +352,7 @@ fn arguments(
 fn made(alloc: Global, tokens: &[Token], at: usize, room: usize) -> Result<Measured, ParseFault>
     requires deep { room ≤ 500 }
     requires within { at < length tokens.now }
-    ensures exact { Gives (λ x. (exp_view x.exp, x.after)) result (new_at (exp_at room tokens.now) tokens.now at) }
+    ensures exact { Finds (λ x. (exp_view x.exp, x.after)) result (new_at (exp_at room tokens.now) tokens.now at) }
     ensures within { IfOk result (λ x. (at < x.after) × (x.after ≤ length tokens.now)) }
     ensures height { IfOk result (λ x. x.height ≡ height (exp_view x.exp)) }
     ensures low { IfOk result (λ x. x.height ≤ room + 1) }
@@ -398,7 +398,7 @@ fn single(exp: Exp, at: usize) -> Measured
 fn prim(alloc: Global, tokens: &[Token], at: usize, room: usize) -> Result<Measured, ParseFault>
     requires deep { room ≤ 500 }
     requires within { at ≤ length tokens.now }
-    ensures exact { Gives (λ x. (exp_view x.exp, x.after)) result (prim_at (exp_at room tokens.now) tokens.now at) }
+    ensures exact { Finds (λ x. (exp_view x.exp, x.after)) result (prim_at (exp_at room tokens.now) tokens.now at) }
     ensures within { IfOk result (λ x. (at < x.after) × (x.after ≤ length tokens.now)) }
     ensures height { IfOk result (λ x. x.height ≡ height (exp_view x.exp)) }
     ensures low { IfOk result (λ x. x.height ≤ room + 1) }

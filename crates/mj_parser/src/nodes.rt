@@ -1,9 +1,9 @@
 //! Phrases made of their parts.
 ghost use Rattle.std.specs.Prelude.{◌≡◌, IfOk};
-ghost use Rattle.mj_parser.specs.Trees as trees;
-ghost use Rattle.mj_parser.specs.Views.{exp_view, exps_view, stmt_view, stmts_view};
+ghost use Rattle.mj_tree.specs.Trees as trees;
+ghost use Rattle.mj_tree.specs.Views.{exp_view, exps_view, stmt_view, stmts_view};
 
-use crate::tree::{Exp, Operator, Stmt};
+use mj_tree::{Exp, Operator, Stmt};
 use mj_lexer::Name;
 use std::alloc::{AllocError, Global};
 

@@ -1,13 +1,13 @@
 //! The tree of a file's tokens.
 ghost use Rattle.std.specs.Prelude.{◌≡◌, IfOk, MatchResult};
-ghost use Rattle.mj_parser.specs.Trees.{File};
-ghost use Rattle.mj_parser.specs.Views.{file_view};
+ghost use Rattle.mj_tree.specs.Trees.{File};
+ghost use Rattle.mj_tree.specs.Views.{file_view};
 ghost use Rattle.mj_parser.specs.Declarations.{Derives};
 ghost use Rattle.mj_parser.specs.declared.fault.ParseFault.TheVariants.{OutOfMemory};
 
 use crate::fault::ParseFault;
 use crate::files::file;
-use crate::tree::FileTree;
+use mj_tree::FileTree;
 use mj_lexer::Token;
 use std::alloc::Global;
 

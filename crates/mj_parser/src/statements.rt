@@ -1,9 +1,9 @@
 //! Reading a statement from left to right.
 ghost use Rattle.std.specs.Prelude.{◌≡◌, ℕ, ◌+◌, ◌^◌, ◌<◌, ◌≤◌, ◌||◌, suc, length, map, not, true, false, Some, None, ◌≢◌, IfOk, IfErr, IsTrue};
 ghost use Rattle.mj_parser.specs.Tokens.{has, name_at};
-ghost use Rattle.mj_parser.specs.Views.{exp_view, stmt_view};
+ghost use Rattle.mj_tree.specs.Views.{exp_view, stmt_view};
 ghost use Rattle.mj_parser.specs.Statements.{opens_print};
-ghost use Rattle.mj_parser.specs.Steps.{Gives, items_from};
+ghost use Rattle.mj_parser.specs.Steps.{Finds, items_from};
 ghost use Rattle.mj_parser.specs.ExpressionReading.{exp_at};
 ghost use Rattle.mj_parser.specs.StatementReading.{not_brace, block_at, condition_at, if_at, while_at, print_at, assign_at, store_at, named_at, stmt_of, stmt_at};
 ghost use Rattle.mj_parser.specs.declared.fault.ParseFault.{ParseFault};
@@ -13,7 +13,7 @@ use crate::expressions::{Measured, read};
 use crate::fault::ParseFault;
 use crate::nodes;
 use crate::tokens::{Parsed, expect, expect_name, expect_word, has, name, says};
-use crate::tree::Stmt;
+use mj_tree::Stmt;
 use mj_lexer::{Name, Terminal, Token};
 use std::alloc::Global;
 
@@ -27,7 +27,7 @@ fn condition(
 ) -> Result<Measured, ParseFault>
     requires deep { room ≤ 500 }
     requires within { at ≤ length tokens.now }
-    ensures exact { Gives (λ x. (exp_view x.exp, x.after)) result (condition_at (exp_at room tokens.now 5) tokens.now at) }
+    ensures exact { Finds (λ x. (exp_view x.exp, x.after)) result (condition_at (exp_at room tokens.now 5) tokens.now at) }
     ensures within { IfOk result (λ x. (at < x.after) × (x.after ≤ length tokens.now)) }
 {
     let inside = expect(tokens, at, Terminal::LeftParenthesis)?;
@@ -62,7 +62,7 @@ fn print(
 ) -> Result<Parsed<Stmt>, ParseFault>
     requires deep { room ≤ 500 }
     requires within { at < length tokens.now }
-    ensures exact { Gives (λ x. (stmt_view x.tree, x.after)) result (print_at (exp_at room tokens.now 5) tokens.now at) }
+    ensures exact { Finds (λ x. (stmt_view x.tree, x.after)) result (print_at (exp_at room tokens.now 5) tokens.now at) }
     ensures within { IfOk result (λ x. (at < x.after) × (x.after ≤ length tokens.now)) }
 {
     let inside = print_opening(tokens, at)?;
@@ -85,7 +85,7 @@ fn assign(
 ) -> Result<Parsed<Stmt>, ParseFault>
     requires deep { room ≤ 500 }
     requires within { at + 1 < length tokens.now }
-    ensures exact { Gives (λ x. (stmt_view x.tree, x.after)) result (assign_at (exp_at room tokens.now 5) tokens.now name.now at) }
+    ensures exact { Finds (λ x. (stmt_view x.tree, x.after)) result (assign_at (exp_at room tokens.now 5) tokens.now name.now at) }
     ensures within { IfOk result (λ x. (at < x.after) × (x.after ≤ length tokens.now)) }
 {
     let value = read(alloc, tokens, at + 2, room, 5)?;
@@ -106,7 +106,7 @@ fn store(
 ) -> Result<Parsed<Stmt>, ParseFault>
     requires deep { room ≤ 500 }
     requires within { at + 1 < length tokens.now }
-    ensures exact { Gives (λ x. (stmt_view x.tree, x.after)) result (store_at (exp_at room tokens.now 5) tokens.now name.now at) }
+    ensures exact { Finds (λ x. (stmt_view x.tree, x.after)) result (store_at (exp_at room tokens.now 5) tokens.now name.now at) }
     ensures within { IfOk result (λ x. (at < x.after) × (x.after ≤ length tokens.now)) }
 {
     let index = read(alloc, tokens, at + 2, room, 5)?;
@@ -129,7 +129,7 @@ fn named(
     room: usize,
 ) -> Result<Parsed<Stmt>, ParseFault>
     requires deep { room ≤ 500 }
-    ensures exact { Gives (λ x. (stmt_view x.tree, x.after)) result (named_at (exp_at room tokens.now 5) tokens.now at) }
+    ensures exact { Finds (λ x. (stmt_view x.tree, x.after)) result (named_at (exp_at room tokens.now 5) tokens.now at) }
     ensures within { IfOk result (λ x. (at < x.after) × (x.after ≤ length tokens.now)) }
 {
     let name = expect_name(tokens, at)?;
@@ -181,7 +181,7 @@ fn braced(
 ) -> Result<Parsed<Vec<Stmt>>, ParseFault>
     requires deep { room ≤ 500 }
     requires within { at ≤ length tokens.now }
-    ensures exact { Gives (λ x. (map stmt_view x.tree.items, x.after)) result (items_from (suc (length tokens.now)) (stmt_at room tokens.now) (not_brace tokens.now) at) }
+    ensures exact { Finds (λ x. (map stmt_view x.tree.items, x.after)) result (items_from (suc (length tokens.now)) (stmt_at room tokens.now) (not_brace tokens.now) at) }
     ensures within { IfOk result (λ x. (at ≤ x.after) × (x.after < length tokens.now)) }
 {
     let mut stmts = Vec::new(alloc);
@@ -205,7 +205,7 @@ fn block(
 ) -> Result<Parsed<Stmt>, ParseFault>
     requires deep { room ≤ 500 }
     requires within { at < length tokens.now }
-    ensures exact { Gives (λ x. (stmt_view x.tree, x.after)) result (block_at (stmt_at room tokens.now) tokens.now at) }
+    ensures exact { Finds (λ x. (stmt_view x.tree, x.after)) result (block_at (stmt_at room tokens.now) tokens.now at) }
     ensures within { IfOk result (λ x. (at < x.after) × (x.after ≤ length tokens.now)) }
 {
     let body = braced(alloc, tokens, at + 1, room)?;
@@ -226,7 +226,7 @@ fn choice(
 ) -> Result<Parsed<Stmt>, ParseFault>
     requires deep { room ≤ 500 }
     requires within { at < length tokens.now }
-    ensures exact { Gives (λ x. (stmt_view x.tree, x.after)) result (if_at (exp_at room tokens.now 5) (stmt_at room tokens.now) tokens.now at) }
+    ensures exact { Finds (λ x. (stmt_view x.tree, x.after)) result (if_at (exp_at room tokens.now 5) (stmt_at room tokens.now) tokens.now at) }
     ensures within { IfOk result (λ x. (at < x.after) × (x.after ≤ length tokens.now)) }
 {
     let condition = condition(alloc, tokens, at + 1, room)?;
@@ -250,7 +250,7 @@ fn repetition(
 ) -> Result<Parsed<Stmt>, ParseFault>
     requires deep { room ≤ 500 }
     requires within { at < length tokens.now }
-    ensures exact { Gives (λ x. (stmt_view x.tree, x.after)) result (while_at (exp_at room tokens.now 5) (stmt_at room tokens.now) tokens.now at) }
+    ensures exact { Finds (λ x. (stmt_view x.tree, x.after)) result (while_at (exp_at room tokens.now 5) (stmt_at room tokens.now) tokens.now at) }
     ensures within { IfOk result (λ x. (at < x.after) × (x.after ≤ length tokens.now)) }
 {
     let condition = condition(alloc, tokens, at + 1, room)?;
@@ -273,7 +273,7 @@ pub fn statement(
 ) -> Result<Parsed<Stmt>, ParseFault>
     requires deep { room ≤ 500 }
     requires within { at ≤ length tokens.now }
-    ensures exact { Gives (λ x. (stmt_view x.tree, x.after)) result (stmt_at room tokens.now at) }
+    ensures exact { Finds (λ x. (stmt_view x.tree, x.after)) result (stmt_at room tokens.now at) }
     ensures within { IfOk result (λ x. (at < x.after) × (x.after ≤ length tokens.now)) }
 {
     if lacks_levels(tokens, at, room) {

@@ -1,6 +1,6 @@
 //! The faults of the bodies of a class.
 ghost use Rattle.std.specs.Prelude.{◌≡◌, [], ◌++◌, if◌then◌else◌, map, OnOk};
-ghost use Rattle.mj_parser.specs.Views.{method_view};
+ghost use Rattle.mj_tree.specs.Views.{method_view};
 ghost use Rattle.mj_classes.specs.Classes.{class_ref_view};
 ghost use Rattle.mj_classes.specs.Index.{declared_in};
 ghost use Rattle.mj_typing.specs.Bodies.{method_faults};
@@ -13,7 +13,7 @@ use crate::world::World;
 use mj_answer::Diagnostic;
 use mj_classes::{ClassRef, Declarations, Tree};
 use mj_lexer::Name;
-use mj_parser::{MethodTree, Place};
+use mj_tree::{MethodTree, Place};
 use mj_typing::{Mistake, main_mistakes, method_mistakes};
 use std::alloc::{AllocError, Global};
 

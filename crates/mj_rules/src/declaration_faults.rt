@@ -1,6 +1,6 @@
 //! The faults of the declarations of a class.
 ghost use Rattle.std.specs.Prelude.{◌≡◌, ◌++◌, map, drop, Some, IfOk, OnOk, is_some, option_map, option_copied};
-ghost use Rattle.mj_parser.specs.Views.{method_view};
+ghost use Rattle.mj_tree.specs.Views.{method_view};
 ghost use Rattle.mj_answer.specs.Order.{IsAscendingByName};
 ghost use Rattle.mj_classes.specs.Declarations.{decl};
 ghost use Rattle.mj_classes.specs.Chains.{chain_of, ancestry};
@@ -9,14 +9,14 @@ ghost use Rattle.mj_classes.specs.Index.{declared_in};
 ghost use Rattle.mj_project.specs.Repeats.{repeats};
 ghost use Rattle.mj_rules.specs.Tables.{row_sig, sig_in};
 ghost use Rattle.mj_rules.specs.FaultLists.{when_fault, each_numbered, superclass_faults, is_cycle, is_undeclared, field_faults, same_type, same_types, same_signature, override_faults, method_faults_of, declaration_faults};
-ghost use Rattle.mj_parser.specs.declared.place.Place.TheVariants as places;
+ghost use Rattle.mj_tree.specs.declared.place.Place.TheVariants as places;
 ghost use Rattle.mj_answer.specs.declared.code.Code.TheVariants.{E202};
 
 use crate::tables::method_rows;
 use mj_answer::{Code, Diagnostic, MethodRow, find_by_name};
 use mj_classes::{ClassChain, ClassRef, Declarations, End};
 use mj_lexer::Name;
-use mj_parser::{Field, MethodTree, Place, Ty, Variable};
+use mj_tree::{Field, MethodTree, Place, Ty, Variable};
 use mj_project::repeats;
 use std::alloc::{AllocError, Global};
 

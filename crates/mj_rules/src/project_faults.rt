@@ -1,6 +1,6 @@
 //! The faults of a project itself.
 ghost use Rattle.std.specs.Prelude.{◌≡◌, [], ◌++◌, if◌then◌else◌, ◌||◌, ◌<◌, ◌≤◌, ℕ, List, map, option_map, length, false, All, IfOk, OnOk, slice_get};
-ghost use Rattle.mj_parser.specs.Views.{file_view};
+ghost use Rattle.mj_tree.specs.Views.{file_view};
 ghost use Rattle.mj_classes.specs.Classes.{class_ref_view, classes_view, files_view};
 ghost use Rattle.mj_project.specs.Projects.{sources_view, names_of, IsFileName};
 ghost use Rattle.mj_project.specs.Repeats.{repeats};
@@ -10,7 +10,7 @@ ghost use Rattle.mj_rules.specs.FaultLists.{has_main, any_main, file_faults, fil
 use mj_answer::{Code, Diagnostic};
 use mj_classes::ClassRef;
 use mj_lexer::Name;
-use mj_parser::{FileTree, Place};
+use mj_tree::{FileTree, Place};
 use mj_project::{Project, repeats};
 use std::alloc::{AllocError, Global};
 

@@ -6,7 +6,7 @@ ghost use Rattle.mj_rules.specs.Tables.{field_row, method_row, table_along};
 
 use mj_answer::{ClassTable, FieldRow, MethodRow};
 use mj_classes::{ClassRef, FieldMember, MethodMember, field_table, method_table};
-use mj_parser::{Ty, Variable};
+use mj_tree::{Ty, Variable};
 use std::alloc::{AllocError, Global};
 
 /// An equal type.

@@ -1,8 +1,8 @@
 //! The formals and locals of a method.
 ghost use Rattle.std.specs.Prelude.{◌≡◌, ◌++◌, ◌∷◌, List, [], IfOk, OnOk};
 ghost use Rattle.std.specs.Option.{option_copied};
-ghost use Rattle.mj_parser.specs.Views.{method_view};
-ghost use Rattle.mj_parser.specs.declared.tree.Variable.{Variable};
+ghost use Rattle.mj_tree.specs.Views.{method_view};
+ghost use Rattle.mj_tree.specs.declared.tree.Variable.{Variable};
 ghost use Rattle.mj_typing.specs.Bodies.{variables_of, name_mark, add_repeated, add_repeated_each};
 ghost use Rattle.mj_typing.specs.Seen.{Covers};
 ghost use Rattle.mj_typing.specs.Table.{local_of, main_scope, method_scope};
@@ -11,7 +11,7 @@ use crate::types::copy_of;
 use crate::verdict::Mistake;
 use mj_answer::Code;
 use mj_lexer::Name;
-use mj_parser::{MethodTree, Ty, Variable};
+use mj_tree::{MethodTree, Ty, Variable};
 use std::alloc::{AllocError, Global};
 use std::collections::BTreeMap;
 use std::marker::Model;

@@ -1,6 +1,6 @@
 //! Values from bytes.
 ghost use Rattle.std.specs.Prelude.{◌≡◌, IfOk};
-ghost use Rattle.byte_readers.specs.Reading.{Gives};
+ghost use Rattle.byte_readers.specs.Reading.{Decodes};
 ghost use Rattle.result_bytes.specs.declared.value.Value.{Value};
 ghost use Rattle.result_bytes.specs.Values.{IsValue, canon, kind_of, content_at, decoded, refusal, IsUnlessMemory};
 
@@ -51,7 +51,7 @@ fn read_value(alloc: Global, kind: Kind, bytes: &[u8]) -> Result<Value, Refusal>
 /// Reads what stands behind the kind's number.
 #[tactic(auto, unfolding(crate::specs::Values::content_at))]
 fn read_content(alloc: Global, kind: Kind, bytes: &[u8]) -> Result<(Value, &[u8]), ReadError>
-    ensures { Gives (λ x. (x.0, x.1.now)) result (content_at kind bytes.now) }
+    ensures { Decodes (λ x. (x.0, x.1.now)) result (content_at kind bytes.now) }
 {
     match kind {
         Kind::Files => {

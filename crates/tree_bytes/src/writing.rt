@@ -1,7 +1,7 @@
 //! Writing trees.
 ghost use Rattle.std.specs.Prelude.{◌≡◌, ◌++◌, ◌∷◌, List, length, map, option_map, OnOk};
-ghost use Rattle.mj_parser.specs.Trees.{Call, If, While, Assign, Store};
-ghost use Rattle.mj_parser.specs.Views.{exp_view, exps_view, stmt_view, stmts_view, method_view, main_view, class_view, file_view};
+ghost use Rattle.mj_tree.specs.Trees.{Call, If, While, Assign, Store};
+ghost use Rattle.mj_tree.specs.Views.{exp_view, exps_view, stmt_view, stmts_view, method_view, main_view, class_view, file_view};
 ghost use Rattle.byte_readers.specs.Spelling.{name, four, eight, option, list};
 ghost use Rattle.tree_bytes.specs.Tags.{operator_byte, boolean_byte};
 ghost use Rattle.tree_bytes.specs.Spelling.{node, exp, exps, stmt, stmts, count_exps, count_stmts, method, tagged_method, main, class, file};
@@ -10,7 +10,7 @@ use crate::types::{FieldFormat, put_ty};
 use crate::variables::VariableFormat;
 use byte_readers::{NameFormat, put_eight, put_four, put_list, put_name, put_option};
 use mj_lexer::Name;
-use mj_parser::{ClassTree, Exp, FileTree, MainTree, MethodTree, Operator, Stmt};
+use mj_tree::{ClassTree, Exp, FileTree, MainTree, MethodTree, Operator, Stmt};
 use std::alloc::AllocError;
 
 fn operator_byte(operator: Operator) -> u8

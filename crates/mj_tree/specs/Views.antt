@@ -1,15 +1,15 @@
 -- What contracts see of the trees that the code has.
 use Rattle.std.specs.Prelude.{List, [], ◌∷◌, map, option_map}
-use Rattle.mj_parser.specs.Trees.{Expression, Expressions, none, more, Statement, Statements, done, next, Method, Main, Class, File}
-use Rattle.mj_parser.specs.Trees as trees
-use Rattle.mj_parser.specs.declared.tree.Exp.{Exp, fold-Exp}
-use Rattle.mj_parser.specs.declared.tree.Exp.TheOpen as exp
-use Rattle.mj_parser.specs.declared.tree.Stmt.{Stmt, fold-Stmt}
-use Rattle.mj_parser.specs.declared.tree.Stmt.TheOpen as stmt
-use Rattle.mj_parser.specs.declared.tree.MethodTree.{MethodTree}
-use Rattle.mj_parser.specs.declared.tree.MainTree.{MainTree}
-use Rattle.mj_parser.specs.declared.tree.ClassTree.{ClassTree}
-use Rattle.mj_parser.specs.declared.tree.FileTree.{FileTree}
+use Rattle.mj_tree.specs.Trees.{Expression, Expressions, none, more, Statement, Statements, done, next, Method, Main, Class, File}
+use Rattle.mj_tree.specs.Trees as trees
+use Rattle.mj_tree.specs.declared.tree.Exp.{Exp, fold-Exp}
+use Rattle.mj_tree.specs.declared.tree.Exp.TheOpen as exp
+use Rattle.mj_tree.specs.declared.tree.Stmt.{Stmt, fold-Stmt}
+use Rattle.mj_tree.specs.declared.tree.Stmt.TheOpen as stmt
+use Rattle.mj_tree.specs.declared.tree.MethodTree.{MethodTree}
+use Rattle.mj_tree.specs.declared.tree.MainTree.{MainTree}
+use Rattle.mj_tree.specs.declared.tree.ClassTree.{ClassTree}
+use Rattle.mj_tree.specs.declared.tree.FileTree.{FileTree}
 
 abbrev pub expressions_of : List Expression → Expressions
 expressions_of [] = none

@@ -1,12 +1,12 @@
 -- Which trees have a spelling: tokens in four bytes, literals up to the greatest, names, and at most so many levels.
 use Rattle.std.specs.Prelude.{ℕ, zero, suc, ◌<◌, ◌≤◌, ◌^◌, length, IfSome}
 use Rattle.std.specs.List.{AllByRecursion}
-use Rattle.mj_parser.specs.declared.tree.Ty.{Ty}
-use Rattle.mj_parser.specs.declared.tree.Ty.TheVariants.{Int, Boolean, IntArray, Class}
-use Rattle.mj_parser.specs.declared.tree.Field.{Field}
-use Rattle.mj_parser.specs.declared.tree.Variable.{Variable}
-use Rattle.mj_parser.specs.Trees.{Expression, Expressions, none, more, Statement, Statements, done, next, Method, Main, File}
-use Rattle.mj_parser.specs.Trees as trees
+use Rattle.mj_tree.specs.declared.tree.Ty.{Ty}
+use Rattle.mj_tree.specs.declared.tree.Ty.TheVariants.{Int, Boolean, IntArray, Class}
+use Rattle.mj_tree.specs.declared.tree.Field.{Field}
+use Rattle.mj_tree.specs.declared.tree.Variable.{Variable}
+use Rattle.mj_tree.specs.Trees.{Expression, Expressions, none, more, Statement, Statements, done, next, Method, Main, File}
+use Rattle.mj_tree.specs.Trees as trees
 use Rattle.byte_readers.specs.Names.{IsName}
 use Rattle.tree_bytes.specs.Spelling.{count_exps, count_stmts}
 

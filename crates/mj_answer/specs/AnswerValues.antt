@@ -1,6 +1,6 @@
 -- Answers without where they lie in memory.
 use Rattle.std.specs.Prelude.{ℕ, List}
-use Rattle.mj_parser.specs.declared.tree.Ty.{Ty}
+use Rattle.mj_tree.specs.declared.tree.Ty.{Ty}
 use Rattle.mj_answer.specs.declared.diagnostic.Diagnostic.{Diagnostic}
 use Rattle.mj_answer.specs.declared.table.FieldRow.{FieldRow}
 

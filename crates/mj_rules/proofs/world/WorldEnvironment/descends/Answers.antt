@@ -4,7 +4,7 @@ use Rattle.mj_classes.specs.Classes.{class_ref_view, chain_view}
 use Rattle.mj_classes.specs.Index.{declared_in}
 use Rattle.mj_classes.specs.declared.class.ClassRef.{ClassRef}
 use Rattle.mj_rules.proofs.RowLemmas.{any_named}
-use Rattle.mj_rules.proofs.world.WorldDeclarations.descends.Goals as goal
+use Rattle.mj_rules.proofs.world.WorldEnvironment.descends.Goals as goal
 
 pub returns-in-Some : goal.returns-in-Some
 returns-in-Some c =

@@ -1,0 +1,10 @@
+//! Trees of files, and places in them.
+#![tactic(auto)]
+
+mod place;
+mod tree;
+
+pub use place::Place;
+pub use tree::{
+    ClassTree, Exp, Field, FileTree, MainTree, MethodTree, Operator, Stmt, Ty, Variable,
+};
