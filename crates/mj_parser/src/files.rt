@@ -10,8 +10,8 @@ use crate::declarations::{local, method};
 use crate::fault::ParseFault;
 use crate::statements::statement;
 use crate::tokens::{Parsed, expect, expect_name, expect_word, has, name};
-use mj_tree::{ClassTree, Field, FileTree, MainTree, MethodTree, Stmt};
 use mj_lexer::{Name, Terminal, Token};
+use mj_tree::{ClassTree, Field, FileTree, MOST_LEVELS, MainTree, MethodTree, Stmt};
 use std::alloc::Global;
 
 #[tactic(auto, unfolding(crate::specs::FileReading::field_at))]
@@ -187,7 +187,7 @@ fn main_method(alloc: Global, tokens: &[Token]) -> Result<Parsed<Stmt>, ParseFau
 {
     expect_main_head(tokens)?;
     let inside = expect_main_parameter(tokens)?;
-    let statement = statement(alloc, tokens, inside, 500)?;
+    let statement = statement(alloc, tokens, inside, MOST_LEVELS)?;
     let after = expect(tokens, statement.after, Terminal::RightBrace)?;
     let after = expect(tokens, after, Terminal::RightBrace)?;
     Ok(Parsed {

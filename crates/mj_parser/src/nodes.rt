@@ -3,8 +3,8 @@ ghost use Rattle.std.specs.Prelude.{◌≡◌, IfOk};
 ghost use Rattle.mj_tree.specs.Trees as trees;
 ghost use Rattle.mj_tree.specs.Views.{exp_view, exps_view, stmt_view, stmts_view};
 
-use mj_tree::{Exp, Operator, Stmt};
 use mj_lexer::Name;
+use mj_tree::{Exp, Operator, Stmt};
 use std::alloc::{AllocError, Global};
 
 pub fn binary(

@@ -7,8 +7,8 @@ ghost use Rattle.mj_parser.specs.declared.fault.ParseFault.TheVariants.{OutOfMem
 
 use crate::fault::ParseFault;
 use crate::files::file;
-use mj_tree::FileTree;
 use mj_lexer::Token;
+use mj_tree::FileTree;
 use std::alloc::Global;
 
 /// The file that the tokens are.

@@ -7,11 +7,8 @@ ghost use Rattle.tree_bytes.specs.Reading.{literal_at, two_of, one_of, exp_at, e
 
 use crate::tag::{ExpTag, OnePart, TwoParts, exp_tag_of};
 use byte_readers::{ReadError, read_byte, read_eight, read_four, read_name, refused};
-use mj_tree::Exp;
+use mj_tree::{Exp, MOST_LEVELS};
 use std::alloc::Global;
-
-/// The levels that a phrase may have.
-pub const MOST_LEVELS: usize = 500;
 
 /// Reads an expression of level 1.
 #[tactic(auto, unfolding(crate::specs::Reading::top_exp_at))]

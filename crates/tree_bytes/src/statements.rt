@@ -4,10 +4,10 @@ ghost use Rattle.mj_tree.specs.Views.{stmt_view, stmts_view};
 ghost use Rattle.byte_readers.specs.Reading.{Decodes, list_from, any};
 ghost use Rattle.tree_bytes.specs.Reading.{exp_at, stmt_at, stmt_body_at, stmts_at, top_stmt_at, top_stmts_at};
 
-use crate::expressions::{MOST_LEVELS, read_exp};
+use crate::expressions::read_exp;
 use crate::tag::{StmtTag, stmt_tag_of};
 use byte_readers::{ReadError, read_byte, read_eight, read_four, read_name, refused};
-use mj_tree::Stmt;
+use mj_tree::{MOST_LEVELS, Stmt};
 use std::alloc::Global;
 
 /// Reads a statement of level 1.
