@@ -94,7 +94,8 @@ fn begins_local(tokens: &[Token], at: usize) -> bool
 /// Formals between commas, up to the parenthesis that closes them.
 fn formals(alloc: Global, tokens: &[Token], at: usize) -> Result<Parsed<Vec<Variable>>, ParseFault>
     requires { at ≤ length tokens.now }
-    ensures exact { Finds (λ x. (x.tree.items, x.after)) result (listed_at (variable_at tokens.now) tokens.now at) }
+    ensures exact { Finds (λ x. (x.tree.items, x.after)) result
+        (listed_at (variable_at tokens.now) tokens.now at) }
     ensures within { IfOk result (λ x. (at < x.after) × (x.after ≤ length tokens.now)) }
 {
     let mut formals = Vec::new(alloc);
@@ -122,7 +123,9 @@ fn formals(alloc: Global, tokens: &[Token], at: usize) -> Result<Parsed<Vec<Vari
 /// The locals of a body.
 fn locals(alloc: Global, tokens: &[Token], at: usize) -> Result<Parsed<Vec<Variable>>, ParseFault>
     requires { at ≤ length tokens.now }
-    ensures exact { Finds (λ x. (x.tree.items, x.after)) result (items_from (suc (length tokens.now)) (local_at tokens.now) (begins_local tokens.now) at) }
+    ensures exact { Finds (λ x. (x.tree.items, x.after)) result
+        (items_from (suc (length tokens.now)) (local_at tokens.now) (begins_local tokens.now)
+        at) }
     ensures within { IfOk result (λ x. (at ≤ x.after) × (x.after ≤ length tokens.now)) }
 {
     let mut items = Vec::new(alloc);
@@ -138,7 +141,9 @@ fn locals(alloc: Global, tokens: &[Token], at: usize) -> Result<Parsed<Vec<Varia
 /// Statements up to `return`.
 fn body(alloc: Global, tokens: &[Token], at: usize) -> Result<Parsed<Vec<Stmt>>, ParseFault>
     requires { at ≤ length tokens.now }
-    ensures exact { Finds (λ x. (map stmt_view x.tree.items, x.after)) result (items_from (suc (length tokens.now)) (stmt_at most_levels tokens.now) (not_return tokens.now) at) }
+    ensures exact { Finds (λ x. (map stmt_view x.tree.items, x.after)) result
+        (items_from (suc (length tokens.now)) (stmt_at most_levels tokens.now)
+        (not_return tokens.now) at) }
     ensures within { IfOk result (λ x. (at ≤ x.after) × (x.after < length tokens.now)) }
 {
     let mut items = Vec::new(alloc);

@@ -107,7 +107,8 @@ fn tiered(
     requires tiers { tier ≤ any_tier }
     requires deep { room ≤ most_levels }
     requires within { at ≤ length tokens.now }
-    ensures exact { Finds (λ x. (exp_view x.exp, x.after)) result (tier_at (exp_at room tokens.now) tokens.now room tier at) }
+    ensures exact { Finds (λ x. (exp_view x.exp, x.after)) result
+        (tier_at (exp_at room tokens.now) tokens.now room tier at) }
     ensures within { IfOk result (λ x. (at < x.after) × (x.after ≤ length tokens.now)) }
     ensures height { IfOk result (λ x. x.height ≡ height (exp_view x.exp)) }
     ensures low { IfOk result (λ x. x.height ≤ room + 1) }
@@ -149,7 +150,10 @@ fn chain(
     requires within { first.after ≤ length tokens.now }
     requires height { first.height ≡ height (exp_view first.exp) }
     requires low { first.height ≤ room + 1 }
-    ensures exact { (gas : ℕ) → length tokens.now < gas + first.after → Finds (λ x. (exp_view x.exp, x.after)) result (binary_from gas (exp_at room tokens.now) tokens.now room tier (exp_view first.exp) first.after) }
+    ensures exact { (gas : ℕ) → length tokens.now < gas + first.after
+        → Finds (λ x. (exp_view x.exp, x.after)) result
+        (binary_from gas (exp_at room tokens.now) tokens.now room tier
+        (exp_view first.exp) first.after) }
     ensures within { IfOk result (λ x. (first.after ≤ x.after) × (x.after ≤ length tokens.now)) }
     ensures height { IfOk result (λ x. x.height ≡ height (exp_view x.exp)) }
     ensures low { IfOk result (λ x. x.height ≤ room + 1) }
@@ -176,7 +180,8 @@ fn chain(
 fn post(alloc: Global, tokens: &[Token], at: usize, room: usize) -> Result<Measured, ParseFault>
     requires deep { room ≤ most_levels }
     requires within { at ≤ length tokens.now }
-    ensures exact { Finds (λ x. (exp_view x.exp, x.after)) result (post_at (exp_at room tokens.now) tokens.now room at) }
+    ensures exact { Finds (λ x. (exp_view x.exp, x.after)) result
+        (post_at (exp_at room tokens.now) tokens.now room at) }
     ensures within { IfOk result (λ x. (at < x.after) × (x.after ≤ length tokens.now)) }
     ensures height { IfOk result (λ x. x.height ≡ height (exp_view x.exp)) }
     ensures low { IfOk result (λ x. x.height ≤ room + 1) }
@@ -198,7 +203,10 @@ fn followed(
     requires within { first.after ≤ length tokens.now }
     requires height { first.height ≡ height (exp_view first.exp) }
     requires low { first.height ≤ room + 1 }
-    ensures exact { (gas : ℕ) → length tokens.now < gas + first.after → Finds (λ x. (exp_view x.exp, x.after)) result (post_from gas (exp_at room tokens.now) tokens.now room (exp_view first.exp) first.after) }
+    ensures exact { (gas : ℕ) → length tokens.now < gas + first.after
+        → Finds (λ x. (exp_view x.exp, x.after)) result
+        (post_from gas (exp_at room tokens.now) tokens.now room (exp_view first.exp)
+        first.after) }
     ensures within { IfOk result (λ x. (first.after ≤ x.after) × (x.after ≤ length tokens.now)) }
     ensures height { IfOk result (λ x. x.height ≡ height (exp_view x.exp)) }
     ensures low { IfOk result (λ x. x.height ≤ room + 1) }
@@ -248,7 +256,8 @@ fn index(
     requires within { left.after < length tokens.now }
     requires height { left.height ≡ height (exp_view left.exp) }
     requires low { left.height ≤ room }
-    ensures exact { Finds (λ x. (exp_view x.exp, x.after)) result (index_at (exp_at room tokens.now) tokens.now (exp_view left.exp) left.after) }
+    ensures exact { Finds (λ x. (exp_view x.exp, x.after)) result
+        (index_at (exp_at room tokens.now) tokens.now (exp_view left.exp) left.after) }
     ensures within { IfOk result (λ x. (left.after < x.after) × (x.after ≤ length tokens.now)) }
     ensures height { IfOk result (λ x. x.height ≡ height (exp_view x.exp)) }
     ensures low { IfOk result (λ x. x.height ≤ room + 1) }
@@ -276,7 +285,8 @@ fn member(
     requires within { left.after < length tokens.now }
     requires height { left.height ≡ height (exp_view left.exp) }
     requires low { left.height ≤ room }
-    ensures exact { Finds (λ x. (exp_view x.exp, x.after)) result (member_at (exp_at room tokens.now) tokens.now (exp_view left.exp) (left.after + 1)) }
+    ensures exact { Finds (λ x. (exp_view x.exp, x.after)) result
+        (member_at (exp_at room tokens.now) tokens.now (exp_view left.exp) (left.after + 1)) }
     ensures within { IfOk result (λ x. (left.after < x.after) × (x.after ≤ length tokens.now)) }
     ensures height { IfOk result (λ x. x.height ≡ height (exp_view x.exp)) }
     ensures low { IfOk result (λ x. x.height ≤ room + 1) }
@@ -319,7 +329,8 @@ fn arguments(
 ) -> Result<ArgumentList, ParseFault>
     requires deep { room ≤ most_levels }
     requires within { at ≤ length tokens.now }
-    ensures exact { Finds (λ x. (map exp_view x.exps.items, x.after)) result (listed_at (exp_at room tokens.now any_tier) tokens.now at) }
+    ensures exact { Finds (λ x. (map exp_view x.exps.items, x.after)) result
+        (listed_at (exp_at room tokens.now any_tier) tokens.now at) }
     ensures within { IfOk result (λ x. (at < x.after) × (x.after ≤ length tokens.now)) }
     ensures height { IfOk result (λ x. x.height ≡ heights (exps_view x.exps.items)) }
     ensures low { IfOk result (λ x. x.height ≤ room) }
@@ -356,7 +367,8 @@ fn arguments(
 fn made(alloc: Global, tokens: &[Token], at: usize, room: usize) -> Result<Measured, ParseFault>
     requires deep { room ≤ most_levels }
     requires within { at < length tokens.now }
-    ensures exact { Finds (λ x. (exp_view x.exp, x.after)) result (new_at (exp_at room tokens.now) tokens.now at) }
+    ensures exact { Finds (λ x. (exp_view x.exp, x.after)) result
+        (new_at (exp_at room tokens.now) tokens.now at) }
     ensures within { IfOk result (λ x. (at < x.after) × (x.after ≤ length tokens.now)) }
     ensures height { IfOk result (λ x. x.height ≡ height (exp_view x.exp)) }
     ensures low { IfOk result (λ x. x.height ≤ room + 1) }
@@ -402,7 +414,8 @@ fn single(exp: Exp, at: usize) -> Measured
 fn prim(alloc: Global, tokens: &[Token], at: usize, room: usize) -> Result<Measured, ParseFault>
     requires deep { room ≤ most_levels }
     requires within { at ≤ length tokens.now }
-    ensures exact { Finds (λ x. (exp_view x.exp, x.after)) result (prim_at (exp_at room tokens.now) tokens.now at) }
+    ensures exact { Finds (λ x. (exp_view x.exp, x.after)) result
+        (prim_at (exp_at room tokens.now) tokens.now at) }
     ensures within { IfOk result (λ x. (at < x.after) × (x.after ≤ length tokens.now)) }
     ensures height { IfOk result (λ x. x.height ≡ height (exp_view x.exp)) }
     ensures low { IfOk result (λ x. x.height ≤ room + 1) }

@@ -14,7 +14,8 @@ use std::alloc::Global;
 /// The file that the tokens are.
 pub fn parse(alloc: Global, tokens: &[Token]) -> Result<FileTree, ParseFault>
     ensures found { IfOk result (λ tree. Derives tokens.now (file_view tree)) }
-    ensures only { (other : File) → Derives tokens.now other → MatchResult result (λ tree. file_view tree ≡ other) (λ fault. fault ≡ OutOfMemory) }
+    ensures only { (other : File) → Derives tokens.now other
+        → MatchResult result (λ tree. file_view tree ≡ other) (λ fault. fault ≡ OutOfMemory) }
 {
     file(alloc, tokens)
 }

@@ -29,7 +29,8 @@ fn condition(
 ) -> Result<Measured, ParseFault>
     requires deep { room ≤ most_levels }
     requires within { at ≤ length tokens.now }
-    ensures exact { Finds (λ x. (exp_view x.exp, x.after)) result (condition_at (exp_at room tokens.now any_tier) tokens.now at) }
+    ensures exact { Finds (λ x. (exp_view x.exp, x.after)) result
+        (condition_at (exp_at room tokens.now any_tier) tokens.now at) }
     ensures within { IfOk result (λ x. (at < x.after) × (x.after ≤ length tokens.now)) }
 {
     let inside = expect(tokens, at, Terminal::LeftParenthesis)?;
@@ -42,7 +43,8 @@ fn condition(
 /// stands behind it.
 fn print_opening(tokens: &[Token], at: usize) -> Result<usize, ParseFault>
     requires { at < length tokens.now }
-    ensures found { IfOk result (λ after. (opens_print tokens.now at ≡ true) × (after ≡ at + 6) × (after ≤ length tokens.now)) }
+    ensures found { IfOk result (λ after.
+        (opens_print tokens.now at ≡ true) × (after ≡ at + 6) × (after ≤ length tokens.now)) }
     ensures fault { IfErr result (λ e. (opens_print tokens.now at ≡ false) × (e ≢ OutOfMemory)) }
 {
     if !says(tokens, at, b"System".as_slice()) {
@@ -64,7 +66,8 @@ fn print(
 ) -> Result<Parsed<Stmt>, ParseFault>
     requires deep { room ≤ most_levels }
     requires within { at < length tokens.now }
-    ensures exact { Finds (λ x. (stmt_view x.tree, x.after)) result (print_at (exp_at room tokens.now any_tier) tokens.now at) }
+    ensures exact { Finds (λ x. (stmt_view x.tree, x.after)) result
+        (print_at (exp_at room tokens.now any_tier) tokens.now at) }
     ensures within { IfOk result (λ x. (at < x.after) × (x.after ≤ length tokens.now)) }
 {
     let inside = print_opening(tokens, at)?;
@@ -87,7 +90,8 @@ fn assign(
 ) -> Result<Parsed<Stmt>, ParseFault>
     requires deep { room ≤ most_levels }
     requires within { at + 1 < length tokens.now }
-    ensures exact { Finds (λ x. (stmt_view x.tree, x.after)) result (assign_at (exp_at room tokens.now any_tier) tokens.now name.now at) }
+    ensures exact { Finds (λ x. (stmt_view x.tree, x.after)) result
+        (assign_at (exp_at room tokens.now any_tier) tokens.now name.now at) }
     ensures within { IfOk result (λ x. (at < x.after) × (x.after ≤ length tokens.now)) }
 {
     let value = read(alloc, tokens, at + 2, room, ANY_TIER)?;
@@ -108,7 +112,8 @@ fn store(
 ) -> Result<Parsed<Stmt>, ParseFault>
     requires deep { room ≤ most_levels }
     requires within { at + 1 < length tokens.now }
-    ensures exact { Finds (λ x. (stmt_view x.tree, x.after)) result (store_at (exp_at room tokens.now any_tier) tokens.now name.now at) }
+    ensures exact { Finds (λ x. (stmt_view x.tree, x.after)) result
+        (store_at (exp_at room tokens.now any_tier) tokens.now name.now at) }
     ensures within { IfOk result (λ x. (at < x.after) × (x.after ≤ length tokens.now)) }
 {
     let index = read(alloc, tokens, at + 2, room, ANY_TIER)?;
@@ -131,7 +136,8 @@ fn named(
     room: usize,
 ) -> Result<Parsed<Stmt>, ParseFault>
     requires deep { room ≤ most_levels }
-    ensures exact { Finds (λ x. (stmt_view x.tree, x.after)) result (named_at (exp_at room tokens.now any_tier) tokens.now at) }
+    ensures exact { Finds (λ x. (stmt_view x.tree, x.after)) result
+        (named_at (exp_at room tokens.now any_tier) tokens.now at) }
     ensures within { IfOk result (λ x. (at < x.after) × (x.after ≤ length tokens.now)) }
 {
     let name = expect_name(tokens, at)?;
@@ -183,7 +189,9 @@ fn braced(
 ) -> Result<Parsed<Vec<Stmt>>, ParseFault>
     requires deep { room ≤ most_levels }
     requires within { at ≤ length tokens.now }
-    ensures exact { Finds (λ x. (map stmt_view x.tree.items, x.after)) result (items_from (suc (length tokens.now)) (stmt_at room tokens.now) (not_brace tokens.now) at) }
+    ensures exact { Finds (λ x. (map stmt_view x.tree.items, x.after)) result
+        (items_from (suc (length tokens.now)) (stmt_at room tokens.now) (not_brace tokens.now)
+        at) }
     ensures within { IfOk result (λ x. (at ≤ x.after) × (x.after < length tokens.now)) }
 {
     let mut stmts = Vec::new(alloc);
@@ -207,7 +215,8 @@ fn block(
 ) -> Result<Parsed<Stmt>, ParseFault>
     requires deep { room ≤ most_levels }
     requires within { at < length tokens.now }
-    ensures exact { Finds (λ x. (stmt_view x.tree, x.after)) result (block_at (stmt_at room tokens.now) tokens.now at) }
+    ensures exact { Finds (λ x. (stmt_view x.tree, x.after)) result
+        (block_at (stmt_at room tokens.now) tokens.now at) }
     ensures within { IfOk result (λ x. (at < x.after) × (x.after ≤ length tokens.now)) }
 {
     let body = braced(alloc, tokens, at + 1, room)?;
@@ -228,7 +237,8 @@ fn choice(
 ) -> Result<Parsed<Stmt>, ParseFault>
     requires deep { room ≤ most_levels }
     requires within { at < length tokens.now }
-    ensures exact { Finds (λ x. (stmt_view x.tree, x.after)) result (if_at (exp_at room tokens.now any_tier) (stmt_at room tokens.now) tokens.now at) }
+    ensures exact { Finds (λ x. (stmt_view x.tree, x.after)) result
+        (if_at (exp_at room tokens.now any_tier) (stmt_at room tokens.now) tokens.now at) }
     ensures within { IfOk result (λ x. (at < x.after) × (x.after ≤ length tokens.now)) }
 {
     let condition = condition(alloc, tokens, at + 1, room)?;
@@ -252,7 +262,8 @@ fn repetition(
 ) -> Result<Parsed<Stmt>, ParseFault>
     requires deep { room ≤ most_levels }
     requires within { at < length tokens.now }
-    ensures exact { Finds (λ x. (stmt_view x.tree, x.after)) result (while_at (exp_at room tokens.now any_tier) (stmt_at room tokens.now) tokens.now at) }
+    ensures exact { Finds (λ x. (stmt_view x.tree, x.after)) result
+        (while_at (exp_at room tokens.now any_tier) (stmt_at room tokens.now) tokens.now at) }
     ensures within { IfOk result (λ x. (at < x.after) × (x.after ≤ length tokens.now)) }
 {
     let condition = condition(alloc, tokens, at + 1, room)?;

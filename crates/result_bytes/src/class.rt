@@ -30,9 +30,22 @@ impl Model for Header {
 
     ghost Value = { HeaderValue };
 
-    ghost view = { λ h. record { is_main = h.is_main; superclass = h.superclass; fields = h.fields.items; methods = h.methods.items } };
+    ghost view = { λ h.
+        record {
+          is_main = h.is_main;
+          superclass = h.superclass;
+          fields = h.fields.items;
+          methods = h.methods.items;
+        } };
 
-    ghost invariant = { λ h. HeaderFits (record { is_main = h.is_main; superclass = h.superclass; fields = h.fields.items; methods = h.methods.items }) };
+    ghost invariant = { λ h.
+        HeaderFits
+        (record {
+          is_main = h.is_main;
+          superclass = h.superclass;
+          fields = h.fields.items;
+          methods = h.methods.items;
+        }) };
 }
 
 impl Header {
@@ -46,7 +59,13 @@ impl Header {
         fields: Vec<Field>,
         methods: Vec<Name>,
     ) -> Self
-        ensures { result ≡ record { is_main = is_main; superclass = superclass; fields = fields.items; methods = methods.items } }
+        ensures { result
+            ≡ record {
+              is_main = is_main;
+              superclass = superclass;
+              fields = fields.items;
+              methods = methods.items;
+            } }
     {
         check_perhaps_name(&superclass);
         check_list::<FieldFormat>(&fields);
