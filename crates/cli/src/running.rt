@@ -51,8 +51,10 @@ fn report_of<R: Files + AllocGlobal>(rt: &R, list: Vec<String>) -> Result<Report
 
 // What the words ask for.
 fn perform<R: Files + AllocGlobal>(rt: &R, list: Vec<String>) -> Result<Report, Failure>
-    ensures reports { (names : List (List ℕ)) → scratch_files (map string_bytes list.items) ≡ Some names → IfOk result (ReportsOn names) }
-    ensures plain { IsTrue (asks_plainly (map string_bytes list.items)) → IfErr result (λ failure. status_of_failure failure ≢ Status.Clean) }
+    ensures reports { (names : List (List ℕ)) → scratch_files (map string_bytes list.items) ≡ Some names
+        → IfOk result (ReportsOn names) }
+    ensures plain { IsTrue (asks_plainly (map string_bytes list.items))
+        → IfErr result (λ failure. status_of_failure failure ≢ Status.Clean) }
 {
     match words(rt.alloc(), list)? {
         Words::Scratch(names) => scratch(rt, names),
@@ -93,7 +95,8 @@ fn read_files<R: Files + AllocGlobal>(
     rt: &R,
     names: Vec<String>,
 ) -> Result<Vec<(String, Vec<u8>)>, Failure>
-    ensures named { IfOk result (λ files. map (λ file. string_bytes file.0) files.items ≡ map string_bytes names.items) }
+    ensures named { IfOk result (λ files.
+        map (λ file. string_bytes file.0) files.items ≡ map string_bytes names.items) }
     ensures failed { IfErr result (λ failure. status_of_failure failure ≢ Status.Clean) }
 {
     let mut files = Vec::new(rt.alloc());

@@ -28,13 +28,20 @@ impl Model for MethodRow {
 
     ghost Value = { MethodRowValue };
 
-    ghost view = { λ row. record { name = row.name; owner = row.owner; formals = row.formals.items; returns = row.returns } };
+    ghost view = { λ row.
+        record {
+          name = row.name;
+          owner = row.owner;
+          formals = row.formals.items;
+          returns = row.returns;
+        } };
 }
 
 impl MethodRow {
     /// A method of these formal types and this return type.
     pub fn new(name: Name, owner: Name, formals: Vec<Ty>, returns: Ty) -> Self
-        ensures { result ≡ record { name = name; owner = owner; formals = formals.items; returns = returns } }
+        ensures { result
+            ≡ record { name = name; owner = owner; formals = formals.items; returns = returns } }
     {
         MethodRow {
             name,

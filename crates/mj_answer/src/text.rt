@@ -20,7 +20,8 @@ pub fn render(alloc: Global, answer: &Answer) -> Result<String, AllocError>
 }
 
 fn write_classes(text: &mut String, classes: &[ClassAnswer]) -> Result<(), AllocError>
-    ensures { OnOk result (string_bytes text.new ≡ string_bytes text.old ++ flat_map class_text classes.now) }
+    ensures { OnOk result
+        (string_bytes text.new ≡ string_bytes text.old ++ flat_map class_text classes.now) }
 {
     for class in classes {
         write_class(text, class)?;
@@ -106,7 +107,8 @@ fn type_name(ty: &Ty) -> &str
 }
 
 fn write_faults(text: &mut String, faults: &[Diagnostic]) -> Result<(), AllocError>
-    ensures { OnOk result (string_bytes text.new ≡ string_bytes text.old ++ flat_map fault_line faults.now) }
+    ensures { OnOk result
+        (string_bytes text.new ≡ string_bytes text.old ++ flat_map fault_line faults.now) }
 {
     for fault in faults {
         write_fault(text, fault)?;
@@ -115,7 +117,9 @@ fn write_faults(text: &mut String, faults: &[Diagnostic]) -> Result<(), AllocErr
 }
 
 fn write_indented_faults(text: &mut String, faults: &[Diagnostic]) -> Result<(), AllocError>
-    ensures { OnOk result (string_bytes text.new ≡ string_bytes text.old ++ flat_map indented_fault_line faults.now) }
+    ensures { OnOk result
+        (string_bytes text.new
+        ≡ string_bytes text.old ++ flat_map indented_fault_line faults.now) }
 {
     for fault in faults {
         text.push_str("  ")?;

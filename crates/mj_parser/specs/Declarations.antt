@@ -6,10 +6,11 @@ use Rattle.mj_tree.specs.declared.tree.Ty.{Ty}
 use Rattle.mj_tree.specs.declared.tree.Ty.TheVariants as types
 use Rattle.mj_tree.specs.declared.tree.Field.{Field}
 use Rattle.mj_tree.specs.declared.tree.Variable.{Variable}
+use Rattle.mj_tree.specs.Limits.{most_levels}
 use Rattle.mj_parser.specs.Rows.{row_size, row_height, InRow}
 use Rattle.mj_parser.specs.Tokens.{has, says, name_at}
 use Rattle.mj_tree.specs.Trees.{Name, Method, Main, Class, File}
-use Rattle.mj_parser.specs.Expressions.{size, height, IsExp}
+use Rattle.mj_parser.specs.Expressions.{any_tier, size, height, IsExp}
 use Rattle.mj_parser.specs.Statements.{stmt_size, stmts_size, stmt_height, stmts_height, IsStmt, AreStmts}
 
 -- ---- types and variables
@@ -89,7 +90,7 @@ pub record IsMethod (ts : List Token) (m : Method) : Type 0 where
   pub body : AreStmts ts (body_place m) m.body
   pub return_word : has ts (return_place m) terminals.Return ≡ true
   pub return_mark : m.return_mark ≡ return_place m
-  pub returned : IsExp ts 5 (return_place m + 1) m.returned
+  pub returned : IsExp ts any_tier (return_place m + 1) m.returned
   pub semicolon : has ts (return_place m + 1 + size m.returned) terminals.Semicolon ≡ true
   pub end_brace : has ts (return_place m + 1 + size m.returned + 1) terminals.RightBrace ≡ true
 
@@ -175,10 +176,10 @@ file_size f = main_part_size f.main + row_size class_size f.classes
 abbrev pub file_height : File → ℕ
 file_height f = max (main_part_height f.main) (row_height class_height f.classes)
 
--- The tokens are those of the file, in which no phrase has a level over 500. A statement in a body and the returned
--- expression have level 1, a part of a phrase one more than the phrase.
+-- The tokens are those of the file, in which no phrase has a level over `most_levels`. A statement in a body and the
+-- returned expression have level 1, a part of a phrase one more than the phrase.
 pub record Derives (ts : List Token) (f : File) : Type 0 where
   pub main : IsMainPart ts f.main
   pub classes : InRow (IsClass ts) class_size (main_part_size f.main) f.classes
   pub whole : file_size f ≡ length ts
-  pub low : file_height f ≤ 500
+  pub low : file_height f ≤ most_levels

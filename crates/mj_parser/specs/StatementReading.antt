@@ -5,6 +5,7 @@ use Rattle.mj_lexer.specs.declared.token.Terminal.TheVariants as terminals
 use Rattle.mj_parser.specs.Tokens.{has, name_at}
 use Rattle.mj_tree.specs.Trees.{Name, Expression, Statement, Block, If, While, Print, Assign, Store}
 use Rattle.mj_tree.specs.Views.{statements_of}
+use Rattle.mj_parser.specs.Expressions.{any_tier}
 use Rattle.mj_parser.specs.Statements.{opens_print}
 use Rattle.mj_parser.specs.Steps.{◌>>=◌, when, PartParser, items_from}
 use Rattle.mj_parser.specs.ExpressionReading.{exp_at}
@@ -51,4 +52,4 @@ stmt_of exp part ts i =
 -- a statement of no more than so many levels
 unfoldable pub stmt_at : ℕ → List Token → PartParser Statement
 stmt_at zero ts i = None
-stmt_at (suc room) ts i = stmt_of (exp_at room ts 5) (stmt_at room ts) ts i
+stmt_at (suc room) ts i = stmt_of (exp_at room ts any_tier) (stmt_at room ts) ts i

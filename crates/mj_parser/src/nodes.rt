@@ -3,8 +3,8 @@ ghost use Rattle.std.specs.Prelude.{◌≡◌, IfOk};
 ghost use Rattle.mj_tree.specs.Trees as trees;
 ghost use Rattle.mj_tree.specs.Views.{exp_view, exps_view, stmt_view, stmts_view};
 
-use mj_tree::{Exp, Operator, Stmt};
 use mj_lexer::Name;
+use mj_tree::{Exp, Operator, Stmt};
 use std::alloc::{AllocError, Global};
 
 pub fn binary(
@@ -50,7 +50,8 @@ pub fn call(
     method: &Name,
     arguments: Vec<Exp>,
 ) -> Result<Exp, AllocError>
-    ensures { IfOk result (λ e. exp_view e ≡ trees.Call mark (exp_view receiver) method.now (exps_view arguments.items)) }
+    ensures { IfOk result (λ e.
+        exp_view e ≡ trees.Call mark (exp_view receiver) method.now (exps_view arguments.items)) }
 {
     Ok(Exp::Call {
         mark,
@@ -136,7 +137,10 @@ pub fn choice(
     then_branch: Stmt,
     else_branch: Stmt,
 ) -> Result<Stmt, AllocError>
-    ensures { IfOk result (λ s. stmt_view s ≡ trees.If mark (exp_view condition) (stmt_view then_branch) (stmt_view else_branch)) }
+    ensures { IfOk result (λ s.
+        stmt_view s
+        ≡ trees.If mark (exp_view condition) (stmt_view then_branch)
+        (stmt_view else_branch)) }
 {
     Ok(Stmt::If {
         mark,
@@ -192,7 +196,8 @@ pub fn store(
     index: Exp,
     value: Exp,
 ) -> Result<Stmt, AllocError>
-    ensures { IfOk result (λ s. stmt_view s ≡ trees.Store mark name.now name_mark (exp_view index) (exp_view value)) }
+    ensures { IfOk result (λ s.
+        stmt_view s ≡ trees.Store mark name.now name_mark (exp_view index) (exp_view value)) }
 {
     Ok(Stmt::Store {
         mark,

@@ -69,7 +69,8 @@ pub fn says(tokens: &[Token], at: usize, word: &[u8]) -> bool
 /// The place after a symbol or reserved word that has to stand here.
 pub fn expect(tokens: &[Token], at: usize, terminal: Terminal) -> Result<usize, ParseFault>
     requires { at < 2 ^ 63 }
-    ensures found { IfOk result (λ after. (has tokens.now at terminal ≡ true) × (after ≡ at + 1) × (after ≤ length tokens.now)) }
+    ensures found { IfOk result (λ after.
+        (has tokens.now at terminal ≡ true) × (after ≡ at + 1) × (after ≤ length tokens.now)) }
     ensures fault { IfErr result (λ e. (e ≡ NotAFile at) × (has tokens.now at terminal ≡ false)) }
 {
     if has(tokens, at, terminal) {
@@ -82,7 +83,8 @@ pub fn expect(tokens: &[Token], at: usize, terminal: Terminal) -> Result<usize, 
 /// The place after a word that has to stand here.
 pub fn expect_word(tokens: &[Token], at: usize, word: &[u8]) -> Result<usize, ParseFault>
     requires { at < 2 ^ 63 }
-    ensures found { IfOk result (λ after. (says tokens.now at word.now ≡ true) × (after ≡ at + 1) × (after ≤ length tokens.now)) }
+    ensures found { IfOk result (λ after.
+        (says tokens.now at word.now ≡ true) × (after ≡ at + 1) × (after ≤ length tokens.now)) }
     ensures fault { IfErr result (λ e. (e ≡ NotAFile at) × (says tokens.now at word.now ≡ false)) }
 {
     if says(tokens, at, word) {

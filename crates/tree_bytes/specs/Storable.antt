@@ -7,16 +7,10 @@ use Rattle.mj_tree.specs.declared.tree.Field.{Field}
 use Rattle.mj_tree.specs.declared.tree.Variable.{Variable}
 use Rattle.mj_tree.specs.Trees.{Expression, Expressions, none, more, Statement, Statements, done, next, Method, Main, File}
 use Rattle.mj_tree.specs.Trees as trees
+use Rattle.mj_tree.specs.Limits.{most_levels}
+use Rattle.mj_lexer.specs.Bytes.{greatest_literal}
 use Rattle.byte_readers.specs.Names.{IsName}
 use Rattle.tree_bytes.specs.Spelling.{count_exps, count_stmts}
-
--- the value of a literal that stands for all greater ones
-abbrev pub greatest_literal : ℕ
-greatest_literal = 2147483648
-
--- the levels that a phrase may have
-abbrev pub most_levels : ℕ
-most_levels = 500
 
 abbrev pub TyFits : Ty → Type 0
 TyFits Int = Unit {0}

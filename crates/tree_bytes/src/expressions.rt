@@ -7,11 +7,8 @@ ghost use Rattle.tree_bytes.specs.Reading.{literal_at, two_of, one_of, exp_at, e
 
 use crate::tag::{ExpTag, OnePart, TwoParts, exp_tag_of};
 use byte_readers::{ReadError, read_byte, read_eight, read_four, read_name, refused};
-use mj_tree::Exp;
+use mj_tree::{Exp, MOST_LEVELS};
 use std::alloc::Global;
-
-/// The levels that a phrase may have.
-pub const MOST_LEVELS: usize = 500;
 
 /// Reads an expression of level 1.
 #[tactic(auto, unfolding(crate::specs::Reading::top_exp_at))]
@@ -80,7 +77,8 @@ fn read_two_parts(
     bytes: &[u8],
     room: usize,
 ) -> Result<(Exp, &[u8]), ReadError>
-    ensures { Decodes (λ x. (exp_view x.0, x.1.now)) result (exp_body_at (exp_at room) (ExpTag.Two two) mark bytes.now) }
+    ensures { Decodes (λ x. (exp_view x.0, x.1.now)) result
+        (exp_body_at (exp_at room) (ExpTag.Two two) mark bytes.now) }
 {
     let (first, rest) = read_boxed(alloc, bytes, room)?;
     let (second, rest) = read_boxed(alloc, rest, room)?;
@@ -96,7 +94,8 @@ fn read_one_part(
     bytes: &[u8],
     room: usize,
 ) -> Result<(Exp, &[u8]), ReadError>
-    ensures { Decodes (λ x. (exp_view x.0, x.1.now)) result (exp_body_at (exp_at room) (ExpTag.One one) mark bytes.now) }
+    ensures { Decodes (λ x. (exp_view x.0, x.1.now)) result
+        (exp_body_at (exp_at room) (ExpTag.One one) mark bytes.now) }
 {
     let (part, rest) = read_boxed(alloc, bytes, room)?;
     Ok((of_one(one, mark, part), rest))
@@ -110,7 +109,8 @@ fn read_call(
     bytes: &[u8],
     room: usize,
 ) -> Result<(Exp, &[u8]), ReadError>
-    ensures { Decodes (λ x. (exp_view x.0, x.1.now)) result (exp_body_at (exp_at room) ExpTag.Call mark bytes.now) }
+    ensures { Decodes (λ x. (exp_view x.0, x.1.now)) result
+        (exp_body_at (exp_at room) ExpTag.Call mark bytes.now) }
 {
     let (receiver, rest) = read_boxed(alloc, bytes, room)?;
     let (method, rest) = read_name(alloc, rest)?;
@@ -144,7 +144,8 @@ fn read_all_exps(
     bytes: &[u8],
     room: usize,
 ) -> Result<(Vec<Exp>, &[u8]), ReadError>
-    ensures { Decodes (λ x. (map exp_view x.0.items, x.1.now)) result (list_from (exp_at room) any [] count bytes.now) }
+    ensures { Decodes (λ x. (map exp_view x.0.items, x.1.now)) result
+        (list_from (exp_at room) any [] count bytes.now) }
 {
     let mut items = Vec::new(alloc);
     let mut rest = bytes;

@@ -69,7 +69,8 @@ fn read_all_classes(
     count: u64,
     bytes: &[u8],
 ) -> Result<(Vec<ClassTree>, &[u8]), ReadError>
-    ensures { Decodes (λ x. (map class_view x.0.items, x.1.now)) result (list_from class_at any [] count bytes.now) }
+    ensures { Decodes (λ x. (map class_view x.0.items, x.1.now)) result
+        (list_from class_at any [] count bytes.now) }
 {
     let mut items = Vec::new(alloc);
     let mut rest = bytes;

@@ -77,7 +77,10 @@ fn put_two_parts(
     first: &Exp,
     second: &Exp,
 ) -> Result<(), AllocError>
-    ensures { OnOk result (out.new.items ≡ out.old.items ++ node tag mark (exp (exp_view first.now) ++ exp (exp_view second.now))) }
+    ensures { OnOk result
+        (out.new.items
+        ≡ out.old.items
+        ++ node tag mark (exp (exp_view first.now) ++ exp (exp_view second.now))) }
 {
     put_node(out, tag, mark)?;
     put_exp(out, first)?;
@@ -100,7 +103,12 @@ fn put_call(
     method: &Name,
     arguments: &[Exp],
 ) -> Result<(), AllocError>
-    ensures { OnOk result (out.new.items ≡ out.old.items ++ exp (Call mark (exp_view receiver.now) method.now (exps_view arguments.now))) }
+    ensures { OnOk result
+        (out.new.items
+        ≡ out.old.items
+        ++ exp
+        (Call mark (exp_view receiver.now) method.now
+        (exps_view arguments.now))) }
 {
     put_node(out, 0x07, mark)?;
     put_exp(out, receiver)?;
@@ -111,7 +119,10 @@ fn put_call(
 /// Writes the number of arguments, and the arguments.
 #[cycle(put_expressions)]
 fn put_arguments(out: &mut Vec<u8>, es: &[Exp]) -> Result<(), AllocError>
-    ensures { OnOk result (out.new.items ≡ out.old.items ++ (eight (count_exps (exps_view es.now)) ++ exps (exps_view es.now))) }
+    ensures { OnOk result
+        (out.new.items
+        ≡ out.old.items
+        ++ (eight (count_exps (exps_view es.now)) ++ exps (exps_view es.now))) }
 {
     put_eight(out, es.len())?;
     put_exps(out, es)
@@ -186,7 +197,12 @@ fn put_if(
     then_branch: &Stmt,
     else_branch: &Stmt,
 ) -> Result<(), AllocError>
-    ensures { OnOk result (out.new.items ≡ out.old.items ++ stmt (If mark (exp_view condition.now) (stmt_view then_branch.now) (stmt_view else_branch.now))) }
+    ensures { OnOk result
+        (out.new.items
+        ≡ out.old.items
+        ++ stmt
+        (If mark (exp_view condition.now) (stmt_view then_branch.now)
+        (stmt_view else_branch.now))) }
 {
     put_one_part(out, 0x01, mark, condition)?;
     put_stmt(out, then_branch)?;
@@ -195,7 +211,9 @@ fn put_if(
 
 #[cycle(put_statements)]
 fn put_while(out: &mut Vec<u8>, mark: usize, condition: &Exp, body: &Stmt) -> Result<(), AllocError>
-    ensures { OnOk result (out.new.items ≡ out.old.items ++ stmt (While mark (exp_view condition.now) (stmt_view body.now))) }
+    ensures { OnOk result
+        (out.new.items
+        ≡ out.old.items ++ stmt (While mark (exp_view condition.now) (stmt_view body.now))) }
 {
     put_one_part(out, 0x02, mark, condition)?;
     put_stmt(out, body)
@@ -208,7 +226,9 @@ fn put_assign(
     name_mark: usize,
     value: &Exp,
 ) -> Result<(), AllocError>
-    ensures { OnOk result (out.new.items ≡ out.old.items ++ stmt (Assign mark variable.now name_mark (exp_view value.now))) }
+    ensures { OnOk result
+        (out.new.items
+        ≡ out.old.items ++ stmt (Assign mark variable.now name_mark (exp_view value.now))) }
 {
     put_named(out, 0x04, mark, variable)?;
     put_four(out, name_mark)?;
@@ -223,7 +243,12 @@ fn put_store(
     index: &Exp,
     value: &Exp,
 ) -> Result<(), AllocError>
-    ensures { OnOk result (out.new.items ≡ out.old.items ++ stmt (Store mark variable.now name_mark (exp_view index.now) (exp_view value.now))) }
+    ensures { OnOk result
+        (out.new.items
+        ≡ out.old.items
+        ++ stmt
+        (Store mark variable.now name_mark (exp_view index.now)
+        (exp_view value.now))) }
 {
     put_named(out, 0x05, mark, variable)?;
     put_four(out, name_mark)?;
@@ -244,7 +269,10 @@ fn put_stmts(out: &mut Vec<u8>, ss: &[Stmt]) -> Result<(), AllocError>
 /// Writes the number of statements, and the statements.
 #[cycle(put_statements)]
 fn put_body(out: &mut Vec<u8>, ss: &[Stmt]) -> Result<(), AllocError>
-    ensures { OnOk result (out.new.items ≡ out.old.items ++ (eight (count_stmts (stmts_view ss.now)) ++ stmts (stmts_view ss.now))) }
+    ensures { OnOk result
+        (out.new.items
+        ≡ out.old.items
+        ++ (eight (count_stmts (stmts_view ss.now)) ++ stmts (stmts_view ss.now))) }
 {
     put_eight(out, ss.len())?;
     put_stmts(out, ss)
