@@ -4,7 +4,7 @@ use mj_classes::{
     method_table,
 };
 use mj_lexer::Name;
-use mj_parser::{ClassTree, Exp, Field, FileTree, MainTree, MethodTree, Stmt, Ty, Variable};
+use mj_tree::{ClassTree, Exp, Field, FileTree, MainTree, MethodTree, Stmt, Ty, Variable};
 use std::alloc::{AllocError, Global};
 use std::test::Fail;
 

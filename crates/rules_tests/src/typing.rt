@@ -1,12 +1,13 @@
 //! Tests: expected mistakes are those of the language's rules and of its worked examples.
 ghost use Rattle.std.specs.Prelude.{◌≡◌, IfOk, ◌&&◌, ◌||◌, [], ◌∷◌, Some, None, if◌then◌else◌};
-ghost use Rattle.mj_parser.specs.declared.tree.Ty.TheVariants.{Int, Boolean, Class};
+ghost use Rattle.mj_tree.specs.declared.tree.Ty.TheVariants.{Int, Boolean, Class};
 ghost use Rattle.mj_typing.specs.Types.{is_same};
 
 use mj_lexer::{Name, lex};
-use mj_parser::{FileTree, MainTree, Ty, parse};
+use mj_parser::parse;
+use mj_tree::{FileTree, MainTree, Ty};
 use mj_typing::{
-    Asking, Declarations, Mistake, Signature, Stop, body_laws, case_laws, check_main, check_method,
+    Asking, Environment, Mistake, Signature, Stop, body_laws, case_laws, check_main, check_method,
     main_mistakes, method_mistakes, row_laws, typing_laws,
 };
 use std::alloc::{AllocError, Global};
@@ -64,7 +65,7 @@ fn types_of_f(alloc: Global, base: &Name) -> Result<Types, AllocError>
     })
 }
 
-impl Declarations for Sample {
+impl Environment for Sample {
     type Method = Types;
 
     ghost world = { λ s. record { descends = λ c d. is_same c s.sub && is_same d s.base; field = λ c x. if is_same x s.field then Some Int else None; method = λ c m. if (is_same c s.base || is_same c s.sub) && is_same m s.method then Some (record { formals = Int ∷ Class s.base ∷ []; returns = Boolean }) else None; is_declared = λ c. is_same c s.base || is_same c s.sub } };

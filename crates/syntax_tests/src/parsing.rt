@@ -1,7 +1,8 @@
 //! Tests: expected values are from the language's rules and its worked examples.
 use mj_lexer::{LexFault, Name, Token, lex};
 use mj_parser::ParseFault::{NotAFile, TooDeep};
-use mj_parser::{Exp, ParseFault, Place, Stmt, Ty, grammar_laws, locate, mark_laws, parse};
+use mj_parser::{ParseFault, grammar_laws, locate, mark_laws, parse};
+use mj_tree::{Exp, Place, Stmt, Ty};
 use std::alloc::{AllocError, Global};
 use std::test::Fail;
 
