@@ -1,7 +1,7 @@
 -- The lines of standard error.
 use Rattle.std.specs.Prelude.{◌≡◌, ◌==◌, ◌&&◌, ◌++◌, ℕ, Bool, List, Option, Some, None, option_map, codes, decimal, flat_map, length}
 use Rattle.std.specs.List.{list_all}
-use Rattle.mj_rules.specs.Answers.{AnswerValue, number_of, ProjectFault, RepeatedFile, NoFiles, TooManyFiles, BadFileName, OutOfMemory}
+use Rattle.mj_rules.specs.AnswerWords.{AnswerValue, code_number, ProjectFault, RepeatedFile, NoFiles, TooManyFiles, BadFileName, OutOfMemory}
 use Rattle.mj_rules.specs.FaultCodes.{codes_of, answer_codes}
 use Rattle.mj_rules.specs.declared.places.FaultLine.{FaultLine}
 
@@ -17,7 +17,7 @@ place_words None at = codes "project"
 
 -- Main.java:3:7: E304
 abbrev pub line_text : FaultLine → List ℕ
-line_text line = place_words (option_map (λ file. file.now) line.file) line.at ++ codes ": E" ++ decimal (number_of line.code) ++ codes "\n"
+line_text line = place_words (option_map (λ file. file.now) line.file) line.at ++ codes ": E" ++ decimal (code_number line.code) ++ codes "\n"
 
 -- a line for each fault of the answer, in its order
 pub record AreLinesOf (answer : AnswerValue) (text : List ℕ) : Type 0 where

@@ -2,9 +2,9 @@
 use Rattle.std.specs.Prelude.{◌≡◌, ℕ, zero, suc, Bool, true, false, ◌||◌, List, [], ◌∷◌, ◌++◌, length, Option, Some, None, Contains, ◌⊎◌, if◌then◌else◌, option_and_then}
 use Rattle.std.specs.Str.{bytes_eq}
 use Rattle.std.specs.List.{list_any, filter_map}
-use Rattle.mj_parser.specs.Trees.{Name}
-use Rattle.mj_parser.specs.declared.tree.Ty.{Ty}
-use Rattle.mj_parser.specs.declared.tree.Ty.TheVariants.{Int, Boolean, IntArray, Class}
+use Rattle.mj_tree.specs.Trees.{Name}
+use Rattle.mj_tree.specs.declared.tree.Ty.{Ty}
+use Rattle.mj_tree.specs.declared.tree.Ty.TheVariants.{Int, Boolean, IntArray, Class}
 use Rattle.mj_classes.specs.Declarations.{ClassDecl, decl}
 
 -- How a chain ends: its last class extends nothing, a name that is not declared, or a class of the chain.

@@ -1,8 +1,8 @@
 -- The members of a class: what the nearest class of its chain declares.
 use Rattle.std.specs.Prelude.{◌≡◌, List, [], ◌∷◌, ◌++◌, find, Option, Some, None, Contains}
 use Rattle.std.specs.Str.{bytes_eq}
-use Rattle.mj_parser.specs.Trees.{Name, Method}
-use Rattle.mj_parser.specs.declared.tree.Field.{Field}
+use Rattle.mj_tree.specs.Trees.{Name, Method}
+use Rattle.mj_tree.specs.declared.tree.Field.{Field}
 use Rattle.mj_classes.specs.Declarations.{ClassDecl, decl}
 use Rattle.mj_classes.specs.Chains.{EndOf, IsChain, ancestry}
 

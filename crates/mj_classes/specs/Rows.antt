@@ -4,8 +4,8 @@ use Rattle.std.specs.Ordering.{nat_cmp}
 use Rattle.std.specs.Cmp.Lexicographic.{slice_cmp}
 use Rattle.std.specs.FinMap as names
 use denote.Ref.{Bor}
-use Rattle.mj_parser.specs.Trees.{Name, Method}
-use Rattle.mj_parser.specs.declared.tree.Field.{Field}
+use Rattle.mj_tree.specs.Trees.{Name, Method}
+use Rattle.mj_tree.specs.declared.tree.Field.{Field}
 use Rattle.mj_classes.specs.Classes.{field_member_view, method_member_view}
 use Rattle.mj_classes.specs.declared.member.FieldMember.{FieldMember}
 use Rattle.mj_classes.specs.declared.member.MethodMember.{MethodMember}

@@ -3,11 +3,11 @@ use Rattle.std.specs.Prelude.{List, [], ◌∷◌, map, filter_map}
 use Rattle.std.specs.Ordering.{nat_cmp, ordering_then, match_ordering}
 use Rattle.std.specs.Cmp.Lexicographic.{slice_cmp}
 use Rattle.std.specs.declared.cmp.Ordering.{Ordering}
-use Rattle.mj_parser.specs.Trees.{Name}
+use Rattle.mj_tree.specs.Trees.{Name}
 use Rattle.mj_answer.specs.declared.diagnostic.Diagnostic.{Diagnostic}
-use Rattle.mj_answer.specs.Answers.{ClassAnswerValue, AnswerValue}
-use Rattle.mj_answer.specs.Codes.{number_of}
-use Rattle.mj_answer.specs.Order.{kind_of, name_in, number_in}
+use Rattle.mj_answer.specs.AnswerValues.{ClassAnswerValue, AnswerValue}
+use Rattle.mj_answer.specs.Codes.{code_number}
+use Rattle.mj_answer.specs.Order.{place_order, name_in, number_in}
 use Rattle.mj_classes.specs.Declarations.{ClassDecl, decl}
 use Rattle.mj_project.specs.Projects.{SourceFile}
 use Rattle.mj_rules.specs.Sentences.{classes_in}
@@ -31,8 +31,8 @@ name_order m n = slice_cmp nat_cmp m n
 -- faults by the kind of their place, the name in it, the number in it, then the code
 abbrev pub fault_order : Diagnostic → Diagnostic → Ordering
 fault_order d e =
-    ordering_then (nat_cmp (kind_of d.place) (kind_of e.place)) (ordering_then (name_order (name_in d.place) (name_in e.place))
-    (ordering_then (nat_cmp (number_in d.place) (number_in e.place)) (nat_cmp (number_of d.code) (number_of e.code))))
+    ordering_then (nat_cmp (place_order d.place) (place_order e.place)) (ordering_then (name_order (name_in d.place) (name_in e.place))
+    (ordering_then (nat_cmp (number_in d.place) (number_in e.place)) (nat_cmp (code_number d.code) (code_number e.code))))
 
 -- ---- answers
 

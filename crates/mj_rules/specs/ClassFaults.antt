@@ -1,10 +1,10 @@
 -- The faults of a class, one case a row.
 use Rattle.std.specs.Prelude.{◌≡◌, ◌≢◌, ℕ, ◌<◌, List, ◌∷◌, ◌++◌, Some, None, Contains, codes, slice_get}
-use Rattle.mj_parser.specs.Trees.{Name, Statement, Method, Main}
-use Rattle.mj_parser.specs.declared.tree.Ty.TheVariants as types
-use Rattle.mj_parser.specs.declared.tree.Field.{Field}
-use Rattle.mj_parser.specs.declared.place.Place.{Place}
-use Rattle.mj_parser.specs.declared.place.Place.TheVariants.{Class, Field as FieldAt, Method as MethodAt, Inside}
+use Rattle.mj_tree.specs.Trees.{Name, Statement, Method, Main}
+use Rattle.mj_tree.specs.declared.tree.Ty.TheVariants as types
+use Rattle.mj_tree.specs.declared.tree.Field.{Field}
+use Rattle.mj_tree.specs.declared.place.Place.{Place}
+use Rattle.mj_tree.specs.declared.place.Place.TheVariants.{Class, Field as FieldAt, Method as MethodAt, Inside}
 use Rattle.mj_answer.specs.declared.code.Code.{Code}
 use Rattle.mj_answer.specs.declared.code.Code.TheVariants.{E201, E202, E203, E204, E205, E206}
 use Rattle.mj_classes.specs.Declarations.{ClassDecl, decl}

@@ -1,7 +1,7 @@
 -- The codes of faults, in their order.
 use Rattle.std.specs.Prelude.{List, ◌++◌, map, flat_map}
 use Rattle.mj_answer.specs.declared.code.Code.{Code}
-use Rattle.mj_answer.specs.Answers.{AnswerValue}
+use Rattle.mj_answer.specs.AnswerValues.{AnswerValue}
 use Rattle.mj_rules.specs.declared.places.FaultLine.{FaultLine}
 
 abbrev pub codes_of : List FaultLine → List Code

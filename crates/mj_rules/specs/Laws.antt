@@ -1,9 +1,9 @@
 -- What holds of the definitions.
 use Rattle.std.specs.Prelude.{◌≡◌, ◌↔◌, ℕ, List, Some, Contains}
-use Rattle.mj_parser.specs.Trees.{Name, Method, Main, File}
-use Rattle.mj_parser.specs.declared.place.Place.{Place}
+use Rattle.mj_tree.specs.Trees.{Name, Method, Main, File}
+use Rattle.mj_tree.specs.declared.place.Place.{Place}
 use Rattle.mj_answer.specs.declared.code.Code.{Code}
-use Rattle.mj_answer.specs.Answers.{AnswerValue}
+use Rattle.mj_answer.specs.AnswerValues.{AnswerValue}
 use Rattle.mj_classes.specs.Declarations.{ClassDecl, decl}
 use Rattle.mj_typing.specs.declared.verdict.Mistake.{Mistake}
 use Rattle.mj_typing.specs.Inquiries.{World}
@@ -36,6 +36,6 @@ WorldLaw = (cs : List ClassDecl) → Says cs (world_of cs)
 abbrev pub AnswerLaw : Type 0
 AnswerLaw = (files : List SourceFile) (answer : AnswerValue) → Rules files answer ↔ (answer ≡ rules_of files)
 
-pub record BodyLaws : Type 0 where
+pub record BodyFaultLaws : Type 0 where
   pub method : (w : World) (class : Name) (m : Method) (x : Mistake) → MethodFault w class m x ↔ Contains (method_faults w class m) x
   pub main : (w : World) (m : Main) (x : Mistake) → MainFault w m x ↔ Contains (main_faults w m) x

@@ -1,8 +1,8 @@
 -- The faults of a project itself, one case a row.
 use Rattle.std.specs.Prelude.{◌≡◌, ℕ, ◌<◌, List, Some, IsSome, Contains, slice_get}
-use Rattle.mj_parser.specs.Trees.{File}
-use Rattle.mj_parser.specs.declared.place.Place.{Place}
-use Rattle.mj_parser.specs.declared.place.Place.TheVariants as places
+use Rattle.mj_tree.specs.Trees.{File}
+use Rattle.mj_tree.specs.declared.place.Place.{Place}
+use Rattle.mj_tree.specs.declared.place.Place.TheVariants as places
 use Rattle.mj_answer.specs.declared.code.Code.{Code}
 use Rattle.mj_answer.specs.declared.code.Code.TheVariants.{E101, E102, E103, E104}
 use Rattle.mj_classes.specs.Declarations.{ClassDecl}

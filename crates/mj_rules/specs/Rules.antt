@@ -1,12 +1,12 @@
 -- The answer that the static rules give a project.
 use Rattle.std.specs.Prelude.{◌≡◌, ◌↔◌, List, map, Some, All, Contains}
-use Rattle.mj_parser.specs.Trees.{Name, Method}
-use Rattle.mj_parser.specs.declared.place.Place.{Place}
-use Rattle.mj_parser.specs.declared.tree.Field.{Field}
+use Rattle.mj_tree.specs.Trees.{Name, Method}
+use Rattle.mj_tree.specs.declared.place.Place.{Place}
+use Rattle.mj_tree.specs.declared.tree.Field.{Field}
 use Rattle.mj_answer.specs.declared.code.Code.{Code}
 use Rattle.mj_answer.specs.declared.diagnostic.Diagnostic.{Diagnostic}
 use Rattle.mj_answer.specs.declared.table.FieldRow.{FieldRow}
-use Rattle.mj_answer.specs.Answers.{MethodRowValue, ClassTableValue, ClassAnswerValue, AnswerValue}
+use Rattle.mj_answer.specs.AnswerValues.{MethodRowValue, ClassTableValue, ClassAnswerValue, AnswerValue}
 use Rattle.mj_answer.specs.Order.{IsAscending, IsAscendingByName}
 use Rattle.mj_classes.specs.Declarations.{ClassDecl, decl}
 use Rattle.mj_classes.specs.Members.{FieldOf, MethodOf}

@@ -1,10 +1,10 @@
 -- The tables of classes as functions.
 use Rattle.std.specs.Prelude.{List, map, find, Option, option_map}
 use Rattle.std.specs.Str.{bytes_eq}
-use Rattle.mj_parser.specs.Trees.{Name, Method}
-use Rattle.mj_parser.specs.declared.tree.Field.{Field}
+use Rattle.mj_tree.specs.Trees.{Name, Method}
+use Rattle.mj_tree.specs.declared.tree.Field.{Field}
 use Rattle.mj_answer.specs.declared.table.FieldRow.{FieldRow}
-use Rattle.mj_answer.specs.Answers.{MethodRowValue, ClassTableValue}
+use Rattle.mj_answer.specs.AnswerValues.{MethodRowValue, ClassTableValue}
 use Rattle.mj_classes.specs.Declarations.{ClassDecl}
 use Rattle.mj_classes.specs.Chains.{ancestry}
 use Rattle.mj_classes.specs.Tables.{fields_along, methods_along}

@@ -1,9 +1,9 @@
 //! Whole bodies.
 ghost use Rattle.std.specs.Prelude.{◌≡◌, ◌++◌, ◌∷◌, [], IfOk, IfErr, OnOk};
 ghost use Rattle.mj_answer.specs.declared.code.Code.TheVariants.{E206};
-ghost use Rattle.mj_parser.specs.Views.{method_view, main_view};
+ghost use Rattle.mj_tree.specs.Views.{method_view, main_view};
 ghost use Rattle.mj_typing.specs.Bodies.{method_step, main_step, declared_step, type_step, types_step};
-ghost use Rattle.mj_typing.specs.Steps.{Goes, GivesUp};
+ghost use Rattle.mj_typing.specs.Steps.{Proceeds, Aborts};
 
 use crate::asking::{Asking, Stop};
 use crate::body::{check_return, check_statement, check_statements};
@@ -11,7 +11,7 @@ use crate::scope::Scope;
 use crate::verdict::Mistake;
 use mj_answer::Code;
 use mj_lexer::Name;
-use mj_parser::{MainTree, MethodTree, Ty, Variable};
+use mj_tree::{MainTree, MethodTree, Ty, Variable};
 use std::alloc::{AllocError, Global};
 
 /// The token of a method's return type, behind `public`.
@@ -19,7 +19,8 @@ const RETURN_TYPE_MARK: usize = 1;
 
 /// Notes that a declared type names no class.
 fn report_undeclared(mistakes: &mut Vec<Mistake>, mark: usize) -> Result<(), AllocError>
-    ensures { OnOk result (mistakes.new.items ≡ mistakes.old.items ++ record { mark = mark; code = E206 } ∷ []) }
+    ensures { OnOk result
+        (mistakes.new.items ≡ mistakes.old.items ++ record { mark = mark; code = E206 } ∷ []) }
 {
     mistakes.push(Mistake {
         mark,
@@ -36,8 +37,12 @@ fn check_type<A: Asking>(
     ty: &Ty,
     mistakes: &mut Vec<Mistake>,
 ) -> Result<(), Stop<A::Refusal>>
-    ensures ok { OnOk result (Goes A.stands (type_step mark ty.now mistakes.old.items) asking.old mistakes.new.items asking.new) }
-    ensures err { IfErr result (λ e. GivesUp A.stands A.halts (type_step mark ty.now mistakes.old.items) asking.old e asking.new) }
+    ensures ok { OnOk result
+        (Proceeds A.stands (type_step mark ty.now mistakes.old.items) asking.old
+        mistakes.new.items asking.new) }
+    ensures err { IfErr result (λ e.
+        Aborts A.stands A.halts (type_step mark ty.now mistakes.old.items) asking.old e
+        asking.new) }
     ensures follows { A.follows asking.old asking.new }
 {
     let Ty::Class(class) = ty else {
@@ -56,8 +61,12 @@ fn check_types<A: Asking>(
     variables: &[Variable],
     mistakes: &mut Vec<Mistake>,
 ) -> Result<(), Stop<A::Refusal>>
-    ensures ok { OnOk result (Goes A.stands (types_step variables.now mistakes.old.items) asking.old mistakes.new.items asking.new) }
-    ensures err { IfErr result (λ e. GivesUp A.stands A.halts (types_step variables.now mistakes.old.items) asking.old e asking.new) }
+    ensures ok { OnOk result
+        (Proceeds A.stands (types_step variables.now mistakes.old.items) asking.old
+        mistakes.new.items asking.new) }
+    ensures err { IfErr result (λ e.
+        Aborts A.stands A.halts (types_step variables.now mistakes.old.items) asking.old e
+        asking.new) }
     ensures follows { A.follows asking.old asking.new }
 {
     for variable in variables {
@@ -74,8 +83,12 @@ fn check_declared<A: Asking>(
     method: &MethodTree,
     mistakes: &mut Vec<Mistake>,
 ) -> Result<(), Stop<A::Refusal>>
-    ensures ok { OnOk result (Goes A.stands (declared_step (method_view method.now) mistakes.old.items) asking.old mistakes.new.items asking.new) }
-    ensures err { IfErr result (λ e. GivesUp A.stands A.halts (declared_step (method_view method.now) mistakes.old.items) asking.old e asking.new) }
+    ensures ok { OnOk result
+        (Proceeds A.stands (declared_step (method_view method.now) mistakes.old.items)
+        asking.old mistakes.new.items asking.new) }
+    ensures err { IfErr result (λ e.
+        Aborts A.stands A.halts (declared_step (method_view method.now) mistakes.old.items)
+        asking.old e asking.new) }
     ensures follows { A.follows asking.old asking.new }
 {
     check_type(alloc, asking, RETURN_TYPE_MARK, &method.returns, mistakes)?;
@@ -91,8 +104,12 @@ pub fn check_method<A: Asking>(
     class: &Name,
     method: &MethodTree,
 ) -> Result<Vec<Mistake>, Stop<A::Refusal>>
-    ensures ok { IfOk result (λ mistakes. Goes A.stands (method_step class.now (method_view method.now)) asking.old mistakes.items asking.new) }
-    ensures err { IfErr result (λ e. GivesUp A.stands A.halts (method_step class.now (method_view method.now)) asking.old e asking.new) }
+    ensures ok { IfOk result (λ mistakes.
+        Proceeds A.stands (method_step class.now (method_view method.now)) asking.old
+        mistakes.items asking.new) }
+    ensures err { IfErr result (λ e.
+        Aborts A.stands A.halts (method_step class.now (method_view method.now)) asking.old e
+        asking.new) }
     ensures follows { A.follows asking.old asking.new }
 {
     let mut mistakes = Vec::new(alloc);
@@ -118,8 +135,10 @@ pub fn check_main<A: Asking>(
     asking: &mut A,
     main: &MainTree,
 ) -> Result<Vec<Mistake>, Stop<A::Refusal>>
-    ensures ok { IfOk result (λ mistakes. Goes A.stands (main_step (main_view main.now)) asking.old mistakes.items asking.new) }
-    ensures err { IfErr result (λ e. GivesUp A.stands A.halts (main_step (main_view main.now)) asking.old e asking.new) }
+    ensures ok { IfOk result (λ mistakes.
+        Proceeds A.stands (main_step (main_view main.now)) asking.old mistakes.items asking.new) }
+    ensures err { IfErr result (λ e.
+        Aborts A.stands A.halts (main_step (main_view main.now)) asking.old e asking.new) }
     ensures follows { A.follows asking.old asking.new }
 {
     let mut mistakes = Vec::new(alloc);

@@ -12,7 +12,7 @@ mod types;
 mod verdict;
 mod walk;
 
-pub use asking::{Asking, Declarations, Signature, Stop};
+pub use asking::{Asking, Environment, Signature, Stop};
 pub use check::{check_main, check_method};
 pub use laws::{body_laws, case_laws, row_laws, typing_laws};
 pub use plain::{main_mistakes, method_mistakes};

@@ -1,6 +1,6 @@
 pub mod Payloads
 pub mod Canon
-pub mod Fits
+pub mod Storable
 pub mod Reading
 pub mod Values
 pub mod Distinct

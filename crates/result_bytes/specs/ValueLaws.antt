@@ -7,7 +7,7 @@ use Rattle.item_ids.specs.declared.kind.Kind.TheVariants as kinds
 use Rattle.item_ids.specs.Kinds.{number_of}
 use Rattle.byte_readers.specs.declared.breach.Breach.{Breach}
 use Rattle.byte_readers.specs.Lawful.{IsBytes, Takes, Lawful}
-use Rattle.byte_readers.specs.Reading.{Reader, made_at}
+use Rattle.byte_readers.specs.Reading.{Decoder, made_at}
 use Rattle.byte_readers.specs.Laws.{IsBytes-rest, lawful_option, made_takes, made_again}
 use Rattle.tree_bytes.specs.FileLaws.{lawful_file, lawful_body}
 use Rattle.result_bytes.specs.declared.refusal.Refusal.{Refusal}
@@ -23,7 +23,7 @@ record Content (kind : Kind) (bytes : List ℕ) (v : Value) (rest : List ℕ) : 
   pub kind_is : kind_of v ≡ kind
   pub fits : IsValue v
 
-of_kind : {A : Type 0} {p : Reader A} {sp : A → List ℕ} {P : A → Type 0} (law : Lawful p sp P) (make : A → Value) (kind : Kind) → ((a : A) → content (make a) ≡ sp a) → ((a : A) → kind_of (make a) ≡ kind) → ((a : A) → P a → IsValue (make a))
+of_kind : {A : Type 0} {p : Decoder A} {sp : A → List ℕ} {P : A → Type 0} (law : Lawful p sp P) (make : A → Value) (kind : Kind) → ((a : A) → content (make a) ≡ sp a) → ((a : A) → kind_of (make a) ≡ kind) → ((a : A) → P a → IsValue (make a))
     → (bytes : List ℕ) (v : Value) (rest : List ℕ) → IsBytes bytes → made_at make p bytes ≡ Ok (v, rest) → Content kind bytes v rest
 of_kind {A} {p} {sp} {P} law make kind spelled is fit bytes v rest fits e =
     let m = made_takes law make bytes v rest fits e in

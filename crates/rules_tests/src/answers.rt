@@ -5,7 +5,7 @@ use mj_answer::{
     strict_total_orders,
 };
 use mj_lexer::Name;
-use mj_parser::{Place, Ty};
+use mj_tree::{Place, Ty};
 use std::alloc::{AllocError, Global};
 use std::test::Fail;
 

@@ -3,7 +3,8 @@ use mj_classes::{
     ClassChain, ClassRef, Declarations, End, acceptance_laws, chain_laws, member_laws,
 };
 use mj_lexer::{Name, lex};
-use mj_parser::{FileTree, Ty, parse};
+use mj_parser::parse;
+use mj_tree::{FileTree, Ty};
 use std::alloc::{AllocError, Global};
 use std::test::Fail;
 

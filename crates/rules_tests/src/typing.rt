@@ -1,7 +1,8 @@
 //! Tests: the questions of a check and the order of its mistakes are worked by hand from the language's rules. What each
 //! phrase demands is compared row by row with the program's output.
 use mj_lexer::{Name, lex};
-use mj_parser::{ClassTree, FileTree, Ty, parse};
+use mj_parser::parse;
+use mj_tree::{ClassTree, FileTree, Ty};
 use mj_typing::{
     Asking, Mistake, Signature, Stop, body_laws, case_laws, check_main, check_method, row_laws,
     typing_laws,

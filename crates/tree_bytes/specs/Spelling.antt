@@ -1,11 +1,11 @@
 -- The one spelling of each tree.
 use Rattle.std.specs.Prelude.{ℕ, suc, List, [], ◌∷◌, ◌++◌}
-use Rattle.mj_parser.specs.declared.tree.Ty.{Ty}
-use Rattle.mj_parser.specs.declared.tree.Ty.TheVariants.{Int, Boolean, IntArray, Class}
-use Rattle.mj_parser.specs.declared.tree.Field.{Field}
-use Rattle.mj_parser.specs.declared.tree.Variable.{Variable}
-use Rattle.mj_parser.specs.Trees.{Expression, Expressions, none, more, Statement, Statements, done, next, Method, Main, File}
-use Rattle.mj_parser.specs.Trees as trees
+use Rattle.mj_tree.specs.declared.tree.Ty.{Ty}
+use Rattle.mj_tree.specs.declared.tree.Ty.TheVariants.{Int, Boolean, IntArray, Class}
+use Rattle.mj_tree.specs.declared.tree.Field.{Field}
+use Rattle.mj_tree.specs.declared.tree.Variable.{Variable}
+use Rattle.mj_tree.specs.Trees.{Expression, Expressions, none, more, Statement, Statements, done, next, Method, Main, File}
+use Rattle.mj_tree.specs.Trees as trees
 use Rattle.byte_readers.specs.Spelling.{four, eight, name, option, list}
 use Rattle.tree_bytes.specs.Tags.{operator_byte, boolean_byte}
 
