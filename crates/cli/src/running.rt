@@ -29,7 +29,8 @@ pub fn run<R: Files + AllocGlobal, W: Write, E: Write>(
     ensures answer { (names : List (List ℕ))
         → scratch_files (map string_bytes list.items) ≡ Some names
         → IsTrue (asks_plainly (map string_bytes list.items)) → (result ≡ 0) ⊎ (result ≡ 1)
-        → Prints names result (W.contents out.old) (W.contents out.new) (E.contents err.old) (E.contents err.new) }
+        → Prints names result (W.contents out.old) (W.contents out.new) (E.contents err.old)
+        (E.contents err.new) }
 {
     let status = match report_of(rt, list) {
         Ok(report) => deliver(&report, out, err),
@@ -42,7 +43,9 @@ pub fn run<R: Files + AllocGlobal, W: Write, E: Write>(
 fn report_of<R: Files + AllocGlobal>(rt: &R, list: Vec<String>) -> Result<Report, AllocError>
     ensures { (names : List (List ℕ)) → scratch_files (map string_bytes list.items) ≡ Some names
         → IsTrue (asks_plainly (map string_bytes list.items))
-        → IfOk result (λ report. (report.status ≡ Status.Clean) ⊎ (report.status ≡ Status.Diagnostics) → ReportsOn names report) }
+        → IfOk result (λ report.
+        (report.status ≡ Status.Clean) ⊎ (report.status ≡ Status.Diagnostics)
+        → ReportsOn names report) }
 {
     match perform(rt, list) {
         Ok(report) => Ok(report),

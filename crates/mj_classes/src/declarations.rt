@@ -19,7 +19,8 @@ use std::collections::BTreeMap;
 pub struct Declarations<'a> {
     classes: Vec<ClassRef<'a>>,
     by_name: BTreeMap<Name, usize>,
-    ghost indexed: { (q : List ℕ) → get (slice_cmp nat_cmp) by_name q ≡ position (λ k. bytes_eq k.name q) (classes_view classes.items) },
+    ghost indexed: { (q : List ℕ) → get (slice_cmp nat_cmp) by_name q
+        ≡ position (λ k. bytes_eq k.name q) (classes_view classes.items) },
 }
 
 impl<'a> Declarations<'a> {
