@@ -47,7 +47,8 @@ fn read_items<F: Format>(
     count: u64,
     bytes: &[u8],
 ) -> Result<(Vec<F::Item>, &[u8]), ReadError>
-    ensures { Decodes (λ x. (x.0.items, x.1.now)) result (list_from F.reading any [] count bytes.now) }
+    ensures { Decodes (λ x. (x.0.items, x.1.now)) result
+        (list_from F.reading any [] count bytes.now) }
 {
     let mut items = Vec::new(alloc);
     let mut rest = bytes;

@@ -131,7 +131,8 @@ impl Model for ClassAnswer {
 
     ghost Value = { ClassAnswerValue };
 
-    ghost view = { λ class. record { name = class.name; table = class.table; faults = class.faults.items } };
+    ghost view = { λ class.
+        record { name = class.name; table = class.table; faults = class.faults.items } };
 }
 
 impl ClassAnswer {
@@ -181,7 +182,8 @@ impl Model for Answer {
 
     ghost Value = { AnswerValue };
 
-    ghost view = { λ answer. record { faults = answer.faults.items; classes = answer.classes.items } };
+    ghost view = { λ answer.
+        record { faults = answer.faults.items; classes = answer.classes.items } };
 }
 
 impl Answer {

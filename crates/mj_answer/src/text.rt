@@ -39,7 +39,8 @@ fn write_class(text: &mut String, class: &ClassAnswer) -> Result<(), AllocError>
 }
 
 fn write_fields(text: &mut String, rows: &[FieldRow]) -> Result<(), AllocError>
-    ensures { OnOk result (string_bytes text.new ≡ string_bytes text.old ++ flat_map field_line rows.now) }
+    ensures { OnOk result
+        (string_bytes text.new ≡ string_bytes text.old ++ flat_map field_line rows.now) }
 {
     for row in rows {
         write_field(text, row)?;
@@ -60,7 +61,8 @@ fn write_field(text: &mut String, row: &FieldRow) -> Result<(), AllocError>
 }
 
 fn write_methods(text: &mut String, rows: &[MethodRow]) -> Result<(), AllocError>
-    ensures { OnOk result (string_bytes text.new ≡ string_bytes text.old ++ flat_map method_line rows.now) }
+    ensures { OnOk result
+        (string_bytes text.new ≡ string_bytes text.old ++ flat_map method_line rows.now) }
 {
     for row in rows {
         write_method(text, row)?;

@@ -28,7 +28,8 @@ impl Model for Name {
 
     ghost view = { λ n. string_bytes n.text };
 
-    ghost invariant = { λ n. (0 < length (string_bytes n.text)) × (length (string_bytes n.text) ≤ most_name_bytes) };
+    ghost invariant = { λ n.
+        (0 < length (string_bytes n.text)) × (length (string_bytes n.text) ≤ most_name_bytes) };
 }
 
 impl Name {

@@ -246,7 +246,8 @@ fn begins_main(tokens: &[Token]) -> bool
 
 #[tactic(auto, unfolding(crate::specs::FileReading::main_part_at))]
 fn main_part(alloc: Global, tokens: &[Token]) -> Result<Parsed<Option<MainTree>>, ParseFault>
-    ensures exact { Finds (λ x. (option_map main_view x.tree, x.after)) result (main_part_at tokens.now) }
+    ensures exact { Finds (λ x. (option_map main_view x.tree, x.after)) result
+        (main_part_at tokens.now) }
     ensures within { IfOk result (λ x. x.after ≤ length tokens.now) }
 {
     if !begins_main(tokens) {

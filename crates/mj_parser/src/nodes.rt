@@ -14,7 +14,8 @@ pub fn binary(
     left: Exp,
     right: Exp,
 ) -> Result<Exp, AllocError>
-    ensures { IfOk result (λ e. exp_view e ≡ trees.Binary operator mark (exp_view left) (exp_view right)) }
+    ensures { IfOk result (λ e.
+        exp_view e ≡ trees.Binary operator mark (exp_view left) (exp_view right)) }
 {
     Ok(Exp::Binary {
         operator,
@@ -156,7 +157,8 @@ pub fn repetition(
     condition: Exp,
     body: Stmt,
 ) -> Result<Stmt, AllocError>
-    ensures { IfOk result (λ s. stmt_view s ≡ trees.While mark (exp_view condition) (stmt_view body)) }
+    ensures { IfOk result (λ s.
+        stmt_view s ≡ trees.While mark (exp_view condition) (stmt_view body)) }
 {
     Ok(Stmt::While {
         mark,
@@ -178,7 +180,8 @@ pub fn assign(
     name_mark: usize,
     value: Exp,
 ) -> Result<Stmt, AllocError>
-    ensures { IfOk result (λ s. stmt_view s ≡ trees.Assign mark name.now name_mark (exp_view value)) }
+    ensures { IfOk result (λ s.
+        stmt_view s ≡ trees.Assign mark name.now name_mark (exp_view value)) }
 {
     Ok(Stmt::Assign {
         mark,

@@ -56,7 +56,8 @@ fn declared_names(alloc: Global, declarations: &Declarations) -> Result<Vec<Name
 
 /// The answers for the declared classes, ascending by name.
 fn class_answers(alloc: Global, declarations: &Declarations) -> Result<Vec<ClassAnswer>, AllocError>
-    ensures { IfOk result (λ answers. AreClassAnswers (declared_in declarations.now) answers.items) }
+    ensures { IfOk result (λ answers.
+        AreClassAnswers (declared_in declarations.now) answers.items) }
 {
     let names = declared_names(alloc, declarations)?;
     let mut answers = Vec::new(alloc);

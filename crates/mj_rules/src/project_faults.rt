@@ -100,7 +100,8 @@ fn add_repeated_class(
 
 /// For each class, whether an earlier one has its name.
 fn repeated_classes(alloc: Global, classes: &[ClassRef]) -> Result<Vec<bool>, AllocError>
-    ensures { IfOk result (λ flags. flags.items ≡ repeats (class_names (classes_view classes.now))) }
+    ensures { IfOk result (λ flags.
+        flags.items ≡ repeats (class_names (classes_view classes.now))) }
 {
     let mut names = Vec::new(alloc);
     for class in classes {

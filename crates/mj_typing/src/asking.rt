@@ -95,7 +95,8 @@ pub trait Asking {
     fn is_declared(&mut self, alloc: Global, class: &Name) -> Result<bool, Stop<Self::Refusal>>
         ensures ok { IfOk result (λ answer.
             Proceeds stands (AsksDeclared class.now) self.old answer self.new) }
-        ensures err { IfErr result (λ e. Aborts stands halts (AsksDeclared class.now) self.old e self.new) }
+        ensures err { IfErr result (λ e.
+            Aborts stands halts (AsksDeclared class.now) self.old e self.new) }
         ensures follows { follows self.old self.new };
 
     ghost reflexive: { (s : Self) → follows s s };
@@ -103,7 +104,8 @@ pub trait Asking {
     ghost transitive: { (s t u : Self) → follows s t → follows t u → follows s u };
 
     /// A check may end for want of memory wherever it stands.
-    ghost wanting: { (s : Self) (start now : Check) → stands s start now → halts s start OutOfMemory };
+    ghost wanting: { (s : Self) (start now : Check) → stands s start now
+        → halts s start OutOfMemory };
 }
 
 /// Environment that answer by themselves.
@@ -113,7 +115,8 @@ pub trait Environment {
     ghost world: { Self → World };
 
     fn descends(&self, alloc: Global, class: &Name, ancestor: &Name) -> Result<bool, AllocError>
-        ensures { IfOk result (λ answer. answer ≡ (world self.now).descends class.now ancestor.now) };
+        ensures { IfOk result (λ answer.
+            answer ≡ (world self.now).descends class.now ancestor.now) };
 
     fn field(&self, alloc: Global, class: &Name, name: &Name) -> Result<Option<Ty>, AllocError>
         ensures { IfOk result (λ answer. answer ≡ (world self.now).field class.now name.now) };

@@ -34,7 +34,8 @@ impl<'a> Model for Scope<'a> {
 
     ghost Value = { Scope };
 
-    ghost view = { λ s. record { class = option_copied s.class; variables = s.formals.now ++ s.locals.now } };
+    ghost view = { λ s.
+        record { class = option_copied s.class; variables = s.formals.now ++ s.locals.now } };
 
     ghost invariant = { λ s. Covers s.types (s.formals.now ++ s.locals.now) };
 }

@@ -123,7 +123,8 @@ impl Model for Signature {
 
     ghost view = { λ s. record { formals = s.formals.items; returns = s.returns } };
 
-    ghost invariant = { λ s. SignatureFits (record { formals = s.formals.items; returns = s.returns }) };
+    ghost invariant = { λ s.
+        SignatureFits (record { formals = s.formals.items; returns = s.returns }) };
 }
 
 impl Signature {

@@ -45,7 +45,8 @@ fn read_exp_body(
     bytes: &[u8],
     room: usize,
 ) -> Result<(Exp, &[u8]), ReadError>
-    ensures { Decodes (λ x. (exp_view x.0, x.1.now)) result (exp_body_at (exp_at room) tag mark bytes.now) }
+    ensures { Decodes (λ x. (exp_view x.0, x.1.now)) result
+        (exp_body_at (exp_at room) tag mark bytes.now) }
 {
     match tag {
         ExpTag::Two(two) => read_two_parts(alloc, two, mark, bytes, room),
@@ -130,7 +131,8 @@ fn read_call(
 #[tactic(auto, unfolding(byte_readers::specs::Reading::list_at))]
 #[inline(never)]
 fn read_exps(alloc: Global, bytes: &[u8], room: usize) -> Result<(Vec<Exp>, &[u8]), ReadError>
-    ensures { Decodes (λ x. (exps_view x.0.items, x.1.now)) result (exps_at (exp_at room) bytes.now) }
+    ensures { Decodes (λ x. (exps_view x.0.items, x.1.now)) result
+        (exps_at (exp_at room) bytes.now) }
 {
     let (count, rest) = read_eight(bytes)?;
     read_all_exps(alloc, count, rest, room)
@@ -191,7 +193,8 @@ fn of_one(one: OnePart, mark: usize, part: Box<Exp>) -> Exp
 
 #[tactic(auto, unfolding(crate::specs::Reading::literal_at))]
 fn read_literal(mark: usize, bytes: &[u8]) -> Result<(Exp, &[u8]), ReadError>
-    ensures { Decodes (λ x. (exp_view x.0, x.1.now)) result (made_at (Literal mark) literal_at bytes.now) }
+    ensures { Decodes (λ x. (exp_view x.0, x.1.now)) result
+        (made_at (Literal mark) literal_at bytes.now) }
 {
     let (value, rest) = read_four(bytes)?;
     if value > 2147483648 {
@@ -201,14 +204,16 @@ fn read_literal(mark: usize, bytes: &[u8]) -> Result<(Exp, &[u8]), ReadError>
 }
 
 fn read_variable(alloc: Global, mark: usize, bytes: &[u8]) -> Result<(Exp, &[u8]), ReadError>
-    ensures { Decodes (λ x. (exp_view x.0, x.1.now)) result (made_at (Named mark) name_at bytes.now) }
+    ensures { Decodes (λ x. (exp_view x.0, x.1.now)) result
+        (made_at (Named mark) name_at bytes.now) }
 {
     let (name, rest) = read_name(alloc, bytes)?;
     Ok((Exp::Variable { mark, name }, rest))
 }
 
 fn read_new_object(alloc: Global, mark: usize, bytes: &[u8]) -> Result<(Exp, &[u8]), ReadError>
-    ensures { Decodes (λ x. (exp_view x.0, x.1.now)) result (made_at (NewObject mark) name_at bytes.now) }
+    ensures { Decodes (λ x. (exp_view x.0, x.1.now)) result
+        (made_at (NewObject mark) name_at bytes.now) }
 {
     let (class, rest) = read_name(alloc, bytes)?;
     Ok((Exp::NewObject { mark, class }, rest))

@@ -85,7 +85,8 @@ fn read_block(
 #[tactic(auto, unfolding(byte_readers::specs::Reading::list_at))]
 #[inline(never)]
 fn read_stmts(alloc: Global, bytes: &[u8], room: usize) -> Result<(Vec<Stmt>, &[u8]), ReadError>
-    ensures { Decodes (λ x. (stmts_view x.0.items, x.1.now)) result (stmts_at (stmt_at room) bytes.now) }
+    ensures { Decodes (λ x. (stmts_view x.0.items, x.1.now)) result
+        (stmts_at (stmt_at room) bytes.now) }
 {
     let (count, rest) = read_eight(bytes)?;
     read_all_stmts(alloc, count, rest, room)

@@ -89,7 +89,8 @@ fn put_two_parts(
 
 #[cycle(put_expressions)]
 fn put_one_part(out: &mut Vec<u8>, tag: u8, mark: usize, part: &Exp) -> Result<(), AllocError>
-    ensures { OnOk result (out.new.items ≡ out.old.items ++ node tag mark (exp (exp_view part.now))) }
+    ensures { OnOk result
+        (out.new.items ≡ out.old.items ++ node tag mark (exp (exp_view part.now))) }
 {
     put_node(out, tag, mark)?;
     put_exp(out, part)
@@ -300,7 +301,8 @@ pub fn put_method(out: &mut Vec<u8>, m: &MethodTree) -> Result<(), AllocError>
 }
 
 fn put_methods(out: &mut Vec<u8>, ms: &[MethodTree]) -> Result<(), AllocError>
-    ensures { OnOk result (out.new.items ≡ out.old.items ++ list tagged_method (map method_view ms.now)) }
+    ensures { OnOk result
+        (out.new.items ≡ out.old.items ++ list tagged_method (map method_view ms.now)) }
 {
     put_eight(out, ms.len())?;
     for m in ms {
@@ -311,7 +313,8 @@ fn put_methods(out: &mut Vec<u8>, ms: &[MethodTree]) -> Result<(), AllocError>
 }
 
 fn put_main(out: &mut Vec<u8>, m: &Option<MainTree>) -> Result<(), AllocError>
-    ensures { OnOk result (out.new.items ≡ out.old.items ++ option main (option_map main_view m.now)) }
+    ensures { OnOk result
+        (out.new.items ≡ out.old.items ++ option main (option_map main_view m.now)) }
 {
     match m {
         None => out.push(0x00)?,
