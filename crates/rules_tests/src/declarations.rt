@@ -72,7 +72,8 @@ fn chain_text(alloc: Global, class: &ClassRef, chain: &ClassChain) -> Result<Str
 fn told(alloc: Global, declarations: &Declarations, class: &Name) -> Result<String, AllocError> {
     match (declarations.find(class), declarations.chain(alloc, class)?) {
         (Some(found), Some(climbed)) => chain_text(alloc, &found, &climbed),
-        _ => Ok(String::new(alloc)),
+        (None, None) => Ok(String::new(alloc)),
+        _ => String::from_str(alloc, "found or climbed alone"),
     }
 }
 
