@@ -20,7 +20,7 @@ place_words None at = codes "project"
 abbrev pub line_text : FaultLine → List ℕ
 line_text line =
     place_words (option_map (λ file. file.now) line.file) line.at ++ codes ": E"
-        ++ decimal (code_number line.code) ++ codes "\n"
+    ++ decimal (code_number line.code) ++ codes "\n"
 
 -- a line for each fault of the answer, in its order
 pub record AreLinesOf (answer : AnswerValue) (text : List ℕ) : Type 0 where

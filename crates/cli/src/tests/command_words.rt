@@ -60,10 +60,17 @@ const TOLD: &[(&[&str], bool, &str)] = &[
     ),
 ];
 
+/// Whether a help begins so and has the exit statuses to the last.
+fn is_whole_help(text: &str, want: &str) -> bool {
+    text.starts_with(want)
+        && text.contains("Exit status:\n  0  no diag")
+        && text.ends_with("  4  out of memory\n")
+}
+
 /// Whether a text is told in place of files, which begins so.
 fn is_told(alloc: Global, given: &[&str], is_help: bool, want: &str) -> Result<bool, Fail> {
     match words(alloc, list(alloc, given)?) {
-        Err(WordsFault::Help(text)) => Ok(is_help && text.starts_with(want)),
+        Err(WordsFault::Help(text)) => Ok(is_help && is_whole_help(text.as_str(), want)),
         Err(WordsFault::Refused(text)) => Ok(!is_help && text.starts_with(want)),
         _ => Ok(false),
     }

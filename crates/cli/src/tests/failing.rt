@@ -25,8 +25,11 @@ type Read<'a> = (
     &'a str,
 );
 
+/// No read fails.
+const PLAIN: Read = (&["a", "M"], None, 0, "class A\nclass M\n", "");
+
 const READS: &[Read] = &[
-    (&["a", "M"], None, 0, "class A\nclass M\n", ""),
+    PLAIN,
     (
         &["a", "M"],
         Some((0, ErrorKind::Other)),
@@ -101,7 +104,7 @@ fn a_failed_read_ends_the_run(rt: HostRuntime) -> Result<(), Fail> {
 // Each of the four reads of the two files fails in a row above.
 #[test]
 fn two_files_are_four_reads(rt: HostRuntime) -> Result<(), Fail> {
-    assert_eq!(rt; ends(rt.alloc(), &READS[0])?.1, 4);
+    assert_eq!(rt; ends(rt.alloc(), &PLAIN)?.1, 4);
     Ok(())
 }
 
