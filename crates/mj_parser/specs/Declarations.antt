@@ -24,12 +24,15 @@ type_size (types.Class name) = 1
 abbrev pub IsType : List Token → ℕ → Ty → Type 0
 IsType ts i types.Int = Stands ts i terminals.Int
 IsType ts i types.Boolean = Stands ts i terminals.Boolean
-IsType ts i types.IntArray = Stands ts i terminals.Int × Stands ts (i + 1) terminals.LeftBracket × Stands ts (i + 2) terminals.RightBracket
+IsType ts i types.IntArray =
+    Stands ts i terminals.Int × Stands ts (i + 1) terminals.LeftBracket
+        × Stands ts (i + 2) terminals.RightBracket
 IsType ts i (types.Class name) = name_at ts i ≡ Some name
 
 -- a type and a name
 abbrev pub IsVariable : List Token → ℕ → Variable → Type 0
-IsVariable ts i v = (v.mark ≡ i) × IsType ts i v.ty × (name_at ts (i + type_size v.ty) ≡ Some v.name)
+IsVariable ts i v =
+    (v.mark ≡ i) × IsType ts i v.ty × (name_at ts (i + type_size v.ty) ≡ Some v.name)
 
 abbrev pub variable_size : Variable → ℕ
 variable_size v = type_size v.ty + 1
@@ -47,7 +50,8 @@ formals_size (v ∷ vs) = variable_size v + row_size more_formal_size vs
 
 abbrev pub AreFormals : List Token → ℕ → List Variable → Type 0
 AreFormals ts i [] = Unit {0}
-AreFormals ts i (v ∷ vs) = IsVariable ts i v × InRow (IsMoreFormal ts) more_formal_size (i + variable_size v) vs
+AreFormals ts i (v ∷ vs) =
+    IsVariable ts i v × InRow (IsMoreFormal ts) more_formal_size (i + variable_size v) vs
 
 -- a local
 abbrev pub IsLocal : List Token → ℕ → Variable → Type 0
@@ -96,11 +100,16 @@ pub record IsMethod (ts : List Token) (m : Method) : Type 0 where
 
 -- `public static void main (` stands at the front
 abbrev pub main_head : List Token → Bool
-main_head ts = has ts 0 terminals.Public && has ts 1 terminals.Static && has ts 2 terminals.Void && says ts 3 (codes "main") && has ts 4 terminals.LeftParenthesis
+main_head ts =
+    has ts 0 terminals.Public && has ts 1 terminals.Static && has ts 2 terminals.Void
+        && says ts 3 (codes "main") && has ts 4 terminals.LeftParenthesis
 
 -- and then `String [ ] id ) {`
 abbrev pub main_parameter : List Token → Bool
-main_parameter ts = says ts 5 (codes "String") && has ts 6 terminals.LeftBracket && has ts 7 terminals.RightBracket && is_some (name_at ts 8) && has ts 9 terminals.RightParenthesis && has ts 10 terminals.LeftBrace
+main_parameter ts =
+    says ts 5 (codes "String") && has ts 6 terminals.LeftBracket && has ts 7 terminals.RightBracket
+        && is_some (name_at ts 8) && has ts 9 terminals.RightParenthesis
+        && has ts 10 terminals.LeftBrace
 
 -- ---- classes
 
@@ -108,7 +117,9 @@ abbrev pub field_size : Field → ℕ
 field_size f = type_size f.ty + 1 + 1
 
 abbrev pub IsField : List Token → ℕ → Field → Type 0
-IsField ts i f = IsType ts i f.ty × (name_at ts (i + type_size f.ty) ≡ Some f.name) × Stands ts (i + (type_size f.ty + 1)) terminals.Semicolon
+IsField ts i f =
+    IsType ts i f.ty × (name_at ts (i + type_size f.ty) ≡ Some f.name)
+        × Stands ts (i + (type_size f.ty + 1)) terminals.Semicolon
 
 -- a method that begins at a place
 abbrev pub IsMethodAt : List Token → ℕ → Method → Type 0
@@ -136,8 +147,11 @@ pub record IsClass (ts : List Token) (i : ℕ) (c : Class) : Type 0 where
   pub superclass : IsSuperclass ts (i + 2) c.superclass
   pub brace : Stands ts (i + (2 + superclass_size c.superclass)) terminals.LeftBrace
   pub fields : InRow (IsField ts) field_size (i + head_size c) c.fields
-  pub methods : InRow (IsMethodAt ts) method_size (i + head_size c + row_size field_size c.fields) c.methods
-  pub end_brace : Stands ts (i + head_size c + row_size field_size c.fields + row_size method_size c.methods) terminals.RightBrace
+  pub methods : InRow (IsMethodAt ts) method_size (i + head_size c + row_size field_size c.fields)
+      c.methods
+  pub end_brace : Stands ts
+      (i + head_size c + row_size field_size c.fields + row_size method_size c.methods)
+      terminals.RightBrace
 
 abbrev pub class_height : Class → ℕ
 class_height c = row_height method_height c.methods

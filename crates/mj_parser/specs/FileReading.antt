@@ -43,7 +43,9 @@ begins_type ts i = has ts i terminals.Int || has ts i terminals.Boolean || is_so
 
 -- A local begins here, and no statement: two names in a row, `int` or `boolean`.
 abbrev pub begins_local : List Token → ℕ → Bool
-begins_local ts i = has ts i terminals.Int || has ts i terminals.Boolean || (is_some (name_at ts i) && is_some (name_at ts (i + 1)))
+begins_local ts i =
+    has ts i terminals.Int || has ts i terminals.Boolean
+        || (is_some (name_at ts i) && is_some (name_at ts (i + 1)))
 
 -- ---- methods, whose tokens are numbered from `public`
 
@@ -64,7 +66,8 @@ abbrev pub not_return : List Token → ℕ → Bool
 not_return ts i = not (has ts i terminals.Return)
 
 -- `return Exp ; }` behind the statements
-unfoldable pub method_of : List Token → Signature → List Variable → List Statement × ℕ → Option (Method × ℕ)
+unfoldable pub method_of : List Token → Signature → List Variable → List Statement × ℕ
+    → Option (Method × ℕ)
 method_of ts s locals body = exp_at most_levels ts any_tier (body.1 + 1) >>= λ e. when (has ts e.1 terminals.Semicolon && has ts (e.1 + 1) terminals.RightBrace)
     (Some (record { name = s.name; returns = s.returns; formals = s.formals; locals = locals; body = statements_of body.0; returned = e.0; return_mark = body.1 }, e.1 + 2))
 
@@ -93,7 +96,8 @@ class_at ts i = when (has ts i terminals.Class) (name_at ts (i + 1) >>= λ name.
 
 -- The first class is the main class: `public static` stands at its front.
 abbrev pub begins_main : List Token → Bool
-begins_main ts = has ts 2 terminals.LeftBrace && has ts 3 terminals.Public && has ts 4 terminals.Static
+begins_main ts =
+    has ts 2 terminals.LeftBrace && has ts 3 terminals.Public && has ts 4 terminals.Static
 
 -- `main` from its `public` on, with the brace that closes the class
 unfoldable pub main_method_at : List Token → Option (Statement × ℕ)

@@ -1,9 +1,10 @@
 //! Whole bodies.
 ghost use Rattle.std.specs.Prelude.{◌≡◌, ◌++◌, ◌∷◌, [], IfOk, IfErr, OnOk};
 ghost use Rattle.mj_answer.specs.declared.code.Code.TheVariants.{E206};
-ghost use Rattle.mj_tree.specs.Views.{method_view, main_view};
-ghost use Rattle.mj_typing.specs.Bodies.{method_step, main_step, declared_step, type_step, types_step};
+ghost use Rattle.mj_tree.specs.Views.{method_view, main_view, stmt_view};
+ghost use Rattle.mj_typing.specs.Bodies.{method_step, main_step, statement_step, declared_step, type_step, types_step};
 ghost use Rattle.mj_typing.specs.Steps.{Proceeds, Aborts};
+ghost use Rattle.mj_typing.specs.Table.{main_scope};
 
 use crate::asking::{Asking, Stop};
 use crate::body::{check_return, check_statement, check_statements};
@@ -11,7 +12,7 @@ use crate::scope::Scope;
 use crate::verdict::Mistake;
 use mj_answer::Code;
 use mj_lexer::Name;
-use mj_tree::{MainTree, MethodTree, Ty, Variable};
+use mj_tree::{MainTree, MethodTree, Stmt, Ty, Variable};
 use std::alloc::{AllocError, Global};
 
 /// The token of a method's return type, behind `public`.
@@ -128,6 +129,22 @@ pub fn check_method<A: Asking>(
     Ok(mistakes)
 }
 
+/// The mistakes in the statement of main, unordered and with repeats.
+pub fn check_main_statement<A: Asking>(
+    alloc: Global,
+    asking: &mut A,
+    statement: &Stmt,
+) -> Result<Vec<Mistake>, Stop<A::Refusal>>
+    ensures ok { IfOk result (λ mistakes. Proceeds A.stands (statement_step main_scope (stmt_view statement.now) []) asking.old mistakes.items asking.new) }
+    ensures err { IfErr result (λ e. Aborts A.stands A.halts (statement_step main_scope (stmt_view statement.now) []) asking.old e asking.new) }
+    ensures follows { A.follows asking.old asking.new }
+{
+    let mut mistakes = Vec::new(alloc);
+    let scope = Scope::of_main(alloc);
+    check_statement(alloc, asking, &scope, statement, &mut mistakes)?;
+    Ok(mistakes)
+}
+
 /// The mistakes in main, unordered and with repeats.
 #[tactic(auto, unfolding(crate::specs::Bodies::main_step))]
 pub fn check_main<A: Asking>(
@@ -141,8 +158,5 @@ pub fn check_main<A: Asking>(
         Aborts A.stands A.halts (main_step (main_view main.now)) asking.old e asking.new) }
     ensures follows { A.follows asking.old asking.new }
 {
-    let mut mistakes = Vec::new(alloc);
-    let scope = Scope::of_main(alloc);
-    check_statement(alloc, asking, &scope, &main.statement, &mut mistakes)?;
-    Ok(mistakes)
+    check_main_statement(alloc, asking, &main.statement)
 }
