@@ -21,7 +21,7 @@ use Rattle.mj_lexer.proofs.Longest.{reserved_text, front_stands}
 
 -- ---- a piece alone is read as that piece
 
-pub whole_prefix : (p : ℕ → Bool) (bytes : List ℕ) → list_all p bytes ≡ true → prefix_len p bytes ≡ length bytes
+whole_prefix : (p : ℕ → Bool) (bytes : List ℕ) → list_all p bytes ≡ true → prefix_len p bytes ≡ length bytes
 whole_prefix p bytes e =
     let most = prefix_len-le-length p bytes in
     let least : length bytes ≤ prefix_len p bytes = rw append-nil at (passing_prefix p bytes [] e) in

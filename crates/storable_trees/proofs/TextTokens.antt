@@ -1,10 +1,9 @@
 -- What the tokens of a text are: names are names, values are at most the greatest, and there are no more tokens than bytes.
-use Rattle.std.proofs.Common.{◌≡◌, ℕ, ◌+◌, ◌<◌, ◌≤◌, true, List, [], ◌∷◌, length, take, drop, sym, subst, arith}
+use Rattle.std.proofs.Common.{◌≡◌, ℕ, zero, suc, ◌+◌, ◌<◌, ◌≤◌, true, List, [], ◌∷◌, length, take, drop, refl, sym, subst, arith, lit<}
 use Rattle.std.specs.Prelude.{All, ◌&&◌}
-use Rattle.std.specs.List.{prefix_len, list_all}
-use Rattle.std.proofs.lemmas.List.{length-drop, take_all, append-nil}
+use Rattle.std.specs.List.{list_all, slice_index}
+use Rattle.std.proofs.lemmas.List.{length-drop}
 use Rattle.std.proofs.lemmas.List.Elements.{All-nil, All-cons}
-use Rattle.std.proofs.lemmas.List.Sums.{prefix_len-le-length}
 use Rattle.std.proofs.lemmas.Str.{IsUtf8-from_ascii, is_utf8-from_IsUtf8}
 use Rattle.std.specs.Str.{IsAscii}
 use Rattle.mj_lexer.specs.declared.token.Kind.{Kind}
@@ -16,8 +15,7 @@ use Rattle.mj_lexer.specs.Bytes.{is_letter, is_name_byte, greatest_literal}
 use Rattle.mj_lexer.specs.Fronts.{IsWithin}
 use Rattle.mj_lexer.specs.Pieces.{is_word, IsToken, IsShort, Stands}
 use Rattle.mj_lexer.specs.Lexes.{limit, Cuts, here, blank, word, Lexes}
-use Rattle.mj_lexer.proofs.Names.{word_is_ascii}
-use Rattle.mj_lexer.proofs.Only.{whole_prefix, front_is}
+use Rattle.mj_lexer.proofs.Only.{front_is}
 use Rattle.mj_lexer.proofs.Taken.{both_true}
 use Rattle.mj_lexer.proofs.Within.{letter_in_name, front_within}
 use Rattle.byte_readers.specs.Names.{IsName}
@@ -30,13 +28,19 @@ KindFits (kinds.Terminal terminal) = Unit {0}
 abbrev pub TokenFits : Token → Type 0
 TokenFits token = KindFits token.kind
 
+ascii_byte : (b : ℕ) → is_name_byte b ≡ true → b < 128
+ascii_byte b e = grind arith
+
+ascii_bytes : (bytes : List ℕ) → list_all is_name_byte bytes ≡ true → (i : ℕ) → slice_index bytes i < 128
+ascii_bytes [] e i = lit< tt
+ascii_bytes (b ∷ bytes) e zero = ascii_byte b (both_true (is_name_byte b) (list_all is_name_byte bytes) e).0
+ascii_bytes (b ∷ bytes) e (suc i) = ascii_bytes bytes (both_true (is_name_byte b) (list_all is_name_byte bytes) e).1 i
+
 ascii_word : (bytes : List ℕ) → is_word bytes ≡ true → IsAscii bytes
 ascii_word [] e = absurd cc
 ascii_word (b ∷ bytes) e =
     let parts = both_true (is_letter b) (list_all is_name_byte bytes) e in
-    let whole : prefix_len is_name_byte (b ∷ bytes) ≡ length (b ∷ bytes) = whole_prefix is_name_byte (b ∷ bytes) (rw (letter_in_name b parts.0, parts.1) refl) in
-    let all : take (length (b ∷ bytes)) (b ∷ bytes) ≡ b ∷ bytes = take_all (length (b ∷ bytes)) (b ∷ bytes) (omega arith) in
-    rw (whole, all) at word_is_ascii (b ∷ bytes)
+    ascii_bytes (b ∷ bytes) (rw (letter_in_name b parts.0, parts.1) refl)
 
 some_word : (bytes : List ℕ) → is_word bytes ≡ true → 0 < length bytes
 some_word [] e = absurd cc
