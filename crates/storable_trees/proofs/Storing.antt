@@ -1,6 +1,6 @@
 -- The tree of tokens that fit can be stored.
 use Rattle.std.proofs.Common.{◌≡◌, ℕ, zero, suc, ◌+◌, ◌<◌, ◌≤◌, List, [], ◌∷◌, length, drop, Option, Some, None, refl, subst, arith}
-use Rattle.std.specs.Prelude.{All, slice_get, get_or, max, IfSome, codes}
+use Rattle.std.specs.Prelude.{All, slice_get, IfSome, codes}
 use Rattle.std.specs.List.{AllByRecursion}
 use Rattle.std.proofs.lemmas.List.{length-drop}
 use Rattle.std.proofs.lemmas.List.Elements.{All-get_or, All-drop}
@@ -17,15 +17,15 @@ use Rattle.mj_tree.specs.declared.tree.Field.{Field}
 use Rattle.mj_tree.specs.declared.tree.Variable.{Variable}
 use Rattle.mj_tree.specs.Limits.{most_levels}
 use Rattle.mj_tree.specs.Trees.{Name, Expression, Expressions, Binary, Index, Length, Call, Literal, Boolean, Named, This, NewArray, NewObject, Not, Parenthesized, none, more, Statement, Statements, Block, If, While, Print, Assign, Store, done, next, Method, Main, Class, File}
-use Rattle.mj_parser.specs.Tokens.{token_kind, name_of, value_of, kind_at, name_at, value_at, Stands}
-use Rattle.mj_parser.specs.Expressions.{terminal_of, terminal_of_bool, any_tier, height, heights, sizes, size, IsExp, AreArguments, AreMore}
+use Rattle.mj_parser.specs.Tokens.{token_kind, name_of, value_of, name_at, value_at}
+use Rattle.mj_parser.specs.Expressions.{terminal_of, terminal_of_bool, any_tier, height, heights, sizes, IsExp, AreArguments, AreMore}
 use Rattle.mj_parser.specs.Statements.{stmt_height, stmts_height, stmts_size, IsStmt, AreStmts}
 use Rattle.mj_parser.specs.Rows.{InRow, row_size, row_height}
-use Rattle.mj_parser.specs.Declarations.{type_size, IsType, IsVariable, variable_size, IsMoreFormal, more_formal_size, formals_size, AreFormals, IsLocal, local_size, field_size, IsField, superclass_size, IsSuperclass, head_size, method_size, method_height, formals_place, locals_place, body_place, return_place, IsMethod, IsMethodAt, class_size, class_height, IsClass, IsMainPart, main_part_size, main_part_height, IsMain, file_size, file_height, Derives}
+use Rattle.mj_parser.specs.Declarations.{type_size, IsType, IsVariable, variable_size, IsMoreFormal, more_formal_size, formals_size, AreFormals, IsLocal, local_size, field_size, IsField, IsSuperclass, head_size, method_size, method_height, formals_place, locals_place, body_place, return_place, IsMethod, IsMethodAt, class_size, class_height, IsClass, IsMainPart, main_part_size, main_part_height, Derives}
 use Rattle.mj_parser.proofs.Marks.{has_within, name_within, says_name}
 use Rattle.mj_parser.proofs.StatementAgain.{print_name}
 use Rattle.byte_readers.specs.Names.{IsName}
-use Rattle.tree_bytes.specs.Storable.{TyFits, IsMark, FieldFits, VariableFits, ExpFits, ExpsFit, StmtFits, StmtsFit, TopStmtFits, TopStmtsFit, TopExpFits, MethodFits, MainFits, ClassFits, FileFits}
+use Rattle.tree_bytes.specs.Storable.{TyFits, FieldFits, VariableFits, ExpFits, ExpsFit, StmtFits, StmtsFit, TopStmtFits, TopStmtsFit, TopExpFits, MethodFits, MainFits, ClassFits, FileFits}
 use Rattle.storable_trees.proofs.TextTokens.{KindFits, TokenFits, tokens_fit, tokens_few}
 use Rattle.storable_trees.proofs.Counts.{some_height, some_stmt_height, arguments_count, statements_count, row_count, formals_count}
 
@@ -70,14 +70,14 @@ module _ (ts : List Token) (fit : All TokenFits ts) (few : length ts ≤ limit) 
   mutual
     exp_fits : (room d i : ℕ) (e : Expression) → height e ≤ room → IsExp ts d i e → ExpFits room e
     exp_fits zero d i e low h = absurd (let some = some_height e in omega arith)
-    exp_fits (suc room) d i (Binary o m l r) low h = let w = has_within ts m (terminal_of o) h.3 in (omega arith, exp_fits room _ i l (omega arith) h.1, exp_fits room _ (m + 1) r (omega arith) h.4)
-    exp_fits (suc room) d i (Index m a x) low h = let w = has_within ts m terminals.LeftBracket h.3 in (omega arith, exp_fits room _ i a (omega arith) h.0, exp_fits room _ (m + 1) x (omega arith) h.4)
+    exp_fits (suc room) d i (Binary o m l r) low h = let w = has_within ts m (terminal_of o) h.3 in (omega arith, (exp_fits room _ i l (omega arith) h.1, exp_fits room _ (m + 1) r (omega arith) h.4))
+    exp_fits (suc room) d i (Index m a x) low h = let w = has_within ts m terminals.LeftBracket h.3 in (omega arith, (exp_fits room _ i a (omega arith) h.0, exp_fits room _ (m + 1) x (omega arith) h.4))
     exp_fits (suc room) d i (Length m a) low h = let w = name_within ts m (codes "length") (says_name ts m (codes "length") h.3) in (omega arith, exp_fits room _ i a (omega arith) h.0)
     exp_fits (suc room) d i (Call m e name es) low h =
         let w = name_within ts m name h.3 in
         let end = has_within ts (m + 2 + sizes es) terminals.RightParenthesis h.6 in
         let count = arguments_count es in
-        (omega arith, exp_fits room _ i e (omega arith) h.0, name_fits m name h.3, omega arith, arguments_fit room (m + 2) es (omega arith) h.5)
+        (omega arith, (exp_fits room _ i e (omega arith) h.0, (name_fits m name h.3, (omega arith, arguments_fit room (m + 2) es (omega arith) h.5))))
     exp_fits (suc room) d i (Literal m v) low h = let w = value_within ts i v h.1 in let at = h.0 in (omega arith, value_fits i v h.1)
     exp_fits (suc room) d i (Boolean m v) low h = let w = has_within ts i (terminal_of_bool v) h.1 in let at = h.0 in omega arith
     exp_fits (suc room) d i (Named m name) low h = let w = name_within ts i name h.1 in let at = h.0 in (omega arith, name_fits i name h.1)
@@ -103,12 +103,12 @@ module _ (ts : List Token) (fit : All TokenFits ts) (few : length ts ≤ limit) 
         let at = h.0 in
         let end = has_within ts (i + 1 + stmts_size body) terminals.RightBrace h.3 in
         let count = statements_count body in
-        (omega arith, omega arith, stmts_fit room (i + 1) body (omega arith) h.2)
-    stmt_fits (suc room) i (If m e s t) low h = let w = has_within ts i terminals.If h.1 in let at = h.0 in (omega arith, exp_fits room _ (i + 2) e (omega arith) h.3, stmt_fits room _ s (omega arith) h.5, stmt_fits room _ t (omega arith) h.7)
-    stmt_fits (suc room) i (While m e s) low h = let w = has_within ts i terminals.While h.1 in let at = h.0 in (omega arith, exp_fits room _ (i + 2) e (omega arith) h.3, stmt_fits room _ s (omega arith) h.5)
+        (omega arith, (omega arith, stmts_fit room (i + 1) body (omega arith) h.2))
+    stmt_fits (suc room) i (If m e s t) low h = let w = has_within ts i terminals.If h.1 in let at = h.0 in (omega arith, (exp_fits room _ (i + 2) e (omega arith) h.3, (stmt_fits room _ s (omega arith) h.5, stmt_fits room _ t (omega arith) h.7)))
+    stmt_fits (suc room) i (While m e s) low h = let w = has_within ts i terminals.While h.1 in let at = h.0 in (omega arith, (exp_fits room _ (i + 2) e (omega arith) h.3, stmt_fits room _ s (omega arith) h.5))
     stmt_fits (suc room) i (Print m e) low h = let w = name_within ts i (codes "System") (print_name ts i h.1) in let at = h.0 in (omega arith, exp_fits room _ (i + 6) e (omega arith) h.2)
-    stmt_fits (suc room) i (Assign m name k e) low h = let w = has_within ts (i + 1) terminals.Assign h.3 in let at = h.0 in let at2 = h.1 in (omega arith, name_fits i name h.2, omega arith, exp_fits room _ (i + 2) e (omega arith) h.4)
-    stmt_fits (suc room) i (Store m name k x e) low h = let w = has_within ts _ terminals.Assign h.6 in let at = h.0 in let at2 = h.1 in (omega arith, name_fits i name h.2, omega arith, exp_fits room _ (i + 2) x (omega arith) h.4, exp_fits room _ _ e (omega arith) h.7)
+    stmt_fits (suc room) i (Assign m name k e) low h = let w = has_within ts (i + 1) terminals.Assign h.3 in let at = h.0 in let at2 = h.1 in (omega arith, (name_fits i name h.2, (omega arith, exp_fits room _ (i + 2) e (omega arith) h.4)))
+    stmt_fits (suc room) i (Store m name k x e) low h = let w = has_within ts _ terminals.Assign h.6 in let at = h.0 in let at2 = h.1 in (omega arith, (name_fits i name h.2, (omega arith, (exp_fits room _ (i + 2) x (omega arith) h.4, exp_fits room _ _ e (omega arith) h.7))))
 
     stmts_fit : (room i : ℕ) (ss : Statements) → stmts_height ss ≤ room → AreStmts ts i ss → StmtsFit room ss
     stmts_fit room i done low h = tt
@@ -124,7 +124,7 @@ module _ (ts : List Token) (fit : All TokenFits ts) (few : length ts ≤ limit) 
   variable_fits i v h =
       let w = name_within ts (i + type_size v.ty) v.name h.2 in
       let at = h.0 in
-      (name_fits (i + type_size v.ty) v.name h.2, type_fits i v.ty h.1, omega arith)
+      (name_fits (i + type_size v.ty) v.name h.2, (type_fits i v.ty h.1, omega arith))
 
   locals_fit : (i : ℕ) (vs : List Variable) → InRow (IsLocal ts) local_size i vs → AllByRecursion VariableFits vs
   locals_fit i [] h = tt

@@ -1,6 +1,6 @@
 -- What the tokens of a text are: names are names, values are at most the greatest, and there are no more tokens than bytes.
-use Rattle.std.proofs.Common.{◌≡◌, ℕ, zero, suc, ◌+◌, ◌<◌, ◌≤◌, true, List, [], ◌∷◌, length, take, drop, refl, sym, subst, arith, lit<}
-use Rattle.std.specs.Prelude.{All, ◌&&◌}
+use Rattle.std.proofs.Common.{◌≡◌, ℕ, zero, suc, ◌+◌, ◌<◌, ◌≤◌, true, List, [], ◌∷◌, length, take, refl, sym, subst, arith, lit<}
+use Rattle.std.specs.Prelude.{All}
 use Rattle.std.specs.List.{list_all, slice_index}
 use Rattle.std.proofs.lemmas.List.{length-drop}
 use Rattle.std.proofs.lemmas.List.Elements.{All-nil, All-cons}
@@ -13,7 +13,7 @@ use Rattle.mj_lexer.specs.declared.token.Token.{Token}
 use Rattle.mj_lexer.specs.declared.front.Front.TheVariants.{Word}
 use Rattle.mj_lexer.specs.Bytes.{is_letter, is_name_byte, greatest_literal}
 use Rattle.mj_lexer.specs.Fronts.{IsWithin}
-use Rattle.mj_lexer.specs.Pieces.{is_word, IsToken, IsShort, Stands}
+use Rattle.mj_lexer.specs.Pieces.{is_word, IsToken, IsShort}
 use Rattle.mj_lexer.specs.Lexes.{limit, Cuts, here, blank, word, Lexes}
 use Rattle.mj_lexer.proofs.Only.{front_is}
 use Rattle.mj_lexer.proofs.Taken.{both_true}
