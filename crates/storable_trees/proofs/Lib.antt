@@ -1,0 +1,3 @@
+pub mod TextTokens
+pub mod Counts
+pub mod Storing
