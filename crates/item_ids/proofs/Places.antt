@@ -1,5 +1,5 @@
 -- Places of keys in a list that grows.
-use Rattle.std.proofs.Common.{◌≡◌, ◌≢◌, ℕ, zero, suc, ◌<◌, Bool, true, false, if◌then◌else◌, List, [], ◌∷◌, ◌++◌, length, length-append, Option, Some, None, sym, ◌∙◌, subst, refl, arith}
+use Rattle.std.proofs.Common.{◌≡◌, ◌≢◌, ℕ, zero, suc, ◌<◌, Bool, true, false, if◌then◌else◌, List, [], ◌∷◌, ◌++◌, length, length-append, Option, Some, None, is_some, sym, ap, ◌∙◌, subst, refl, arith}
 use Rattle.std.specs.List.{AllByRecursion, HoldsAt}
 use Rattle.std.specs.Ordering.{is_eq}
 use Rattle.item_ids.specs.declared.key.Key.{Key}
@@ -48,3 +48,24 @@ item_at key xs place k i h e = subst (IsPlace key xs k) e (h k)
 -- no item of a key without a place
 pub none_at : {A : Type 0} (key : A → Key) (xs : List A) (place : Key → Option ℕ) (k : Key) → ArePlaces key xs place → place k ≡ None → IsMissing key xs k
 none_at key xs place k h e = subst (IsPlace key xs k) e (h k)
+
+-- ---- noting a place
+
+-- a key that has a place keeps it
+pub place_kept : (place : Key → Option ℕ) (k : Key) (i : ℕ) → is_some (place k) ≡ true → (q : Key) → place q ≡ with_place place k i q
+place_kept place k i h q = go (place q) refl (is_eq (key_cmp k q)) refl
+  where
+    go : (o : Option ℕ) → place q ≡ o → (b : Bool) → is_eq (key_cmp k q) ≡ b → place q ≡ with_place place k i q
+    go (Some j) e b t = e ∙ sym (ap (λ o. with_place (λ _. o) k i q) e)
+    go None e true t = absurd (differs (sym (ap is_some (ap place (test_same k q t) ∙ e)) ∙ h))
+    go None e false t = e ∙ sym (ap (λ b. if b then Some i else None) t) ∙ sym (ap (λ o. with_place (λ _. o) k i q) e)
+
+-- a key that had none has this one
+pub place_added : (place new : Key → Option ℕ) (k : Key) (i : ℕ) → is_some (place k) ≡ false → ((q : Key) → new q ≡ (if is_eq (key_cmp k q) then Some i else place q)) → (q : Key) → new q ≡ with_place place k i q
+place_added place new k i h w q = go (place q) refl (is_eq (key_cmp k q)) refl
+  where
+    go : (o : Option ℕ) → place q ≡ o → (b : Bool) → is_eq (key_cmp k q) ≡ b → new q ≡ with_place place k i q
+    go (Some j) e true t = absurd (differs (sym h ∙ ap is_some (ap place (test_same k q t) ∙ e)))
+    go (Some j) e false t = w q ∙ ap (λ b. if b then Some i else place q) t ∙ e ∙ sym (ap (λ o. with_place (λ _. o) k i q) e)
+    go None e true t = w q ∙ ap (λ b. if b then Some i else place q) t ∙ sym (ap (λ b. if b then Some i else None) t) ∙ sym (ap (λ o. with_place (λ _. o) k i q) e)
+    go None e false t = w q ∙ ap (λ b. if b then Some i else place q) t ∙ e ∙ sym (ap (λ b. if b then Some i else None) t) ∙ sym (ap (λ o. with_place (λ _. o) k i q) e)
