@@ -86,7 +86,7 @@ impl Sealed {
     pub fn same_print(&self, other: &Sealed) -> bool
         ensures { IsTrue result ↔ (print_of self.now ≡ print_of other.now) }
     {
-        self.print() == other.print()
+        other.print() == self.print()
     }
 }
 
