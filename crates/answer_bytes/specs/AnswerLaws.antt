@@ -1,20 +1,20 @@
 -- Tables, faults and answers: what is read is spelled so, and what is spelled so is read.
 use Rattle.std.proofs.Common.{◌≡◌, ℕ, zero, suc, ◌<◌, ◌^◌, eqb, List, [], ◌∷◌, ◌++◌, Option, Some, None, Result, Ok, refl, sym, ap, subst, lit<}
 use Rattle.std.proofs.lemmas.Bool.{eqb-true}
-use Rattle.mj_parser.specs.declared.place.Place.{Place}
-use Rattle.mj_parser.specs.declared.place.Place.TheVariants as places
+use Rattle.mj_tree.specs.declared.place.Place.{Place}
+use Rattle.mj_tree.specs.declared.place.Place.TheVariants as places
 use Rattle.mj_answer.specs.declared.code.Code.{Code}
 use Rattle.mj_answer.specs.declared.code.Code.TheVariants.{E101}
-use Rattle.mj_answer.specs.Codes.{number_of, all_codes, code_of}
+use Rattle.mj_answer.specs.Codes.{code_number, all_codes, code_of}
 use Rattle.mj_answer.proofs.Orders.{code_back}
 use Rattle.byte_readers.specs.declared.breach.Breach.{Breach}
 use Rattle.byte_readers.specs.Spelling.{two, list}
-use Rattle.byte_readers.specs.Reading.{Reader, any, two_at, made_at}
+use Rattle.byte_readers.specs.Reading.{Decoder, any, two_at, made_at}
 use Rattle.byte_readers.specs.Lawful.{IsBytes, Takes, Lawful}
 use Rattle.byte_readers.specs.Laws.{IsBytes-rest, bind_ok, ok_is, takes_nothing, takes_behind, found_passes, made_takes, made_again, lawful_two, lawful_four, lawful_name, lawful_pair, lawful_list, lawful_made, lawful_where, any_admits}
 use Rattle.tree_bytes.specs.TypeLaws.{lawful_ty}
 use Rattle.answer_bytes.specs.Canon.{field_row, method_row, table, project_place, class_place, project_fault, class_fault, class_answer, answer}
-use Rattle.answer_bytes.specs.Fits.{FieldRowFits, MethodRowFits, TableFits, IsProjectPlace, IsClassPlace, PlaceNameFits, ProjectFaultFits, ClassFaultFits, ProjectFaultsFit, ClassFaultsFit, ClassAnswerFits, AnswerFits}
+use Rattle.answer_bytes.specs.Storable.{FieldRowFits, MethodRowFits, TableFits, IsProjectPlace, IsClassPlace, PlaceNameFits, ProjectFaultFits, ClassFaultFits, ProjectFaultsFit, ClassFaultsFit, ClassAnswerFits, AnswerFits}
 use Rattle.answer_bytes.specs.Reading.{field_row_of, field_row_at, method_row_of, method_row_at, table_of, table_at, class_of, project_place_at, inside_of, class_place_at, coded, code_at, fault_of, project_fault_at, class_fault_at, project_faults_at, class_faults_at, class_answer_of, class_answer_at, answer_of, answer_at}
 use Rattle.answer_bytes.specs.OrderLaws.{lawful_by_name, lawful_by_place}
 
@@ -28,7 +28,7 @@ leaf_takes {A} sp P b bytes one a rest spelled fit fits e =
     subst (λ (x : A × List ℕ). Takes (b ∷ bytes) (sp x.0) x.1 × P x.0) (ok_is (one, bytes) (a, rest) e) (whole, fit)
 
 -- an item behind a tag
-pub tag_takes : {A B : Type 0} {p : Reader A} {sp : A → List ℕ} {P : A → Type 0} (law : Lawful p sp P) (make : A → B) (sq : B → List ℕ) (Q : B → Type 0) (b : ℕ) → ((a : A) → sq (make a) ≡ b ∷ sp a) → ((a : A) → P a → Q (make a))
+pub tag_takes : {A B : Type 0} {p : Decoder A} {sp : A → List ℕ} {P : A → Type 0} (law : Lawful p sp P) (make : A → B) (sq : B → List ℕ) (Q : B → Type 0) (b : ℕ) → ((a : A) → sq (make a) ≡ b ∷ sp a) → ((a : A) → P a → Q (make a))
     → (bytes : List ℕ) (x : B) (rest : List ℕ) → IsBytes (b ∷ bytes) → made_at make p bytes ≡ Ok (x, rest) → Takes (b ∷ bytes) (sq x) rest × Q x
 tag_takes {A} {B} {p} {sp} {P} law make sq Q b spelled fit bytes x rest fits e =
     let m = made_takes law make bytes x rest (IsBytes-rest b bytes fits) e in
@@ -99,7 +99,7 @@ class_place_again (places.ClassOf n k) rest h = absurd h.0
 lawful_class_place : Lawful class_place_at class_place (λ p. IsClassPlace p × PlaceNameFits p)
 lawful_class_place = record { takes = class_place_takes; again = class_place_again }
 
-number_small : (code : Code) → number_of code < 2 ^ 16
+number_small : (code : Code) → code_number code < 2 ^ 16
 number_small E101 = lit< tt
 number_small code = lit< tt
 
@@ -107,20 +107,20 @@ coded_is : (bytes rest : List ℕ) (o : Option Code) (code : Code) (after : List
 coded_is bytes rest None code after e = absurd cc
 coded_is bytes rest (Some c) code after e = let is = ok_is (c, rest) (code, after) e in (ap (λ (x : Code × List ℕ). Some x.0) is, ap (λ (x : Code × List ℕ). x.1) is)
 
-code_takes : (bytes : List ℕ) (code : Code) (rest : List ℕ) → IsBytes bytes → code_at bytes ≡ Ok (code, rest) → Takes bytes (two (number_of code)) rest × Unit {0}
+code_takes : (bytes : List ℕ) (code : Code) (rest : List ℕ) → IsBytes bytes → code_at bytes ≡ Ok (code, rest) → Takes bytes (two (code_number code)) rest × Unit {0}
 unfolding code_at
 code_takes bytes code rest fits e =
     let n = bind_ok (two_at bytes) (λ n. coded bytes (code_of n.0) n.1) (code, rest) e in
     let t = lawful_two.takes bytes n.0.0 n.0.1 fits n.1 in
     let c = coded_is bytes n.0.1 (code_of n.0.0) code rest n.2 in
-    let number : number_of code ≡ n.0.0 = eqb-true _ _ (found_passes (λ (c : Code). eqb (number_of c) n.0.0) all_codes code c.0) in
-    (subst (λ (r : List ℕ). Takes bytes (two (number_of code)) r) c.1 (subst (λ (k : ℕ). Takes bytes (two k) n.0.1) (sym number) t.0), tt)
+    let number : code_number code ≡ n.0.0 = eqb-true _ _ (found_passes (λ (c : Code). eqb (code_number c) n.0.0) all_codes code c.0) in
+    (subst (λ (r : List ℕ). Takes bytes (two (code_number code)) r) c.1 (subst (λ (k : ℕ). Takes bytes (two k) n.0.1) (sym number) t.0), tt)
 
-code_again : (code : Code) (rest : List ℕ) → Unit {0} → code_at (two (number_of code) ++ rest) ≡ Ok (code, rest)
+code_again : (code : Code) (rest : List ℕ) → Unit {0} → code_at (two (code_number code) ++ rest) ≡ Ok (code, rest)
 unfolding code_at
-code_again code rest h = rw (lawful_two.again (number_of code) rest (number_small code)) (ap (λ (o : Option Code). coded (two (number_of code) ++ rest) o rest) (code_back code))
+code_again code rest h = rw (lawful_two.again (code_number code) rest (number_small code)) (ap (λ (o : Option Code). coded (two (code_number code) ++ rest) o rest) (code_back code))
 
-lawful_code : Lawful code_at (λ code. two (number_of code)) (λ _. Unit {0})
+lawful_code : Lawful code_at (λ code. two (code_number code)) (λ _. Unit {0})
 lawful_code = record { takes = code_takes; again = code_again }
 
 pub lawful_project_fault : Lawful project_fault_at project_fault ProjectFaultFits

@@ -1,11 +1,11 @@
 -- The canonical bytes of tables, faults and answers. Numbers are big endian.
 use Rattle.std.specs.Prelude.{ℕ, List, [], ◌∷◌, ◌++◌}
-use Rattle.mj_parser.specs.declared.place.Place.{Place}
-use Rattle.mj_parser.specs.declared.place.Place.TheVariants.{Project, File, ClassOf, Class, Field, Method, Inside}
+use Rattle.mj_tree.specs.declared.place.Place.{Place}
+use Rattle.mj_tree.specs.declared.place.Place.TheVariants.{Project, File, ClassOf, Class, Field, Method, Inside}
 use Rattle.mj_answer.specs.declared.diagnostic.Diagnostic.{Diagnostic}
 use Rattle.mj_answer.specs.declared.table.FieldRow.{FieldRow}
-use Rattle.mj_answer.specs.Codes.{number_of}
-use Rattle.mj_answer.specs.Answers.{MethodRowValue, ClassTableValue, ClassAnswerValue, AnswerValue}
+use Rattle.mj_answer.specs.Codes.{code_number}
+use Rattle.mj_answer.specs.AnswerValues.{MethodRowValue, ClassTableValue, ClassAnswerValue, AnswerValue}
 use Rattle.byte_readers.specs.Spelling.{two, four, name, list}
 use Rattle.tree_bytes.specs.Spelling.{ty}
 
@@ -38,10 +38,10 @@ class_place _ = []
 
 -- a fault: its place, and its code in two bytes
 abbrev pub project_fault : Diagnostic → List ℕ
-project_fault fault = project_place fault.place ++ two (number_of fault.code)
+project_fault fault = project_place fault.place ++ two (code_number fault.code)
 
 abbrev pub class_fault : Diagnostic → List ℕ
-class_fault fault = class_place fault.place ++ two (number_of fault.code)
+class_fault fault = class_place fault.place ++ two (code_number fault.code)
 
 -- what is answered for a class: its name, its table, its faults
 abbrev pub class_answer : ClassAnswerValue → List ℕ

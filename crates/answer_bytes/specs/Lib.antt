@@ -1,5 +1,5 @@
 pub mod Canon
-pub mod Fits
+pub mod Storable
 pub mod Reading
 pub mod OrderLaws
 pub mod AnswerLaws

@@ -12,10 +12,10 @@ use Rattle.mj_answer.proofs.Orders.{names, faults}
 use Rattle.mj_answer.proofs.Compared.{fault_less, fault_equal}
 use Rattle.byte_readers.specs.Orders.{is_after}
 use Rattle.byte_readers.specs.Lawful.{Lawful, Admitted}
-use Rattle.byte_readers.specs.Reading.{Reader, list_at}
+use Rattle.byte_readers.specs.Reading.{Decoder, list_at}
 use Rattle.byte_readers.specs.Spelling.{list}
 use Rattle.byte_readers.specs.Laws.{lawful_list, lawful_where}
-use Rattle.answer_bytes.specs.Fits.{ByName, OrderedFits}
+use Rattle.answer_bytes.specs.Storable.{ByName, OrderedFits}
 use Rattle.answer_bytes.specs.Reading.{by_name, by_place}
 
 -- ---- behind the last one
@@ -72,7 +72,7 @@ each_next tests [] h = tt
 each_next tests (a ∷ []) h = tt
 each_next tests (a ∷ (b ∷ rest)) h = (tests.from a b h.0.0, each_next tests (b ∷ rest) h.1)
 
-lawful_ascending : {A : Type 0} {p : Reader A} {sp : A → List ℕ} {P : A → Type 0} {precedes : A → A → Bool} {B : A → A → Type 0} → Tests precedes B → Lawful p sp P → Lawful (list_at p (is_after precedes)) (list sp) (OrderedFits P B)
+lawful_ascending : {A : Type 0} {p : Decoder A} {sp : A → List ℕ} {P : A → Type 0} {precedes : A → A → Bool} {B : A → A → Type 0} → Tests precedes B → Lawful p sp P → Lawful (list_at p (is_after precedes)) (list sp) (OrderedFits P B)
 lawful_ascending {A} {p} {sp} {P} {precedes} {B} tests law =
     lawful_where (lawful_list law (is_after precedes))
     (λ items h. record { few = h.few; each = h.fit; order = in_order tests items (ascends precedes items h.admitted) })
@@ -92,7 +92,7 @@ by_name_tests name_of = record {
   transitive = λ a b c. names.transitive (name_of a) (name_of b) (name_of c);
 }
 
-pub lawful_by_name : {A : Type 0} {p : Reader A} {sp : A → List ℕ} {P : A → Type 0} → Lawful p sp P → (name_of : A → List ℕ) → Lawful (list_at p (is_after (by_name name_of))) (list sp) (OrderedFits P (ByName name_of))
+pub lawful_by_name : {A : Type 0} {p : Decoder A} {sp : A → List ℕ} {P : A → Type 0} → Lawful p sp P → (name_of : A → List ℕ) → Lawful (list_at p (is_after (by_name name_of))) (list sp) (OrderedFits P (ByName name_of))
 lawful_by_name law name_of = lawful_ascending (by_name_tests name_of) law
 
 -- where the order tells all apart, what comes before another is less than it
@@ -117,5 +117,5 @@ by_place_tests = record {
   transitive = λ a b c. faults.transitive a b c;
 }
 
-pub lawful_by_place : {p : Reader Diagnostic} {sp : Diagnostic → List ℕ} {P : Diagnostic → Type 0} → Lawful p sp P → Lawful (list_at p (is_after by_place)) (list sp) (OrderedFits P Before)
+pub lawful_by_place : {p : Decoder Diagnostic} {sp : Diagnostic → List ℕ} {P : Diagnostic → Type 0} → Lawful p sp P → Lawful (list_at p (is_after by_place)) (list sp) (OrderedFits P Before)
 lawful_by_place law = lawful_ascending by_place_tests law

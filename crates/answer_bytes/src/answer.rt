@@ -2,10 +2,10 @@
 ghost use Rattle.std.specs.Prelude.{◌≡◌, ◌++◌, List, OnOk};
 ghost use Rattle.std.specs.List.{AllByRecursion};
 ghost use Rattle.mj_answer.specs.Order.{IsAscending, IsAscendingByName, IsTableInOrder};
-ghost use Rattle.byte_readers.specs.Reading.{Gives};
+ghost use Rattle.byte_readers.specs.Reading.{Decodes};
 ghost use Rattle.byte_readers.specs.Spelling.{list};
 ghost use Rattle.answer_bytes.specs.Canon.{table, class_fault, answer};
-ghost use Rattle.answer_bytes.specs.Fits.{TableFits, ClassFaultsFit, AnswerFits, AreProjectFaults, AreClassFaults, IsClassStorable};
+ghost use Rattle.answer_bytes.specs.Storable.{TableFits, ClassFaultsFit, AnswerFits, AreProjectFaults, AreClassFaults, IsClassStorable};
 ghost use Rattle.answer_bytes.specs.Reading.{table_at, class_faults_at, answer_at};
 
 use crate::faults::{ClassFaultFormat, ProjectFaultFormat};
@@ -25,8 +25,8 @@ pub struct Members {
 }
 
 impl Model for Members {
-    ghost use Rattle.mj_answer.specs.Answers.{ClassTableValue};
-    ghost use Rattle.answer_bytes.specs.Fits.{TableFits};
+    ghost use Rattle.mj_answer.specs.AnswerValues.{ClassTableValue};
+    ghost use Rattle.answer_bytes.specs.Storable.{TableFits};
 
     ghost Value = { ClassTableValue };
 
@@ -63,7 +63,7 @@ pub struct Faults {
 impl Model for Faults {
     ghost use Rattle.std.specs.Prelude.{List};
     ghost use Rattle.mj_answer.specs.declared.diagnostic.Diagnostic.{Diagnostic};
-    ghost use Rattle.answer_bytes.specs.Fits.{ClassFaultsFit};
+    ghost use Rattle.answer_bytes.specs.Storable.{ClassFaultsFit};
 
     ghost Value = { List Diagnostic };
 
@@ -99,8 +99,8 @@ pub struct WholeAnswer {
 }
 
 impl Model for WholeAnswer {
-    ghost use Rattle.mj_answer.specs.Answers.{AnswerValue};
-    ghost use Rattle.answer_bytes.specs.Fits.{AnswerFits};
+    ghost use Rattle.mj_answer.specs.AnswerValues.{AnswerValue};
+    ghost use Rattle.answer_bytes.specs.Storable.{AnswerFits};
 
     ghost Value = { AnswerValue };
 
@@ -151,7 +151,7 @@ fn put_table(out: &mut Vec<u8>, item: &ClassTable) -> Result<(), AllocError>
 
 #[tactic(auto, unfolding(crate::specs::Reading::table_at))]
 fn read_table(alloc: Global, bytes: &[u8]) -> Result<(ClassTable, &[u8]), ReadError>
-    ensures { Gives (λ x. (x.0, x.1.now)) result (table_at bytes.now) }
+    ensures { Decodes (λ x. (x.0, x.1.now)) result (table_at bytes.now) }
 {
     let (fields, rest) = read_ascending::<FieldRowFormat>(alloc, bytes)?;
     let (methods, rest) = read_ascending::<MethodRowFormat>(alloc, rest)?;
@@ -163,7 +163,7 @@ pub struct MembersFormat;
 
 impl Format for MembersFormat {
     ghost use Rattle.answer_bytes.specs.Canon.{table};
-    ghost use Rattle.answer_bytes.specs.Fits.{TableFits};
+    ghost use Rattle.answer_bytes.specs.Storable.{TableFits};
     ghost use Rattle.answer_bytes.specs.Reading.{table_at};
     ghost use Rattle.answer_bytes.specs.AnswerLaws.{lawful_table};
 
@@ -203,7 +203,7 @@ pub fn put_faults(out: &mut Vec<u8>, faults: &Faults) -> Result<(), AllocError>
 /// Reads the faults of a class.
 #[tactic(auto, unfolding(crate::specs::Reading::class_faults_at))]
 pub fn read_faults(alloc: Global, bytes: &[u8]) -> Result<(Faults, &[u8]), ReadError>
-    ensures { Gives (λ x. (x.0, x.1.now)) result (class_faults_at bytes.now) }
+    ensures { Decodes (λ x. (x.0, x.1.now)) result (class_faults_at bytes.now) }
 {
     let (list, rest) = read_ascending::<ClassFaultFormat>(alloc, bytes)?;
     Ok((Faults { list }, rest))
@@ -214,7 +214,7 @@ pub struct ClassFormat;
 
 impl Format for ClassFormat {
     ghost use Rattle.answer_bytes.specs.Canon.{class_answer};
-    ghost use Rattle.answer_bytes.specs.Fits.{IsClassStorable, ClassAnswerFits};
+    ghost use Rattle.answer_bytes.specs.Storable.{IsClassStorable, ClassAnswerFits};
     ghost use Rattle.answer_bytes.specs.Reading.{class_answer_at};
     ghost use Rattle.answer_bytes.specs.AnswerLaws.{lawful_class_answer};
 
@@ -273,7 +273,7 @@ pub fn put_answer(out: &mut Vec<u8>, whole: &WholeAnswer) -> Result<(), AllocErr
 /// Reads the answer.
 #[tactic(auto, unfolding(crate::specs::Reading::answer_at, crate::specs::Reading::project_faults_at))]
 pub fn read_answer(alloc: Global, bytes: &[u8]) -> Result<(WholeAnswer, &[u8]), ReadError>
-    ensures { Gives (λ x. (x.0, x.1.now)) result (answer_at bytes.now) }
+    ensures { Decodes (λ x. (x.0, x.1.now)) result (answer_at bytes.now) }
 {
     let (faults, rest) = read_ascending::<ProjectFaultFormat>(alloc, bytes)?;
     let (classes, rest) = read_ascending::<ClassFormat>(alloc, rest)?;

@@ -1,10 +1,10 @@
 //! Faults as bytes: those of the project, and those of a class.
 ghost use Rattle.std.specs.Prelude.{◌≡◌, ◌++◌, OnOk};
-ghost use Rattle.mj_answer.specs.Codes.{number_of};
+ghost use Rattle.mj_answer.specs.Codes.{code_number};
 ghost use Rattle.byte_readers.specs.Spelling.{two};
-ghost use Rattle.byte_readers.specs.Reading.{Gives};
+ghost use Rattle.byte_readers.specs.Reading.{Decodes};
 ghost use Rattle.answer_bytes.specs.Canon.{project_place, class_place};
-ghost use Rattle.answer_bytes.specs.Fits.{PlaceNameFits};
+ghost use Rattle.answer_bytes.specs.Storable.{PlaceNameFits};
 ghost use Rattle.answer_bytes.specs.Reading.{project_place_at, class_place_at, code_at};
 
 use byte_readers::{
@@ -12,7 +12,7 @@ use byte_readers::{
     read_name, read_two, refused,
 };
 use mj_answer::{Code, Diagnostic};
-use mj_parser::Place;
+use mj_tree::Place;
 use std::alloc::{AllocError, Global};
 
 /// The name in a place has a spelling.
@@ -69,7 +69,7 @@ fn put_class_place(out: &mut Vec<u8>, place: &Place) -> Result<(), AllocError>
 
 #[tactic(auto, unfolding(crate::specs::Reading::project_place_at))]
 fn read_project_place(alloc: Global, bytes: &[u8]) -> Result<(Place, &[u8]), ReadError>
-    ensures { Gives (λ x. (x.0, x.1.now)) result (project_place_at bytes.now) }
+    ensures { Decodes (λ x. (x.0, x.1.now)) result (project_place_at bytes.now) }
 {
     match bytes {
         [] => Err(ReadError::Breach(Breach::Short)),
@@ -89,7 +89,7 @@ fn read_project_place(alloc: Global, bytes: &[u8]) -> Result<(Place, &[u8]), Rea
 
 #[tactic(auto, unfolding(crate::specs::Reading::class_place_at))]
 fn read_class_place(alloc: Global, bytes: &[u8]) -> Result<(Place, &[u8]), ReadError>
-    ensures { Gives (λ x. (x.0, x.1.now)) result (class_place_at bytes.now) }
+    ensures { Decodes (λ x. (x.0, x.1.now)) result (class_place_at bytes.now) }
 {
     match bytes {
         [] => Err(ReadError::Breach(Breach::Short)),
@@ -113,7 +113,7 @@ fn read_class_place(alloc: Global, bytes: &[u8]) -> Result<(Place, &[u8]), ReadE
 
 #[tactic(auto, unfolding(crate::specs::Reading::code_at))]
 fn read_code(bytes: &[u8]) -> Result<(Code, &[u8]), ReadError>
-    ensures { Gives (λ x. (x.0, x.1.now)) result (code_at bytes.now) }
+    ensures { Decodes (λ x. (x.0, x.1.now)) result (code_at bytes.now) }
 {
     let (number, rest) = read_two(bytes)?;
     match Code::from_number(number) {
@@ -123,7 +123,7 @@ fn read_code(bytes: &[u8]) -> Result<(Code, &[u8]), ReadError>
 }
 
 fn put_code(out: &mut Vec<u8>, code: Code) -> Result<(), AllocError>
-    ensures { OnOk result (out.new.items ≡ out.old.items ++ two (number_of code)) }
+    ensures { OnOk result (out.new.items ≡ out.old.items ++ two (code_number code)) }
 {
     put_two(out, code.number())
 }
@@ -133,7 +133,7 @@ pub struct ProjectFaultFormat;
 
 impl Format for ProjectFaultFormat {
     ghost use Rattle.answer_bytes.specs.Canon.{project_fault};
-    ghost use Rattle.answer_bytes.specs.Fits.{IsProjectPlace, ProjectFaultFits};
+    ghost use Rattle.answer_bytes.specs.Storable.{IsProjectPlace, ProjectFaultFits};
     ghost use Rattle.answer_bytes.specs.Reading.{project_fault_at};
     ghost use Rattle.answer_bytes.specs.AnswerLaws.{lawful_project_fault};
 
@@ -180,7 +180,7 @@ pub struct ClassFaultFormat;
 
 impl Format for ClassFaultFormat {
     ghost use Rattle.answer_bytes.specs.Canon.{class_fault};
-    ghost use Rattle.answer_bytes.specs.Fits.{IsClassPlace, ClassFaultFits};
+    ghost use Rattle.answer_bytes.specs.Storable.{IsClassPlace, ClassFaultFits};
     ghost use Rattle.answer_bytes.specs.Reading.{class_fault_at};
     ghost use Rattle.answer_bytes.specs.AnswerLaws.{lawful_class_fault};
 

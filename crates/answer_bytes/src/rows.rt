@@ -13,7 +13,7 @@ pub struct FieldRowFormat;
 
 impl Format for FieldRowFormat {
     ghost use Rattle.answer_bytes.specs.Canon.{field_row};
-    ghost use Rattle.answer_bytes.specs.Fits.{FieldRowFits};
+    ghost use Rattle.answer_bytes.specs.Storable.{FieldRowFits};
     ghost use Rattle.answer_bytes.specs.Reading.{field_row_at};
     ghost use Rattle.answer_bytes.specs.AnswerLaws.{lawful_field_row};
 
@@ -64,7 +64,7 @@ pub struct MethodRowFormat;
 
 impl Format for MethodRowFormat {
     ghost use Rattle.answer_bytes.specs.Canon.{method_row};
-    ghost use Rattle.answer_bytes.specs.Fits.{MethodRowFits};
+    ghost use Rattle.answer_bytes.specs.Storable.{MethodRowFits};
     ghost use Rattle.answer_bytes.specs.Reading.{method_row_at};
     ghost use Rattle.answer_bytes.specs.AnswerLaws.{lawful_method_row};
 

@@ -5,9 +5,9 @@ use Rattle.byte_readers.specs.declared.breach.ReadError.{ReadError}
 use Rattle.byte_readers.specs.declared.breach.ReadError.TheVariants as errors
 use Rattle.std.specs.List.{slice_get}
 use Rattle.byte_readers.specs.Orders.{is_after}
-use Rattle.byte_readers.specs.Reading.{Reader, Fails, refused, list_from}
+use Rattle.byte_readers.specs.Reading.{Decoder, Fails, refused, list_from}
 
-pub goes_on : {A : Type 0} (part : Reader A) (admits : List A → A → Bool) (front : List A) (count i : ℕ) (bytes : List ℕ) (item : A) (after : List ℕ) (total : Result (List A × List ℕ) Breach) → i < count → part bytes ≡ Ok (item, after) → admits front item ≡ true
+pub goes_on : {A : Type 0} (part : Decoder A) (admits : List A → A → Bool) (front : List A) (count i : ℕ) (bytes : List ℕ) (item : A) (after : List ℕ) (total : Result (List A × List ℕ) Breach) → i < count → part bytes ≡ Ok (item, after) → admits front item ≡ true
     → list_from part admits front (count - i) bytes ≡ total → list_from part admits (front ++ item ∷ []) (count - (i + 1)) after ≡ total
 unfolding list_from
 goes_on part admits front count i bytes item after total lt h admitted so_far =
@@ -15,7 +15,7 @@ goes_on part admits front count i bytes item after total lt h admitted so_far =
     let one : list_from part admits front (count - i) bytes ≡ list_from part admits (front ++ item ∷ []) (count - (i + 1)) after = rw (k, h, admitted) refl in
     sym one ∙ so_far
 
-pub is_refused : {A : Type 0} (part : Reader A) (admits : List A → A → Bool) (front : List A) (count i : ℕ) (bytes : List ℕ) (item : A) (after : List ℕ) (total : Result (List A × List ℕ) Breach) → i < count → part bytes ≡ Ok (item, after) → admits front item ≡ false
+pub is_refused : {A : Type 0} (part : Decoder A) (admits : List A → A → Bool) (front : List A) (count i : ℕ) (bytes : List ℕ) (item : A) (after : List ℕ) (total : Result (List A × List ℕ) Breach) → i < count → part bytes ≡ Ok (item, after) → admits front item ≡ false
     → list_from part admits front (count - i) bytes ≡ total → total ≡ refused bytes
 unfolding list_from
 is_refused part admits front count i bytes item after total lt h not_so so_far =
@@ -23,7 +23,7 @@ is_refused part admits front count i bytes item after total lt h not_so so_far =
     let one : list_from part admits front (count - i) bytes ≡ refused bytes = rw (k, h, not_so) refl in
     sym so_far ∙ one
 
-pub ends : {A : Type 0} (e : ReadError) (part : Reader A) (admits : List A → A → Bool) (front : List A) (count i : ℕ) (bytes : List ℕ) (total : Result (List A × List ℕ) Breach) → i < count → Fails e (part bytes)
+pub ends : {A : Type 0} (e : ReadError) (part : Decoder A) (admits : List A → A → Bool) (front : List A) (count i : ℕ) (bytes : List ℕ) (total : Result (List A × List ℕ) Breach) → i < count → Fails e (part bytes)
     → list_from part admits front (count - i) bytes ≡ total → Fails e total
 unfolding list_from
 ends errors.Memory part admits front count i bytes total lt h so_far = tt
@@ -32,7 +32,7 @@ ends (errors.Breach b) part admits front count i bytes total lt h so_far =
     let one : list_from part admits front (count - i) bytes ≡ Err b = rw (k, h) refl in
     sym so_far ∙ one
 
-pub is_done : {A : Type 0} (part : Reader A) (admits : List A → A → Bool) (front : List A) (count i : ℕ) (bytes : List ℕ) (total : Result (List A × List ℕ) Breach) → count ≤ i → list_from part admits front (count - i) bytes ≡ total → total ≡ Ok (front, bytes)
+pub is_done : {A : Type 0} (part : Decoder A) (admits : List A → A → Bool) (front : List A) (count i : ℕ) (bytes : List ℕ) (total : Result (List A × List ℕ) Breach) → count ≤ i → list_from part admits front (count - i) bytes ≡ total → total ≡ Ok (front, bytes)
 unfolding list_from
 is_done part admits front count i bytes total le so_far =
     let k : count - i ≡ 0 = omega arith in

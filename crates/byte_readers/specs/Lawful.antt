@@ -1,7 +1,7 @@
 -- When a reader and a spelling belong together.
 use Rattle.std.specs.Prelude.{◌≡◌, ℕ, ◌<◌, ◌^◌, Bool, true, List, [], ◌∷◌, ◌++◌, length, get_or, Ok}
 use Rattle.std.specs.List.{AllByRecursion}
-use Rattle.byte_readers.specs.Reading.{Reader}
+use Rattle.byte_readers.specs.Reading.{Decoder}
 
 abbrev pub IsBytes : List ℕ → Type 0
 IsBytes bytes = (i : ℕ) → get_or bytes i 0 < 256
@@ -12,9 +12,9 @@ pub record Takes (bytes text rest : List ℕ) : Type 0 where
   pub rest_fits : IsBytes rest
 
 -- what is read is spelled so, and what is spelled so is read
-pub record Lawful {A : Type 0} (part : Reader A) (spell : A → List ℕ) (Fits : A → Type 0) : Type 0 where
-  pub takes : (bytes : List ℕ) (a : A) (rest : List ℕ) → IsBytes bytes → part bytes ≡ Ok (a, rest) → Takes bytes (spell a) rest × Fits a
-  pub again : (a : A) (rest : List ℕ) → Fits a → part (spell a ++ rest) ≡ Ok (a, rest)
+pub record Lawful {A : Type 0} (part : Decoder A) (spell : A → List ℕ) (Storable : A → Type 0) : Type 0 where
+  pub takes : (bytes : List ℕ) (a : A) (rest : List ℕ) → IsBytes bytes → part bytes ≡ Ok (a, rest) → Takes bytes (spell a) rest × Storable a
+  pub again : (a : A) (rest : List ℕ) → Storable a → part (spell a ++ rest) ≡ Ok (a, rest)
 
 -- each is admitted behind those before it
 abbrev pub Admitted : {A : Type 0} → (List A → A → Bool) → List A → List A → Type 0

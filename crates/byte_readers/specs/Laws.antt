@@ -13,7 +13,7 @@ use Rattle.byte_readers.specs.declared.breach.Breach.TheVariants.{Short, NotCano
 use Rattle.byte_readers.specs.Names.{IsName}
 use Rattle.byte_readers.specs.Lawful.{IsBytes, Takes, Lawful, Admitted, FitsList}
 use Rattle.byte_readers.specs.Spelling.{two, four, eight, name, option, list}
-use Rattle.byte_readers.specs.Reading.{◌>>=◌, Reader, refused, number_at, two_at, four_at, eight_at, name_at, pair_at, made_at, option_at, list_from, list_at, any}
+use Rattle.byte_readers.specs.Reading.{◌>>=◌, Decoder, refused, number_at, two_at, four_at, eight_at, name_at, pair_at, made_at, option_at, list_from, list_at, any}
 
 pub IsBytes-drop : (n : ℕ) (bytes : List ℕ) → IsBytes bytes → IsBytes (drop n bytes)
 IsBytes-drop n bytes h i = rw get_or-drop (h (n + i))
@@ -155,7 +155,7 @@ lawful_name = record {
 
 -- ---- one behind the other
 
-pub lawful_pair : {A B : Type 0} {p : Reader A} {q : Reader B} {sp : A → List ℕ} {sq : B → List ℕ} {P : A → Type 0} {Q : B → Type 0} → Lawful p sp P → Lawful q sq Q → Lawful (pair_at p q) (λ x. sp x.0 ++ sq x.1) (λ x. P x.0 × Q x.1)
+pub lawful_pair : {A B : Type 0} {p : Decoder A} {q : Decoder B} {sp : A → List ℕ} {sq : B → List ℕ} {P : A → Type 0} {Q : B → Type 0} → Lawful p sp P → Lawful q sq Q → Lawful (pair_at p q) (λ x. sp x.0 ++ sq x.1) (λ x. P x.0 × Q x.1)
 lawful_pair {A} {B} {p} {q} {sp} {sq} {P} {Q} one two = record {
   takes = λ bytes x rest fits e.
       let a = bind_ok (p bytes) (λ a. q a.1 >>= λ b. Ok ((a.0, b.0), b.1)) (x, rest) e in
@@ -170,7 +170,7 @@ lawful_pair {A} {B} {p} {q} {sp} {sq} {P} {Q} one two = record {
 }
 
 -- what something was made of
-pub made_takes : {A B : Type 0} {p : Reader A} {sp : A → List ℕ} {P : A → Type 0} (law : Lawful p sp P) (make : A → B) (bytes : List ℕ) (b : B) (rest : List ℕ) → IsBytes bytes → made_at make p bytes ≡ Ok (b, rest) → (a : A) × (make a ≡ b) × Takes bytes (sp a) rest × P a
+pub made_takes : {A B : Type 0} {p : Decoder A} {sp : A → List ℕ} {P : A → Type 0} (law : Lawful p sp P) (make : A → B) (bytes : List ℕ) (b : B) (rest : List ℕ) → IsBytes bytes → made_at make p bytes ≡ Ok (b, rest) → (a : A) × (make a ≡ b) × Takes bytes (sp a) rest × P a
 made_takes {A} {B} {p} {sp} {P} law make bytes b rest fits e =
     let a = bind_ok (p bytes) (λ a. Ok (make a.0, a.1)) (b, rest) e in
     let t = law.takes bytes a.0.0 a.0.1 fits a.1 in
@@ -178,12 +178,12 @@ made_takes {A} {B} {p} {sp} {P} law make bytes b rest fits e =
     let r : a.0.1 ≡ rest = ap (λ (y : B × List ℕ). y.1) is in
     (a.0.0, ap (λ (y : B × List ℕ). y.0) is, subst (λ (y : List ℕ). Takes bytes (sp a.0.0) y) r t.0, t.1)
 
-pub made_again : {A B : Type 0} {p : Reader A} {sp : A → List ℕ} {P : A → Type 0} (law : Lawful p sp P) (make : A → B) (a : A) (rest : List ℕ) → P a → made_at make p (sp a ++ rest) ≡ Ok (make a, rest)
+pub made_again : {A B : Type 0} {p : Decoder A} {sp : A → List ℕ} {P : A → Type 0} (law : Lawful p sp P) (make : A → B) (a : A) (rest : List ℕ) → P a → made_at make p (sp a ++ rest) ≡ Ok (make a, rest)
 made_again {A} {B} {p} {sp} {P} law make a rest h = rw (law.again a rest h) refl
 
 -- ---- 0, or 1 and an item
 
-option_takes : {A : Type 0} {p : Reader A} {sp : A → List ℕ} {P : A → Type 0} (law : Lawful p sp P) (bytes : List ℕ) (o : Option A) (rest : List ℕ) → IsBytes bytes → option_at p bytes ≡ Ok (o, rest) → Takes bytes (option sp o) rest × IfSome o P
+option_takes : {A : Type 0} {p : Decoder A} {sp : A → List ℕ} {P : A → Type 0} (law : Lawful p sp P) (bytes : List ℕ) (o : Option A) (rest : List ℕ) → IsBytes bytes → option_at p bytes ≡ Ok (o, rest) → Takes bytes (option sp o) rest × IfSome o P
 unfolding option_at
 option_takes law [] o rest fits e = absurd cc
 option_takes {A} {p} {sp} {P} law (zero ∷ bytes) o rest fits e =
@@ -194,12 +194,12 @@ option_takes {A} {p} {sp} {P} law (suc zero ∷ bytes) o rest fits e =
     subst (λ (x : Option A × List ℕ). Takes (1 ∷ bytes) (option sp x.0) x.1 × IfSome x.0 P) (ok_is (Some b.0.0, b.0.1) (o, rest) b.2) (record { parts = ap (λ (w : List ℕ). 1 ∷ w) t.0.parts; rest_fits = t.0.rest_fits }, t.1)
 option_takes law (suc (suc b) ∷ bytes) o rest fits e = absurd cc
 
-option_again : {A : Type 0} {p : Reader A} {sp : A → List ℕ} {P : A → Type 0} (law : Lawful p sp P) (o : Option A) (rest : List ℕ) → IfSome o P → option_at p (option sp o ++ rest) ≡ Ok (o, rest)
+option_again : {A : Type 0} {p : Decoder A} {sp : A → List ℕ} {P : A → Type 0} (law : Lawful p sp P) (o : Option A) (rest : List ℕ) → IfSome o P → option_at p (option sp o ++ rest) ≡ Ok (o, rest)
 unfolding option_at
 option_again law None rest h = refl
 option_again law (Some a) rest h = rw (law.again a rest h) refl
 
-pub lawful_option : {A : Type 0} {p : Reader A} {sp : A → List ℕ} {P : A → Type 0} → Lawful p sp P → Lawful (option_at p) (option sp) (λ o. IfSome o P)
+pub lawful_option : {A : Type 0} {p : Decoder A} {sp : A → List ℕ} {P : A → Type 0} → Lawful p sp P → Lawful (option_at p) (option sp) (λ o. IfSome o P)
 lawful_option law = record { takes = option_takes law; again = option_again law }
 
 -- ---- lists
@@ -212,7 +212,7 @@ pub record Listed {A : Type 0} (sp : A → List ℕ) (P : A → Type 0) (admits 
   pub fit : AllByRecursion P items
   pub admitted : Admitted admits front items
 
-pub list_takes : {A : Type 0} {p : Reader A} {sp : A → List ℕ} {P : A → Type 0} (law : Lawful p sp P) (admits : List A → A → Bool) (n : ℕ) (front : List A) (bytes : List ℕ) (whole : List A) (rest : List ℕ) → IsBytes bytes → list_from p admits front n bytes ≡ Ok (whole, rest) → Listed sp P admits front n bytes whole rest
+pub list_takes : {A : Type 0} {p : Decoder A} {sp : A → List ℕ} {P : A → Type 0} (law : Lawful p sp P) (admits : List A → A → Bool) (n : ℕ) (front : List A) (bytes : List ℕ) (whole : List A) (rest : List ℕ) → IsBytes bytes → list_from p admits front n bytes ≡ Ok (whole, rest) → Listed sp P admits front n bytes whole rest
 unfolding list_from
 list_takes {A} {p} {sp} {P} law admits zero front bytes whole rest fits e =
     let is = ok_is (front, bytes) (whole, rest) e in
@@ -238,7 +238,7 @@ list_takes {A} {p} {sp} {P} law admits (suc n) front bytes whole rest fits e =
       admitted = (g.0, u.admitted);
     }
 
-pub list_again : {A : Type 0} {p : Reader A} {sp : A → List ℕ} {P : A → Type 0} (law : Lawful p sp P) (admits : List A → A → Bool) (as1 front : List A) (rest : List ℕ) → AllByRecursion P as1 → Admitted admits front as1 → list_from p admits front (length as1) (flat_map sp as1 ++ rest) ≡ Ok (front ++ as1, rest)
+pub list_again : {A : Type 0} {p : Decoder A} {sp : A → List ℕ} {P : A → Type 0} (law : Lawful p sp P) (admits : List A → A → Bool) (as1 front : List A) (rest : List ℕ) → AllByRecursion P as1 → Admitted admits front as1 → list_from p admits front (length as1) (flat_map sp as1 ++ rest) ≡ Ok (front ++ as1, rest)
 unfolding list_from
 list_again {A} {p} {sp} {P} law admits [] front rest fit h = ap (λ (x : List A). done (x, rest)) (sym (append-nil front))
 list_again {A} {p} {sp} {P} law admits (a ∷ as1) front rest fit h =
@@ -247,13 +247,13 @@ list_again {A} {p} {sp} {P} law admits (a ∷ as1) front rest fit h =
     ∙ rw (law.again a (flat_map sp as1 ++ rest) fit.0, h.0) (list_again law admits as1 (front ++ a ∷ []) rest fit.1 h.1)
     ∙ ap (λ (x : List A). done (x, rest)) (append_assoc front (a ∷ []) as1)
 
-pub whole_list : {A : Type 0} {p : Reader A} {sp : A → List ℕ} {P : A → Type 0} (law : Lawful p sp P) (admits : List A → A → Bool) (bytes : List ℕ) (n : ℕ) (after : List ℕ) (as1 : List A) (rest : List ℕ) → Takes bytes (eight n) after → n < 2 ^ 64 → Listed sp P admits [] n after as1 rest → Takes bytes (eight (length as1) ++ flat_map sp as1) rest × FitsList P admits as1
+pub whole_list : {A : Type 0} {p : Decoder A} {sp : A → List ℕ} {P : A → Type 0} (law : Lawful p sp P) (admits : List A → A → Bool) (bytes : List ℕ) (n : ℕ) (after : List ℕ) (as1 : List A) (rest : List ℕ) → Takes bytes (eight n) after → n < 2 ^ 64 → Listed sp P admits [] n after as1 rest → Takes bytes (eight (length as1) ++ flat_map sp as1) rest × FitsList P admits as1
 whole_list {A} {p} {sp} {P} law admits bytes n after as1 rest t lt u =
     let both : Takes bytes (eight (length u.items) ++ flat_map sp u.items) rest = subst (λ (k : ℕ). Takes bytes (eight k ++ flat_map sp u.items) rest) (sym u.count_is) (Takes-then bytes (eight n) after (flat_map sp u.items) rest t u.takes) in
     let fit : FitsList P admits u.items = record { few = omega (arith, u.count_is, lt); fit = u.fit; admitted = u.admitted } in
     subst (λ (l : List A). Takes bytes (eight (length l) ++ flat_map sp l) rest × FitsList P admits l) u.whole_is (both, fit)
 
-pub lawful_list : {A : Type 0} {p : Reader A} {sp : A → List ℕ} {P : A → Type 0} → Lawful p sp P → (admits : List A → A → Bool) → Lawful (list_at p admits) (list sp) (FitsList P admits)
+pub lawful_list : {A : Type 0} {p : Decoder A} {sp : A → List ℕ} {P : A → Type 0} → Lawful p sp P → (admits : List A → A → Bool) → Lawful (list_at p admits) (list sp) (FitsList P admits)
 unfolding list_at
 lawful_list {A} {p} {sp} {P} law admits = record {
   takes = λ bytes as1 rest fits e.
@@ -272,7 +272,7 @@ any_admits front [] = tt
 any_admits front (a ∷ items) = (refl, any_admits (front ++ a ∷ []) items)
 
 -- a law for what fits in other words
-pub lawful_where : {A : Type 0} {p : Reader A} {sp : A → List ℕ} {P Q : A → Type 0} → Lawful p sp P → ((a : A) → P a → Q a) → ((a : A) → Q a → P a) → Lawful p sp Q
+pub lawful_where : {A : Type 0} {p : Decoder A} {sp : A → List ℕ} {P Q : A → Type 0} → Lawful p sp P → ((a : A) → P a → Q a) → ((a : A) → Q a → P a) → Lawful p sp Q
 lawful_where {A} {p} {sp} {P} {Q} law to from = record {
   takes = λ bytes a rest fits e. let t = law.takes bytes a rest fits e in (t.0, to a t.1);
   again = λ a rest h. law.again a rest (from a h);
@@ -284,14 +284,14 @@ all_storable [] = tt
 all_storable (a ∷ items) = (tt, all_storable items)
 
 -- a law for a spelling in other words
-pub lawful_as : {A : Type 0} {p : Reader A} {sp : A → List ℕ} {P : A → Type 0} → Lawful p sp P → (sq : A → List ℕ) → ((a : A) → sq a ≡ sp a) → Lawful p sq P
+pub lawful_as : {A : Type 0} {p : Decoder A} {sp : A → List ℕ} {P : A → Type 0} → Lawful p sp P → (sq : A → List ℕ) → ((a : A) → sq a ≡ sp a) → Lawful p sq P
 lawful_as {A} {p} {sp} {P} law sq same = record {
   takes = λ bytes a rest fits e. let t = law.takes bytes a rest fits e in (subst (λ (x : List ℕ). Takes bytes x rest) (sym (same a)) t.0, t.1);
   again = λ a rest h. ap (λ (x : List ℕ). p (x ++ rest)) (same a) ∙ law.again a rest h;
 }
 
 -- what is made of an item, and can be taken apart again
-pub lawful_made : {A B : Type 0} {p : Reader A} {sp : A → List ℕ} {P : A → Type 0} → Lawful p sp P → (make : A → B) (parts : B → A) → ((a : A) → parts (make a) ≡ a) → ((b : B) → make (parts b) ≡ b) → Lawful (made_at make p) (λ b. sp (parts b)) (λ b. P (parts b))
+pub lawful_made : {A B : Type 0} {p : Decoder A} {sp : A → List ℕ} {P : A → Type 0} → Lawful p sp P → (make : A → B) (parts : B → A) → ((a : A) → parts (make a) ≡ a) → ((b : B) → make (parts b) ≡ b) → Lawful (made_at make p) (λ b. sp (parts b)) (λ b. P (parts b))
 lawful_made {A} {B} {p} {sp} {P} law make parts there back = record {
   takes = λ bytes b rest fits e.
       let m = made_takes law make bytes b rest fits e in

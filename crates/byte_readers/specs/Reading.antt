@@ -17,50 +17,50 @@ abbrev pub Fails : {Y : Type 0} → ReadError → Result Y Breach → Type 0
 Fails errors.Memory read = Unit {0}
 Fails (errors.Breach b) read = read ≡ Err b
 
-abbrev pub Gives : {X Y : Type 0} → (X → Y) → Result X ReadError → Result Y Breach → Type 0
-Gives view (Ok x) read = read ≡ Ok (view x)
-Gives view (Err e) read = Fails e read
+abbrev pub Decodes : {X Y : Type 0} → (X → Y) → Result X ReadError → Result Y Breach → Type 0
+Decodes view (Ok x) read = read ≡ Ok (view x)
+Decodes view (Err e) read = Fails e read
 
 -- A reader answers a value and the bytes after it.
-abbrev pub Reader : Type 0 → Type 0
-Reader A = List ℕ → Result (A × List ℕ) Breach
+abbrev pub Decoder : Type 0 → Type 0
+Decoder A = List ℕ → Result (A × List ℕ) Breach
 
 -- where it isn't canonical: as many bytes are left as there are from the item's first
 abbrev pub refused : {A : Type 0} → List ℕ → Result A Breach
 refused bytes = Err (NotCanonical (length bytes))
 
-abbrev pub byte_at : Reader ℕ
+abbrev pub byte_at : Decoder ℕ
 byte_at [] = Err Short
 byte_at (b ∷ rest) = Ok (b, rest)
 
-abbrev pub number_at : Width → Reader ℕ
+abbrev pub number_at : Width → Decoder ℕ
 number_at w bytes = if nat_lt (length bytes) (byte_len w) then Err Short else Ok (from_be_bytes w (take (byte_len w) bytes), drop (byte_len w) bytes)
 
-unfoldable pub two_at : Reader ℕ
+unfoldable pub two_at : Decoder ℕ
 two_at bytes = number_at w16 bytes
 
-unfoldable pub four_at : Reader ℕ
+unfoldable pub four_at : Decoder ℕ
 four_at bytes = number_at w32 bytes
 
-unfoldable pub eight_at : Reader ℕ
+unfoldable pub eight_at : Decoder ℕ
 eight_at bytes = number_at w64 bytes
 
 -- one behind the other
-abbrev pub pair_at : {A B : Type 0} → Reader A → Reader B → Reader (A × B)
+abbrev pub pair_at : {A B : Type 0} → Decoder A → Decoder B → Decoder (A × B)
 pair_at first second bytes = first bytes >>= λ a. second a.1 >>= λ b. Ok ((a.0, b.0), b.1)
 
 -- what is made of an item
-abbrev pub made_at : {A B : Type 0} → (A → B) → Reader A → Reader B
+abbrev pub made_at : {A B : Type 0} → (A → B) → Decoder A → Decoder B
 made_at make part bytes = part bytes >>= λ a. Ok (make a.0, a.1)
 
 -- 0, or 1 and an item
-unfoldable pub option_at : {A : Type 0} → Reader A → Reader (Option A)
+unfoldable pub option_at : {A : Type 0} → Decoder A → Decoder (Option A)
 option_at part [] = Err Short
 option_at part (zero ∷ rest) = Ok (None, rest)
 option_at part (suc zero ∷ rest) = part rest >>= λ a. Ok (Some a.0, a.1)
 option_at part (suc (suc b) ∷ rest) = refused (suc (suc b) ∷ rest)
 
-unfoldable pub name_at : Reader (List ℕ)
+unfoldable pub name_at : Decoder (List ℕ)
 name_at bytes = do
   n ← byte_at bytes
   if n.0 == 0 then refused bytes else
@@ -68,13 +68,13 @@ name_at bytes = do
       (if is_utf8 (take n.0 n.1) then Ok (take n.0 n.1, drop n.0 n.1) else refused bytes))
 
 -- items that are admitted, each after the ones before it; an item that isn't is refused from its first byte on
-unfoldable pub list_from : {A : Type 0} → Reader A → (List A → A → Bool) → List A → ℕ → Reader (List A)
+unfoldable pub list_from : {A : Type 0} → Decoder A → (List A → A → Bool) → List A → ℕ → Decoder (List A)
 list_from part admits front zero bytes = Ok (front, bytes)
 list_from part admits front (suc n) bytes = do
   item ← part bytes
   if admits front item.0 then list_from part admits (front ++ item.0 ∷ []) n item.1 else refused bytes
 
-unfoldable pub list_at : {A : Type 0} → Reader A → (List A → A → Bool) → Reader (List A)
+unfoldable pub list_at : {A : Type 0} → Decoder A → (List A → A → Bool) → Decoder (List A)
 list_at part admits bytes = do
   n ← eight_at bytes
   list_from part admits [] n.0 n.1

@@ -1,7 +1,7 @@
 //! How items are written as bytes.
 ghost use Rattle.std.specs.Prelude.{◌≡◌, ◌++◌, List, ℕ, OnOk, Bool, Result};
 ghost use Rattle.byte_readers.specs.declared.breach.Breach.{Breach};
-ghost use Rattle.byte_readers.specs.Reading.{Gives};
+ghost use Rattle.byte_readers.specs.Reading.{Decodes};
 ghost use Rattle.byte_readers.specs.Lawful.{Lawful};
 
 use crate::breach::ReadError;
@@ -31,7 +31,7 @@ pub trait Format {
 
     /// Reads an item from the front of the bytes, and answers the bytes behind it too.
     fn read(alloc: Global, bytes: &[u8]) -> Result<(Self::Item, &[u8]), ReadError>
-        ensures { Gives (λ x. (x.0, x.1.now)) result (reading bytes.now) };
+        ensures { Decodes (λ x. (x.0, x.1.now)) result (reading bytes.now) };
 
     ghost lawful: { Lawful reading spelling has_spelling };
 }

@@ -2,7 +2,7 @@
 ghost use Rattle.std.specs.Prelude.{◌≡◌, ◌++◌, List, ℕ, OnOk, IfSome, is_some};
 ghost use Rattle.std.specs.Str.{is_utf8};
 ghost use Rattle.byte_readers.specs.Spelling.{name};
-ghost use Rattle.byte_readers.specs.Reading.{Gives, name_at};
+ghost use Rattle.byte_readers.specs.Reading.{Decodes, name_at};
 ghost use Rattle.byte_readers.specs.Names.{IsName};
 
 use crate::breach::{Breach, ReadError};
@@ -26,7 +26,7 @@ pub fn put_name(out: &mut Vec<u8>, item: &Name) -> Result<(), AllocError>
 /// Reads a name.
 #[tactic(auto, unfolding(crate::specs::Reading::name_at))]
 pub fn read_name(alloc: Global, bytes: &[u8]) -> Result<(Name, &[u8]), ReadError>
-    ensures { Gives (λ x. (x.0, x.1.now)) result (name_at bytes.now) }
+    ensures { Decodes (λ x. (x.0, x.1.now)) result (name_at bytes.now) }
 {
     let (len, rest) = read_byte(bytes)?;
     let len = len as usize;

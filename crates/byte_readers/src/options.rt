@@ -1,7 +1,7 @@
 //! Items that may be missing: 00, or 01 and the item.
 ghost use Rattle.std.specs.Prelude.{◌≡◌, ◌++◌, OnOk, IfSome};
 ghost use Rattle.byte_readers.specs.Spelling.{option};
-ghost use Rattle.byte_readers.specs.Reading.{Gives, option_at};
+ghost use Rattle.byte_readers.specs.Reading.{Decodes, option_at};
 
 use crate::breach::{Breach, ReadError};
 use crate::fields::refused;
@@ -38,7 +38,7 @@ pub fn read_option<F: Format>(
     alloc: Global,
     bytes: &[u8],
 ) -> Result<(Option<F::Item>, &[u8]), ReadError>
-    ensures { Gives (λ x. (x.0, x.1.now)) result (option_at F.reading bytes.now) }
+    ensures { Decodes (λ x. (x.0, x.1.now)) result (option_at F.reading bytes.now) }
 {
     match bytes {
         [] => Err(ReadError::Breach(Breach::Short)),

@@ -3,7 +3,7 @@ use Rattle.std.proofs.Common.{◌≡◌, Bool, true, false, ◌&&◌, ◌==◌, 
 use Rattle.std.proofs.lemmas.Bool.Decides.{nat_tests}
 use Rattle.std.specs.Prelude.{flat_map}
 use Rattle.std.specs.List.{list_all}
-use Rattle.mj_rules.specs.Answers.{Diagnostic, ClassAnswerValue, AnswerValue}
+use Rattle.mj_rules.specs.AnswerWords.{Diagnostic, ClassAnswerValue, AnswerValue}
 use Rattle.mj_rules.specs.FaultCodes.{answer_codes}
 use Rattle.cli.specs.Lines.{is_clean}
 

@@ -2,7 +2,7 @@
 use Rattle.std.proofs.Common.{◌≡◌, ◌∙◌, ◌⊎◌, inl, inr, ℕ, List, [], ◌∷◌, Option, map, string_bytes, String, Vec, refl, sym, ap, arith}
 use Rattle.std.specs.declared.alloc.Global.{Global}
 use Rattle.mj_project.specs.Projects.{names_of, sources_view}
-use Rattle.cli.specs.Runs.{ReportsOn, IsWritten, Prints, number_of}
+use Rattle.cli.specs.Runs.{ReportsOn, IsWritten, Prints, status_number}
 use Rattle.cli.specs.Statuses.{IsStatus}
 use Rattle.cli.specs.declared.report.Report.{Report}
 use Rattle.cli.specs.declared.report.Status.{Status}
@@ -12,7 +12,7 @@ pub names_of_sources : (files : List (String Global × Vec ℕ Global)) → name
 names_of_sources [] = refl
 names_of_sources (file ∷ files) = ap (λ names. string_bytes file.0 ∷ names) (names_of_sources files)
 
-pub is_status : (s : Status) → IsStatus (number_of s)
+pub is_status : (s : Status) → IsStatus (status_number s)
 is_status status.Clean = (0, omega arith, refl)
 is_status status.Diagnostics = (1, omega arith, refl)
 is_status status.Refused = (2, omega arith, refl)
@@ -22,21 +22,21 @@ is_status status.OutOfMemory = (3, omega arith, refl)
 pub prints : (names : List (List ℕ)) (report : Report) (s : Status) (out_old out_new err_old err_new : Option (List ℕ))
     → ((report.status ≡ status.Clean) ⊎ (report.status ≡ status.Diagnostics) → ReportsOn names report)
     → (s ≡ status.Refused) ⊎ ((s ≡ report.status) × IsWritten report out_old out_new err_old err_new)
-    → (number_of s ≡ 0) ⊎ (number_of s ≡ 1)
-    → Prints names (number_of s) out_old out_new err_old err_new
+    → (status_number s ≡ 0) ⊎ (status_number s ≡ 1)
+    → Prints names (status_number s) out_old out_new err_old err_new
 prints names report s a b c d reports (inl refused) (inl ends) = absurd cc
 prints names report s a b c d reports (inl refused) (inr ends) = absurd cc
 prints names report status.Clean a b c d reports (inr written) ends =
-    record { report = report; reports = reports (inl (sym written.0)); written = written.1; ends = ap number_of written.0 }
+    record { report = report; reports = reports (inl (sym written.0)); written = written.1; ends = ap status_number written.0 }
 prints names report status.Diagnostics a b c d reports (inr written) ends =
-    record { report = report; reports = reports (inr (sym written.0)); written = written.1; ends = ap number_of written.0 }
+    record { report = report; reports = reports (inr (sym written.0)); written = written.1; ends = ap status_number written.0 }
 prints names report status.Refused a b c d reports (inr written) (inl ends) = absurd cc
 prints names report status.Refused a b c d reports (inr written) (inr ends) = absurd cc
 prints names report status.OutOfMemory a b c d reports (inr written) (inl ends) = absurd cc
 prints names report status.OutOfMemory a b c d reports (inr written) (inr ends) = absurd cc
 
 -- want of memory ends neither so nor so
-pub silent : (s : Status) (Said : Type 0) → (s ≡ status.Refused) ⊎ ((s ≡ status.OutOfMemory) × Said) → (number_of s ≡ 0) ⊎ (number_of s ≡ 1) → ⊥
+pub silent : (s : Status) (Said : Type 0) → (s ≡ status.Refused) ⊎ ((s ≡ status.OutOfMemory) × Said) → (status_number s ≡ 0) ⊎ (status_number s ≡ 1) → ⊥
 silent s Said (inl refused) (inl ends) = absurd cc
 silent s Said (inl refused) (inr ends) = absurd cc
 silent s Said (inr said) (inl ends) = let out : s ≡ status.OutOfMemory = said.0 in absurd cc

@@ -2,7 +2,7 @@
 use Rattle.std.specs.Prelude.{◌≡◌, ◌⊎◌, ℕ, List, Option, string_bytes}
 use Rattle.std.specs.Io.KnownBytes.{Appends}
 use Rattle.mj_project.specs.Projects.{SourceFile, names_of}
-use Rattle.mj_rules.specs.Answers.{AnswerValue, text_of}
+use Rattle.mj_rules.specs.AnswerWords.{AnswerValue, text_of}
 use Rattle.mj_rules.specs.Rules.{Rules}
 use Rattle.cli.specs.Endings.{status_of_answer}
 use Rattle.cli.specs.Lines.{is_clean, AreLinesOf}
@@ -26,15 +26,15 @@ pub record IsWritten (report : Report) (out_old out_new err_old err_new : Option
   pub answer : Appends out_old out_new (string_bytes report.answer)
 
 -- the exit status
-abbrev pub number_of : Status → ℕ
-number_of status.Clean = 0
-number_of status.Diagnostics = 1
-number_of status.Refused = 2
-number_of status.OutOfMemory = 4
+abbrev pub status_number : Status → ℕ
+status_number status.Clean = 0
+status_number status.Diagnostics = 1
+status_number status.Refused = 2
+status_number status.OutOfMemory = 4
 
 -- A report on files of these names is written, and the run ends with its status.
 pub record Prints (names : List (List ℕ)) (status : ℕ) (out_old out_new err_old err_new : Option (List ℕ)) : Type 0 where
   pub report : Report
   pub reports : ReportsOn names report
   pub written : IsWritten report out_old out_new err_old err_new
-  pub ends : status ≡ number_of report.status
+  pub ends : status ≡ status_number report.status

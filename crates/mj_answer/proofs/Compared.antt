@@ -9,13 +9,13 @@ use Rattle.std.specs.Ordering.{nat_cmp, ordering_then}
 use Rattle.std.specs.Cmp.Lexicographic.{pointwise, slice_cmp}
 use Rattle.std.specs.declared.cmp.Ordering.TheVariants.{Less, Equal, Greater}
 use Rattle.std.proofs.lemmas.Cmp.{ranked}
-use Rattle.mj_parser.specs.declared.place.Place.{Place}
-use Rattle.mj_parser.specs.declared.place.Place.TheVariants.{Project, File, ClassOf, Class, Field, Method, Inside}
+use Rattle.mj_tree.specs.declared.place.Place.{Place}
+use Rattle.mj_tree.specs.declared.place.Place.TheVariants.{Project, File, ClassOf, Class, Field, Method, Inside}
 use Rattle.mj_answer.specs.declared.code.Code.{Code}
 use Rattle.mj_answer.specs.declared.diagnostic.Diagnostic.{Diagnostic}
 use Rattle.mj_answer.specs.contracts.diagnostic.DiagnosticOrd.TheImpl.{cmp-value}
 use Rattle.mj_answer.specs.contracts.diagnostic.DiagnosticPartialEq.TheImpl.{eq-value}
-use Rattle.mj_answer.specs.Codes.{number_of}
+use Rattle.mj_answer.specs.Codes.{code_number}
 use Rattle.mj_answer.specs.Order.{NameBefore, Before, PlaceBefore, IsAscendingBy}
 use Rattle.mj_answer.proofs.Orders.{equal_names, code_injective}
 
@@ -48,9 +48,9 @@ abbrev fault_at : Place → Code → Diagnostic
 fault_at place code = record { place = place; code = code }
 
 -- at two places of one kind, whose contents compare to o
-alike : (p q : Place) (c d : Code) (o : Ordering) → (o ≡ Less → PlaceBefore p q) → (o ≡ Equal → p ≡ q) → ordering_then o (nat_cmp (number_of c) (number_of d)) ≡ Less → Before (fault_at p c) (fault_at q d)
+alike : (p q : Place) (c d : Code) (o : Ordering) → (o ≡ Less → PlaceBefore p q) → (o ≡ Equal → p ≡ q) → ordering_then o (nat_cmp (code_number c) (code_number d)) ≡ Less → Before (fault_at p c) (fault_at q d)
 alike p q c d o less same e =
-    elim (then_less o (nat_cmp (number_of c) (number_of d)) e) [ inl h ↦ inl (less h) | inr h ↦ inr (same h.0, number_less (number_of c) (number_of d) h.1) ]
+    elim (then_less o (nat_cmp (code_number c) (code_number d)) e) [ inl h ↦ inl (less h) | inr h ↦ inr (same h.0, number_less (code_number c) (code_number d) h.1) ]
 
 named_less : (m n : List ℕ) (i j : ℕ) → ordering_then (slice_cmp nat_cmp m n) (nat_cmp i j) ≡ Less → NameBefore m n ⊎ ((m ≡ n) × (i < j))
 named_less m n i j e = elim (then_less (slice_cmp nat_cmp m n) (nat_cmp i j) e) [ inl h ↦ inl h | inr h ↦ inr (equal_names m n h.0, number_less i j h.1) ]
@@ -62,8 +62,8 @@ named_equal f m n i j e =
 
 -- the derived comparison goes by the kind of place, then by its contents, then by the code
 less_at : (p q : Place) (c d : Code) → cmp-value.it (fault_at p c) (fault_at q d) ≡ Less → Before (fault_at p c) (fault_at q d)
-less_at Project Project c d e = inr (refl, number_less (number_of c) (number_of d) e)
-less_at Class Class c d e = inr (refl, number_less (number_of c) (number_of d) e)
+less_at Project Project c d e = inr (refl, number_less (code_number c) (code_number d) e)
+less_at Class Class c d e = inr (refl, number_less (code_number c) (code_number d) e)
 less_at (File m) (File n) c d e = alike (File m) (File n) c d (slice_cmp nat_cmp m n) (λ h. inr (refl, inl h)) (λ h. ap (λ (v : List ℕ). File v) (equal_names m n h)) e
 less_at (Field i) (Field j) c d e = alike (Field i) (Field j) c d (nat_cmp i j) (λ h. inr (refl, inr (refl, number_less i j h))) (λ h. ap (λ (v : ℕ). Field v) (number_equal i j h)) e
 less_at (Method i) (Method j) c d e = alike (Method i) (Method j) c d (nat_cmp i j) (λ h. inr (refl, inr (refl, number_less i j h))) (λ h. ap (λ (v : ℕ). Method v) (number_equal i j h)) e
@@ -92,10 +92,10 @@ both_true false t e = absurd cc
 names_equal : (m n : List ℕ) → pointwise ◌==◌ m n ≡ true → m ≡ n
 names_equal m n = (slice_eq-Decides unsigned_Decides m n (pointwise ◌==◌ m n) refl).0
 
-joined : (p q : Place) (c d : Code) (s : Bool) → (s ≡ true → p ≡ q) → (s && (number_of c == number_of d)) ≡ true → fault_at p c ≡ fault_at q d
+joined : (p q : Place) (c d : Code) (s : Bool) → (s ≡ true → p ≡ q) → (s && (code_number c == code_number d)) ≡ true → fault_at p c ≡ fault_at q d
 joined p q c d s same e =
-    let both = both_true s (number_of c == number_of d) e in
-    ap (λ (v : Place). fault_at v c) (same both.0) ∙ ap (fault_at q) (code_injective c d ((unsigned_Decides (number_of c) (number_of d)).0 both.1))
+    let both = both_true s (code_number c == code_number d) e in
+    ap (λ (v : Place). fault_at v c) (same both.0) ∙ ap (fault_at q) (code_injective c d ((unsigned_Decides (code_number c) (code_number d)).0 both.1))
 
 named_joined : (f : List ℕ → ℕ → Place) (m n : List ℕ) (i j : ℕ) → (pointwise ◌==◌ m n && (i == j)) ≡ true → f m i ≡ f n j
 named_joined f m n i j e =

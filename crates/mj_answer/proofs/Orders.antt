@@ -7,13 +7,13 @@ use Rattle.std.proofs.lemmas.Map.Text.{is_eq-slice_cmp}
 use Rattle.std.proofs.lemmas.Slice.Eq.{bytes_eq-Decides}
 use Rattle.std.proofs.lemmas.Cmp.{nat_list_cmp_total, tied_itself}
 use Rattle.std.proofs.lemmas.Bool.{cases_order}
-use Rattle.mj_parser.specs.declared.place.Place.{Place}
-use Rattle.mj_parser.specs.declared.place.Place.TheVariants.{Project, File, ClassOf, Class, Field, Method, Inside}
+use Rattle.mj_tree.specs.declared.place.Place.{Place}
+use Rattle.mj_tree.specs.declared.place.Place.TheVariants.{Project, File, ClassOf, Class, Field, Method, Inside}
 use Rattle.mj_answer.specs.declared.code.Code.{Code}
 use Rattle.mj_answer.specs.declared.code.Code.TheVariants.{E101}
 use Rattle.mj_answer.specs.declared.diagnostic.Diagnostic.{Diagnostic}
-use Rattle.mj_answer.specs.Codes.{number_of, code_of}
-use Rattle.mj_answer.specs.Order.{NameBefore, kind_of, name_in, number_in, PlaceBefore, Before, IsStrictTotalOrder}
+use Rattle.mj_answer.specs.Codes.{code_number, code_of}
+use Rattle.mj_answer.specs.Order.{NameBefore, place_order, name_in, number_in, PlaceBefore, Before, IsStrictTotalOrder}
 
 -- by the first part, then by the second
 abbrev Lexicographic : {X Y : Type 0} → (X → X → Type 0) → (Y → Y → Type 0) → X × Y → X × Y → Type 0
@@ -80,7 +80,7 @@ abbrev PlaceKey : Type 0
 PlaceKey = ℕ × Contents
 
 abbrev place_key : Place → PlaceKey
-place_key p = (kind_of p, contents_in p)
+place_key p = (place_order p, contents_in p)
 
 -- a place with a kind and contents
 abbrev place_from : ℕ → List ℕ → ℕ → Place
@@ -92,7 +92,7 @@ place_from (suc (suc (suc (suc zero)))) name number = Field number
 place_from (suc (suc (suc (suc (suc zero))))) name number = Method number
 place_from (suc (suc (suc (suc (suc n))))) name number = Inside name number
 
-place_back : (p : Place) → place_from (kind_of p) (name_in p) (number_in p) ≡ p
+place_back : (p : Place) → place_from (place_order p) (name_in p) (number_in p) ≡ p
 place_back Project = refl
 place_back (File name) = refl
 place_back (ClassOf name number) = refl
@@ -105,18 +105,18 @@ pub places : IsStrictTotalOrder PlaceBefore
 places = by_key place_key _ (λ p q e. sym (place_back p) ∙ ap (λ (k : PlaceKey). place_from k.0 k.1.0 k.1.1) e ∙ place_back q)
     (lexicographic _ _ numbers (lexicographic NameBefore _ names numbers))
 
-pub code_back : (code : Code) → code_of (number_of code) ≡ Some code
+pub code_back : (code : Code) → code_of (code_number code) ≡ Some code
 code_back E101 = refl
 code_back code = refl
 
-pub code_injective : (c d : Code) → number_of c ≡ number_of d → c ≡ d
+pub code_injective : (c d : Code) → code_number c ≡ code_number d → c ≡ d
 code_injective c d e = let f : Some c ≡ Some d = sym (code_back c) ∙ ap code_of e ∙ code_back d in cc
 
 abbrev FaultKey : Type 0
 FaultKey = Place × ℕ
 
 abbrev fault_key : Diagnostic → FaultKey
-fault_key d = (d.place, number_of d.code)
+fault_key d = (d.place, code_number d.code)
 
 pub faults : IsStrictTotalOrder Before
 faults = by_key fault_key _ (λ d e h. same d e (ap (λ (k : FaultKey). k.0) h) (code_injective d.code e.code (ap (λ (k : FaultKey). k.1) h)))

@@ -1,4 +1,4 @@
 pub mod Codes
-pub mod Answers
+pub mod AnswerValues
 pub mod Text
 pub mod Order

@@ -4,25 +4,25 @@ use Rattle.std.specs.List.{AllByRecursion}
 use Rattle.std.specs.Ordering.{nat_cmp}
 use Rattle.std.specs.Cmp.Lexicographic.{slice_cmp}
 use Rattle.std.specs.declared.cmp.Ordering.TheVariants.{Less}
-use Rattle.mj_parser.specs.declared.place.Place.{Place}
-use Rattle.mj_parser.specs.declared.place.Place.TheVariants.{Project, File, ClassOf, Class, Field, Method, Inside}
+use Rattle.mj_tree.specs.declared.place.Place.{Place}
+use Rattle.mj_tree.specs.declared.place.Place.TheVariants.{Project, File, ClassOf, Class, Field, Method, Inside}
 use Rattle.mj_answer.specs.declared.diagnostic.Diagnostic.{Diagnostic}
-use Rattle.mj_answer.specs.Codes.{number_of}
-use Rattle.mj_answer.specs.Answers.{ClassTableValue, ClassAnswerValue, AnswerValue}
+use Rattle.mj_answer.specs.Codes.{code_number}
+use Rattle.mj_answer.specs.AnswerValues.{ClassTableValue, ClassAnswerValue, AnswerValue}
 
 -- names are ordered by their bytes
 abbrev pub NameBefore : List ℕ → List ℕ → Type 0
 NameBefore m n = slice_cmp nat_cmp m n ≡ Less
 
 -- the kinds of places, in their order
-abbrev pub kind_of : Place → ℕ
-kind_of Project = 0
-kind_of (File name) = 1
-kind_of (ClassOf name number) = 2
-kind_of Class = 3
-kind_of (Field number) = 4
-kind_of (Method number) = 5
-kind_of (Inside method token) = 6
+abbrev pub place_order : Place → ℕ
+place_order Project = 0
+place_order (File name) = 1
+place_order (ClassOf name number) = 2
+place_order Class = 3
+place_order (Field number) = 4
+place_order (Method number) = 5
+place_order (Inside method token) = 6
 
 -- the name in a place, or none
 abbrev pub name_in : Place → List ℕ
@@ -45,11 +45,11 @@ ContentsBefore p q = NameBefore (name_in p) (name_in q) ⊎ ((name_in p ≡ name
 
 -- by kind, then by contents
 abbrev pub PlaceBefore : Place → Place → Type 0
-PlaceBefore p q = (kind_of p < kind_of q) ⊎ ((kind_of p ≡ kind_of q) × ContentsBefore p q)
+PlaceBefore p q = (place_order p < place_order q) ⊎ ((place_order p ≡ place_order q) × ContentsBefore p q)
 
 -- by place, then by code
 abbrev pub Before : Diagnostic → Diagnostic → Type 0
-Before d e = PlaceBefore d.place e.place ⊎ ((d.place ≡ e.place) × (number_of d.code < number_of e.code))
+Before d e = PlaceBefore d.place e.place ⊎ ((d.place ≡ e.place) × (code_number d.code < code_number e.code))
 
 -- each comes before all that stand behind it
 abbrev pub IsAscendingBy : {X : Type 0} → (X → X → Type 0) → List X → Type 0

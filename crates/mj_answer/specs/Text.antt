@@ -1,18 +1,18 @@
 -- The printed text of an answer. Each line ends in LF.
 use Rattle.std.specs.Prelude.{ℕ, List, [], ◌∷◌, ◌++◌, codes, decimal, flat_map}
-use Rattle.mj_parser.specs.declared.tree.Ty.{Ty}
-use Rattle.mj_parser.specs.declared.tree.Ty.TheVariants.{Int, Boolean, IntArray, Class}
-use Rattle.mj_parser.specs.declared.place.Place.{Place}
-use Rattle.mj_parser.specs.declared.place.Place.TheVariants as places
+use Rattle.mj_tree.specs.declared.tree.Ty.{Ty}
+use Rattle.mj_tree.specs.declared.tree.Ty.TheVariants.{Int, Boolean, IntArray, Class}
+use Rattle.mj_tree.specs.declared.place.Place.{Place}
+use Rattle.mj_tree.specs.declared.place.Place.TheVariants as places
 use Rattle.mj_answer.specs.declared.code.Code.{Code}
 use Rattle.mj_answer.specs.declared.diagnostic.Diagnostic.{Diagnostic}
 use Rattle.mj_answer.specs.declared.table.FieldRow.{FieldRow}
-use Rattle.mj_answer.specs.Codes.{number_of}
-use Rattle.mj_answer.specs.Answers.{MethodRowValue, ClassAnswerValue, AnswerValue}
+use Rattle.mj_answer.specs.Codes.{code_number}
+use Rattle.mj_answer.specs.AnswerValues.{MethodRowValue, ClassAnswerValue, AnswerValue}
 
 -- E304
 abbrev pub code_text : Code → List ℕ
-code_text code = codes "E" ++ decimal (number_of code)
+code_text code = codes "E" ++ decimal (code_number code)
 
 -- where a fault stands: the same words wherever it is printed
 abbrev pub place_text : Place → List ℕ

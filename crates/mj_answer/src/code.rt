@@ -4,7 +4,7 @@ ghost use Rattle.std.specs.Ordering.{nat_cmp, on, as_partial_cmp};
 ghost use Rattle.std.specs.Cmp.{partial_order_from_own_ties, unsigned_ties};
 ghost use Rattle.std.specs.Cmp.Rules.{comparing};
 ghost use Rattle.std.proofs.Common.{rules};
-ghost use Rattle.mj_answer.specs.Codes.{number_of, code_of};
+ghost use Rattle.mj_answer.specs.Codes.{code_number, code_of};
 
 use std::cmp::Ordering;
 use std::fmt;
@@ -78,7 +78,7 @@ pub enum Code {
 impl Code {
     /// The digits behind the E.
     pub fn number(self) -> u16
-        ensures { result ≡ number_of self }
+        ensures { result ≡ code_number self }
     {
         match self {
             Code::E101 => 101,
@@ -156,7 +156,7 @@ impl Code {
 }
 
 impl fmt::Display for Code {
-    ghost output = { λ code. Some (codes "E" ++ decimal (number_of code)) };
+    ghost output = { λ code. Some (codes "E" ++ decimal (code_number code)) };
 
     fn fmt<W: fmt::Write>(&self, f: &mut fmt::Formatter<W>) -> fmt::Result {
         write!(f, "E{}", self.number())
@@ -164,7 +164,7 @@ impl fmt::Display for Code {
 }
 
 impl PartialEq for Code {
-    ghost eq = { on number_of ◌==◌ };
+    ghost eq = { on code_number ◌==◌ };
 
     ghost laws = { Prim.search (comparing, rules) };
 
@@ -178,9 +178,10 @@ impl Eq for Code {
 }
 
 impl PartialOrd for Code {
-    ghost partial_cmp = { as_partial_cmp (on number_of nat_cmp) };
+    ghost partial_cmp = { as_partial_cmp (on code_number nat_cmp) };
 
-    ghost laws = { partial_order_from_own_ties (Prim.search (comparing, rules)) (λ c d. unsigned_ties (number_of c) (number_of d)) };
+    ghost laws = { partial_order_from_own_ties (Prim.search (comparing, rules))
+        (λ c d. unsigned_ties (code_number c) (code_number d)) };
 
     fn partial_cmp(&self, other: &Code) -> Option<Ordering> {
         Some(self.cmp(other))
@@ -188,13 +189,13 @@ impl PartialOrd for Code {
 }
 
 impl Ord for Code {
-    ghost cmp = { on number_of nat_cmp };
+    ghost cmp = { on code_number nat_cmp };
 
     ghost total = { Prim.search (comparing, rules) };
 
     ghost matches_partial_cmp = { Prim.search (comparing, rules) };
 
-    ghost matches_eq = { λ c d. unsigned_ties (number_of c) (number_of d) };
+    ghost matches_eq = { λ c d. unsigned_ties (code_number c) (code_number d) };
 
     fn cmp(&self, other: &Code) -> Ordering {
         self.number().cmp(&other.number())

@@ -1,6 +1,6 @@
 //! Faults with their places.
 use crate::code::Code;
-use mj_parser::Place;
+use mj_tree::Place;
 
 /// A fault with its place. Faults are ordered by place, then by code.
 #[derive(Debug, Drop, PartialEq, Eq, PartialOrd, Ord)]

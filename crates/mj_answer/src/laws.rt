@@ -3,14 +3,15 @@ ghost use Rattle.std.specs.Prelude.{◌≡◌, ℕ, List, Some};
 ghost use Rattle.mj_answer.specs.declared.code.Code.{Code};
 ghost use Rattle.mj_answer.specs.declared.diagnostic.Diagnostic.{Diagnostic};
 ghost use Rattle.mj_answer.specs.declared.table.FieldRow.{FieldRow};
-ghost use Rattle.mj_answer.specs.Codes.{number_of, code_of};
-ghost use Rattle.mj_answer.specs.Answers.{MethodRowValue, ClassAnswerValue};
+ghost use Rattle.mj_answer.specs.Codes.{code_number, code_of};
+ghost use Rattle.mj_answer.specs.AnswerValues.{MethodRowValue, ClassAnswerValue};
 ghost use Rattle.mj_answer.specs.Order.{NameBefore, PlaceBefore, Before, IsStrictTotalOrder, OneList, OneListByName};
 
 /// A code is the one with its number.
 pub fn code_numbers()
-    ensures there { (code : Code) → code_of (number_of code) ≡ Some code }
-    ensures back { (number : ℕ) (code : Code) → code_of number ≡ Some code → number_of code ≡ number }
+    ensures there { (code : Code) → code_of (code_number code) ≡ Some code }
+    ensures back { (number : ℕ) (code : Code) → code_of number ≡ Some code
+        → code_number code ≡ number }
 {}
 
 /// Names, places and faults are in strict total orders.

@@ -3,7 +3,7 @@ ghost use Rattle.std.specs.Prelude.{◌≡◌};
 
 use crate::diagnostic::Diagnostic;
 use mj_lexer::Name;
-use mj_parser::Ty;
+use mj_tree::Ty;
 use std::marker::Model;
 
 /// A field that a class has, with the class that declares it.
@@ -24,17 +24,24 @@ pub struct MethodRow {
 }
 
 impl Model for MethodRow {
-    ghost use Rattle.mj_answer.specs.Answers.{MethodRowValue};
+    ghost use Rattle.mj_answer.specs.AnswerValues.{MethodRowValue};
 
     ghost Value = { MethodRowValue };
 
-    ghost view = { λ row. record { name = row.name; owner = row.owner; formals = row.formals.items; returns = row.returns } };
+    ghost view = { λ row.
+        record {
+          name = row.name;
+          owner = row.owner;
+          formals = row.formals.items;
+          returns = row.returns;
+        } };
 }
 
 impl MethodRow {
     /// A method of these formal types and this return type.
     pub fn new(name: Name, owner: Name, formals: Vec<Ty>, returns: Ty) -> Self
-        ensures { result ≡ record { name = name; owner = owner; formals = formals.items; returns = returns } }
+        ensures { result
+            ≡ record { name = name; owner = owner; formals = formals.items; returns = returns } }
     {
         MethodRow {
             name,
@@ -81,7 +88,7 @@ pub struct ClassTable {
 }
 
 impl Model for ClassTable {
-    ghost use Rattle.mj_answer.specs.Answers.{ClassTableValue};
+    ghost use Rattle.mj_answer.specs.AnswerValues.{ClassTableValue};
 
     ghost Value = { ClassTableValue };
 
@@ -120,11 +127,12 @@ pub struct ClassAnswer {
 }
 
 impl Model for ClassAnswer {
-    ghost use Rattle.mj_answer.specs.Answers.{ClassAnswerValue};
+    ghost use Rattle.mj_answer.specs.AnswerValues.{ClassAnswerValue};
 
     ghost Value = { ClassAnswerValue };
 
-    ghost view = { λ class. record { name = class.name; table = class.table; faults = class.faults.items } };
+    ghost view = { λ class.
+        record { name = class.name; table = class.table; faults = class.faults.items } };
 }
 
 impl ClassAnswer {
@@ -170,11 +178,12 @@ pub struct Answer {
 }
 
 impl Model for Answer {
-    ghost use Rattle.mj_answer.specs.Answers.{AnswerValue};
+    ghost use Rattle.mj_answer.specs.AnswerValues.{AnswerValue};
 
     ghost Value = { AnswerValue };
 
-    ghost view = { λ answer. record { faults = answer.faults.items; classes = answer.classes.items } };
+    ghost view = { λ answer.
+        record { faults = answer.faults.items; classes = answer.classes.items } };
 }
 
 impl Answer {

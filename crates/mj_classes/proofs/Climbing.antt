@@ -11,7 +11,7 @@ use Rattle.std.proofs.lemmas.List.{map-append, length-map}
 use Rattle.std.proofs.lemmas.List.Elements.{filter_map-append}
 use Rattle.std.proofs.lemmas.List.Folds.{list_any-append}
 use denote.Ref.{Bor}
-use Rattle.mj_parser.specs.Trees.{Name}
+use Rattle.mj_tree.specs.Trees.{Name}
 use Rattle.mj_classes.specs.Declarations.{ClassDecl, decl}
 use Rattle.mj_classes.specs.Chains.{EndOf, Ends, IsChain, is_in, chain_of, ancestry}
 use Rattle.mj_classes.specs.Classes.{class_ref_view, classes_view}

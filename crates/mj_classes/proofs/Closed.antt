@@ -1,7 +1,7 @@
 -- What a chain leads to stays in it.
 use Rattle.std.proofs.Common.{◌≡◌, List, [], ◌∷◌, Option, Some, None, refl, sym, ap, ◌∙◌, subst, inl, inr}
 use Rattle.std.specs.Prelude.{Contains}
-use Rattle.mj_parser.specs.Trees.{Name}
+use Rattle.mj_tree.specs.Trees.{Name}
 use Rattle.mj_classes.specs.Declarations.{ClassDecl, decl}
 use Rattle.mj_classes.specs.Chains.{EndOf, Top, Undeclared, Repeated, Extends, Links, IsChain}
 use Rattle.mj_classes.proofs.Distinct.{In, contains_in, in_contains}

@@ -5,7 +5,7 @@ use Rattle.std.specs.Str.{bytes_eq}
 use Rattle.std.specs.Ordering.{nat_cmp, is_eq}
 use Rattle.std.specs.Cmp.Lexicographic.{slice_cmp}
 use Rattle.std.proofs.lemmas.List.{take_more, map-append, length-map, length-take-le}
-use Rattle.mj_parser.specs.Trees.{Name}
+use Rattle.mj_tree.specs.Trees.{Name}
 use Rattle.mj_classes.specs.Declarations.{decl}
 use Rattle.mj_classes.specs.Classes.{class_ref_view, classes_view}
 use Rattle.mj_classes.specs.declared.class.ClassRef.{ClassRef}

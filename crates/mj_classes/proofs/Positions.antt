@@ -15,7 +15,7 @@ use Rattle.std.proofs.lemmas.Map.Lookups.{exact_bytes}
 use Rattle.std.proofs.lemmas.Map.Views.{tells_apart}
 use Rattle.std.proofs.lemmas.Option.{slice_get_past, slice_get-map, slice_get_read}
 use Rattle.std.proofs.lemmas.Slice.Eq.{bytes_eq-Decides}
-use Rattle.mj_parser.specs.Trees.{Name}
+use Rattle.mj_tree.specs.Trees.{Name}
 
 -- ---- tests of names
 

@@ -16,7 +16,7 @@ use Rattle.std.proofs.lemmas.List.Elements.{Contains-append_right, Contains-appe
 use Rattle.std.proofs.lemmas.Map.Keys.{IsDistinct-from_sorted}
 use Rattle.std.proofs.lemmas.Map.Lookups.{exact_bytes}
 use Rattle.std.proofs.lemmas.Map.Views.{tells_apart, lookup-from_Contains, Contains-from_lookup}
-use Rattle.mj_parser.specs.Trees.{Name}
+use Rattle.mj_tree.specs.Trees.{Name}
 use Rattle.mj_classes.specs.Declarations.{ClassDecl}
 use Rattle.mj_classes.specs.Members.{nearest, or_farther}
 use Rattle.mj_classes.specs.Tables.{AreAscending, IsTable, all_along, firsts}

@@ -3,8 +3,8 @@ use Rattle.std.proofs.Common.{◌≡◌, ℕ, zero, suc, ◌+◌, ◌-◌, ◌<�
 use Rattle.std.specs.Prelude.{find, option_map, option_and_then, is_some, ◌||◌, map, if◌then◌else◌}
 use Rattle.std.specs.Str.{bytes_eq}
 use Rattle.std.specs.List.{filter_map, cons_option}
-use Rattle.mj_parser.specs.Trees.{Name}
-use Rattle.mj_parser.specs.declared.tree.Ty.TheVariants.{Class}
+use Rattle.mj_tree.specs.Trees.{Name}
+use Rattle.mj_tree.specs.declared.tree.Ty.TheVariants.{Class}
 use Rattle.mj_classes.specs.Declarations.{ClassDecl, decl}
 use Rattle.mj_classes.specs.Walks.{above}
 use Rattle.mj_classes.specs.Chains.{EndOf, Links, IsChain, is_in, chain_names, chain_of, accepts, ancestry}

@@ -1,9 +1,9 @@
 -- What contracts see of the classes, chains and members that the code has.
 use Rattle.std.specs.Prelude.{ℕ, List, map, Option, option_map}
-use Rattle.mj_parser.specs.Trees.{Name, Method, File}
-use Rattle.mj_parser.specs.declared.tree.Field.{Field}
-use Rattle.mj_parser.specs.declared.tree.FileTree.{FileTree}
-use Rattle.mj_parser.specs.Views.{main_view, class_view, method_view, file_view}
+use Rattle.mj_tree.specs.Trees.{Name, Method, File}
+use Rattle.mj_tree.specs.declared.tree.Field.{Field}
+use Rattle.mj_tree.specs.declared.tree.FileTree.{FileTree}
+use Rattle.mj_tree.specs.Views.{main_view, class_view, method_view, file_view}
 use Rattle.mj_classes.specs.Declarations.{ClassDecl, main_decl, class_decl}
 use Rattle.mj_classes.specs.Chains.{EndOf, Chain}
 use Rattle.mj_classes.specs.Chains as chains

@@ -1,8 +1,8 @@
 -- The classes that a project declares.
 use Rattle.std.specs.Prelude.{ℕ, suc, List, [], ◌∷◌, ◌++◌, find, Option, Some, None}
 use Rattle.std.specs.Str.{bytes_eq}
-use Rattle.mj_parser.specs.Trees.{Name, Statement, Method, Main, Class, File}
-use Rattle.mj_parser.specs.declared.tree.Field.{Field}
+use Rattle.mj_tree.specs.Trees.{Name, Statement, Method, Main, Class, File}
+use Rattle.mj_tree.specs.declared.tree.Field.{Field}
 
 -- A class and where it is declared: the number of its file in the project, and its number in the file. Both are
 -- counted from 0, and a main class comes first in its file. `main` is what a main class has: its statement.
@@ -17,10 +17,26 @@ pub record ClassDecl : Type 0 where
 
 -- A main class extends nothing and has no members.
 abbrev pub main_decl : ℕ → Main → ClassDecl
-main_decl file m = record { file = file; number = 0; name = m.name; superclass = None; main = Some m.statement; fields = []; methods = [] }
+main_decl file m = record {
+  file = file;
+  number = 0;
+  name = m.name;
+  superclass = None;
+  main = Some m.statement;
+  fields = [];
+  methods = [];
+}
 
 abbrev pub class_decl : ℕ → ℕ → Class → ClassDecl
-class_decl file number c = record { file = file; number = number; name = c.name; superclass = c.superclass; main = None; fields = c.fields; methods = c.methods }
+class_decl file number c = record {
+  file = file;
+  number = number;
+  name = c.name;
+  superclass = c.superclass;
+  main = None;
+  fields = c.fields;
+  methods = c.methods;
+}
 
 abbrev pub numbered : ℕ → ℕ → List Class → List ClassDecl
 numbered file number [] = []

@@ -1,8 +1,8 @@
 -- The members of a class: what the nearest class of its chain declares.
 use Rattle.std.specs.Prelude.{◌≡◌, List, [], ◌∷◌, ◌++◌, find, Option, Some, None, Contains}
 use Rattle.std.specs.Str.{bytes_eq}
-use Rattle.mj_parser.specs.Trees.{Name, Method}
-use Rattle.mj_parser.specs.declared.tree.Field.{Field}
+use Rattle.mj_tree.specs.Trees.{Name, Method}
+use Rattle.mj_tree.specs.declared.tree.Field.{Field}
 use Rattle.mj_classes.specs.Declarations.{ClassDecl, decl}
 use Rattle.mj_classes.specs.Chains.{EndOf, IsChain, ancestry}
 
@@ -19,7 +19,8 @@ pub record IsNearest {A : Type 0} (own : ClassDecl → Option A) (cs : List Clas
   pub farther : List Name
   pub end : EndOf
   pub is_chain : IsChain cs c (nearer ++ (owner ∷ farther)) end
-  pub none_nearer : (d : Name) (k : ClassDecl) → Contains nearer d → decl cs d ≡ Some k → own k ≡ None
+  pub none_nearer : (d : Name) (k : ClassDecl) → Contains nearer d → decl cs d ≡ Some k
+      → own k ≡ None
   pub here : (k : ClassDecl) × (decl cs owner ≡ Some k) × (own k ≡ Some found)
 
 abbrev pub FieldOf : List ClassDecl → Name → Name → Name → Field → Type 0

@@ -4,8 +4,8 @@ use Rattle.std.specs.Ordering.{nat_cmp}
 use Rattle.std.specs.Cmp.Lexicographic.{slice_cmp}
 use Rattle.std.specs.FinMap as names
 use denote.Ref.{Bor}
-use Rattle.mj_parser.specs.Trees.{Name, Method}
-use Rattle.mj_parser.specs.declared.tree.Field.{Field}
+use Rattle.mj_tree.specs.Trees.{Name, Method}
+use Rattle.mj_tree.specs.declared.tree.Field.{Field}
 use Rattle.mj_classes.specs.Classes.{field_member_view, method_member_view}
 use Rattle.mj_classes.specs.declared.member.FieldMember.{FieldMember}
 use Rattle.mj_classes.specs.declared.member.MethodMember.{MethodMember}
@@ -22,4 +22,5 @@ method_rows es = rows_by method_member_view es
 
 -- under each name the first list has what the second has
 abbrev pub SayAlike : {A : Type 0} → List (Name × A) → List (Name × A) → Type 0
-SayAlike rows entries = (n : Name) → names.find (slice_cmp nat_cmp) n rows ≡ names.find (slice_cmp nat_cmp) n entries
+SayAlike rows entries =
+    (n : Name) → names.find (slice_cmp nat_cmp) n rows ≡ names.find (slice_cmp nat_cmp) n entries

@@ -4,8 +4,8 @@ use Rattle.std.specs.List.Sorted.{IsStrictlySortedBy}
 use Rattle.std.specs.Ordering.{nat_cmp}
 use Rattle.std.specs.Cmp.Lexicographic.{slice_cmp}
 use Rattle.std.specs.FinMap as names
-use Rattle.mj_parser.specs.Trees.{Name, Method}
-use Rattle.mj_parser.specs.declared.tree.Field.{Field}
+use Rattle.mj_tree.specs.Trees.{Name, Method}
+use Rattle.mj_tree.specs.declared.tree.Field.{Field}
 use Rattle.mj_classes.specs.Declarations.{ClassDecl}
 use Rattle.mj_classes.specs.Chains.{ancestry}
 
@@ -25,7 +25,8 @@ abbrev pub own_rows : {A : Type 0} → (A → Name) → Name → List A → List
 own_rows name owner own = map (λ a. (name a, (owner, a))) own
 
 -- all that these classes declare, in order
-abbrev pub all_along : {A : Type 0} → (A → Name) → (ClassDecl → List A) → List ClassDecl → List (Name × (Name × A))
+abbrev pub all_along : {A : Type 0} → (A → Name) → (ClassDecl → List A) → List ClassDecl
+    → List (Name × (Name × A))
 all_along name own [] = []
 all_along name own (k ∷ ks) = own_rows name k.name (own k) ++ all_along name own ks
 

@@ -2,11 +2,11 @@
 ghost use Rattle.std.specs.Prelude.{◌≡◌, map, find, option_copied, option_map};
 ghost use Rattle.std.specs.Str.{bytes_eq};
 ghost use Rattle.mj_classes.specs.Members.{own_field, own_method};
-ghost use Rattle.mj_parser.specs.Views.{method_view};
+ghost use Rattle.mj_tree.specs.Views.{method_view};
 ghost use Rattle.mj_classes.specs.Classes.{class_ref_view};
 
 use mj_lexer::Name;
-use mj_parser::{ClassTree, Field, MainTree, MethodTree};
+use mj_tree::{ClassTree, Field, MainTree, MethodTree};
 
 /// The tree of a class.
 #[derive(Clone, Copy, Debug)]
@@ -75,7 +75,8 @@ impl<'a> ClassRef<'a> {
 
     /// The first method of a name that the class itself declares.
     pub fn method(&self, name: &Name) -> Option<&'a MethodTree>
-        ensures { option_map method_view (option_copied result) ≡ own_method name.now (class_ref_view self.now) }
+        ensures { option_map method_view (option_copied result)
+            ≡ own_method name.now (class_ref_view self.now) }
     {
         first_method(self.methods(), name)
     }

@@ -14,9 +14,11 @@ use Rattle.mj_lexer.specs.declared.front.Front.TheVariants.{Nothing, Blank, Word
 use Rattle.mj_lexer.specs.declared.lexer.LexFault.{LexFault}
 use Rattle.mj_lexer.specs.declared.lexer.LexFault.TheVariants.{BadByte, OpenComment, NameTooLong, FileTooLong, OutOfMemory}
 use Rattle.mj_lexer.specs.Fronts.{front_of, IsWithin}
+use Rattle.mj_lexer.specs.Pieces.{Stands}
 use Rattle.mj_lexer.specs.Lexes.{limit, Cuts, here, blank, word, Lexes, BreaksAt, Breaks, fault_at}
 use Rattle.mj_lexer.specs.Lexing.{Lexing, put_first, lexing_from, lexing_of, tokens_of, fault_of}
 use Rattle.mj_lexer.proofs.Within.{front_within}
+use Rattle.mj_lexer.proofs.Only.{stands_there, front_is}
 
 -- tokens before those that come behind them
 abbrev put_all : List Token → Lexing → Lexing
@@ -43,12 +45,14 @@ follows : {at : ℕ} {text : List ℕ} {tokens : List Token} {till : ℕ} {rest 
     → Cuts at text tokens till rest → (pieces : ℕ) → length text ≤ pieces → lexing_from pieces at text ≡ put_all tokens behind
 unfolding lexing_from
 follows behind so here pieces le = so pieces le
-follows {at = at} {text = text} behind so (blank n e c) zero le = let w = blank_within text n e in absurd (omega arith)
-follows {at = at} {text = text} behind so (blank n e c) (suc pieces) le =
+follows {at = at} {text = text} behind so (blank n stands c) zero le = let e = front_is text (Blank n) stands in let w = blank_within text n e in absurd (omega arith)
+follows {at = at} {text = text} behind so (blank n stands c) (suc pieces) le =
+    let e = front_is text (Blank n) stands in
     let w = blank_within text n e in
     rw e (follows behind so c pieces (omega (arith, length-drop n text)))
-follows {at = at} {text = text} behind so (word kind n e c) zero le = let w = word_within text kind n e in absurd (omega arith)
-follows {at = at} {text = text} behind so (word kind n e c) (suc pieces) le =
+follows {at = at} {text = text} behind so (word kind n stands c) zero le = let e = front_is text (Word kind n) stands in let w = word_within text kind n e in absurd (omega arith)
+follows {at = at} {text = text} behind so (word kind n stands c) (suc pieces) le =
+    let e = front_is text (Word kind n) stands in
     let w = word_within text kind n e in
     rw e (ap (put_first (record { kind = kind; start = at; end = at + n })) (follows behind so c pieces (omega (arith, length-drop n text))))
 
@@ -84,7 +88,7 @@ lexes_gives text tokens l = short_text text l.short ∙ (follows (Ok []) (λ pie
 
 breaks_at_gives : (text : List ℕ) (problem : Problem) (at : ℕ) → BreaksAt text problem at → lexing_of text ≡ Err (fault_at problem at)
 breaks_at_gives text problem at b =
-    short_text text b.short ∙ (follows (Err (fault_at problem at)) (at_fault at b.rest problem b.wrong) b.cut (length text) (omega arith) ∙ put_all-Err b.tokens (fault_at problem at))
+    short_text text b.short ∙ (follows (Err (fault_at problem at)) (at_fault at b.rest problem (front_is b.rest (Wrong problem) b.wrong)) b.cut (length text) (omega arith) ∙ put_all-Err b.tokens (fault_at problem at))
 
 pub breaks_gives : (text : List ℕ) (fault : LexFault) → Breaks text fault → lexing_of text ≡ Err fault
 breaks_gives text (BadByte at) b = breaks_at_gives text problems.Byte at b
@@ -99,7 +103,7 @@ record CutUp (at : ℕ) (text : List ℕ) : Type 0 where
   pub till : ℕ
   pub rest : List ℕ
   pub cut : Cuts at text tokens till rest
-  pub stop : (rest ≡ []) ⊎ ((problem : Problem) × (front_of rest ≡ Wrong problem))
+  pub stop : (rest ≡ []) ⊎ ((problem : Problem) × Stands rest (Wrong problem))
 
 cut_up : (pieces at : ℕ) (text : List ℕ) → length text ≤ pieces → CutUp at text
 cut_up zero at text le = record { tokens = []; till = at; rest = text; cut = here; stop = inl (nil_from_length text (omega arith)) }
@@ -110,12 +114,12 @@ cut_up (suc pieces) at text le = by_front (front_of text) refl (λ n. cut_up pie
     by_front (Blank n) e behind =
         let w = blank_within text n e in
         let c : CutUp (at + n) (drop n text) = behind n (omega (arith, length-drop n text)) in
-        record { tokens = c.tokens; till = c.till; rest = c.rest; cut = blank n e c.cut; stop = c.stop }
+        record { tokens = c.tokens; till = c.till; rest = c.rest; cut = blank n (stands_there text (Blank n) e) c.cut; stop = c.stop }
     by_front (Word kind n) e behind =
         let w = word_within text kind n e in
         let c : CutUp (at + n) (drop n text) = behind n (omega (arith, length-drop n text)) in
-        record { tokens = record { kind = kind; start = at; end = at + n } ∷ c.tokens; till = c.till; rest = c.rest; cut = word kind n e c.cut; stop = c.stop }
-    by_front (Wrong problem) e behind = record { tokens = []; till = at; rest = text; cut = here; stop = inr (problem, e) }
+        record { tokens = record { kind = kind; start = at; end = at + n } ∷ c.tokens; till = c.till; rest = c.rest; cut = word kind n (stands_there text (Word kind n) e) c.cut; stop = c.stop }
+    by_front (Wrong problem) e behind = record { tokens = []; till = at; rest = text; cut = here; stop = inr (problem, stands_there text (Wrong problem) e) }
 
 -- the text is cut, or it breaks
 abbrev pub Agrees : List ℕ → Lexing → Type 0
@@ -130,7 +134,7 @@ breaks_fault text at problems.Name b = b
 short_agrees : (text : List ℕ) → length text ≤ limit → Agrees text (lexing_of text)
 short_agrees text short = by_stop (cut_up (length text) 0 text (omega arith))
   where
-    by_end : (tokens : List Token) (till : ℕ) (rest : List ℕ) → Cuts 0 text tokens till rest → (rest ≡ []) ⊎ ((problem : Problem) × (front_of rest ≡ Wrong problem)) → Agrees text (lexing_of text)
+    by_end : (tokens : List Token) (till : ℕ) (rest : List ℕ) → Cuts 0 text tokens till rest → (rest ≡ []) ⊎ ((problem : Problem) × Stands rest (Wrong problem)) → Agrees text (lexing_of text)
     by_end tokens till rest cut (inl e) =
         let l : Lexes text tokens = record { short = short; till = till; cut = subst (Cuts 0 text tokens till) e cut } in
         rw (lexes_gives text tokens l) l

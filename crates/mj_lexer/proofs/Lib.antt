@@ -1,9 +1,9 @@
 pub mod Comments
-pub mod Cutting
 pub mod Names
 pub mod Numbers
 pub mod Within
-pub mod Lexings
 pub mod Taken
 pub mod Longest
 pub mod Only
+pub mod Cutting
+pub mod Lexings

@@ -17,7 +17,7 @@ use Rattle.mj_lexer.specs.Words.{text_of, reserved_of, kind_of_word}
 use Rattle.mj_lexer.specs.Fronts.{name_front, number_front, front_of}
 use Rattle.mj_lexer.specs.Pieces.{is_word, is_number, IsBlank, white, line_comment, closed_comment, IsToken, IsPiece, IsLongest, HasNoPiece, OpensComment, IsShort, Stands}
 use Rattle.mj_lexer.proofs.Taken.{TerminalIs, symbol, reserved, terminal_is, piece_taken, passing_prefix, both_true, front_of-letter, front_of-digit}
-use Rattle.mj_lexer.proofs.Longest.{reserved_text}
+use Rattle.mj_lexer.proofs.Longest.{reserved_text, front_stands}
 
 -- ---- a piece alone is read as that piece
 
@@ -136,3 +136,10 @@ one_reading text f g (at_byte some c none e) (at_byte others d other i) = e ∙ 
 
 pub one_front : (text : List ℕ) (f g : Front) → Stands text f → Stands text g → f ≡ g
 one_front text f g a b = one_reading text f g (reading text f a) (reading text g b)
+
+-- so it stands there exactly where it is read
+pub stands_there : (text : List ℕ) (front : Front) → front_of text ≡ front → Stands text front
+stands_there text front e = subst (Stands text) e (front_stands text)
+
+pub front_is : (text : List ℕ) (front : Front) → Stands text front → front_of text ≡ front
+front_is text front stands = one_front text (front_of text) front (front_stands text) stands

@@ -7,7 +7,7 @@ use Rattle.mj_lexer.specs.declared.token.Terminal.TheVariants.{And}
 use Rattle.mj_lexer.specs.declared.front.Problem.TheVariants as problems
 use Rattle.mj_lexer.specs.declared.front.Front.{Front}
 use Rattle.mj_lexer.specs.declared.front.Front.TheVariants.{Nothing, Blank, Word, Wrong}
-use Rattle.mj_lexer.specs.Bytes.{is_white, is_letter, is_digit, is_name_byte, is_line_byte, literal_value, opens, closes}
+use Rattle.mj_lexer.specs.Bytes.{is_white, is_letter, is_digit, is_name_byte, is_line_byte, literal_value, most_name_bytes, opens, closes}
 use Rattle.mj_lexer.specs.Words.{symbol_of, kind_of_word}
 
 -- the text after the end of a comment in which this many are depth: read two bytes at a time
@@ -40,7 +40,7 @@ and_front [] = Wrong problems.Byte
 and_front (b ∷ text) = if b == 38 then Word (kinds.Terminal And) 2 else Wrong problems.Byte
 
 abbrev pub name_front : List ℕ → ℕ → Front
-name_front text n = if nat_lt 255 n then Wrong problems.Name else Word (kind_of_word (take n text)) n
+name_front text n = if nat_lt most_name_bytes n then Wrong problems.Name else Word (kind_of_word (take n text)) n
 
 abbrev pub number_front : List ℕ → ℕ → Front
 number_front text n = Word (kinds.Literal (literal_value (take n text))) n

@@ -8,7 +8,7 @@ use Rattle.mj_lexer.specs.declared.token.Terminal.{Terminal}
 use Rattle.mj_lexer.specs.declared.front.Problem.TheVariants as problems
 use Rattle.mj_lexer.specs.declared.front.Front.{Front}
 use Rattle.mj_lexer.specs.declared.front.Front.TheVariants.{Nothing, Blank, Word, Wrong}
-use Rattle.mj_lexer.specs.Bytes.{is_white, is_letter, is_digit, is_name_byte, is_line_byte, literal_value}
+use Rattle.mj_lexer.specs.Bytes.{is_white, is_letter, is_digit, is_name_byte, is_line_byte, literal_value, most_name_bytes}
 use Rattle.mj_lexer.specs.Words.{text_of}
 use Rattle.mj_lexer.specs.Fronts.{after_comment}
 
@@ -48,9 +48,9 @@ HasNoPiece text = (bytes rest : List ℕ) → text ≡ bytes ++ rest → IsPiece
 abbrev pub OpensComment : List ℕ → Type 0
 OpensComment text = (rest : List ℕ) × (text ≡ 47 ∷ 42 ∷ rest)
 
--- an identifier has 255 bytes at most
+-- an identifier has so many bytes at most
 abbrev pub IsShort : Kind → Type 0
-IsShort (Identifier name) = length name ≤ 255
+IsShort (Identifier name) = length name ≤ most_name_bytes
 IsShort (Literal value) = Unit {0}
 IsShort (kinds.Terminal terminal) = Unit {0}
 
@@ -59,6 +59,6 @@ abbrev pub Stands : List ℕ → Front → Type 0
 Stands text Nothing = text ≡ []
 Stands text (Blank n) = IsLongest text n × IsBlank (take n text)
 Stands text (Word kind n) = IsLongest text n × IsToken (take n text) kind × IsShort kind
-Stands text (Wrong problems.Name) = (n : ℕ) × IsLongest text n × IsToken (take n text) (Identifier (take n text)) × (255 < n)
+Stands text (Wrong problems.Name) = (n : ℕ) × IsLongest text n × IsToken (take n text) (Identifier (take n text)) × (most_name_bytes < n)
 Stands text (Wrong problems.Comment) = OpensComment text × HasNoPiece text
 Stands text (Wrong problems.Byte) = (text ≢ []) × (OpensComment text → ⊥) × HasNoPiece text

@@ -2,7 +2,7 @@
 ghost use Rattle.std.specs.Prelude.{◌≡◌, ◌+◌, ◌-◌, ◌*◌, ◌<◌, ◌≤◌, ℕ, List, length, drop, take, min, IfOk, IsTrue, ◌↔◌, Option, Some, None, MatchOption};
 ghost use Rattle.std.specs.List.{prefix_len};
 ghost use Rattle.std.specs.Str.{IsAscii};
-ghost use Rattle.mj_lexer.specs.Bytes.{is_white, is_letter, is_digit, is_name_byte, is_line_byte, literal_value, opens, closes};
+ghost use Rattle.mj_lexer.specs.Bytes.{is_white, is_letter, is_digit, is_name_byte, is_line_byte, literal_value, most_name_bytes, opens, closes};
 ghost use Rattle.mj_lexer.specs.Words.{symbol_of, reserved_of, kind_of_word};
 ghost use Rattle.mj_lexer.specs.Fronts.{after_comment, slash_front, front_of, IsWithin};
 
@@ -108,7 +108,8 @@ fn closes(a: u8, b: u8) -> bool
 
 /// How many bytes come up to the end of the comment that is open at the front.
 fn comment_len(text: &[u8]) -> Option<usize>
-    ensures { MatchOption result (after_comment 1 text.now ≡ None) (λ n. (n ≤ length text.now) × (after_comment 1 text.now ≡ Some (drop n text.now))) }
+    ensures { MatchOption result (after_comment 1 text.now ≡ None)
+        (λ n. (n ≤ length text.now) × (after_comment 1 text.now ≡ Some (drop n text.now))) }
 {
     let mut depth = 1usize;
     let mut i = 0;
@@ -196,7 +197,7 @@ fn reserved(text: &[u8]) -> Option<Terminal>
 /// A reserved word, or else an identifier.
 fn word_kind(alloc: Global, text: &[u8]) -> Result<Kind, AllocError>
     requires some { 0 < length text.now }
-    requires short { length text.now ≤ 255 }
+    requires short { length text.now ≤ most_name_bytes }
     requires ascii { IsAscii text.now }
     ensures { IfOk result (λ k. k ≡ kind_of_word text.now) }
 {

@@ -9,6 +9,7 @@ ghost use Rattle.std.specs.Cmp.{partial_order_from_own_ties};
 ghost use Rattle.std.specs.Cmp.Rules.{comparing, hashing};
 ghost use Rattle.std.specs.Hash as writes;
 ghost use Rattle.std.specs.Ordering.{nat_cmp, as_partial_cmp};
+ghost use Rattle.mj_lexer.specs.Bytes.{most_name_bytes};
 
 use std::alloc::{AllocError, Global};
 use std::cmp::Ordering;
@@ -27,7 +28,8 @@ impl Model for Name {
 
     ghost view = { λ n. string_bytes n.text };
 
-    ghost invariant = { λ n. (0 < length (string_bytes n.text)) × (length (string_bytes n.text) ≤ 255) };
+    ghost invariant = { λ n.
+        (0 < length (string_bytes n.text)) × (length (string_bytes n.text) ≤ most_name_bytes) };
 }
 
 impl Name {
@@ -37,7 +39,7 @@ impl Name {
     /// A name with this text.
     pub fn new(alloc: Global, text: &str) -> Result<Self, AllocError>
         requires some { 0 < length text.now }
-        requires short { length text.now ≤ 255 }
+        requires short { length text.now ≤ most_name_bytes }
         ensures { IfOk result (λ n. n ≡ text.now) }
     {
         Ok(Name {
@@ -47,7 +49,8 @@ impl Name {
 
     /// A name with this text, or `None` where the text is empty or too long.
     pub fn try_new(alloc: Global, text: &str) -> Result<Option<Self>, AllocError>
-        ensures { IfOk result (λ name. SomeIff name ((0 < length text.now) × (length text.now ≤ 255)) text.now) }
+        ensures { IfOk result (λ name.
+            SomeIff name ((0 < length text.now) × (length text.now ≤ most_name_bytes)) text.now) }
     {
         if text.is_empty() || text.len() > Name::MOST {
             return Ok(None);
@@ -75,7 +78,7 @@ impl Name {
     pub fn bytes(&self) -> &[u8]
         ensures value { result.now ≡ self.now }
         ensures some { 0 < length self.now }
-        ensures short { length self.now ≤ 255 }
+        ensures short { length self.now ≤ most_name_bytes }
         ensures text { IsUtf8 self.now }
     {
         let text = self.text.as_str();
@@ -100,7 +103,8 @@ impl Eq for Name {
 impl PartialOrd for Name {
     ghost partial_cmp = { as_partial_cmp (slice_cmp nat_cmp) };
 
-    ghost laws = { partial_order_from_own_ties (Prim.search (comparing, rules)) (Prim.search (comparing, rules)) };
+    ghost laws = { partial_order_from_own_ties (Prim.search (comparing, rules))
+        (Prim.search (comparing, rules)) };
 
     fn partial_cmp(&self, other: &Name) -> Option<Ordering> {
         Some(self.cmp(other))

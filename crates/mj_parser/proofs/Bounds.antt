@@ -6,9 +6,9 @@ use Rattle.std.proofs.lemmas.List.Elements.{All-nil, All-cons}
 use Rattle.std.proofs.lemmas.Option.{slice_get_within}
 use Rattle.mj_lexer.specs.declared.token.Token.{Token}
 use Rattle.mj_lexer.specs.declared.token.Terminal.TheVariants as terminals
-use Rattle.mj_parser.specs.declared.tree.Variable.{Variable}
-use Rattle.mj_parser.specs.Tokens.{kind_of, value_of, says, value_at}
-use Rattle.mj_parser.specs.Trees.{Expression, Expressions, Binary, Index, Length, Call, Literal, Boolean, Named, This, NewArray, NewObject, Not, Parenthesized, none, more, Statement, Statements, Block, If, While, Print, Assign, Store, done, next, Method, Main, Class, File}
+use Rattle.mj_tree.specs.declared.tree.Variable.{Variable}
+use Rattle.mj_parser.specs.Tokens.{token_kind, value_of, says, value_at}
+use Rattle.mj_tree.specs.Trees.{Expression, Expressions, Binary, Index, Length, Call, Literal, Boolean, Named, This, NewArray, NewObject, Not, Parenthesized, none, more, Statement, Statements, Block, If, While, Print, Assign, Store, done, next, Method, Main, Class, File}
 use Rattle.mj_parser.specs.Expressions.{terminal_of, terminal_of_bool, IsExp, AreArguments, AreMore}
 use Rattle.mj_parser.specs.Statements.{IsStmt, AreStmts}
 use Rattle.mj_parser.specs.Rows.{InRow}
@@ -17,7 +17,7 @@ use Rattle.mj_parser.specs.MarkBounds.{ExpMarksBelow, ExpsMarksBelow, StmtMarksB
 use Rattle.mj_parser.proofs.Marks.{has_within, name_within, says_name}
 use Rattle.mj_parser.proofs.StatementAgain.{print_name}
 
-within_value : (ts : List Token) (j v : ℕ) (k : Option Token) → slice_get ts j ≡ k → value_of (kind_of k) ≡ Some v → j < length ts
+within_value : (ts : List Token) (j v : ℕ) (k : Option Token) → slice_get ts j ≡ k → value_of (token_kind k) ≡ Some v → j < length ts
 within_value ts j v None e h = absurd cc
 within_value ts j v (Some k) e h = slice_get_within ts j k e
 

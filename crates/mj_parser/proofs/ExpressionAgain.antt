@@ -7,12 +7,12 @@ use Rattle.mj_lexer.specs.declared.token.Terminal.TheVariants as terminals
 use Rattle.mj_lexer.specs.declared.token.Kind.{Kind}
 use Rattle.mj_lexer.specs.declared.token.Kind.TheVariants as kinds
 use Rattle.std.proofs.lemmas.Bool.{cases_lt}
-use Rattle.mj_parser.specs.declared.tree.Operator.{Operator}
-use Rattle.mj_parser.specs.declared.tree.Operator.TheVariants.{And, Less, Plus, Minus, Times}
+use Rattle.mj_tree.specs.declared.tree.Operator.{Operator}
+use Rattle.mj_tree.specs.declared.tree.Operator.TheVariants.{And, Less, Plus, Minus, Times}
 use Rattle.mj_parser.specs.Tokens.{same_terminal, is_terminal, name_of, value_of, kind_at, has, name_at, value_at, says}
-use Rattle.mj_parser.specs.Trees.{Expression, Expressions, Binary, Index, Length, Call, Literal, Boolean, Named, This, NewArray, NewObject, Not, Parenthesized, none, more}
+use Rattle.mj_tree.specs.Trees.{Expression, Expressions, Binary, Index, Length, Call, Literal, Boolean, Named, This, NewArray, NewObject, Not, Parenthesized, none, more}
 use Rattle.mj_parser.specs.Expressions.{tier_of, terminal_of, size, sizes, sizes_more, height, heights, IsExp, AreArguments, AreMore}
-use Rattle.mj_parser.specs.ExpressionReading.{Found, Reader, operator_at, takes_index, new_at, terminal_at, prim_of, prim_at, index_at, member_at, post_at, tier_at, exp_at}
+use Rattle.mj_parser.specs.ExpressionReading.{Found, TierParser, operator_at, takes_index, new_at, terminal_at, prim_of, prim_at, index_at, member_at, post_at, tier_at, exp_at}
 use Rattle.mj_parser.proofs.Loops.{ChainLeads, PostLeads, chain_ends, chain_goes_on, post_ends, index_goes_on, member_goes_on}
 use Rattle.mj_parser.specs.Steps.{items_from, behind_comma, at_comma, listed_at}
 use Rattle.mj_parser.proofs.Lists.{exps_list, list_exps}
@@ -109,7 +109,7 @@ only_paren : (o : Terminal) → same_terminal terminals.LeftParenthesis o ≡ tr
 only_paren terminals.LeftParenthesis h = refl
 only_paren _ h = absurd cc
 
-module _ (part : Reader) (ts : List Token) (room : ℕ) (reads : (d i j : ℕ) (e : Expression) → IsExp ts d i e → height e ≤ room → j ≡ i + size e → j ≤ length ts → Stops ts d j → part d i ≡ Some (e, j)) where
+module _ (part : TierParser) (ts : List Token) (room : ℕ) (reads : (d i j : ℕ) (e : Expression) → IsExp ts d i e → height e ≤ room → j ≡ i + size e → j ≤ length ts → Stops ts d j → part d i ≡ Some (e, j)) where
   -- ---- arguments
 
   stops_more : (gs : Expressions) (k j : ℕ) → AreMore ts k gs → j ≡ k + sizes_more gs → has ts j terminals.RightParenthesis ≡ true → Stops ts 5 k

@@ -7,14 +7,14 @@ use Rattle.mj_lexer.specs.declared.token.Token.{Token}
 use Rattle.mj_lexer.specs.declared.token.Terminal.TheVariants as terminals
 use Rattle.mj_lexer.specs.declared.token.Kind.{Kind}
 use Rattle.mj_lexer.specs.declared.token.Kind.TheVariants as kinds
-use Rattle.mj_parser.specs.declared.tree.Operator.{Operator}
+use Rattle.mj_tree.specs.declared.tree.Operator.{Operator}
 use Rattle.mj_parser.specs.Tokens.{same_terminal, is_terminal, name_of, value_of, kind_at, has, name_at, value_at, says}
-use Rattle.mj_parser.specs.Trees.{Expression, Binary, Index, Length, Call, Literal, Boolean, Named, This, NewArray, NewObject, Not, Parenthesized}
+use Rattle.mj_tree.specs.Trees.{Expression, Binary, Index, Length, Call, Literal, Boolean, Named, This, NewArray, NewObject, Not, Parenthesized}
 use Rattle.mj_parser.specs.Expressions.{tier_of, terminal_of, size, sizes, sizes_more, height, heights, is_new_array, IsExp, AreArguments, AreMore}
-use Rattle.mj_parser.specs.Views.{expressions_of}
+use Rattle.mj_tree.specs.Views.{expressions_of}
 use Rattle.mj_parser.specs.Steps.{◌>>=◌, items_from, behind_comma, at_comma, listed_at}
 use Rattle.mj_parser.proofs.Binds.{bind_some, when_some, if_some, some_or_none, some_is, and_both, not_false}
-use Rattle.mj_parser.specs.ExpressionReading.{Reader, closed, operator_here, of_tier, operator_at, takes_index, new_at, terminal_at, prim_of, prim_at, index_at, member_at, post_from, post_at, binary_from, tier_at, exp_at}
+use Rattle.mj_parser.specs.ExpressionReading.{TierParser, closed, operator_here, of_tier, operator_at, takes_index, new_at, terminal_at, prim_of, prim_at, index_at, member_at, post_from, post_at, binary_from, tier_at, exp_at}
 
 -- a tree that was read up to a place
 pub record Sound (ts : List Token) (d i room : ℕ) (x : Expression × ℕ) : Type 0 where
@@ -66,7 +66,7 @@ tier_marks d (Some q) o e =
       | inr a ↦ absurd (let n = a.1 in cc)
     ]
 
-module _ (part : Reader) (ts : List Token) (room : ℕ) (sound : (d i : ℕ) (x : Expression × ℕ) → part d i ≡ Some x → Sound ts d i room x) where
+module _ (part : TierParser) (ts : List Token) (room : ℕ) (sound : (d i : ℕ) (x : Expression × ℕ) → part d i ≡ Some x → Sound ts d i room x) where
   -- ---- arguments
 
   pub record MoreSound (k : ℕ) (x : List Expression × ℕ) : Type 0 where

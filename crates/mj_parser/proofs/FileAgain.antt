@@ -7,12 +7,12 @@ use Rattle.mj_lexer.specs.declared.token.Kind.{Kind}
 use Rattle.mj_lexer.specs.declared.token.Kind.TheVariants as kinds
 use Rattle.mj_lexer.specs.declared.token.Terminal.{Terminal}
 use Rattle.mj_lexer.specs.declared.token.Terminal.TheVariants as terminals
-use Rattle.mj_parser.specs.declared.tree.Ty.{Ty}
-use Rattle.mj_parser.specs.declared.tree.Ty.TheVariants as types
-use Rattle.mj_parser.specs.declared.tree.Field.{Field}
-use Rattle.mj_parser.specs.declared.tree.Variable.{Variable}
-use Rattle.mj_parser.specs.Tokens.{same_terminal, kind_of, kind_at, is_terminal, name_of, has, name_at}
-use Rattle.mj_parser.specs.Trees.{Name, Statement, Statements, Block, If, While, Print, Assign, Store, done, next, Method, Main, Class, File}
+use Rattle.mj_tree.specs.declared.tree.Ty.{Ty}
+use Rattle.mj_tree.specs.declared.tree.Ty.TheVariants as types
+use Rattle.mj_tree.specs.declared.tree.Field.{Field}
+use Rattle.mj_tree.specs.declared.tree.Variable.{Variable}
+use Rattle.mj_parser.specs.Tokens.{same_terminal, token_kind, kind_at, is_terminal, name_of, has, name_at}
+use Rattle.mj_tree.specs.Trees.{Name, Statement, Statements, Block, If, While, Print, Assign, Store, done, next, Method, Main, Class, File}
 use Rattle.mj_parser.specs.Expressions.{size}
 use Rattle.mj_parser.specs.Statements.{stmt_size, stmts_size, stmt_height, IsStmt, AreStmts}
 use Rattle.mj_parser.specs.Rows.{row_size, row_height, InRow}
@@ -36,7 +36,7 @@ get_drop (t ∷ ts) (suc i) k = let e : suc (i + k) ≡ suc i + k = omega arith 
 
 has_drop : (ts : List Token) (i k : ℕ) (t : Terminal) → has (drop i ts) k t ≡ has ts (i + k) t
 unfolding has
-has_drop ts i k t = ap (λ (o : Option Token). is_terminal t (kind_of o)) (get_drop ts i k)
+has_drop ts i k t = ap (λ (o : Option Token). is_terminal t (token_kind o)) (get_drop ts i k)
 
 nameless_kind : (t : Terminal) (k : Option Kind) → is_terminal t k ≡ true → name_of k ≡ None
 nameless_kind t None h = refl

@@ -5,14 +5,14 @@ use Rattle.mj_lexer.specs.declared.token.Terminal.TheVariants as terminals
 use Rattle.mj_parser.specs.declared.fault.ParseFault.{ParseFault}
 use Rattle.mj_parser.specs.declared.fault.ParseFault.TheVariants.{NotAFile, TooDeep, OutOfMemory}
 use Rattle.mj_parser.specs.Tokens.{has}
-use Rattle.mj_parser.specs.Steps.{◌>>=◌, when, PartReader, items_from, behind_comma, at_comma, listed_at, Fails}
+use Rattle.mj_parser.specs.Steps.{◌>>=◌, when, PartParser, items_from, behind_comma, at_comma, listed_at, Fails}
 
 -- these items before those that are still read
 abbrev pub with_front : {A : Type 0} → List A → Option (List A × ℕ) → Option (List A × ℕ)
 with_front front found = found >>= λ y. Some (front ++ y.0, y.1)
 
 -- With gas enough, the items and what is still read are this in all.
-abbrev pub ItemsLead : {A : Type 0} → PartReader A → (ℕ → Bool) → ℕ → List A → ℕ → Option (List A × ℕ) → Type 0
+abbrev pub ItemsLead : {A : Type 0} → PartParser A → (ℕ → Bool) → ℕ → List A → ℕ → Option (List A × ℕ) → Type 0
 ItemsLead part goes_on end front j total = (gas : ℕ) → end < gas + j → with_front front (items_from gas part goes_on j) ≡ total
 
 front_then : {A : Type 0} (front : List A) (x : A) (found : Option (List A × ℕ)) → with_front front (found >>= λ y. Some (x ∷ y.0, y.1)) ≡ with_front (front ++ x ∷ []) found
@@ -23,7 +23,7 @@ no_front : {A : Type 0} (found : Option (List A × ℕ)) → found ≡ with_fron
 no_front None = refl
 no_front (Some y) = refl
 
-module _ {A : Type 0} (part : PartReader A) (goes_on : ℕ → Bool) (end : ℕ) (front : List A) (j : ℕ) where
+module _ {A : Type 0} (part : PartParser A) (goes_on : ℕ → Bool) (end : ℕ) (front : List A) (j : ℕ) where
   pub items_end : j ≤ end → goes_on j ≡ false → ItemsLead part goes_on end front j (Some (front, j))
   unfolding items_from
   items_end within e zero enough = absurd (omega arith)
@@ -39,7 +39,7 @@ module _ {A : Type 0} (part : PartReader A) (goes_on : ℕ → Bool) (end : ℕ)
   items_go_on x k total within e n onward leads zero enough = absurd (omega arith)
   items_go_on x k total within e n onward leads (suc gas) enough = rw (items_from, e, n) (front_then front x (items_from gas part goes_on k) ∙ leads gas (omega arith))
 
-pub items_begin : {A : Type 0} (part : PartReader A) (goes_on : ℕ → Bool) (end i : ℕ) (total : Option (List A × ℕ)) → ItemsLead part goes_on end [] i total → items_from (suc end) part goes_on i ≡ total
+pub items_begin : {A : Type 0} (part : PartParser A) (goes_on : ℕ → Bool) (end i : ℕ) (total : Option (List A × ℕ)) → ItemsLead part goes_on end [] i total → items_from (suc end) part goes_on i ≡ total
 items_begin part goes_on end i total leads = no_front (items_from (suc end) part goes_on i) ∙ leads (suc end) (omega arith)
 
 -- ---- items between commas, up to the parenthesis that closes them
@@ -47,26 +47,26 @@ items_begin part goes_on end i total leads = no_front (items_from (suc end) part
 abbrev pub closed_list : {A : Type 0} → List Token → Option (List A × ℕ) → Option (List A × ℕ)
 closed_list ts found = found >>= λ y. when (has ts y.1 terminals.RightParenthesis) (Some (y.0, y.1 + 1))
 
-abbrev pub ListLeads : {A : Type 0} → PartReader A → List Token → List A → ℕ → Option (List A × ℕ) → Type 0
+abbrev pub ListLeads : {A : Type 0} → PartParser A → List Token → List A → ℕ → Option (List A × ℕ) → Type 0
 ListLeads part ts front j total = ItemsLead (behind_comma part) (at_comma ts) (length ts) front j total
 
 first_then : {A : Type 0} (ts : List Token) (x : A) (found : Option (List A × ℕ)) → (found >>= λ y. when (has ts y.1 terminals.RightParenthesis) (Some (x ∷ y.0, y.1 + 1))) ≡ closed_list ts (with_front (x ∷ []) found)
 first_then ts x None = refl
 first_then ts x (Some y) = refl
 
-pub list_begins : {A : Type 0} (part : PartReader A) (ts : List Token) (i k : ℕ) (x : A) (total : Option (List A × ℕ)) → has ts i terminals.RightParenthesis ≡ false → part i ≡ Some (x, k) → ListLeads part ts (x ∷ []) k total → listed_at part ts i ≡ closed_list ts total
+pub list_begins : {A : Type 0} (part : PartParser A) (ts : List Token) (i k : ℕ) (x : A) (total : Option (List A × ℕ)) → has ts i terminals.RightParenthesis ≡ false → part i ≡ Some (x, k) → ListLeads part ts (x ∷ []) k total → listed_at part ts i ≡ closed_list ts total
 unfolding listed_at
 list_begins part ts i k x total e n leads = rw (listed_at, e, n) (first_then ts x (items_from (suc (length ts)) (behind_comma part) (at_comma ts) k) ∙ ap (closed_list ts) (leads (suc (length ts)) (omega arith)))
 
-pub list_empty : {A : Type 0} (part : PartReader A) (ts : List Token) (i : ℕ) → has ts i terminals.RightParenthesis ≡ true → listed_at part ts i ≡ Some ([], i + 1)
+pub list_empty : {A : Type 0} (part : PartParser A) (ts : List Token) (i : ℕ) → has ts i terminals.RightParenthesis ≡ true → listed_at part ts i ≡ Some ([], i + 1)
 unfolding listed_at
 list_empty part ts i e = rw (listed_at, e) refl
 
-pub list_no_first : {A : Type 0} (part : PartReader A) (ts : List Token) (i : ℕ) → has ts i terminals.RightParenthesis ≡ false → part i ≡ None → listed_at part ts i ≡ None
+pub list_no_first : {A : Type 0} (part : PartParser A) (ts : List Token) (i : ℕ) → has ts i terminals.RightParenthesis ≡ false → part i ≡ None → listed_at part ts i ≡ None
 unfolding listed_at
 list_no_first part ts i e n = rw (listed_at, e, n) refl
 
-module _ {A : Type 0} (part : PartReader A) (ts : List Token) (front : List A) (j : ℕ) (within : j ≤ length ts) where
+module _ {A : Type 0} (part : PartParser A) (ts : List Token) (front : List A) (j : ℕ) (within : j ≤ length ts) where
   pub list_end : has ts j terminals.Comma ≡ false → ListLeads part ts front j (Some (front, j))
   list_end e = items_end (behind_comma part) (at_comma ts) (length ts) front j within e
 

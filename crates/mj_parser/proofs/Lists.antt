@@ -1,7 +1,7 @@
 -- Parts as a list.
 use Rattle.std.proofs.Common.{◌≡◌, List, [], ◌∷◌, refl, ap}
-use Rattle.mj_parser.specs.Trees.{Expression, Expressions, Statement, Statements, none, more, done, next}
-use Rattle.mj_parser.specs.Views.{expressions_of, statements_of}
+use Rattle.mj_tree.specs.Trees.{Expression, Expressions, Statement, Statements, none, more, done, next}
+use Rattle.mj_tree.specs.Views.{expressions_of, statements_of}
 
 abbrev pub exps_list : Expressions → List Expression
 exps_list none = []

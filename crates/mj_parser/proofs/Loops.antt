@@ -3,13 +3,13 @@ use Rattle.std.proofs.Common.{◌≡◌, ℕ, max, zero, suc, ◌+◌, ◌<◌, 
 use Rattle.std.proofs.lemmas.Bool.{lt-leb}
 use Rattle.mj_lexer.specs.declared.token.Token.{Token}
 use Rattle.mj_lexer.specs.declared.token.Terminal.TheVariants as terminals
-use Rattle.mj_parser.specs.declared.tree.Exp.{Exp}
-use Rattle.mj_parser.specs.declared.tree.Operator.{Operator}
+use Rattle.mj_tree.specs.declared.tree.Exp.{Exp}
+use Rattle.mj_tree.specs.declared.tree.Operator.{Operator}
 use Rattle.mj_parser.specs.Tokens.{has}
-use Rattle.mj_parser.specs.Trees.{Expression, Binary}
-use Rattle.mj_parser.specs.Views.{exp_view, exps_view}
+use Rattle.mj_tree.specs.Trees.{Expression, Binary}
+use Rattle.mj_tree.specs.Views.{exp_view, exps_view}
 use Rattle.mj_parser.specs.Expressions.{height, heights}
-use Rattle.mj_parser.specs.ExpressionReading.{Found, Reader, operator_at, binary_from, takes_index, post_from, index_at, member_at, exp_at}
+use Rattle.mj_parser.specs.ExpressionReading.{Found, TierParser, operator_at, binary_from, takes_index, post_from, index_at, member_at, exp_at}
 
 -- no expression has no levels
 pub no_room : (ts : List Token) (room d i : ℕ) → room ≡ 0 → exp_at room ts d i ≡ None
@@ -18,13 +18,13 @@ no_room ts zero d i e = refl
 no_room ts (suc room) d i e = absurd (omega arith)
 
 -- With gas enough, what follows the tree is read to this end.
-abbrev pub ChainLeads : Reader → List Token → ℕ → ℕ → Expression → ℕ → Found → Type 0
+abbrev pub ChainLeads : TierParser → List Token → ℕ → ℕ → Expression → ℕ → Found → Type 0
 ChainLeads part ts room d left j total = (gas : ℕ) → length ts < gas + j → binary_from gas part ts room d left j ≡ total
 
-abbrev pub PostLeads : Reader → List Token → ℕ → Expression → ℕ → Found → Type 0
+abbrev pub PostLeads : TierParser → List Token → ℕ → Expression → ℕ → Found → Type 0
 PostLeads part ts room left j total = (gas : ℕ) → length ts < gas + j → post_from gas part ts room left j ≡ total
 
-module _ (part : Reader) (ts : List Token) (room d : ℕ) (left : Expression) (j : ℕ) (within : j ≤ length ts) where
+module _ (part : TierParser) (ts : List Token) (room d : ℕ) (left : Expression) (j : ℕ) (within : j ≤ length ts) where
   pub chain_ends : operator_at ts j d ≡ None → ChainLeads part ts room d left j (Some (left, j))
   unfolding binary_from
   chain_ends e zero enough = absurd (omega arith)
@@ -45,7 +45,7 @@ module _ (part : Reader) (ts : List Token) (room d : ℕ) (left : Expression) (j
   chain_goes_on o right k total e fits n onward leads zero enough = absurd (omega arith)
   chain_goes_on o right k total e fits n onward leads (suc gas) enough = rw (binary_from, e, le-leb _ _ fits, n) (leads gas (omega arith))
 
-module _ (part : Reader) (ts : List Token) (room : ℕ) (left : Expression) (j : ℕ) (within : j ≤ length ts) where
+module _ (part : TierParser) (ts : List Token) (room : ℕ) (left : Expression) (j : ℕ) (within : j ≤ length ts) where
   pub post_ends : takes_index ts left j ≡ false → has ts j terminals.Dot ≡ false → PostLeads part ts room left j (Some (left, j))
   unfolding post_from
   post_ends e f zero enough = absurd (omega arith)

@@ -4,15 +4,15 @@ use Rattle.std.proofs.lemmas.Bool.{eqb-true, eqb-false, ne_eqb}
 use Rattle.std.proofs.lemmas.Option.{slice_get_within}
 use Rattle.std.specs.Prelude.{slice_get}
 use Rattle.std.proofs.lemmas.Slice.Eq.{bytes_eq-Decides}
-use Rattle.mj_parser.specs.Trees.{Name}
+use Rattle.mj_tree.specs.Trees.{Name}
 use Rattle.mj_lexer.specs.declared.token.Terminal.{Terminal}
 use Rattle.mj_lexer.specs.declared.token.Token.{Token}
 use Rattle.mj_lexer.specs.declared.token.Terminal.TheVariants as terminals
 use Rattle.mj_lexer.specs.declared.token.Kind.{Kind}
 use Rattle.mj_lexer.specs.declared.token.Kind.TheVariants as kinds
-use Rattle.mj_parser.specs.declared.tree.Operator.{Operator}
-use Rattle.mj_parser.specs.declared.tree.Operator.TheVariants.{And, Less, Plus, Minus, Times}
-use Rattle.mj_parser.specs.Tokens.{number_of, same_terminal, is_terminal, is_word, name_of, value_of, kind_of, kind_at, has, name_at, value_at, says}
+use Rattle.mj_tree.specs.declared.tree.Operator.{Operator}
+use Rattle.mj_tree.specs.declared.tree.Operator.TheVariants.{And, Less, Plus, Minus, Times}
+use Rattle.mj_parser.specs.Tokens.{terminal_number, same_terminal, is_terminal, is_word, name_of, value_of, token_kind, kind_at, has, name_at, value_at, says}
 use Rattle.mj_parser.specs.Expressions.{tier_of, terminal_of}
 use Rattle.mj_parser.specs.ExpressionReading.{operator_here, operator_at, of_tier}
 
@@ -23,7 +23,7 @@ terminal_other : (m n : Terminal) (k : Option Kind) → is_terminal m k ≡ true
 terminal_other m n None h d = absurd cc
 terminal_other m n (Some (kinds.Identifier name)) h d = absurd cc
 terminal_other m n (Some (kinds.Literal value)) h d = absurd cc
-terminal_other m n (Some (kinds.Terminal other)) h d = rw (← eqb-true (number_of m) (number_of other) h) (eqb_flip (number_of m) (number_of n) d)
+terminal_other m n (Some (kinds.Terminal other)) h d = rw (← eqb-true (terminal_number m) (terminal_number other) h) (eqb_flip (terminal_number m) (terminal_number n) d)
 
 pub has_other : (ts : List Token) (j : ℕ) (m n : Terminal) → has ts j m ≡ true → same_terminal m n ≡ false → has ts j n ≡ false
 unfolding has
@@ -49,7 +49,7 @@ pub has_valued : (ts : List Token) (j : ℕ) (n : Terminal) (value : ℕ) → va
 unfolding has value_at
 has_valued ts j n value = valued_not n (kind_at ts j) value
 
-within_terminal : (ts : List Token) (j : ℕ) (m : Terminal) (k : Option Token) → slice_get ts j ≡ k → is_terminal m (kind_of k) ≡ true → j < length ts
+within_terminal : (ts : List Token) (j : ℕ) (m : Terminal) (k : Option Token) → slice_get ts j ≡ k → is_terminal m (token_kind k) ≡ true → j < length ts
 within_terminal ts j m None e h = absurd cc
 within_terminal ts j m (Some k) e h = slice_get_within ts j k e
 
@@ -57,7 +57,7 @@ pub has_within : (ts : List Token) (j : ℕ) (m : Terminal) → has ts j m ≡ t
 unfolding has
 has_within ts j m h = within_terminal ts j m (slice_get ts j) refl h
 
-within_name : (ts : List Token) (j : ℕ) (name : Name) (k : Option Token) → slice_get ts j ≡ k → name_of (kind_of k) ≡ Some name → j < length ts
+within_name : (ts : List Token) (j : ℕ) (name : Name) (k : Option Token) → slice_get ts j ≡ k → name_of (token_kind k) ≡ Some name → j < length ts
 within_name ts j name None e h = absurd cc
 within_name ts j name (Some k) e h = slice_get_within ts j k e
 

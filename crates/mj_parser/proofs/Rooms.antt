@@ -6,9 +6,9 @@ use Rattle.mj_lexer.specs.declared.token.Terminal.TheVariants as terminals
 use Rattle.mj_parser.specs.declared.fault.ParseFault.{ParseFault}
 use Rattle.mj_parser.specs.declared.fault.ParseFault.TheVariants.{NotAFile, TooDeep, OutOfMemory}
 use Rattle.mj_parser.specs.Tokens.{has, name_at}
-use Rattle.mj_parser.specs.Trees.{Name, Statement}
+use Rattle.mj_tree.specs.Trees.{Name, Statement}
 use Rattle.mj_parser.specs.Statements.{opens_print}
-use Rattle.mj_parser.specs.Steps.{◌>>=◌, when, PartReader, Fails}
+use Rattle.mj_parser.specs.Steps.{◌>>=◌, when, PartParser, Fails}
 use Rattle.mj_parser.specs.ExpressionReading.{exp_at}
 use Rattle.mj_parser.specs.StatementReading.{condition_at, if_at, while_at, print_at, assign_at, store_at, named_at, stmt_of, stmt_at}
 
@@ -26,7 +26,7 @@ if_none : {A : Type 0} (b : Bool) (x y : Option A) → x ≡ None → y ≡ None
 if_none true x y m n = m
 if_none false x y m n = n
 
-module _ (part : PartReader Statement) (ts : List Token) (i : ℕ) where
+module _ (part : PartParser Statement) (ts : List Token) (i : ℕ) where
   no_condition : (k : ℕ) → condition_at (exp_at 0 ts 5) ts k ≡ None
   unfolding condition_at exp_at
   no_condition k = when_none (has ts k terminals.LeftParenthesis) _ refl

@@ -1,7 +1,7 @@
 -- Items that are read one after the other.
 use Rattle.std.proofs.Common.{◌≡◌, ℕ, zero, suc, ◌+◌, ◌<◌, ◌≤◌, Bool, true, false, List, [], ◌∷◌, Some, refl, subst, arith, inl, inr}
 use Rattle.mj_parser.specs.Rows.{row_size, row_height, InRow}
-use Rattle.mj_parser.specs.Steps.{PartReader, items_from}
+use Rattle.mj_parser.specs.Steps.{PartParser, items_from}
 use Rattle.mj_parser.proofs.Binds.{bind_some, if_some, some_is}
 
 -- a part that was read
@@ -17,7 +17,7 @@ pub record RowSound {A : Type 0} (Is : ℕ → A → Type 0) (size height : A �
   pub low : row_height height x.0 ≤ most
   pub ends : goes_on x.1 ≡ false
 
-module _ {A : Type 0} (Is : ℕ → A → Type 0) (size height : A → ℕ) (most : ℕ) (part : PartReader A) (goes_on : ℕ → Bool) where
+module _ {A : Type 0} (Is : ℕ → A → Type 0) (size height : A → ℕ) (most : ℕ) (part : PartParser A) (goes_on : ℕ → Bool) where
   pub row_found : ((i : ℕ) (x : A × ℕ) → goes_on i ≡ true → part i ≡ Some x → PartSound Is size height most i x) → (gas i : ℕ) (x : List A × ℕ) → items_from gas part goes_on i ≡ Some x → RowSound Is size height most goes_on i x
   unfolding items_from
   row_found sound zero i x e = absurd cc

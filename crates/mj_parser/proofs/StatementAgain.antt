@@ -5,10 +5,10 @@ use Rattle.mj_lexer.specs.declared.token.Token.{Token}
 use Rattle.mj_lexer.specs.declared.token.Terminal.{Terminal}
 use Rattle.mj_lexer.specs.declared.token.Terminal.TheVariants as terminals
 use Rattle.mj_parser.specs.Tokens.{same_terminal, has, says, name_at}
-use Rattle.mj_parser.specs.Trees.{Name, Expression, Statement, Statements, Block, If, While, Print, Assign, Store, done, next}
+use Rattle.mj_tree.specs.Trees.{Name, Expression, Statement, Statements, Block, If, While, Print, Assign, Store, done, next}
 use Rattle.mj_parser.specs.Expressions.{size, height, IsExp}
 use Rattle.mj_parser.specs.Statements.{stmt_size, stmts_size, stmt_height, stmts_height, opens_print, IsStmt, AreStmts}
-use Rattle.mj_parser.specs.Steps.{PartReader, items_from}
+use Rattle.mj_parser.specs.Steps.{PartParser, items_from}
 use Rattle.mj_parser.specs.ExpressionReading.{exp_at}
 use Rattle.mj_parser.specs.StatementReading.{not_brace, block_at, condition_at, if_at, while_at, print_at, assign_at, store_at, named_at, stmt_of, stmt_at}
 use Rattle.mj_parser.proofs.Lists.{stmts_list, list_stmts}
@@ -61,7 +61,7 @@ no_statement ts n a b c (Store m name k x v) i h = has_named ts i n name h.2
 pub exp_before : (ts : List Token) (room : ℕ) (m : Terminal) → IsCloser m → (i j : ℕ) (e : Expression) → IsExp ts 5 i e → height e ≤ room → j ≡ i + size e → has ts j m ≡ true → exp_at room ts 5 i ≡ Some (e, j)
 exp_before ts room m closer i j e h low at c = let w = has_within ts j m c in exp_again ts room 5 i j e h low at (omega arith) (stops_closer ts 5 j m c closer)
 
-pub stmts_again : (ts : List Token) (room : ℕ) (part : PartReader Statement) → ((i j : ℕ) (s : Statement) → IsStmt ts i s → stmt_height s ≤ room → j ≡ i + stmt_size s → part i ≡ Some (s, j)) → (goes_on : ℕ → Bool) → ((i : ℕ) (s : Statement) → IsStmt ts i s → goes_on i ≡ true)
+pub stmts_again : (ts : List Token) (room : ℕ) (part : PartParser Statement) → ((i j : ℕ) (s : Statement) → IsStmt ts i s → stmt_height s ≤ room → j ≡ i + stmt_size s → part i ≡ Some (s, j)) → (goes_on : ℕ → Bool) → ((i : ℕ) (s : Statement) → IsStmt ts i s → goes_on i ≡ true)
     → (ss : Statements) (gas i j : ℕ) → AreStmts ts i ss → stmts_height ss ≤ room → j ≡ i + stmts_size ss → goes_on j ≡ false → j ≤ length ts → length ts < gas + i → items_from gas part goes_on i ≡ Some (stmts_list ss, j)
 unfolding items_from
 stmts_again ts room part reads goes_on begins ss zero i j h low at e within enough = absurd (omega arith)
@@ -79,7 +79,7 @@ condition_again ts room i k e p h low c at =
     let r = exp_before ts room terminals.RightParenthesis closer_paren (i + 1 + 1) (i + 2 + size e) e (subst (λ (j : ℕ). IsExp ts 5 j e) two h) low (omega arith) c in
     rw (condition_at, at, p, r, c) refl
 
-module _ (ts : List Token) (room : ℕ) (part : PartReader Statement) (reads : (i j : ℕ) (s : Statement) → IsStmt ts i s → stmt_height s ≤ room → j ≡ i + stmt_size s → part i ≡ Some (s, j)) where
+module _ (ts : List Token) (room : ℕ) (part : PartParser Statement) (reads : (i j : ℕ) (s : Statement) → IsStmt ts i s → stmt_height s ≤ room → j ≡ i + stmt_size s → part i ≡ Some (s, j)) where
   block_again : (i j : ℕ) (body : Statements) → AreStmts ts (i + 1) body → stmts_height body ≤ room → has ts (i + 1 + stmts_size body) terminals.RightBrace ≡ true → j ≡ i + 1 + stmts_size body + 1 → block_at part ts i ≡ Some (Block i body, j)
   unfolding block_at
   block_again i j body h low c at =

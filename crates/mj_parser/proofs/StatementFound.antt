@@ -3,11 +3,11 @@ use Rattle.std.proofs.Common.{◌≡◌, ℕ, zero, suc, ◌+◌, ◌≤◌, Boo
 use Rattle.mj_lexer.specs.declared.token.Token.{Token}
 use Rattle.mj_lexer.specs.declared.token.Terminal.TheVariants as terminals
 use Rattle.mj_parser.specs.Tokens.{has, name_at}
-use Rattle.mj_parser.specs.Trees.{Name, Expression, Statement}
-use Rattle.mj_parser.specs.Views.{statements_of}
+use Rattle.mj_tree.specs.Trees.{Name, Expression, Statement}
+use Rattle.mj_tree.specs.Views.{statements_of}
 use Rattle.mj_parser.specs.Expressions.{size, height, IsExp}
 use Rattle.mj_parser.specs.Statements.{stmt_size, stmts_size, stmt_height, stmts_height, opens_print, IsStmt, AreStmts}
-use Rattle.mj_parser.specs.Steps.{PartReader, items_from}
+use Rattle.mj_parser.specs.Steps.{PartParser, items_from}
 use Rattle.mj_parser.specs.ExpressionReading.{exp_at}
 use Rattle.mj_parser.specs.StatementReading.{not_brace, block_at, condition_at, if_at, while_at, print_at, assign_at, store_at, named_at, stmt_of, stmt_at}
 use Rattle.mj_parser.proofs.Binds.{bind_some, when_some, if_some, some_is, and_both}
@@ -38,7 +38,7 @@ pub record SoundCondition (ts : List Token) (i room : ℕ) (x : Expression × �
   pub at : x.1 ≡ i + 2 + size x.0 + 1
   pub low : height x.0 ≤ room
 
-pub stmts_found : (ts : List Token) (room : ℕ) (part : PartReader Statement) → ((i : ℕ) (x : Statement × ℕ) → part i ≡ Some x → SoundStmt ts i room x) → (goes_on : ℕ → Bool) (gas i : ℕ) (x : List Statement × ℕ) → items_from gas part goes_on i ≡ Some x → SoundStmts ts goes_on i room x
+pub stmts_found : (ts : List Token) (room : ℕ) (part : PartParser Statement) → ((i : ℕ) (x : Statement × ℕ) → part i ≡ Some x → SoundStmt ts i room x) → (goes_on : ℕ → Bool) (gas i : ℕ) (x : List Statement × ℕ) → items_from gas part goes_on i ≡ Some x → SoundStmts ts goes_on i room x
 unfolding items_from
 stmts_found ts room part sound goes_on zero i x e = absurd cc
 stmts_found ts room part sound goes_on (suc gas) i x e =
@@ -79,7 +79,7 @@ condition_found ts room i x e =
       low = s.low;
     })
 
-module _ (ts : List Token) (room : ℕ) (part : PartReader Statement) (sound : (i : ℕ) (x : Statement × ℕ) → part i ≡ Some x → SoundStmt ts i room x) where
+module _ (ts : List Token) (room : ℕ) (part : PartParser Statement) (sound : (i : ℕ) (x : Statement × ℕ) → part i ≡ Some x → SoundStmt ts i room x) where
   block_found : (i : ℕ) (x : Statement × ℕ) → has ts i terminals.LeftBrace ≡ true → block_at part ts i ≡ Some x → SoundStmt ts i (suc room) x
   unfolding block_at
   block_found i x h e =

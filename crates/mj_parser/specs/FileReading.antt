@@ -3,36 +3,38 @@ use Rattle.std.specs.Prelude.{ℕ, suc, ◌+◌, Bool, ◌&&◌, ◌||◌, not, 
 use Rattle.mj_lexer.specs.declared.token.Token.{Token}
 use Rattle.mj_lexer.specs.declared.token.Terminal.TheVariants as terminals
 use Rattle.mj_parser.specs.declared.declarations.Signature as parts
-use Rattle.mj_parser.specs.declared.tree.Ty.{Ty}
-use Rattle.mj_parser.specs.declared.tree.Ty.TheVariants as types
-use Rattle.mj_parser.specs.declared.tree.Field.{Field}
-use Rattle.mj_parser.specs.declared.tree.Variable.{Variable}
+use Rattle.mj_tree.specs.declared.tree.Ty.{Ty}
+use Rattle.mj_tree.specs.declared.tree.Ty.TheVariants as types
+use Rattle.mj_tree.specs.declared.tree.Field.{Field}
+use Rattle.mj_tree.specs.declared.tree.Variable.{Variable}
 use Rattle.mj_parser.specs.Tokens.{has, name_at}
-use Rattle.mj_parser.specs.Trees.{Name, Statement, Method, Main, Class, File}
-use Rattle.mj_parser.specs.Views.{statements_of}
+use Rattle.mj_tree.specs.Trees.{Name, Statement, Method, Main, Class, File}
+use Rattle.mj_tree.specs.Views.{statements_of}
+use Rattle.mj_tree.specs.Limits.{most_levels}
+use Rattle.mj_parser.specs.Expressions.{any_tier}
 use Rattle.mj_parser.specs.Declarations.{main_head, main_parameter}
-use Rattle.mj_parser.specs.Steps.{◌>>=◌, when, PartReader, items_from, listed_at}
+use Rattle.mj_parser.specs.Steps.{◌>>=◌, when, PartParser, items_from, listed_at}
 use Rattle.mj_parser.specs.ExpressionReading.{exp_at}
 use Rattle.mj_parser.specs.StatementReading.{stmt_at}
 
 -- ---- types and variables
 
-unfoldable pub type_at : List Token → PartReader Ty
+unfoldable pub type_at : List Token → PartParser Ty
 type_at ts i =
     if has ts i terminals.Int
     then (if has ts (i + 1) terminals.LeftBracket then when (has ts (i + 2) terminals.RightBracket) (Some (types.IntArray, i + 3)) else Some (types.Int, i + 1))
     else (if has ts i terminals.Boolean then Some (types.Boolean, i + 1) else (name_at ts i >>= λ name. Some (types.Class name, i + 1)))
 
-unfoldable pub variable_at : List Token → PartReader Variable
+unfoldable pub variable_at : List Token → PartParser Variable
 variable_at ts i = type_at ts i >>= λ t. name_at ts t.1 >>= λ name. Some (record { name = name; ty = t.0; mark = i }, t.1 + 1)
 
-unfoldable pub local_at : List Token → PartReader Variable
+unfoldable pub local_at : List Token → PartParser Variable
 local_at ts i = variable_at ts i >>= λ v. when (has ts v.1 terminals.Semicolon) (Some (v.0, v.1 + 1))
 
 abbrev pub field_of : Variable → Field
 field_of v = record { name = v.name; ty = v.ty }
 
-unfoldable pub field_at : List Token → PartReader Field
+unfoldable pub field_at : List Token → PartParser Field
 field_at ts i = local_at ts i >>= λ v. Some (field_of v.0, v.1)
 
 -- a type begins here
@@ -41,7 +43,9 @@ begins_type ts i = has ts i terminals.Int || has ts i terminals.Boolean || is_so
 
 -- A local begins here, and no statement: two names in a row, `int` or `boolean`.
 abbrev pub begins_local : List Token → ℕ → Bool
-begins_local ts i = has ts i terminals.Int || has ts i terminals.Boolean || (is_some (name_at ts i) && is_some (name_at ts (i + 1)))
+begins_local ts i =
+    has ts i terminals.Int || has ts i terminals.Boolean
+        || (is_some (name_at ts i) && is_some (name_at ts (i + 1)))
 
 -- ---- methods, whose tokens are numbered from `public`
 
@@ -62,18 +66,19 @@ abbrev pub not_return : List Token → ℕ → Bool
 not_return ts i = not (has ts i terminals.Return)
 
 -- `return Exp ; }` behind the statements
-unfoldable pub method_of : List Token → Signature → List Variable → List Statement × ℕ → Option (Method × ℕ)
-method_of ts s locals body = exp_at 500 ts 5 (body.1 + 1) >>= λ e. when (has ts e.1 terminals.Semicolon && has ts (e.1 + 1) terminals.RightBrace)
+unfoldable pub method_of : List Token → Signature → List Variable → List Statement × ℕ
+    → Option (Method × ℕ)
+method_of ts s locals body = exp_at most_levels ts any_tier (body.1 + 1) >>= λ e. when (has ts e.1 terminals.Semicolon && has ts (e.1 + 1) terminals.RightBrace)
     (Some (record { name = s.name; returns = s.returns; formals = s.formals; locals = locals; body = statements_of body.0; returned = e.0; return_mark = body.1 }, e.1 + 2))
 
 unfoldable pub method_at : List Token → Option (Method × ℕ)
 method_at ts = signature_at ts >>= λ s. items_from (suc (length ts)) (local_at ts) (begins_local ts) s.1 >>= λ locals.
-    items_from (suc (length ts)) (stmt_at 500 ts) (not_return ts) locals.1 >>= λ body. method_of ts s.0 locals.0 body
+    items_from (suc (length ts)) (stmt_at most_levels ts) (not_return ts) locals.1 >>= λ body. method_of ts s.0 locals.0 body
 
 -- ---- classes
 
 -- a method that begins at a place
-unfoldable pub method_from : List Token → PartReader Method
+unfoldable pub method_from : List Token → PartParser Method
 method_from ts i = method_at (drop i ts) >>= λ m. Some (m.0, i + m.1)
 
 unfoldable pub superclass_at : List Token → ℕ → Option (Option Name × ℕ)
@@ -82,7 +87,7 @@ superclass_at ts i = if has ts i terminals.Extends then (name_at ts (i + 1) >>= 
 abbrev pub at_public : List Token → ℕ → Bool
 at_public ts i = has ts i terminals.Public
 
-unfoldable pub class_at : List Token → PartReader Class
+unfoldable pub class_at : List Token → PartParser Class
 class_at ts i = when (has ts i terminals.Class) (name_at ts (i + 1) >>= λ name. superclass_at ts (i + 2) >>= λ s. when (has ts s.1 terminals.LeftBrace)
     (items_from (suc (length ts)) (field_at ts) (begins_type ts) (s.1 + 1) >>= λ fields. items_from (suc (length ts)) (method_from ts) (at_public ts) fields.1 >>= λ methods. when (has ts methods.1 terminals.RightBrace)
     (Some (record { name = name; superclass = s.0; fields = fields.0; methods = methods.0 }, methods.1 + 1))))
@@ -91,11 +96,12 @@ class_at ts i = when (has ts i terminals.Class) (name_at ts (i + 1) >>= λ name.
 
 -- The first class is the main class: `public static` stands at its front.
 abbrev pub begins_main : List Token → Bool
-begins_main ts = has ts 2 terminals.LeftBrace && has ts 3 terminals.Public && has ts 4 terminals.Static
+begins_main ts =
+    has ts 2 terminals.LeftBrace && has ts 3 terminals.Public && has ts 4 terminals.Static
 
 -- `main` from its `public` on, with the brace that closes the class
 unfoldable pub main_method_at : List Token → Option (Statement × ℕ)
-main_method_at ts = when (main_head ts && main_parameter ts) (stmt_at 500 ts 11 >>= λ s. when (has ts s.1 terminals.RightBrace && has ts (s.1 + 1) terminals.RightBrace) (Some (s.0, s.1 + 2)))
+main_method_at ts = when (main_head ts && main_parameter ts) (stmt_at most_levels ts 11 >>= λ s. when (has ts s.1 terminals.RightBrace && has ts (s.1 + 1) terminals.RightBrace) (Some (s.0, s.1 + 2)))
 
 -- a main class from its `main` on
 unfoldable pub main_from : List Token → Option (Statement × ℕ)

@@ -1,5 +1,3 @@
-pub mod Trees
-pub mod Views
 pub mod Tokens
 pub mod Expressions
 pub mod Statements

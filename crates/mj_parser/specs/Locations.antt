@@ -4,10 +4,10 @@ use Rattle.std.specs.List.{range_with_len}
 use Rattle.mj_lexer.specs.declared.token.Token.{Token}
 use Rattle.mj_lexer.specs.declared.token.Terminal.{Terminal}
 use Rattle.mj_lexer.specs.declared.token.Terminal.TheVariants as terminals
-use Rattle.mj_parser.specs.declared.place.Place.{Place}
-use Rattle.mj_parser.specs.declared.place.Place.TheVariants as place
+use Rattle.mj_tree.specs.declared.place.Place.{Place}
+use Rattle.mj_tree.specs.declared.place.Place.TheVariants as place
 use Rattle.mj_parser.specs.Tokens.{has, name_at, is_word}
-use Rattle.mj_parser.specs.Trees.{Name}
+use Rattle.mj_tree.specs.Trees.{Name}
 use Rattle.mj_parser.specs.Steps.{◌>>=◌}
 
 -- the numbers from `low` to before `high`
@@ -28,7 +28,8 @@ class_start ts class = slice_get (all_of ts terminals.Class 0 (length ts)) class
 
 -- the next word `class`, or the end
 abbrev pub class_end : List Token → ℕ → ℕ
-class_end ts start = unwrap_or (slice_get (all_of ts terminals.Class (start + 1) (length ts)) 0) (length ts)
+class_end ts start =
+    unwrap_or (slice_get (all_of ts terminals.Class (start + 1) (length ts)) 0) (length ts)
 
 -- where a terminal stands in the class that begins at a place
 abbrev pub all_in_class : List Token → Terminal → ℕ → List ℕ
@@ -52,7 +53,8 @@ method_name ts start =
     if has ts (start + 1) terminals.Static then start + 3 else (if has ts (start + 2) terminals.LeftBracket then start + 4 else start + 2)
 
 abbrev pub begins_method : List Token → Name → ℕ → Bool
-begins_method ts name at = has ts at terminals.Public && is_word name (name_at ts (method_name ts at))
+begins_method ts name at =
+    has ts at terminals.Public && is_word name (name_at ts (method_name ts at))
 
 -- where the first method of this name begins
 abbrev pub method_start : List Token → ℕ → Name → Option ℕ

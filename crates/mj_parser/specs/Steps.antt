@@ -14,11 +14,11 @@ abbrev pub when : {A : Type 0} → Bool → Option A → Option A
 when b o = if b then o else None
 
 -- reads something at a place
-abbrev pub PartReader : Type 0 → Type 0
-PartReader A = ℕ → Option (A × ℕ)
+abbrev pub PartParser : Type 0 → Type 0
+PartParser A = ℕ → Option (A × ℕ)
 
 -- parts as long as the test holds
-unfoldable pub items_from : {A : Type 0} → ℕ → PartReader A → (ℕ → Bool) → ℕ → Option (List A × ℕ)
+unfoldable pub items_from : {A : Type 0} → ℕ → PartParser A → (ℕ → Bool) → ℕ → Option (List A × ℕ)
 items_from zero part goes_on i = None
 items_from (suc gas) part goes_on i =
     if goes_on i
@@ -26,17 +26,17 @@ items_from (suc gas) part goes_on i =
     else Some ([], i)
 
 -- a comma and a part
-abbrev pub behind_comma : {A : Type 0} → PartReader A → PartReader A
+abbrev pub behind_comma : {A : Type 0} → PartParser A → PartParser A
 behind_comma part i = part (i + 1)
 
 abbrev pub at_comma : List Token → ℕ → Bool
 at_comma ts i = has ts i terminals.Comma
 
-abbrev pub more_listed : {A : Type 0} → PartReader A → List Token → A × ℕ → Option (List A × ℕ)
+abbrev pub more_listed : {A : Type 0} → PartParser A → List Token → A × ℕ → Option (List A × ℕ)
 more_listed part ts x = items_from (suc (length ts)) (behind_comma part) (at_comma ts) x.1 >>= λ y. when (has ts y.1 terminals.RightParenthesis) (Some (x.0 ∷ y.0, y.1 + 1))
 
 -- parts with a comma between each two, and the parenthesis that closes them
-unfoldable pub listed_at : {A : Type 0} → PartReader A → List Token → ℕ → Option (List A × ℕ)
+unfoldable pub listed_at : {A : Type 0} → PartParser A → List Token → ℕ → Option (List A × ℕ)
 listed_at part ts i =
     if has ts i terminals.RightParenthesis
     then Some ([], i + 1)
@@ -49,6 +49,6 @@ Fails OutOfMemory found = Unit {0}
 Fails (NotAFile k) found = found ≡ None
 Fails TooDeep found = found ≡ None
 
-abbrev pub Gives : {X A : Type 0} → (X → A) → Result X ParseFault → Option A → Type 0
-Gives see (Ok x) found = found ≡ Some (see x)
-Gives see (Err e) found = Fails e found
+abbrev pub Finds : {X A : Type 0} → (X → A) → Result X ParseFault → Option A → Type 0
+Finds see (Ok x) found = found ≡ Some (see x)
+Finds see (Err e) found = Fails e found

@@ -1,55 +1,56 @@
 -- Tokens by their places.
-use Rattle.std.specs.Prelude.{ℕ, Bool, false, ◌==◌, List, Option, Some, None, slice_get}
+use Rattle.std.specs.Prelude.{◌≡◌, ℕ, Bool, true, false, ◌==◌, List, Option, Some, None, slice_get}
 use Rattle.std.specs.Str.{bytes_eq}
 use Rattle.mj_lexer.specs.declared.token.Token.{Token}
 use Rattle.mj_lexer.specs.declared.token.Kind.{Kind}
 use Rattle.mj_lexer.specs.declared.token.Kind.TheVariants as kinds
 use Rattle.mj_lexer.specs.declared.token.Terminal.{Terminal}
 use Rattle.mj_lexer.specs.declared.token.Terminal.TheVariants.{LeftBrace, RightBrace, LeftParenthesis, RightParenthesis, LeftBracket, RightBracket, Semicolon, Comma, Dot, Assign, And, Less, Plus, Minus, Times, Not, Class, Public, Static, Void, Extends, Return, Int, Boolean, If, Else, While, True, False, This, New}
-use Rattle.mj_parser.specs.Trees.{Name}
+use Rattle.mj_tree.specs.Trees.{Name}
 
-abbrev pub number_of : Terminal → ℕ
-number_of LeftBrace = 0
-number_of RightBrace = 1
-number_of LeftParenthesis = 2
-number_of RightParenthesis = 3
-number_of LeftBracket = 4
-number_of RightBracket = 5
-number_of Semicolon = 6
-number_of Comma = 7
-number_of Dot = 8
-number_of Assign = 9
-number_of And = 10
-number_of Less = 11
-number_of Plus = 12
-number_of Minus = 13
-number_of Times = 14
-number_of Not = 15
-number_of Class = 16
-number_of Public = 17
-number_of Static = 18
-number_of Void = 19
-number_of Extends = 20
-number_of Return = 21
-number_of Int = 22
-number_of Boolean = 23
-number_of If = 24
-number_of Else = 25
-number_of While = 26
-number_of True = 27
-number_of False = 28
-number_of This = 29
-number_of New = 30
+-- the numbers by which terminals are compared
+abbrev pub terminal_number : Terminal → ℕ
+terminal_number LeftBrace = 0
+terminal_number RightBrace = 1
+terminal_number LeftParenthesis = 2
+terminal_number RightParenthesis = 3
+terminal_number LeftBracket = 4
+terminal_number RightBracket = 5
+terminal_number Semicolon = 6
+terminal_number Comma = 7
+terminal_number Dot = 8
+terminal_number Assign = 9
+terminal_number And = 10
+terminal_number Less = 11
+terminal_number Plus = 12
+terminal_number Minus = 13
+terminal_number Times = 14
+terminal_number Not = 15
+terminal_number Class = 16
+terminal_number Public = 17
+terminal_number Static = 18
+terminal_number Void = 19
+terminal_number Extends = 20
+terminal_number Return = 21
+terminal_number Int = 22
+terminal_number Boolean = 23
+terminal_number If = 24
+terminal_number Else = 25
+terminal_number While = 26
+terminal_number True = 27
+terminal_number False = 28
+terminal_number This = 29
+terminal_number New = 30
 
 abbrev pub same_terminal : Terminal → Terminal → Bool
-same_terminal a b = number_of a == number_of b
+same_terminal a b = terminal_number a == terminal_number b
 
-abbrev pub kind_of : Option Token → Option Kind
-kind_of None = None
-kind_of (Some token) = Some token.kind
+abbrev pub token_kind : Option Token → Option Kind
+token_kind None = None
+token_kind (Some token) = Some token.kind
 
 abbrev pub kind_at : List Token → ℕ → Option Kind
-kind_at ts i = kind_of (slice_get ts i)
+kind_at ts i = token_kind (slice_get ts i)
 
 abbrev pub is_terminal : Terminal → Option Kind → Bool
 is_terminal terminal None = false
@@ -57,9 +58,13 @@ is_terminal terminal (Some (kinds.Identifier name)) = false
 is_terminal terminal (Some (kinds.Literal value)) = false
 is_terminal terminal (Some (kinds.Terminal other)) = same_terminal terminal other
 
--- this symbol or reserved word stands at a place
+-- whether this symbol or reserved word stands at a place
 unfoldable pub has : List Token → ℕ → Terminal → Bool
 has ts i terminal = is_terminal terminal (kind_at ts i)
+
+-- this symbol or reserved word stands at a place: the token there is this terminal (`StandsLaw`)
+abbrev pub Stands : List Token → ℕ → Terminal → Type 0
+Stands ts i terminal = has ts i terminal ≡ true
 
 abbrev pub name_of : Option Kind → Option Name
 name_of None = None

@@ -1,23 +1,24 @@
 //! Reading types, variables and methods.
 ghost use Rattle.std.specs.Prelude.{◌≡◌, ℕ, ◌+◌, ◌<◌, ◌≤◌, suc, length, map, IfOk, IsTrue};
-ghost use Rattle.mj_parser.specs.Views.{stmt_view, method_view};
-ghost use Rattle.mj_parser.specs.Steps.{Gives, items_from, listed_at};
+ghost use Rattle.mj_tree.specs.Views.{stmt_view, method_view};
+ghost use Rattle.mj_tree.specs.Limits.{most_levels};
+ghost use Rattle.mj_parser.specs.Steps.{Finds, items_from, listed_at};
 ghost use Rattle.mj_parser.specs.StatementReading.{stmt_at};
 ghost use Rattle.mj_parser.specs.FileReading.{type_at, variable_at, local_at, begins_local, signature_view, signature_at, not_return, method_at};
 
-use crate::expressions::read;
+use crate::expressions::{ANY_TIER, read};
 use crate::fault::ParseFault;
 use crate::statements::statement;
 use crate::tokens::{Parsed, expect, expect_name, has, name};
-use crate::tree::{MethodTree, Stmt, Ty, Variable};
 use mj_lexer::{Name, Terminal, Token};
+use mj_tree::{MOST_LEVELS, MethodTree, Stmt, Ty, Variable};
 use std::alloc::Global;
 
 /// A declared type.
 #[tactic(auto, unfolding(crate::specs::FileReading::type_at))]
 fn declared_type(alloc: Global, tokens: &[Token], at: usize) -> Result<Parsed<Ty>, ParseFault>
     requires { at ≤ length tokens.now }
-    ensures exact { Gives (λ x. (x.tree, x.after)) result (type_at tokens.now at) }
+    ensures exact { Finds (λ x. (x.tree, x.after)) result (type_at tokens.now at) }
     ensures within { IfOk result (λ x. (at < x.after) × (x.after ≤ length tokens.now)) }
 {
     if has(tokens, at, Terminal::Int) {
@@ -50,7 +51,7 @@ fn declared_type(alloc: Global, tokens: &[Token], at: usize) -> Result<Parsed<Ty
 #[tactic(auto, unfolding(crate::specs::FileReading::variable_at))]
 fn variable(alloc: Global, tokens: &[Token], at: usize) -> Result<Parsed<Variable>, ParseFault>
     requires { at ≤ length tokens.now }
-    ensures exact { Gives (λ x. (x.tree, x.after)) result (variable_at tokens.now at) }
+    ensures exact { Finds (λ x. (x.tree, x.after)) result (variable_at tokens.now at) }
     ensures within { IfOk result (λ x. (at < x.after) × (x.after ≤ length tokens.now)) }
 {
     let ty = declared_type(alloc, tokens, at)?;
@@ -69,7 +70,7 @@ fn variable(alloc: Global, tokens: &[Token], at: usize) -> Result<Parsed<Variabl
 #[tactic(auto, unfolding(crate::specs::FileReading::local_at))]
 pub fn local(alloc: Global, tokens: &[Token], at: usize) -> Result<Parsed<Variable>, ParseFault>
     requires { at ≤ length tokens.now }
-    ensures exact { Gives (λ x. (x.tree, x.after)) result (local_at tokens.now at) }
+    ensures exact { Finds (λ x. (x.tree, x.after)) result (local_at tokens.now at) }
     ensures within { IfOk result (λ x. (at < x.after) × (x.after ≤ length tokens.now)) }
 {
     let variable = variable(alloc, tokens, at)?;
@@ -93,7 +94,8 @@ fn begins_local(tokens: &[Token], at: usize) -> bool
 /// Formals between commas, up to the parenthesis that closes them.
 fn formals(alloc: Global, tokens: &[Token], at: usize) -> Result<Parsed<Vec<Variable>>, ParseFault>
     requires { at ≤ length tokens.now }
-    ensures exact { Gives (λ x. (x.tree.items, x.after)) result (listed_at (variable_at tokens.now) tokens.now at) }
+    ensures exact { Finds (λ x. (x.tree.items, x.after)) result
+        (listed_at (variable_at tokens.now) tokens.now at) }
     ensures within { IfOk result (λ x. (at < x.after) × (x.after ≤ length tokens.now)) }
 {
     let mut formals = Vec::new(alloc);
@@ -121,7 +123,9 @@ fn formals(alloc: Global, tokens: &[Token], at: usize) -> Result<Parsed<Vec<Vari
 /// The locals of a body.
 fn locals(alloc: Global, tokens: &[Token], at: usize) -> Result<Parsed<Vec<Variable>>, ParseFault>
     requires { at ≤ length tokens.now }
-    ensures exact { Gives (λ x. (x.tree.items, x.after)) result (items_from (suc (length tokens.now)) (local_at tokens.now) (begins_local tokens.now) at) }
+    ensures exact { Finds (λ x. (x.tree.items, x.after)) result
+        (items_from (suc (length tokens.now)) (local_at tokens.now) (begins_local tokens.now)
+        at) }
     ensures within { IfOk result (λ x. (at ≤ x.after) × (x.after ≤ length tokens.now)) }
 {
     let mut items = Vec::new(alloc);
@@ -137,13 +141,15 @@ fn locals(alloc: Global, tokens: &[Token], at: usize) -> Result<Parsed<Vec<Varia
 /// Statements up to `return`.
 fn body(alloc: Global, tokens: &[Token], at: usize) -> Result<Parsed<Vec<Stmt>>, ParseFault>
     requires { at ≤ length tokens.now }
-    ensures exact { Gives (λ x. (map stmt_view x.tree.items, x.after)) result (items_from (suc (length tokens.now)) (stmt_at 500 tokens.now) (not_return tokens.now) at) }
+    ensures exact { Finds (λ x. (map stmt_view x.tree.items, x.after)) result
+        (items_from (suc (length tokens.now)) (stmt_at most_levels tokens.now)
+        (not_return tokens.now) at) }
     ensures within { IfOk result (λ x. (at ≤ x.after) × (x.after < length tokens.now)) }
 {
     let mut items = Vec::new(alloc);
     let mut after = at;
     'items: while !has(tokens, after, Terminal::Return) {
-        let next = statement(alloc, tokens, after, 500)?;
+        let next = statement(alloc, tokens, after, MOST_LEVELS)?;
         items.push(next.tree)?;
         after = next.after;
     }
@@ -160,7 +166,7 @@ pub struct Signature {
 
 #[tactic(auto, unfolding(crate::specs::FileReading::signature_at))]
 fn read_signature(alloc: Global, tokens: &[Token]) -> Result<Parsed<Signature>, ParseFault>
-    ensures exact { Gives (λ x. (signature_view x.tree, x.after)) result (signature_at tokens.now) }
+    ensures exact { Finds (λ x. (signature_view x.tree, x.after)) result (signature_at tokens.now) }
     ensures within { IfOk result (λ x. (0 < x.after) × (x.after ≤ length tokens.now)) }
 {
     let after = expect(tokens, 0, Terminal::Public)?;
@@ -182,13 +188,13 @@ fn read_signature(alloc: Global, tokens: &[Token]) -> Result<Parsed<Signature>, 
 /// The method that the tokens begin with.
 #[tactic(auto, unfolding(crate::specs::FileReading::method_at, crate::specs::FileReading::method_of))]
 pub fn method(alloc: Global, tokens: &[Token]) -> Result<Parsed<MethodTree>, ParseFault>
-    ensures exact { Gives (λ x. (method_view x.tree, x.after)) result (method_at tokens.now) }
+    ensures exact { Finds (λ x. (method_view x.tree, x.after)) result (method_at tokens.now) }
     ensures within { IfOk result (λ x. (0 < x.after) × (x.after ≤ length tokens.now)) }
 {
     let signature = read_signature(alloc, tokens)?;
     let locals = locals(alloc, tokens, signature.after)?;
     let body = body(alloc, tokens, locals.after)?;
-    let returned = read(alloc, tokens, body.after + 1, 500, 5)?;
+    let returned = read(alloc, tokens, body.after + 1, MOST_LEVELS, ANY_TIER)?;
     let after = expect(tokens, returned.after, Terminal::Semicolon)?;
     let after = expect(tokens, after, Terminal::RightBrace)?;
     Ok(Parsed {

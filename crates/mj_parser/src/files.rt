@@ -1,8 +1,8 @@
 //! Reading classes and the whole file.
 ghost use Rattle.std.specs.Prelude.{◌≡◌, ◌≢◌, ℕ, ◌+◌, ◌<◌, ◌≤◌, suc, length, drop, map, option_map, true, false, IfOk, IfErr, IsTrue};
-ghost use Rattle.mj_parser.specs.Views.{stmt_view, method_view, main_view, class_view, file_view};
+ghost use Rattle.mj_tree.specs.Views.{stmt_view, method_view, main_view, class_view, file_view};
 ghost use Rattle.mj_parser.specs.Declarations.{main_head, main_parameter};
-ghost use Rattle.mj_parser.specs.Steps.{Gives, items_from};
+ghost use Rattle.mj_parser.specs.Steps.{Finds, items_from};
 ghost use Rattle.mj_parser.specs.FileReading.{field_at, begins_type, method_from, at_public, superclass_at, class_at, begins_main, main_method_at, main_from, main_at, main_part_at, before_end, tree_of};
 ghost use Rattle.mj_parser.specs.declared.fault.ParseFault.TheVariants.{OutOfMemory};
 
@@ -10,14 +10,14 @@ use crate::declarations::{local, method};
 use crate::fault::ParseFault;
 use crate::statements::statement;
 use crate::tokens::{Parsed, expect, expect_name, expect_word, has, name};
-use crate::tree::{ClassTree, Field, FileTree, MainTree, MethodTree, Stmt};
 use mj_lexer::{Name, Terminal, Token};
+use mj_tree::{ClassTree, Field, FileTree, MOST_LEVELS, MainTree, MethodTree, Stmt};
 use std::alloc::Global;
 
 #[tactic(auto, unfolding(crate::specs::FileReading::field_at))]
 fn field(alloc: Global, tokens: &[Token], at: usize) -> Result<Parsed<Field>, ParseFault>
     requires { at ≤ length tokens.now }
-    ensures exact { Gives (λ x. (x.tree, x.after)) result (field_at tokens.now at) }
+    ensures exact { Finds (λ x. (x.tree, x.after)) result (field_at tokens.now at) }
     ensures within { IfOk result (λ x. (at < x.after) × (x.after ≤ length tokens.now)) }
 {
     let variable = local(alloc, tokens, at)?;
@@ -42,7 +42,8 @@ fn begins_type(tokens: &[Token], at: usize) -> bool
 /// The fields of a class.
 fn fields(alloc: Global, tokens: &[Token], at: usize) -> Result<Parsed<Vec<Field>>, ParseFault>
     requires { at ≤ length tokens.now }
-    ensures exact { Gives (λ x. (x.tree.items, x.after)) result (items_from (suc (length tokens.now)) (field_at tokens.now) (begins_type tokens.now) at) }
+    ensures exact { Finds (λ x. (x.tree.items, x.after)) result
+        (items_from (suc (length tokens.now)) (field_at tokens.now) (begins_type tokens.now) at) }
     ensures within { IfOk result (λ x. (at ≤ x.after) × (x.after ≤ length tokens.now)) }
 {
     let mut items = Vec::new(alloc);
@@ -58,7 +59,7 @@ fn fields(alloc: Global, tokens: &[Token], at: usize) -> Result<Parsed<Vec<Field
 /// The method that begins at a place.
 fn method_at(alloc: Global, tokens: &[Token], at: usize) -> Result<Parsed<MethodTree>, ParseFault>
     requires { at ≤ length tokens.now }
-    ensures exact { Gives (λ x. (method_view x.tree, x.after)) result (method_from tokens.now at) }
+    ensures exact { Finds (λ x. (method_view x.tree, x.after)) result (method_from tokens.now at) }
     ensures within { IfOk result (λ x. (at < x.after) × (x.after ≤ length tokens.now)) }
 {
     match method(alloc, &tokens[at..]) {
@@ -77,7 +78,9 @@ fn methods(
     at: usize,
 ) -> Result<Parsed<Vec<MethodTree>>, ParseFault>
     requires { at ≤ length tokens.now }
-    ensures exact { Gives (λ x. (map method_view x.tree.items, x.after)) result (items_from (suc (length tokens.now)) (method_from tokens.now) (at_public tokens.now) at) }
+    ensures exact { Finds (λ x. (map method_view x.tree.items, x.after)) result
+        (items_from (suc (length tokens.now)) (method_from tokens.now) (at_public tokens.now)
+        at) }
     ensures within { IfOk result (λ x. (at ≤ x.after) × (x.after ≤ length tokens.now)) }
 {
     let mut items = Vec::new(alloc);
@@ -98,7 +101,7 @@ fn superclass(
     at: usize,
 ) -> Result<Parsed<Option<Name>>, ParseFault>
     requires { at ≤ length tokens.now }
-    ensures exact { Gives (λ x. (x.tree, x.after)) result (superclass_at tokens.now at) }
+    ensures exact { Finds (λ x. (x.tree, x.after)) result (superclass_at tokens.now at) }
     ensures within { IfOk result (λ x. (at ≤ x.after) × (x.after ≤ length tokens.now)) }
 {
     if !has(tokens, at, Terminal::Extends) {
@@ -117,7 +120,7 @@ fn superclass(
 #[tactic(auto, unfolding(crate::specs::FileReading::class_at))]
 fn class(alloc: Global, tokens: &[Token], at: usize) -> Result<Parsed<ClassTree>, ParseFault>
     requires { at ≤ length tokens.now }
-    ensures exact { Gives (λ x. (class_view x.tree, x.after)) result (class_at tokens.now at) }
+    ensures exact { Finds (λ x. (class_view x.tree, x.after)) result (class_at tokens.now at) }
     ensures within { IfOk result (λ x. (at < x.after) × (x.after ≤ length tokens.now)) }
 {
     let after = expect(tokens, at, Terminal::Class)?;
@@ -141,7 +144,8 @@ fn class(alloc: Global, tokens: &[Token], at: usize) -> Result<Parsed<ClassTree>
 /// The classes up to the end.
 fn classes(alloc: Global, tokens: &[Token], at: usize) -> Result<Parsed<Vec<ClassTree>>, ParseFault>
     requires { at ≤ length tokens.now }
-    ensures exact { Gives (λ x. (map class_view x.tree.items, x.after)) result (items_from (suc (length tokens.now)) (class_at tokens.now) (before_end tokens.now) at) }
+    ensures exact { Finds (λ x. (map class_view x.tree.items, x.after)) result
+        (items_from (suc (length tokens.now)) (class_at tokens.now) (before_end tokens.now) at) }
     ensures within { IfOk result (λ x. (at ≤ x.after) × (x.after ≡ length tokens.now)) }
 {
     let mut items = Vec::new(alloc);
@@ -156,7 +160,8 @@ fn classes(alloc: Global, tokens: &[Token], at: usize) -> Result<Parsed<Vec<Clas
 
 /// The place after `public static void main (`.
 fn expect_main_head(tokens: &[Token]) -> Result<usize, ParseFault>
-    ensures found { IfOk result (λ after. (main_head tokens.now ≡ true) × (after ≡ 5) × (after ≤ length tokens.now)) }
+    ensures found { IfOk result (λ after.
+        (main_head tokens.now ≡ true) × (after ≡ 5) × (after ≤ length tokens.now)) }
     ensures fault { IfErr result (λ e. (main_head tokens.now ≡ false) × (e ≢ OutOfMemory)) }
 {
     let after = expect(tokens, 0, Terminal::Public)?;
@@ -168,7 +173,8 @@ fn expect_main_head(tokens: &[Token]) -> Result<usize, ParseFault>
 
 /// The place after `String [ ] id ) {`.
 fn expect_main_parameter(tokens: &[Token]) -> Result<usize, ParseFault>
-    ensures found { IfOk result (λ after. (main_parameter tokens.now ≡ true) × (after ≡ 11) × (after ≤ length tokens.now)) }
+    ensures found { IfOk result (λ after.
+        (main_parameter tokens.now ≡ true) × (after ≡ 11) × (after ≤ length tokens.now)) }
     ensures fault { IfErr result (λ e. (main_parameter tokens.now ≡ false) × (e ≢ OutOfMemory)) }
 {
     let after = expect_word(tokens, 5, b"String".as_slice())?;
@@ -182,12 +188,12 @@ fn expect_main_parameter(tokens: &[Token]) -> Result<usize, ParseFault>
 /// The statement of `main`, which the tokens begin with, and the end of the main class.
 #[tactic(auto, unfolding(crate::specs::FileReading::main_method_at))]
 fn main_method(alloc: Global, tokens: &[Token]) -> Result<Parsed<Stmt>, ParseFault>
-    ensures exact { Gives (λ x. (stmt_view x.tree, x.after)) result (main_method_at tokens.now) }
+    ensures exact { Finds (λ x. (stmt_view x.tree, x.after)) result (main_method_at tokens.now) }
     ensures within { IfOk result (λ x. x.after ≤ length tokens.now) }
 {
     expect_main_head(tokens)?;
     let inside = expect_main_parameter(tokens)?;
-    let statement = statement(alloc, tokens, inside, 500)?;
+    let statement = statement(alloc, tokens, inside, MOST_LEVELS)?;
     let after = expect(tokens, statement.after, Terminal::RightBrace)?;
     let after = expect(tokens, after, Terminal::RightBrace)?;
     Ok(Parsed {
@@ -199,7 +205,7 @@ fn main_method(alloc: Global, tokens: &[Token]) -> Result<Parsed<Stmt>, ParseFau
 /// The statement of a main class whose `main` begins at place 3.
 fn main_statement(alloc: Global, tokens: &[Token]) -> Result<Parsed<Stmt>, ParseFault>
     requires { 3 ≤ length tokens.now }
-    ensures exact { Gives (λ x. (stmt_view x.tree, x.after)) result (main_from tokens.now) }
+    ensures exact { Finds (λ x. (stmt_view x.tree, x.after)) result (main_from tokens.now) }
     ensures within { IfOk result (λ x. x.after ≤ length tokens.now) }
 {
     match main_method(alloc, &tokens[3..]) {
@@ -213,7 +219,7 @@ fn main_statement(alloc: Global, tokens: &[Token]) -> Result<Parsed<Stmt>, Parse
 
 #[tactic(auto, unfolding(crate::specs::FileReading::main_at))]
 fn main_class(alloc: Global, tokens: &[Token]) -> Result<Parsed<MainTree>, ParseFault>
-    ensures exact { Gives (λ x. (main_view x.tree, x.after)) result (main_at tokens.now) }
+    ensures exact { Finds (λ x. (main_view x.tree, x.after)) result (main_at tokens.now) }
     ensures within { IfOk result (λ x. x.after ≤ length tokens.now) }
 {
     let after = expect(tokens, 0, Terminal::Class)?;
@@ -240,7 +246,8 @@ fn begins_main(tokens: &[Token]) -> bool
 
 #[tactic(auto, unfolding(crate::specs::FileReading::main_part_at))]
 fn main_part(alloc: Global, tokens: &[Token]) -> Result<Parsed<Option<MainTree>>, ParseFault>
-    ensures exact { Gives (λ x. (option_map main_view x.tree, x.after)) result (main_part_at tokens.now) }
+    ensures exact { Finds (λ x. (option_map main_view x.tree, x.after)) result
+        (main_part_at tokens.now) }
     ensures within { IfOk result (λ x. x.after ≤ length tokens.now) }
 {
     if !begins_main(tokens) {
@@ -259,7 +266,7 @@ fn main_part(alloc: Global, tokens: &[Token]) -> Result<Parsed<Option<MainTree>>
 /// The file that the tokens are.
 #[tactic(auto, unfolding(crate::specs::FileReading::tree_of))]
 pub fn file(alloc: Global, tokens: &[Token]) -> Result<FileTree, ParseFault>
-    ensures { Gives file_view result (tree_of tokens.now) }
+    ensures { Finds file_view result (tree_of tokens.now) }
 {
     let main = main_part(alloc, tokens)?;
     let classes = classes(alloc, tokens, main.after)?;

@@ -2,8 +2,8 @@
 use Rattle.std.proofs.Common.{◌≡◌, List, [], ◌∷◌, map, Option, Some, None, All, Contains, filter_map, refl, sym, ap, ap₂, subst, ◌∙◌, ◌↔◌}
 use Rattle.std.specs.List.{cons_option}
 use Rattle.std.proofs.lemmas.List.Elements.{All-nil, All-cons}
-use Rattle.mj_parser.specs.Trees.{Name}
-use Rattle.mj_answer.specs.Answers.{ClassAnswerValue, AnswerValue}
+use Rattle.mj_tree.specs.Trees.{Name}
+use Rattle.mj_answer.specs.AnswerValues.{ClassAnswerValue, AnswerValue}
 use Rattle.mj_answer.specs.Order.{NameBefore, Before}
 use Rattle.mj_answer.proofs.Alike.{Contains-first, Contains-later}
 use Rattle.mj_classes.specs.Declarations.{ClassDecl, decl}
@@ -13,7 +13,7 @@ use Rattle.mj_rules.specs.Sentences.{classes_in}
 use Rattle.mj_rules.specs.Rules.{IsAnswerFor, Rules}
 use Rattle.mj_rules.specs.FaultLists.{project_faults, class_faults, class_names}
 use Rattle.mj_rules.specs.Answering.{set_of, name_order, fault_order, class_answer, rules_of}
-use Rattle.mj_rules.specs.Laws.{SentenceLaw, BodyLaws}
+use Rattle.mj_rules.specs.Laws.{SentenceLaw, BodyFaultLaws}
 use Rattle.mj_project.proofs.Listed.{place_of, at_map}
 use Rattle.mj_rules.proofs.Overriding.{decl-name}
 use Rattle.mj_rules.proofs.RowLemmas.{finds_one}
@@ -31,7 +31,7 @@ is_named cs n None e h =
     let k = at_map (λ (j : ClassDecl). j.name) cs p.0 n p.1 in
     absurd (finds_one _ cs p.0 k.0 k.1 ((bytes_eq-Decides k.0.name n).1 k.2) e)
 
-module _ (chains : ChainLaws) (members : MemberLaws) (bodies : BodyLaws) (cs : List ClassDecl) where
+module _ (chains : ChainLaws) (members : MemberLaws) (bodies : BodyFaultLaws) (cs : List ClassDecl) where
   right_class : (n : Name) (k : ClassDecl) → decl cs n ≡ Some k → IsAnswerFor cs (class_answer cs k)
   right_class n k e =
       answer_of_class chains members bodies cs k (class_answer cs k) (ap (decl cs) (decl-name cs n k e) ∙ e) refl refl
@@ -57,7 +57,7 @@ module _ (chains : ChainLaws) (members : MemberLaws) (bodies : BodyLaws) (cs : L
       ap (map (λ (c : ClassAnswerValue). c.name)) (one_more n names k.0 k.1)
       ∙ ap₂ (λ (m : Name) (ms : List Name). m ∷ ms) (decl-name cs n k.0 k.1) (all_named names (λ m i. h m (Contains-later n names m i)))
 
-module _ (chains : ChainLaws) (members : MemberLaws) (bodies : BodyLaws) (sentences : SentenceLaw) (files : List SourceFile) where
+module _ (chains : ChainLaws) (members : MemberLaws) (bodies : BodyFaultLaws) (sentences : SentenceLaw) (files : List SourceFile) where
   abbrev sorted_names : List Name
   sorted_names = set_of name_order (class_names (classes_in files))
 

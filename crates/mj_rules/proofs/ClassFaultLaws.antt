@@ -2,12 +2,12 @@
 use Rattle.std.proofs.Common.{◌≡◌, ℕ, ◌<◌, Bool, true, false, not, List, [], take, slice_get, Option, Some, None, is_none, option_map, Contains, refl, sym, ap, subst, ◌∙◌, inl, inr, true≢false}
 use Rattle.std.proofs.lemmas.List.Elements.{Contains-append_left, Contains-append_right, Contains-append_cases}
 use Rattle.mj_answer.proofs.Alike.{Contains-first}
-use Rattle.mj_parser.specs.Trees.{Name, Statement, Method}
-use Rattle.mj_parser.specs.declared.tree.Ty.{Ty}
-use Rattle.mj_parser.specs.declared.tree.Ty.TheVariants as types
-use Rattle.mj_parser.specs.declared.tree.Field.{Field}
-use Rattle.mj_parser.specs.declared.place.Place.{Place}
-use Rattle.mj_parser.specs.declared.place.Place.TheVariants as places
+use Rattle.mj_tree.specs.Trees.{Name, Statement, Method}
+use Rattle.mj_tree.specs.declared.tree.Ty.{Ty}
+use Rattle.mj_tree.specs.declared.tree.Ty.TheVariants as types
+use Rattle.mj_tree.specs.declared.tree.Field.{Field}
+use Rattle.mj_tree.specs.declared.place.Place.{Place}
+use Rattle.mj_tree.specs.declared.place.Place.TheVariants as places
 use Rattle.mj_answer.specs.declared.code.Code.{Code}
 use Rattle.mj_answer.specs.declared.code.Code.TheVariants.{E201, E202, E203, E204, E205, E206}
 use Rattle.mj_answer.specs.declared.diagnostic.Diagnostic.{Diagnostic}
@@ -21,7 +21,7 @@ use Rattle.mj_project.specs.Repeats.{is_in, repeats}
 use Rattle.mj_rules.specs.Worlds.{sig_of, world_of}
 use Rattle.mj_rules.specs.ClassFaults.{FaultOfClass, UndeclaredSuperclass, CyclicChain, RepeatedField, RepeatedMethod, OtherSignature, UndeclaredFieldType, InMethod, InMain, IsFirstMethod, main_word, main_of}
 use Rattle.mj_rules.specs.FaultLists.{fault, when_fault, each_numbered, superclass_faults, is_cycle, chain_faults, is_undeclared, field_faults, same_signature, override_faults, inside, rest_of, nearest_sig, method_faults_of, body_faults_of, main_method_faults, field_names, method_names, declaration_faults, body_faults, class_faults}
-use Rattle.mj_rules.specs.Laws.{BodyLaws, ClassFaultLaw}
+use Rattle.mj_rules.specs.Laws.{BodyFaultLaws, ClassFaultLaw}
 use Rattle.mj_project.proofs.Listed.{place_before, contains_before, contains_at, at_map, map_at, place_of}
 use Rattle.mj_project.proofs.RepeatLemmas.{Contains-is_in, is_in-Contains, repeats-at, flag_at}
 use Rattle.mj_rules.proofs.Numbered.{nowhere, only, from_when, to_when, IsFlagged, from_all, to_all}
@@ -53,7 +53,7 @@ to_inside m mistakes x h =
     let p = place_of mistakes x h in
     contains_at (inside m mistakes) p.0 _ (map_at (λ (y : Mistake). fault (places.Inside m y.mark) y.code) mistakes p.0 x p.1)
 
-module _ (chains : ChainLaws) (bodies : BodyLaws) (cs : List ClassDecl) (k : ClassDecl) (first : decl cs k.name ≡ Some k) where
+module _ (chains : ChainLaws) (bodies : BodyFaultLaws) (cs : List ClassDecl) (k : ClassDecl) (first : decl cs k.name ≡ Some k) where
   abbrev Row : Diagnostic → Type 0
   Row d = FaultOfClass cs k d.place d.code
 
@@ -259,5 +259,5 @@ module _ (chains : ChainLaws) (bodies : BodyLaws) (cs : List ClassDecl) (k : Cla
       in_main _ (subst (λ o. Contains (main_method_faults cs k o) (fault (places.Inside main_word x.mark) x.code)) (sym e)
       (to_inside main_word (main_faults (world_of cs) (main_of k s)) x ((bodies.main (world_of cs) (main_of k s) x).0 ill)))
 
-pub class_fault_law : ChainLaws → BodyLaws → ClassFaultLaw
+pub class_fault_law : ChainLaws → BodyFaultLaws → ClassFaultLaw
 class_fault_law chains bodies = λ cs k first place code. (λ h. from_class_faults chains bodies cs k first (fault place code) h, λ r. to_class_faults chains bodies cs k first r)

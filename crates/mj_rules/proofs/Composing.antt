@@ -1,8 +1,8 @@
 -- The parts of an answer make the answer of the rules.
 use Rattle.std.proofs.Common.{◌≡◌, List, map, Some, All, Contains, sym, ap, subst, ◌∙◌, ◌↔◌}
-use Rattle.mj_parser.specs.Trees.{Name}
+use Rattle.mj_tree.specs.Trees.{Name}
 use Rattle.mj_answer.specs.declared.diagnostic.Diagnostic.{Diagnostic}
-use Rattle.mj_answer.specs.Answers.{ClassAnswerValue, AnswerValue}
+use Rattle.mj_answer.specs.AnswerValues.{ClassAnswerValue, AnswerValue}
 use Rattle.mj_answer.specs.Order.{NameBefore, IsAscendingBy, IsAscending}
 use Rattle.mj_classes.specs.Declarations.{ClassDecl, decl}
 use Rattle.mj_classes.specs.Laws.{ChainLaws, MemberLaws}
@@ -11,7 +11,7 @@ use Rattle.mj_rules.specs.Sentences.{classes_in}
 use Rattle.mj_rules.specs.Tables.{table_of}
 use Rattle.mj_rules.specs.Rules.{IsTableOf, IsAnswerFor, AreClassAnswers, Rules}
 use Rattle.mj_rules.specs.FaultLists.{fault, project_faults, class_faults, class_names}
-use Rattle.mj_rules.specs.Laws.{SentenceLaw, BodyLaws}
+use Rattle.mj_rules.specs.Laws.{SentenceLaw, BodyFaultLaws}
 use Rattle.mj_project.proofs.Listed.{contains_at, place_of, map_at}
 use Rattle.mj_rules.proofs.ProjectFaultLaws.{project_fault_law}
 use Rattle.mj_rules.proofs.ClassFaultLaws.{class_fault_law}
@@ -21,7 +21,7 @@ use Rattle.mj_rules.proofs.TableLaws.{table_law, ascend_by_names}
 abbrev pub SameFaults : List Diagnostic → List Diagnostic → Type 0
 SameFaults ds es = (d : Diagnostic) → Contains ds d ↔ Contains es d
 
-pub class_answer : ChainLaws → MemberLaws → BodyLaws → (cs : List ClassDecl) (k : ClassDecl) (answer : ClassAnswerValue) → decl cs k.name ≡ Some k
+pub class_answer : ChainLaws → MemberLaws → BodyFaultLaws → (cs : List ClassDecl) (k : ClassDecl) (answer : ClassAnswerValue) → decl cs k.name ≡ Some k
     → answer.name ≡ k.name → answer.table ≡ table_of cs k.name → IsAscending answer.faults → SameFaults answer.faults (class_faults cs k) → IsAnswerFor cs answer
 class_answer chains members bodies cs k answer first name table ascending same = record {
   class = k;

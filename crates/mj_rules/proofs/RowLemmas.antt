@@ -2,16 +2,16 @@
 use Rattle.std.proofs.Common.{◌≡◌, ℕ, zero, suc, Bool, true, false, cond, List, [], ◌∷◌, map, slice_get, Option, Some, None, option_map, find, Contains, refl, sym, ap, ap₂, subst, ◌∙◌, bytes_eq, ◌||◌, ◌+◌, ◌++◌, drop, if◌then◌else◌}
 use Rattle.std.proofs.lemmas.Option.{none-some, same_Some}
 use Rattle.std.proofs.lemmas.Slice.Eq.{bytes_eq-Decides}
-use Rattle.mj_parser.specs.Trees.{Name, Method}
+use Rattle.mj_tree.specs.Trees.{Name, Method}
 use Rattle.mj_answer.specs.declared.diagnostic.Diagnostic.{Diagnostic}
-use Rattle.mj_answer.specs.Answers.{MethodRowValue}
+use Rattle.mj_answer.specs.AnswerValues.{MethodRowValue}
 use Rattle.mj_answer.proofs.Alike.{Contains-first, Contains-later}
 use Rattle.mj_classes.specs.Declarations.{ClassDecl}
 use Rattle.mj_classes.specs.Members.{nearest, or_farther, own_method}
 use Rattle.mj_classes.specs.Tables.{IsTable, methods_along}
 use Rattle.mj_classes.proofs.Tables.{is_table}
 use Rattle.mj_rules.specs.FaultLists.{fault, each_numbered, nearest_sig, override_faults, method_faults_of}
-use Rattle.mj_parser.specs.declared.place.Place.TheVariants as places
+use Rattle.mj_tree.specs.declared.place.Place.TheVariants as places
 use Rattle.mj_answer.specs.declared.code.Code.TheVariants.{E204}
 use Rattle.mj_answer.specs.Order.{NameBefore, IsAscendingByName}
 use Rattle.mj_answer.proofs.Compared.{ascends}

@@ -6,9 +6,9 @@ use Rattle.mj_lexer.specs.declared.token.Token.{Token}
 use Rattle.mj_lexer.specs.declared.lexer.LexFault.{LexFault}
 use Rattle.mj_lexer.specs.Lexing.{tokens_of, lexing_of}
 use Rattle.mj_lexer.proofs.Lexings.{Lexes-tokens_of}
-use Rattle.mj_parser.specs.Trees.{File}
-use Rattle.mj_parser.specs.Views.{file_view}
-use Rattle.mj_parser.specs.declared.tree.FileTree.{FileTree}
+use Rattle.mj_tree.specs.Trees.{File}
+use Rattle.mj_tree.specs.Views.{file_view}
+use Rattle.mj_tree.specs.declared.tree.FileTree.{FileTree}
 use Rattle.mj_parser.specs.Declarations.{Derives}
 use Rattle.mj_parser.specs.FileReading.{tree_of}
 use Rattle.mj_parser.specs.Laws.{GrammarLaws}

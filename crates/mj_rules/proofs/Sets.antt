@@ -5,8 +5,8 @@ use Rattle.std.specs.Ordering.{nat_cmp, ordering_then, ordering_reverse, match_o
 use Rattle.std.proofs.lemmas.Cmp.{nat_list_cmp_total, tied_itself}
 use Rattle.std.proofs.lemmas.Bool.Decides.{nat_tests}
 use Rattle.mj_answer.specs.declared.diagnostic.Diagnostic.{Diagnostic}
-use Rattle.mj_answer.specs.Codes.{number_of}
-use Rattle.mj_answer.specs.Order.{IsAscendingBy, IsStrictTotalOrder, NameBefore, Before, kind_of, name_in, number_in}
+use Rattle.mj_answer.specs.Codes.{code_number}
+use Rattle.mj_answer.specs.Order.{IsAscendingBy, IsStrictTotalOrder, NameBefore, Before, place_order, name_in, number_in}
 use Rattle.mj_answer.proofs.Alike.{Contains-cases, Contains-first, Contains-later}
 use Rattle.mj_answer.proofs.Orders.{names, faults}
 use Rattle.mj_rules.specs.Answering.{with_element, set_of, name_order, fault_order}
@@ -150,7 +150,7 @@ greater_decides e = cc
 
 -- the parts of the comparison
 abbrev kinds : Diagnostic → Diagnostic → Ordering
-kinds d e = nat_cmp (kind_of d.place) (kind_of e.place)
+kinds d e = nat_cmp (place_order d.place) (place_order e.place)
 
 abbrev names_in : Diagnostic → Diagnostic → Ordering
 names_in d e = name_order (name_in d.place) (name_in e.place)
@@ -159,7 +159,7 @@ abbrev numbers_in : Diagnostic → Diagnostic → Ordering
 numbers_in d e = nat_cmp (number_in d.place) (number_in e.place)
 
 abbrev codes_of : Diagnostic → Diagnostic → Ordering
-codes_of d e = nat_cmp (number_of d.code) (number_of e.code)
+codes_of d e = nat_cmp (code_number d.code) (code_number e.code)
 
 abbrev behind_names : Diagnostic → Diagnostic → Ordering
 behind_names d e = ordering_then (numbers_in d e) (codes_of d e)
@@ -168,30 +168,30 @@ abbrev behind_kinds : Diagnostic → Diagnostic → Ordering
 behind_kinds d e = ordering_then (names_in d e) (behind_names d e)
 
 fault_lt : (d e : Diagnostic) → Before d e → fault_order d e ≡ Less
-fault_lt d e (inl (inl h)) = at_first (kinds d e) (behind_kinds d e) Less (number_lt (kind_of d.place) (kind_of e.place) h) less_decides
-fault_lt d e (inl (inr (k, inl h))) = at_later (kinds d e) (behind_kinds d e) Less (number_eq (kind_of d.place) (kind_of e.place) k) (at_first (names_in d e) (behind_names d e) Less h less_decides)
+fault_lt d e (inl (inl h)) = at_first (kinds d e) (behind_kinds d e) Less (number_lt (place_order d.place) (place_order e.place) h) less_decides
+fault_lt d e (inl (inr (k, inl h))) = at_later (kinds d e) (behind_kinds d e) Less (number_eq (place_order d.place) (place_order e.place) k) (at_first (names_in d e) (behind_names d e) Less h less_decides)
 fault_lt d e (inl (inr (k, inr (n, h)))) =
-    at_later (kinds d e) (behind_kinds d e) Less (number_eq (kind_of d.place) (kind_of e.place) k) (at_later (names_in d e) (behind_names d e) Less (name_eq (name_in d.place) (name_in e.place) n)
+    at_later (kinds d e) (behind_kinds d e) Less (number_eq (place_order d.place) (place_order e.place) k) (at_later (names_in d e) (behind_names d e) Less (name_eq (name_in d.place) (name_in e.place) n)
     (at_first (numbers_in d e) (codes_of d e) Less (number_lt (number_in d.place) (number_in e.place) h) less_decides))
 fault_lt d e (inr (p, h)) =
-    at_later (kinds d e) (behind_kinds d e) Less (number_eq (kind_of d.place) (kind_of e.place) (ap kind_of p)) (at_later (names_in d e) (behind_names d e) Less (name_eq (name_in d.place) (name_in e.place) (ap name_in p))
-    (at_later (numbers_in d e) (codes_of d e) Less (number_eq (number_in d.place) (number_in e.place) (ap number_in p)) (number_lt (number_of d.code) (number_of e.code) h)))
+    at_later (kinds d e) (behind_kinds d e) Less (number_eq (place_order d.place) (place_order e.place) (ap place_order p)) (at_later (names_in d e) (behind_names d e) Less (name_eq (name_in d.place) (name_in e.place) (ap name_in p))
+    (at_later (numbers_in d e) (codes_of d e) Less (number_eq (number_in d.place) (number_in e.place) (ap number_in p)) (number_lt (code_number d.code) (code_number e.code) h)))
 
 fault_gt : (d e : Diagnostic) → Before e d → fault_order d e ≡ Greater
-fault_gt d e (inl (inl h)) = at_first (kinds d e) (behind_kinds d e) Greater (number_gt (kind_of d.place) (kind_of e.place) h) greater_decides
+fault_gt d e (inl (inl h)) = at_first (kinds d e) (behind_kinds d e) Greater (number_gt (place_order d.place) (place_order e.place) h) greater_decides
 fault_gt d e (inl (inr (k, inl h))) =
-    at_later (kinds d e) (behind_kinds d e) Greater (number_eq (kind_of d.place) (kind_of e.place) (sym k)) (at_first (names_in d e) (behind_names d e) Greater (name_gt (name_in d.place) (name_in e.place) h) greater_decides)
+    at_later (kinds d e) (behind_kinds d e) Greater (number_eq (place_order d.place) (place_order e.place) (sym k)) (at_first (names_in d e) (behind_names d e) Greater (name_gt (name_in d.place) (name_in e.place) h) greater_decides)
 fault_gt d e (inl (inr (k, inr (n, h)))) =
-    at_later (kinds d e) (behind_kinds d e) Greater (number_eq (kind_of d.place) (kind_of e.place) (sym k)) (at_later (names_in d e) (behind_names d e) Greater (name_eq (name_in d.place) (name_in e.place) (sym n))
+    at_later (kinds d e) (behind_kinds d e) Greater (number_eq (place_order d.place) (place_order e.place) (sym k)) (at_later (names_in d e) (behind_names d e) Greater (name_eq (name_in d.place) (name_in e.place) (sym n))
     (at_first (numbers_in d e) (codes_of d e) Greater (number_gt (number_in d.place) (number_in e.place) h) greater_decides))
 fault_gt d e (inr (p, h)) =
-    at_later (kinds d e) (behind_kinds d e) Greater (number_eq (kind_of d.place) (kind_of e.place) (sym (ap kind_of p))) (at_later (names_in d e) (behind_names d e) Greater (name_eq (name_in d.place) (name_in e.place) (sym (ap name_in p)))
-    (at_later (numbers_in d e) (codes_of d e) Greater (number_eq (number_in d.place) (number_in e.place) (sym (ap number_in p))) (number_gt (number_of d.code) (number_of e.code) h)))
+    at_later (kinds d e) (behind_kinds d e) Greater (number_eq (place_order d.place) (place_order e.place) (sym (ap place_order p))) (at_later (names_in d e) (behind_names d e) Greater (name_eq (name_in d.place) (name_in e.place) (sym (ap name_in p)))
+    (at_later (numbers_in d e) (codes_of d e) Greater (number_eq (number_in d.place) (number_in e.place) (sym (ap number_in p))) (number_gt (code_number d.code) (code_number e.code) h)))
 
 fault_eq : (d : Diagnostic) → fault_order d d ≡ Equal
 fault_eq d =
-    at_later (kinds d d) (behind_kinds d d) Equal (number_eq (kind_of d.place) (kind_of d.place) refl) (at_later (names_in d d) (behind_names d d) Equal (name_eq (name_in d.place) (name_in d.place) refl)
-    (at_later (numbers_in d d) (codes_of d d) Equal (number_eq (number_in d.place) (number_in d.place) refl) (number_eq (number_of d.code) (number_of d.code) refl)))
+    at_later (kinds d d) (behind_kinds d d) Equal (number_eq (place_order d.place) (place_order d.place) refl) (at_later (names_in d d) (behind_names d d) Equal (name_eq (name_in d.place) (name_in d.place) refl)
+    (at_later (numbers_in d d) (codes_of d d) Equal (number_eq (number_in d.place) (number_in d.place) refl) (number_eq (code_number d.code) (code_number d.code) refl)))
 
 pub faults_compare : Compares fault_order Before
 faults_compare = from_trichotomy fault_order Before faults fault_lt fault_eq fault_gt

@@ -2,15 +2,15 @@
 use Rattle.std.proofs.Common.{◌≡◌, ℕ, zero, suc, ◌+◌, ◌<◌, ◌≤◌, Bool, true, false, not, ◌&&◌, ◌||◌, List, [], ◌∷◌, ◌++◌, length, get_or, drop, slice_get, Option, Some, None, option_map, refl, sym, ap, ap₂, ◌∙◌, arith, append_assoc, append-nil, ◌⊎◌, inl, inr, if◌then◌else◌}
 use Rattle.std.proofs.Math.Bool.{or_assoc}
 use Rattle.std.proofs.lemmas.Option.{none-some, same_Some, slice_get-get_or, slice_get_read, get_or_from_slice_get}
-use Rattle.mj_parser.specs.declared.tree.FileTree.{FileTree}
-use Rattle.mj_parser.specs.declared.tree.Ty.{Ty}
-use Rattle.mj_parser.specs.declared.tree.Variable.{Variable}
-use Rattle.mj_parser.specs.Views.{file_view}
+use Rattle.mj_tree.specs.declared.tree.FileTree.{FileTree}
+use Rattle.mj_tree.specs.declared.tree.Ty.{Ty}
+use Rattle.mj_tree.specs.declared.tree.Variable.{Variable}
+use Rattle.mj_tree.specs.Views.{file_view}
 use Rattle.mj_classes.specs.Classes.{tree_view, class_ref_view, files_view}
 use Rattle.mj_classes.specs.declared.class.Tree.{Tree}
 use Rattle.mj_classes.specs.declared.class.Tree.TheVariants.{Main, Plain}
 use Rattle.mj_classes.specs.declared.class.ClassRef.{ClassRef}
-use Rattle.mj_parser.specs.declared.place.Place.TheVariants.{Project, ClassOf}
+use Rattle.mj_tree.specs.declared.place.Place.TheVariants.{Project, ClassOf}
 use Rattle.mj_answer.specs.declared.code.Code.TheVariants.{E102, E104}
 use Rattle.mj_answer.specs.declared.diagnostic.Diagnostic.{Diagnostic}
 use Rattle.mj_project.specs.Projects.{SourceFile}

@@ -1,9 +1,9 @@
 -- What the declarations say is what chains and members are.
 use Rattle.std.proofs.Common.{◌≡◌, true, List, Option, Some, None, option_map, is_some, Contains, refl, sym, ap, ◌∙◌, true≢false}
 use Rattle.std.proofs.lemmas.Option.{none-some, same_Some}
-use Rattle.mj_parser.specs.Trees.{Name, Method}
-use Rattle.mj_parser.specs.declared.tree.Ty.{Ty}
-use Rattle.mj_parser.specs.declared.tree.Field.{Field}
+use Rattle.mj_tree.specs.Trees.{Name, Method}
+use Rattle.mj_tree.specs.declared.tree.Ty.{Ty}
+use Rattle.mj_tree.specs.declared.tree.Field.{Field}
 use Rattle.mj_classes.specs.Declarations.{ClassDecl, decl}
 use Rattle.mj_classes.specs.Chains.{EndOf, Chain, IsChain, chain_of, chain_names, is_in}
 use Rattle.mj_classes.specs.Members.{FieldOf, MethodOf, field_of, method_of}

@@ -3,11 +3,11 @@ use Rattle.std.specs.Prelude.{List, [], ◌∷◌, map, filter_map}
 use Rattle.std.specs.Ordering.{nat_cmp, ordering_then, match_ordering}
 use Rattle.std.specs.Cmp.Lexicographic.{slice_cmp}
 use Rattle.std.specs.declared.cmp.Ordering.{Ordering}
-use Rattle.mj_parser.specs.Trees.{Name}
+use Rattle.mj_tree.specs.Trees.{Name}
 use Rattle.mj_answer.specs.declared.diagnostic.Diagnostic.{Diagnostic}
-use Rattle.mj_answer.specs.Answers.{ClassAnswerValue, AnswerValue}
-use Rattle.mj_answer.specs.Codes.{number_of}
-use Rattle.mj_answer.specs.Order.{kind_of, name_in, number_in}
+use Rattle.mj_answer.specs.AnswerValues.{ClassAnswerValue, AnswerValue}
+use Rattle.mj_answer.specs.Codes.{code_number}
+use Rattle.mj_answer.specs.Order.{place_order, name_in, number_in}
 use Rattle.mj_classes.specs.Declarations.{ClassDecl, decl}
 use Rattle.mj_project.specs.Projects.{SourceFile}
 use Rattle.mj_rules.specs.Sentences.{classes_in}
@@ -18,7 +18,8 @@ use Rattle.mj_rules.specs.FaultLists.{project_faults, class_faults, class_names}
 
 abbrev pub with_element : {X : Type 0} → (X → X → Ordering) → X → List X → List X
 with_element compare x [] = x ∷ []
-with_element compare x (y ∷ ys) = match_ordering (compare x y) (x ∷ y ∷ ys) (y ∷ ys) (y ∷ with_element compare x ys)
+with_element compare x (y ∷ ys) =
+    match_ordering (compare x y) (x ∷ y ∷ ys) (y ∷ ys) (y ∷ with_element compare x ys)
 
 abbrev pub set_of : {X : Type 0} → (X → X → Ordering) → List X → List X
 set_of compare [] = []
@@ -31,13 +32,17 @@ name_order m n = slice_cmp nat_cmp m n
 -- faults by the kind of their place, the name in it, the number in it, then the code
 abbrev pub fault_order : Diagnostic → Diagnostic → Ordering
 fault_order d e =
-    ordering_then (nat_cmp (kind_of d.place) (kind_of e.place)) (ordering_then (name_order (name_in d.place) (name_in e.place))
-    (ordering_then (nat_cmp (number_in d.place) (number_in e.place)) (nat_cmp (number_of d.code) (number_of e.code))))
+    ordering_then (nat_cmp (place_order d.place) (place_order e.place)) (ordering_then (name_order (name_in d.place) (name_in e.place))
+    (ordering_then (nat_cmp (number_in d.place) (number_in e.place)) (nat_cmp (code_number d.code) (code_number e.code))))
 
 -- ---- answers
 
 abbrev pub class_answer : List ClassDecl → ClassDecl → ClassAnswerValue
-class_answer cs k = record { name = k.name; table = table_of cs k.name; faults = set_of fault_order (class_faults cs k) }
+class_answer cs k = record {
+  name = k.name;
+  table = table_of cs k.name;
+  faults = set_of fault_order (class_faults cs k);
+}
 
 -- the first class of each name, in the order of the names
 abbrev pub first_classes : List ClassDecl → List ClassDecl
@@ -45,4 +50,7 @@ first_classes cs = filter_map (decl cs) (set_of name_order (class_names cs))
 
 -- the answer that the rules give
 unfoldable pub rules_of : List SourceFile → AnswerValue
-rules_of files = record { faults = set_of fault_order (project_faults files); classes = map (class_answer (classes_in files)) (first_classes (classes_in files)) }
+rules_of files = record {
+  faults = set_of fault_order (project_faults files);
+  classes = map (class_answer (classes_in files)) (first_classes (classes_in files));
+}

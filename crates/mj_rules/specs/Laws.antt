@@ -1,9 +1,9 @@
 -- What holds of the definitions.
 use Rattle.std.specs.Prelude.{◌≡◌, ◌↔◌, ℕ, List, Some, Contains}
-use Rattle.mj_parser.specs.Trees.{Name, Method, Main, File}
-use Rattle.mj_parser.specs.declared.place.Place.{Place}
+use Rattle.mj_tree.specs.Trees.{Name, Method, Main, File}
+use Rattle.mj_tree.specs.declared.place.Place.{Place}
 use Rattle.mj_answer.specs.declared.code.Code.{Code}
-use Rattle.mj_answer.specs.Answers.{AnswerValue}
+use Rattle.mj_answer.specs.AnswerValues.{AnswerValue}
 use Rattle.mj_classes.specs.Declarations.{ClassDecl, decl}
 use Rattle.mj_typing.specs.declared.verdict.Mistake.{Mistake}
 use Rattle.mj_typing.specs.Inquiries.{World}
@@ -23,10 +23,14 @@ SentenceLaw = (bytes : List ℕ) (tree : File) → IsSentence bytes tree ↔ (fi
 
 -- the lists have just the faults of the rows
 abbrev pub ProjectFaultLaw : Type 0
-ProjectFaultLaw = (files : List SourceFile) (place : Place) (code : Code) → Contains (project_faults files) (fault place code) ↔ FaultOfProject files place code
+ProjectFaultLaw =
+    (files : List SourceFile) (place : Place) (code : Code)
+        → Contains (project_faults files) (fault place code) ↔ FaultOfProject files place code
 
 abbrev pub ClassFaultLaw : Type 0
-ClassFaultLaw = (cs : List ClassDecl) (k : ClassDecl) → decl cs k.name ≡ Some k → (place : Place) (code : Code) → Contains (class_faults cs k) (fault place code) ↔ FaultOfClass cs k place code
+ClassFaultLaw =
+    (cs : List ClassDecl) (k : ClassDecl) → decl cs k.name ≡ Some k → (place : Place) (code : Code)
+        → Contains (class_faults cs k) (fault place code) ↔ FaultOfClass cs k place code
 
 -- what the check of a body is told is what chains and members are
 abbrev pub WorldLaw : Type 0
@@ -34,8 +38,11 @@ WorldLaw = (cs : List ClassDecl) → Says cs (world_of cs)
 
 -- the computed answer is the only one that the rules give
 abbrev pub AnswerLaw : Type 0
-AnswerLaw = (files : List SourceFile) (answer : AnswerValue) → Rules files answer ↔ (answer ≡ rules_of files)
+AnswerLaw =
+    (files : List SourceFile) (answer : AnswerValue)
+        → Rules files answer ↔ (answer ≡ rules_of files)
 
-pub record BodyLaws : Type 0 where
-  pub method : (w : World) (class : Name) (m : Method) (x : Mistake) → MethodFault w class m x ↔ Contains (method_faults w class m) x
+pub record BodyFaultLaws : Type 0 where
+  pub method : (w : World) (class : Name) (m : Method) (x : Mistake)
+      → MethodFault w class m x ↔ Contains (method_faults w class m) x
   pub main : (w : World) (m : Main) (x : Mistake) → MainFault w m x ↔ Contains (main_faults w m) x

@@ -1,4 +1,4 @@
-pub mod Answers
+pub mod AnswerWords
 pub mod Sentences
 pub mod ProjectFaults
 pub mod Worlds

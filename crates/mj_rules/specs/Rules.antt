@@ -1,12 +1,12 @@
 -- The answer that the static rules give a project.
 use Rattle.std.specs.Prelude.{◌≡◌, ◌↔◌, List, map, Some, All, Contains}
-use Rattle.mj_parser.specs.Trees.{Name, Method}
-use Rattle.mj_parser.specs.declared.place.Place.{Place}
-use Rattle.mj_parser.specs.declared.tree.Field.{Field}
+use Rattle.mj_tree.specs.Trees.{Name, Method}
+use Rattle.mj_tree.specs.declared.place.Place.{Place}
+use Rattle.mj_tree.specs.declared.tree.Field.{Field}
 use Rattle.mj_answer.specs.declared.code.Code.{Code}
 use Rattle.mj_answer.specs.declared.diagnostic.Diagnostic.{Diagnostic}
 use Rattle.mj_answer.specs.declared.table.FieldRow.{FieldRow}
-use Rattle.mj_answer.specs.Answers.{MethodRowValue, ClassTableValue, ClassAnswerValue, AnswerValue}
+use Rattle.mj_answer.specs.AnswerValues.{MethodRowValue, ClassTableValue, ClassAnswerValue, AnswerValue}
 use Rattle.mj_answer.specs.Order.{IsAscending, IsAscendingByName}
 use Rattle.mj_classes.specs.Declarations.{ClassDecl, decl}
 use Rattle.mj_classes.specs.Members.{FieldOf, MethodOf}
@@ -18,7 +18,8 @@ use Rattle.mj_rules.specs.ClassFaults.{FaultOfClass}
 -- the faults, each once, in ascending order
 pub record AreTheFaults (Fault : Place → Code → Type 0) (faults : List Diagnostic) : Type 0 where
   pub ascending : IsAscending faults
-  pub exactly : (place : Place) (code : Code) → Contains faults (record { place = place; code = code }) ↔ Fault place code
+  pub exactly : (place : Place) (code : Code)
+      → Contains faults (record { place = place; code = code }) ↔ Fault place code
 
 -- the row of a field that a class has, and that of a method
 pub record IsFieldOf (cs : List ClassDecl) (c : Name) (row : FieldRow) : Type 0 where

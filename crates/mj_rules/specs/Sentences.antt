@@ -3,7 +3,7 @@ use Rattle.std.specs.Prelude.{ℕ, List, map, Option, option_and_then}
 use Rattle.mj_lexer.specs.declared.token.Token.{Token}
 use Rattle.mj_lexer.specs.Lexes.{Lexes}
 use Rattle.mj_lexer.specs.Lexing.{tokens_of}
-use Rattle.mj_parser.specs.Trees.{File}
+use Rattle.mj_tree.specs.Trees.{File}
 use Rattle.mj_parser.specs.Declarations.{Derives}
 use Rattle.mj_parser.specs.FileReading.{tree_of}
 use Rattle.mj_classes.specs.Declarations.{ClassDecl, declarations}

@@ -1,8 +1,8 @@
 -- What the declarations of a project say to the check of a body.
 use Rattle.std.specs.Prelude.{◌≡◌, ◌↔◌, List, map, Some, option_map, is_some, true, Contains}
-use Rattle.mj_parser.specs.Trees.{Name, Method}
-use Rattle.mj_parser.specs.declared.tree.Ty.{Ty}
-use Rattle.mj_parser.specs.declared.tree.Field.{Field}
+use Rattle.mj_tree.specs.Trees.{Name, Method}
+use Rattle.mj_tree.specs.declared.tree.Ty.{Ty}
+use Rattle.mj_tree.specs.declared.tree.Field.{Field}
 use Rattle.mj_classes.specs.Declarations.{ClassDecl, decl}
 use Rattle.mj_classes.specs.Chains.{EndOf, IsChain, chain_of, chain_names, is_in}
 use Rattle.mj_classes.specs.Members.{FieldOf, MethodOf, field_of, method_of}
@@ -22,7 +22,13 @@ world_of cs = record {
 
 -- what a world says is what chains and members are
 pub record Says (cs : List ClassDecl) (w : World) : Type 0 where
-  pub descends : (c d : Name) → (w.descends c d ≡ true) ↔ ((chain : List Name) × (end : EndOf) × IsChain cs c chain end × Contains chain d)
-  pub field : (c x : Name) (t : Ty) → (w.field c x ≡ Some t) ↔ ((owner : Name) × (f : Field) × FieldOf cs c x owner f × (f.ty ≡ t))
-  pub method : (c m : Name) (sig : Sig) → (w.method c m ≡ Some sig) ↔ ((owner : Name) × (f : Method) × MethodOf cs c m owner f × (sig_of f ≡ sig))
+  pub descends : (c d : Name)
+      → (w.descends c d ≡ true)
+            ↔ ((chain : List Name) × (end : EndOf) × IsChain cs c chain end × Contains chain d)
+  pub field : (c x : Name) (t : Ty)
+      → (w.field c x ≡ Some t)
+            ↔ ((owner : Name) × (f : Field) × FieldOf cs c x owner f × (f.ty ≡ t))
+  pub method : (c m : Name) (sig : Sig)
+      → (w.method c m ≡ Some sig)
+            ↔ ((owner : Name) × (f : Method) × MethodOf cs c m owner f × (sig_of f ≡ sig))
   pub is_declared : (c : Name) → (w.is_declared c ≡ true) ↔ ((k : ClassDecl) × (decl cs c ≡ Some k))

@@ -2,13 +2,14 @@
 ghost use Rattle.std.specs.Prelude.{◌≡◌, ◌≢◌, None, IfOk, option_map};
 ghost use Rattle.mj_lexer.specs.declared.lexer.LexFault.TheVariants as lexing;
 ghost use Rattle.mj_parser.specs.declared.fault.ParseFault.TheVariants as parsing;
-ghost use Rattle.mj_parser.specs.Views.{file_view};
+ghost use Rattle.mj_tree.specs.Views.{file_view};
 ghost use Rattle.mj_classes.specs.Classes.{files_view};
 ghost use Rattle.mj_rules.specs.Sentences.{file_of, trees_of};
 
 use mj_lexer::{LexFault, lex};
-use mj_parser::{FileTree, ParseFault, parse};
+use mj_parser::{ParseFault, parse};
 use mj_project::Project;
+use mj_tree::FileTree;
 use std::alloc::{AllocError, Global};
 
 /// A text that isn't cut into tokens is no sentence.

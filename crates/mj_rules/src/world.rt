@@ -7,7 +7,7 @@ ghost use Rattle.mj_classes.specs.Classes.{class_ref_view};
 use crate::tables::{copy_type, formal_types};
 use mj_classes::{ClassRef, Declarations};
 use mj_lexer::Name;
-use mj_parser::Ty;
+use mj_tree::Ty;
 use mj_typing::Signature;
 use std::alloc::{AllocError, Global};
 
@@ -32,7 +32,8 @@ impl Signature for MethodTypes {
 
 /// Whether a class of this name is among the classes.
 fn has_class(classes: &[ClassRef], name: &Name) -> bool
-    ensures { result ≡ list_any (λ class. bytes_eq (class_ref_view class).name name.now) classes.now }
+    ensures { result
+        ≡ list_any (λ class. bytes_eq (class_ref_view class).name name.now) classes.now }
 {
     classes.iter().any(|class| class.name() == name)
 }
@@ -43,7 +44,7 @@ pub struct World<'d, 'a> {
     pub declarations: &'d Declarations<'a>,
 }
 
-impl<'d, 'a> mj_typing::Declarations for World<'d, 'a> {
+impl<'d, 'a> mj_typing::Environment for World<'d, 'a> {
     ghost use Rattle.mj_classes.specs.Index.{declared_in};
     ghost use Rattle.mj_rules.specs.Worlds.{world_of};
 

@@ -3,14 +3,14 @@ use Rattle.std.proofs.Common.{◌≡◌, ℕ, zero, suc, ◌+◌, ◌<◌, ◌�
 use Rattle.std.proofs.Math.Seq.{drop-nil}
 use Rattle.std.proofs.lemmas.Bool.{eq-eqb, ne_eqb}
 use Rattle.std.specs.Prelude.{nat_eq}
-use Rattle.mj_parser.specs.declared.tree.Ty.{Ty}
+use Rattle.mj_tree.specs.declared.tree.Ty.{Ty}
 use Rattle.mj_answer.specs.declared.code.Code.{Code}
 use Rattle.mj_answer.specs.declared.code.Code.TheVariants.{E312, E313}
 use Rattle.mj_typing.specs.declared.verdict.Verdict.{Verdict}
 use Rattle.mj_typing.specs.declared.verdict.Verdict.TheVariants.{Wrong}
 use Rattle.mj_typing.specs.Inquiries.{Sig, Inquiry, Concludes, AsksDescent, AsksField, AsksMethod, AsksDeclared, and_then}
 use Rattle.mj_typing.specs.Phrases.{demand, demand_asked, is}
-use Rattle.mj_typing.specs.Steps.{Check, Goes, GivesUp}
+use Rattle.mj_typing.specs.Steps.{Check, Proceeds, Aborts}
 use Rattle.mj_typing.specs.Table.{accepts, accepts_all, called}
 
 pub and_then-and_then : {R S T : Type 0} (m : Inquiry R) (f : R → Inquiry S) (g : S → Inquiry T) → and_then (and_then m f) g ≡ and_then m (λ r. and_then (f r) g)
@@ -22,14 +22,14 @@ and_then-and_then (AsksDeclared c k) f g = λ i. AsksDeclared c (λ a. and_then-
 
 module _ {S : Type 0} (stands : S → Check → Check → Type 0) where
   -- a demand that the declarations decide
-  pub goes_demand : (m : Inquiry Bool) (code : Code) (next : Inquiry Verdict) (ok : Bool) (v : Verdict) (old new : S) → Goes stands (and_then m) old ok new → demand ok code next ≡ Concludes v → Goes stands (and_then (demand_asked m code next)) old v new
+  pub goes_demand : (m : Inquiry Bool) (code : Code) (next : Inquiry Verdict) (ok : Bool) (v : Verdict) (old new : S) → Proceeds stands (and_then m) old ok new → demand ok code next ≡ Concludes v → Proceeds stands (and_then (demand_asked m code next)) old v new
   goes_demand m code next ok v old new g e = record {
     goes = λ start k h.
         subst (λ x. stands new start (and_then x k)) e
         (g.goes start (λ ok. and_then (demand ok code next) k) (subst (stands old start) (and_then-and_then m (λ ok. demand ok code next) k) h));
   }
 
-  pub up_demand : {E : Type 0} (halts : S → Check → E → Type 0) (m : Inquiry Bool) (code : Code) (next : Inquiry Verdict) (e : E) (old new : S) → GivesUp stands halts (and_then m) old e new → GivesUp stands halts (and_then (demand_asked m code next)) old e new
+  pub up_demand : {E : Type 0} (halts : S → Check → E → Type 0) (m : Inquiry Bool) (code : Code) (next : Inquiry Verdict) (e : E) (old new : S) → Aborts stands halts (and_then m) old e new → Aborts stands halts (and_then (demand_asked m code next)) old e new
   up_demand halts m code next e old new g = record {
     ends = λ start k h. g.ends start (λ ok. and_then (demand ok code next) k) (subst (stands old start) (and_then-and_then m (λ ok. demand ok code next) k) h);
   }
@@ -46,13 +46,13 @@ err_is P out (Err e) h p = subst P (sym h) p
 
 module _ {S E : Type 0} (stands : S → Check → Check → Type 0) (halts : S → Check → E → Type 0) (out : E) (wanting : (s : S) (start now : Check) → stands s start now → halts s start out) where
   -- memory may be wanting after a step
-  pub memory : {X : Type 0} (step : (X → Check) → Check) (old : S) (x : X) (new : S) → Goes stands step old x new → GivesUp stands halts step old out new
+  pub memory : {X : Type 0} (step : (X → Check) → Check) (old : S) (x : X) (new : S) → Proceeds stands step old x new → Aborts stands halts step old out new
   memory step old x new g = record { ends = λ start k h. wanting new start (k x) (g.goes start k h) }
 
   -- it may be wanting after the first part of a step
-  pub memory_inside : {A X Y : Type 0} (whole : (Y → Check) → Check) (step : (X → Check) → Check) (rest : (Y → Check) → X → Check) → ((k : Y → Check) → whole k ≡ step (rest k)) → (old : S) (x : X) (new : S) → Goes stands step old x new → (r : Result A E) → IfErr r (λ e. e ≡ out) → IfErr r (λ e. GivesUp stands halts whole old e new)
+  pub memory_inside : {A X Y : Type 0} (whole : (Y → Check) → Check) (step : (X → Check) → Check) (rest : (Y → Check) → X → Check) → ((k : Y → Check) → whole k ≡ step (rest k)) → (old : S) (x : X) (new : S) → Proceeds stands step old x new → (r : Result A E) → IfErr r (λ e. e ≡ out) → IfErr r (λ e. Aborts stands halts whole old e new)
   memory_inside whole step rest same old x new g r h =
-      err_is (λ e. GivesUp stands halts whole old e new) out r h
+      err_is (λ e. Aborts stands halts whole old e new) out r h
       (record { ends = λ start k w. wanting new start (rest k x) (g.goes start (rest k) (subst (stands old start) (same k) w)) })
 
 -- ---- calls
@@ -64,18 +64,18 @@ module _ {S E : Type 0} (stands : S → Check → Check → Type 0) (halts : S �
   as_many same start k h =
       subst (λ b. stands old start (and_then (cond b (demand_asked (accepts_all ts s.formals) E313 (is s.returns)) (Concludes (Wrong E312))) k)) (eq-eqb (length ts) (length s.formals) same) h
 
-  pub goes_called : (us : List Ty) (ok : Bool) (v : Verdict) (new : S) → us ≡ s.formals → length ts ≡ length us → Goes stands (and_then (accepts_all ts us)) old ok new → demand ok E313 (is s.returns) ≡ Concludes v → Goes stands (and_then (called s ts)) old v new
+  pub goes_called : (us : List Ty) (ok : Bool) (v : Verdict) (new : S) → us ≡ s.formals → length ts ≡ length us → Proceeds stands (and_then (accepts_all ts us)) old ok new → demand ok E313 (is s.returns) ≡ Concludes v → Proceeds stands (and_then (called s ts)) old v new
   goes_called us ok v new u same l e =
-      let l' : Goes stands (and_then (accepts_all ts s.formals)) old ok new = subst (λ us. Goes stands (and_then (accepts_all ts us)) old ok new) u l in
+      let l' : Proceeds stands (and_then (accepts_all ts s.formals)) old ok new = subst (λ us. Proceeds stands (and_then (accepts_all ts us)) old ok new) u l in
       record { goes = λ start k h. (goes_demand stands (accepts_all ts s.formals) E313 (is s.returns) ok v old new l' e).goes start k (as_many (same ∙ ap length u) start k h) }
 
-  pub up_called : (us : List Ty) (e : E) (new : S) → us ≡ s.formals → length ts ≡ length us → GivesUp stands halts (and_then (accepts_all ts us)) old e new → GivesUp stands halts (and_then (called s ts)) old e new
+  pub up_called : (us : List Ty) (e : E) (new : S) → us ≡ s.formals → length ts ≡ length us → Aborts stands halts (and_then (accepts_all ts us)) old e new → Aborts stands halts (and_then (called s ts)) old e new
   up_called us e new u same l =
-      let l' : GivesUp stands halts (and_then (accepts_all ts s.formals)) old e new = subst (λ us. GivesUp stands halts (and_then (accepts_all ts us)) old e new) u l in
+      let l' : Aborts stands halts (and_then (accepts_all ts s.formals)) old e new = subst (λ us. Aborts stands halts (and_then (accepts_all ts us)) old e new) u l in
       record { ends = λ start k h. (up_demand stands halts (accepts_all ts s.formals) E313 (is s.returns) e old new l').ends start k (as_many (same ∙ ap length u) start k h) }
 
 module _ {S : Type 0} (stands : S → Check → Check → Type 0) where
-  pub goes_miscounted : (s : Sig) (ts us : List Ty) (old : S) → us ≡ s.formals → (length ts ≡ length us → ⊥) → Goes stands (and_then (called s ts)) old (Wrong E312) old
+  pub goes_miscounted : (s : Sig) (ts us : List Ty) (old : S) → us ≡ s.formals → (length ts ≡ length us → ⊥) → Proceeds stands (and_then (called s ts)) old (Wrong E312) old
   unfolding called
   goes_miscounted s ts us old u other =
       let off : nat_eq (length ts) (length s.formals) ≡ false = ne_eqb (length ts) (length s.formals) (λ e. other (e ∙ ap length (sym u))) in
@@ -108,7 +108,7 @@ module _ {S E : Type 0} (stands : S → Check → Check → Type 0) (halts : S �
       ∙ ap (λ ys. and_then (accepts_all (t ∷ drop (i + 1) ts) ys) k) (front_at us i u j f)
       ∙ and_then-and_then (accepts t u) (λ ok. cond ok (accepts_all (drop (i + 1) ts) (drop (i + 1) us)) (Concludes false)) k
 
-  pub left_more : (i : ℕ) (t u : Ty) (ok : Bool) (mid new : S) → Left i mid → i < length ts → length ts ≡ length us → t ≡ get_or ts i t → u ≡ get_or us i u → Goes stands (and_then (accepts t u)) mid ok new → ok ≡ true → Left (i + 1) new
+  pub left_more : (i : ℕ) (t u : Ty) (ok : Bool) (mid new : S) → Left i mid → i < length ts → length ts ≡ length us → t ≡ get_or ts i t → u ≡ get_or us i u → Proceeds stands (and_then (accepts t u)) mid ok new → ok ≡ true → Left (i + 1) new
   left_more i t u ok mid new l h same e f g said = record {
     comes = λ start k w.
         subst (λ b. stands new start (and_then (cond b (accepts_all (drop (i + 1) ts) (drop (i + 1) us)) (Concludes false)) k)) said
@@ -116,7 +116,7 @@ module _ {S E : Type 0} (stands : S → Check → Check → Type 0) (halts : S �
         (subst (stands mid start) (one_more i t u h (omega (arith, h, same)) e f k) (l.comes start k w)));
   }
 
-  pub left_refused : (i : ℕ) (t u : Ty) (ok : Bool) (mid new : S) → Left i mid → i < length ts → length ts ≡ length us → t ≡ get_or ts i t → u ≡ get_or us i u → Goes stands (and_then (accepts t u)) mid ok new → ok ≡ false → Goes stands (and_then (accepts_all ts us)) old false new
+  pub left_refused : (i : ℕ) (t u : Ty) (ok : Bool) (mid new : S) → Left i mid → i < length ts → length ts ≡ length us → t ≡ get_or ts i t → u ≡ get_or us i u → Proceeds stands (and_then (accepts t u)) mid ok new → ok ≡ false → Proceeds stands (and_then (accepts_all ts us)) old false new
   left_refused i t u ok mid new l h same e f g said = record {
     goes = λ start k w.
         subst (λ b. stands new start (and_then (cond b (accepts_all (drop (i + 1) ts) (drop (i + 1) us)) (Concludes false)) k)) said
@@ -124,14 +124,14 @@ module _ {S E : Type 0} (stands : S → Check → Check → Type 0) (halts : S �
         (subst (stands mid start) (one_more i t u h (omega (arith, h, same)) e f k) (l.comes start k w)));
   }
 
-  pub left_up : (i : ℕ) (t u : Ty) (e : E) (mid new : S) → Left i mid → i < length ts → length ts ≡ length us → t ≡ get_or ts i t → u ≡ get_or us i u → GivesUp stands halts (and_then (accepts t u)) mid e new → GivesUp stands halts (and_then (accepts_all ts us)) old e new
+  pub left_up : (i : ℕ) (t u : Ty) (e : E) (mid new : S) → Left i mid → i < length ts → length ts ≡ length us → t ≡ get_or ts i t → u ≡ get_or us i u → Aborts stands halts (and_then (accepts t u)) mid e new → Aborts stands halts (and_then (accepts_all ts us)) old e new
   left_up i t u e mid new l h same is js g = record {
     ends = λ start k w.
         g.ends start (λ ok. and_then (cond ok (accepts_all (drop (i + 1) ts) (drop (i + 1) us)) (Concludes false)) k)
         (subst (stands mid start) (one_more i t u h (omega (arith, h, same)) is js k) (l.comes start k w));
   }
 
-  pub left_none : (i : ℕ) (new : S) → Left i new → length ts ≤ i → Goes stands (and_then (accepts_all ts us)) old true new
+  pub left_none : (i : ℕ) (new : S) → Left i new → length ts ≤ i → Proceeds stands (and_then (accepts_all ts us)) old true new
   unfolding accepts_all
   left_none i new l h = record {
     goes = λ start k w. subst (λ xs. stands new start (and_then (accepts_all xs (drop i us)) k)) (at_end ts i h) (l.comes start k w);

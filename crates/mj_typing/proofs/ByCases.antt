@@ -2,12 +2,12 @@
 use Rattle.std.proofs.Common.{◌≡◌, ℕ, suc, nat_le, Bool, true, false, cond, ◌&&◌, List, [], ◌∷◌, length, Option, Some, None, refl, sym, ap, ◌∙◌, subst, arith, inl, inr}
 use Rattle.std.proofs.lemmas.Bool.{leb-true, le-leb, eq-eqb, eqb-true}
 use Rattle.std.specs.Prelude.{nat_eq}
-use Rattle.mj_parser.specs.Trees.{Name, Expression, Expressions, Binary, Index, Length, Call, Literal, Boolean, Named, This, NewArray, NewObject, Not, Parenthesized, none, more}
-use Rattle.mj_parser.specs.declared.tree.Operator.{Operator}
-use Rattle.mj_parser.specs.declared.tree.Operator.TheVariants.{And, Less, Plus, Minus, Times}
-use Rattle.mj_parser.specs.declared.tree.Ty.{Ty}
-use Rattle.mj_parser.specs.declared.tree.Ty.TheVariants as ty
-use Rattle.mj_parser.specs.declared.tree.Variable.{Variable}
+use Rattle.mj_tree.specs.Trees.{Name, Expression, Expressions, Binary, Index, Length, Call, Literal, Boolean, Named, This, NewArray, NewObject, Not, Parenthesized, none, more}
+use Rattle.mj_tree.specs.declared.tree.Operator.{Operator}
+use Rattle.mj_tree.specs.declared.tree.Operator.TheVariants.{And, Less, Plus, Minus, Times}
+use Rattle.mj_tree.specs.declared.tree.Ty.{Ty}
+use Rattle.mj_tree.specs.declared.tree.Ty.TheVariants as ty
+use Rattle.mj_tree.specs.declared.tree.Variable.{Variable}
 use Rattle.mj_answer.specs.declared.code.Code.{Code}
 use Rattle.mj_answer.specs.declared.code.Code.TheVariants.{E301, E302, E303, E304, E305, E306, E307, E308, E309, E310, E311, E312, E313, E314, E315}
 use Rattle.mj_typing.specs.declared.verdict.Verdict.{Verdict}

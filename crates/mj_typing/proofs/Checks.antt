@@ -1,14 +1,14 @@
 -- Checks that ask conclude with the mistakes.
 use Rattle.std.proofs.Common.{◌≡◌, ℕ, List, [], ◌∷◌, ◌++◌, Option, Some, None, Result, Ok, Err, IfOk, refl, sym, ap, ◌∙◌, subst}
-use Rattle.mj_parser.specs.Trees.{Name, Statement, Statements, Block, If, While, Print, Assign, Store, done, next, Method, Main}
-use Rattle.mj_parser.specs.declared.tree.Ty.{Ty}
-use Rattle.mj_parser.specs.declared.tree.Ty.TheVariants as ty
-use Rattle.mj_parser.specs.declared.tree.Variable.{Variable}
+use Rattle.mj_tree.specs.Trees.{Name, Statement, Statements, Block, If, While, Print, Assign, Store, done, next, Method, Main}
+use Rattle.mj_tree.specs.declared.tree.Ty.{Ty}
+use Rattle.mj_tree.specs.declared.tree.Ty.TheVariants as ty
+use Rattle.mj_tree.specs.declared.tree.Variable.{Variable}
 use Rattle.mj_typing.specs.declared.verdict.Verdict.{Verdict}
 use Rattle.mj_typing.specs.declared.verdict.Mistake.{Mistake}
 use Rattle.mj_typing.specs.Inquiries.{World, Inquiry, Concludes, AsksDescent, AsksField, AsksMethod, AsksDeclared, conclusion, and_then}
 use Rattle.mj_typing.specs.Phrases.{Phrase, Phrases, phrase, nothing, part, Found, noted, own_step, phrase_step, parts_step, type_of, types_of, verdict_by, and_type, add_faults, add_all, add_each}
-use Rattle.mj_typing.specs.Steps.{Check, Goes}
+use Rattle.mj_typing.specs.Steps.{Check, Proceeds}
 use Rattle.mj_typing.specs.Table.{Scope, own_phrase, statement_phrases, statements_phrases, return_phrase, method_scope, main_scope}
 use Rattle.mj_typing.specs.Bodies.{return_type_mark, variables_of, add_undeclared, add_undeclared_each, add_repeated_each, type_step, types_step, mistakes_step, statement_step, statements_step, declared_step, method_step, main_step, method_check, main_check, method_faults, main_faults}
 
@@ -105,14 +105,14 @@ module _ {S : Type 0} (world : S → World) (old new : S) (mistakes : List Mista
   abbrev pub Stands : S → Check → Check → Type 0
   Stands s start now = conclusion (world s) start ≡ conclusion (world s) now
 
-  said_plainly : (step : (List Mistake → Check) → Check) → Goes Stands step old mistakes new → world new ≡ world old → mistakes ≡ conclusion (world old) (step (λ mistakes. Concludes mistakes))
+  said_plainly : (step : (List Mistake → Check) → Check) → Proceeds Stands step old mistakes new → world new ≡ world old → mistakes ≡ conclusion (world old) (step (λ mistakes. Concludes mistakes))
   said_plainly step g same = sym (g.goes (step (λ mistakes. Concludes mistakes)) (λ mistakes. Concludes mistakes) refl) ∙ ap (λ w. conclusion w (step (λ mistakes. Concludes mistakes))) same
 
-  pub method_plainly : (class : Name) (m : Method) → Goes Stands (method_step class m) old mistakes new → world new ≡ world old → mistakes ≡ method_faults (world old) class m
+  pub method_plainly : (class : Name) (m : Method) → Proceeds Stands (method_step class m) old mistakes new → world new ≡ world old → mistakes ≡ method_faults (world old) class m
   unfolding method_check
   method_plainly class m g same = said_plainly (method_step class m) g same ∙ method_concludes (world old) class m
 
-  pub main_plainly : (m : Main) → Goes Stands (main_step m) old mistakes new → world new ≡ world old → mistakes ≡ main_faults (world old) m
+  pub main_plainly : (m : Main) → Proceeds Stands (main_step m) old mistakes new → world new ≡ world old → mistakes ≡ main_faults (world old) m
   unfolding main_check
   main_plainly m g same = said_plainly (main_step m) g same ∙ main_concludes (world old) m
 

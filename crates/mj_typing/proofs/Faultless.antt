@@ -1,9 +1,9 @@
 -- A body without mistakes is one whose phrases all have types or are well.
 use Rattle.std.proofs.Common.{◌≡◌, ℕ, suc, List, [], ◌∷◌, ◌++◌, length, refl, sym, ap, ◌∙◌, subst, ◌⊎◌, inl, inr}
 use Rattle.std.specs.Prelude.{Contains}
-use Rattle.mj_parser.specs.Trees.{Name, Expression, Statement, Statements, Block, If, While, Print, Assign, Store, done, next, Method, Main}
-use Rattle.mj_parser.specs.declared.tree.Ty.{Ty}
-use Rattle.mj_parser.specs.declared.tree.Ty.TheVariants as ty
+use Rattle.mj_tree.specs.Trees.{Name, Expression, Statement, Statements, Block, If, While, Print, Assign, Store, done, next, Method, Main}
+use Rattle.mj_tree.specs.declared.tree.Ty.{Ty}
+use Rattle.mj_tree.specs.declared.tree.Ty.TheVariants as ty
 use Rattle.mj_answer.specs.declared.code.Code.TheVariants.{E307, E308, E316, E317, E318, E319}
 use Rattle.mj_typing.specs.Types.{is_int, is_boolean, is_int_array}
 use Rattle.mj_typing.specs.declared.verdict.Verdict.{Verdict}

@@ -1,16 +1,16 @@
 -- Trees as contracts see them, layer by layer.
 use Rattle.std.proofs.Common.{◌≡◌, ℕ, List, sym, ap, ◌∙◌}
 use Rattle.std.specs.Global.{Vec, Box}
-use Rattle.mj_parser.specs.Trees.{Expression, Statement}
-use Rattle.mj_parser.specs.Trees as trees
-use Rattle.mj_parser.specs.Views.{exp_view, exps_view, exp_layer, stmt_view, stmts_view, stmt_layer}
-use Rattle.mj_parser.specs.declared.tree.Operator.{Operator}
-use Rattle.mj_parser.specs.declared.tree.Exp.{Exp, fold-roll-Exp}
-use Rattle.mj_parser.specs.declared.tree.Exp.TheVariants as exp
-use Rattle.mj_parser.specs.declared.tree.Exp.TheOpen as layer
-use Rattle.mj_parser.specs.declared.tree.Stmt.{Stmt, fold-roll-Stmt}
-use Rattle.mj_parser.specs.declared.tree.Stmt.TheVariants as stmt
-use Rattle.mj_parser.specs.declared.tree.Stmt.TheOpen as stmt_layers
+use Rattle.mj_tree.specs.Trees.{Expression, Statement}
+use Rattle.mj_tree.specs.Trees as trees
+use Rattle.mj_tree.specs.Views.{exp_view, exps_view, exp_layer, stmt_view, stmts_view, stmt_layer}
+use Rattle.mj_tree.specs.declared.tree.Operator.{Operator}
+use Rattle.mj_tree.specs.declared.tree.Exp.{Exp, fold-roll-Exp}
+use Rattle.mj_tree.specs.declared.tree.Exp.TheVariants as exp
+use Rattle.mj_tree.specs.declared.tree.Exp.TheOpen as layer
+use Rattle.mj_tree.specs.declared.tree.Stmt.{Stmt, fold-roll-Stmt}
+use Rattle.mj_tree.specs.declared.tree.Stmt.TheVariants as stmt
+use Rattle.mj_tree.specs.declared.tree.Stmt.TheOpen as stmt_layers
 
 pub exp_view-Not : (mark : ℕ) (operand : Box Exp) → exp_view (exp.Not mark operand) ≡ trees.Not mark (exp_view operand.value)
 exp_view-Not mark operand = ap exp_view (sym (exp.rolls-Not mark operand)) ∙ fold-roll-Exp Expression exp_layer (layer.Not mark operand)

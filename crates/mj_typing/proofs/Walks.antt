@@ -1,17 +1,17 @@
 -- The walk over phrases and their parts.
 use Rattle.std.proofs.Common.{◌≡◌, ℕ, ◌+◌, ◌<◌, ◌≤◌, List, [], ◌∷◌, ◌++◌, length, drop, get_or, Option, Some, None, Result, Ok, Err, IfOk, IfErr, refl, ap, subst, sym, ◌∙◌, append_assoc, append-nil}
-use Rattle.mj_parser.specs.Trees.{Name, Method}
-use Rattle.mj_parser.specs.Views.{exp_view, exps_view, stmt_view, stmts_view}
-use Rattle.mj_parser.specs.declared.tree.Exp.{Exp}
-use Rattle.mj_parser.specs.declared.tree.Stmt.{Stmt}
-use Rattle.mj_parser.specs.declared.tree.Ty.{Ty}
-use Rattle.mj_parser.specs.declared.tree.Variable.{Variable}
+use Rattle.mj_tree.specs.Trees.{Name, Method}
+use Rattle.mj_tree.specs.Views.{exp_view, exps_view, stmt_view, stmts_view}
+use Rattle.mj_tree.specs.declared.tree.Exp.{Exp}
+use Rattle.mj_tree.specs.declared.tree.Stmt.{Stmt}
+use Rattle.mj_tree.specs.declared.tree.Ty.{Ty}
+use Rattle.mj_tree.specs.declared.tree.Variable.{Variable}
 use Rattle.mj_typing.specs.declared.verdict.Mistake.{Mistake}
 use Rattle.mj_typing.specs.declared.verdict.Verdict.{Verdict}
 use Rattle.mj_typing.specs.Bodies.{variables_of, add_repeated_each, declared_step, method_step, type_step, types_step, mistakes_step, statement_step, statements_step}
 use Rattle.mj_typing.specs.Inquiries.{Inquiry}
 use Rattle.mj_typing.specs.Phrases.{Phrase, Phrases, phrase, nothing, part, Found, own_step, phrase_step, parts_step, and_type, with_type}
-use Rattle.mj_typing.specs.Steps.{Check, Goes, GivesUp}
+use Rattle.mj_typing.specs.Steps.{Check, Proceeds, Aborts}
 use Rattle.mj_typing.specs.Table.{Scope, phrase_of, phrases_of, return_phrase, method_scope}
 use Rattle.mj_typing.proofs.Asked.{Comes, memory_inside, front_at, at_end}
 
@@ -31,7 +31,7 @@ module _ {S E : Type 0} (stands : S → Check → Check → Type 0) (halts : S �
 
   module _ (mark : ℕ) (row : List Ty → Inquiry Verdict) (p : Phrase) (ps : Phrases) (before : List Mistake) (old mid : S) where
     -- the first part, then the others, then the phrase itself
-    pub goes_whole : (first : Found Ty) (others : Found (List Ty)) (x : Found Ty) (next new : S) → Goes stands (phrase_step p before) old first mid → Goes stands (parts_step ps first.mistakes) mid others next → Goes stands (own_step mark row (found (and_type first.type others.type) others.mistakes)) next x new → Goes stands (phrase_step (phrase mark row (part p ps)) before) old x new
+    pub goes_whole : (first : Found Ty) (others : Found (List Ty)) (x : Found Ty) (next new : S) → Proceeds stands (phrase_step p before) old first mid → Proceeds stands (parts_step ps first.mistakes) mid others next → Proceeds stands (own_step mark row (found (and_type first.type others.type) others.mistakes)) next x new → Proceeds stands (phrase_step (phrase mark row (part p ps)) before) old x new
     unfolding phrase_step parts_step
     goes_whole first others x next new a b c = record {
       goes = λ start k h.
@@ -40,7 +40,7 @@ module _ {S E : Type 0} (stands : S → Check → Check → Type 0) (halts : S �
           (a.goes start (λ first. parts_step ps first.mistakes (λ others. own_step mark row (found (and_type first.type others.type) others.mistakes) k)) h));
     }
 
-    pub up_whole : (first : Found Ty) (others : Found (List Ty)) (e : E) (next new : S) → Goes stands (phrase_step p before) old first mid → Goes stands (parts_step ps first.mistakes) mid others next → GivesUp stands halts (own_step mark row (found (and_type first.type others.type) others.mistakes)) next e new → GivesUp stands halts (phrase_step (phrase mark row (part p ps)) before) old e new
+    pub up_whole : (first : Found Ty) (others : Found (List Ty)) (e : E) (next new : S) → Proceeds stands (phrase_step p before) old first mid → Proceeds stands (parts_step ps first.mistakes) mid others next → Aborts stands halts (own_step mark row (found (and_type first.type others.type) others.mistakes)) next e new → Aborts stands halts (phrase_step (phrase mark row (part p ps)) before) old e new
     unfolding phrase_step parts_step
     up_whole first others e next new a b c = record {
       ends = λ start k h.
@@ -49,7 +49,7 @@ module _ {S E : Type 0} (stands : S → Check → Check → Type 0) (halts : S �
           (a.goes start (λ first. parts_step ps first.mistakes (λ others. own_step mark row (found (and_type first.type others.type) others.mistakes) k)) h));
     }
 
-    pub up_others : (first : Found Ty) (e : E) (new : S) → Goes stands (phrase_step p before) old first mid → GivesUp stands halts (parts_step ps first.mistakes) mid e new → GivesUp stands halts (phrase_step (phrase mark row (part p ps)) before) old e new
+    pub up_others : (first : Found Ty) (e : E) (new : S) → Proceeds stands (phrase_step p before) old first mid → Aborts stands halts (parts_step ps first.mistakes) mid e new → Aborts stands halts (phrase_step (phrase mark row (part p ps)) before) old e new
     unfolding phrase_step parts_step
     up_others first e new a b = record {
       ends = λ start k h.
@@ -60,12 +60,12 @@ module _ {S E : Type 0} (stands : S → Check → Check → Type 0) (halts : S �
   -- ---- want of memory after the parts
 
   module _ (out : E) (wanting : (s : S) (start now : Check) → stands s start now → halts s start out) {A : Type 0} (mark : ℕ) (row : List Ty → Inquiry Verdict) (before : List Mistake) where
-    pub memory_one : (p : Phrase) (first : Found Ty) (old new : S) → Goes stands (phrase_step p before) old first new → (r : Result A E) → IfErr r (λ e. e ≡ out) → IfErr r (λ e. GivesUp stands halts (phrase_step (phrase mark row (part p nothing)) before) old e new)
+    pub memory_one : (p : Phrase) (first : Found Ty) (old new : S) → Proceeds stands (phrase_step p before) old first new → (r : Result A E) → IfErr r (λ e. e ≡ out) → IfErr r (λ e. Aborts stands halts (phrase_step (phrase mark row (part p nothing)) before) old e new)
     unfolding phrase_step parts_step
     memory_one p first old new g r h =
         memory_inside stands halts out wanting (phrase_step (phrase mark row (part p nothing)) before) (phrase_step p before) (λ k first. own_step mark row (found (and_type first.type (Some [])) first.mistakes) k) (λ k. refl) old first new g r h
 
-    pub memory_two : (p q : Phrase) (first second : Found Ty) (old mid new : S) → Goes stands (phrase_step p before) old first mid → Goes stands (phrase_step q first.mistakes) mid second new → (r : Result A E) → IfErr r (λ e. e ≡ out) → IfErr r (λ e. GivesUp stands halts (phrase_step (phrase mark row (part p (part q nothing))) before) old e new)
+    pub memory_two : (p q : Phrase) (first second : Found Ty) (old mid new : S) → Proceeds stands (phrase_step p before) old first mid → Proceeds stands (phrase_step q first.mistakes) mid second new → (r : Result A E) → IfErr r (λ e. e ≡ out) → IfErr r (λ e. Aborts stands halts (phrase_step (phrase mark row (part p (part q nothing))) before) old e new)
     unfolding phrase_step parts_step
     memory_two p q first second old mid new a b r h =
         memory_inside stands halts out wanting (phrase_step (phrase mark row (part p (part q nothing))) before)
@@ -99,7 +99,7 @@ module _ {S E : Type 0} (stands : S → Check → Check → Type 0) (halts : S �
     next_part : (i : ℕ) (e : Exp) → i < length exps → e ≡ get_or exps i e → parts_from i ≡ part (phrase_of scope (exp_view e)) (parts_from (i + 1))
     next_part i e h is = ap (λ es. phrases_of scope (exps_view es)) (front_at exps i e h is)
 
-    pub parts_more : (i : ℕ) (e : Exp) (types all : Option (List Ty)) (t : Option Ty) (mistakes more : List Mistake) (mid new : S) → PartsLeft i types mistakes mid → i < length exps → e ≡ get_or exps i e → Goes stands (phrase_step (phrase_of scope (exp_view e)) mistakes) mid (found t more) new → all ≡ with_type types t → PartsLeft (i + 1) all more new
+    pub parts_more : (i : ℕ) (e : Exp) (types all : Option (List Ty)) (t : Option Ty) (mistakes more : List Mistake) (mid new : S) → PartsLeft i types mistakes mid → i < length exps → e ≡ get_or exps i e → Proceeds stands (phrase_step (phrase_of scope (exp_view e)) mistakes) mid (found t more) new → all ≡ with_type types t → PartsLeft (i + 1) all more new
     unfolding parts_step
     parts_more i e types all t mistakes more mid new l h is g a = record {
       comes = λ start k w.
@@ -109,7 +109,7 @@ module _ {S E : Type 0} (stands : S → Check → Check → Type 0) (halts : S �
           (subst (λ ps. stands mid start (parts_step ps mistakes (λ rest. k (found (joined types rest.type) rest.mistakes)))) (next_part i e h is) (l.comes start k w)));
     }
 
-    pub parts_up : (i : ℕ) (e : Exp) (types : Option (List Ty)) (mistakes : List Mistake) (fault : E) (mid new : S) → PartsLeft i types mistakes mid → i < length exps → e ≡ get_or exps i e → GivesUp stands halts (phrase_step (phrase_of scope (exp_view e)) mistakes) mid fault new → GivesUp stands halts (parts_step (phrases_of scope (exps_view exps)) before) old fault new
+    pub parts_up : (i : ℕ) (e : Exp) (types : Option (List Ty)) (mistakes : List Mistake) (fault : E) (mid new : S) → PartsLeft i types mistakes mid → i < length exps → e ≡ get_or exps i e → Aborts stands halts (phrase_step (phrase_of scope (exp_view e)) mistakes) mid fault new → Aborts stands halts (parts_step (phrases_of scope (exps_view exps)) before) old fault new
     unfolding parts_step
     parts_up i e types mistakes fault mid new l h is g = record {
       ends = λ start k w.
@@ -117,7 +117,7 @@ module _ {S E : Type 0} (stands : S → Check → Check → Type 0) (halts : S �
           (subst (λ ps. stands mid start (parts_step ps mistakes (λ rest. k (found (joined types rest.type) rest.mistakes)))) (next_part i e h is) (l.comes start k w));
     }
 
-    pub parts_memory : (out : E) → ((s : S) (start now : Check) → stands s start now → halts s start out) → (i : ℕ) (types : Option (List Ty)) (mistakes : List Mistake) (new : S) → PartsLeft i types mistakes new → GivesUp stands halts (parts_step (phrases_of scope (exps_view exps)) before) old out new
+    pub parts_memory : (out : E) → ((s : S) (start now : Check) → stands s start now → halts s start out) → (i : ℕ) (types : Option (List Ty)) (mistakes : List Mistake) (new : S) → PartsLeft i types mistakes new → Aborts stands halts (parts_step (phrases_of scope (exps_view exps)) before) old out new
     parts_memory out wanting i types mistakes new l = record { ends = λ start k w. wanting new start _ (l.comes start k w) }
 
     joined-from_nil : (rest : Option (List Ty)) → rest ≡ joined (Some []) rest
@@ -135,7 +135,7 @@ module _ {S E : Type 0} (stands : S → Check → Check → Type 0) (halts : S �
     joined-nil None = refl
     joined-nil (Some ts) = ap (λ (x : List Ty). Some x) (append-nil ts)
 
-    pub parts_done : (i : ℕ) (types : Option (List Ty)) (mistakes : List Mistake) (new : S) → PartsLeft i types mistakes new → length exps ≤ i → Goes stands (parts_step (phrases_of scope (exps_view exps)) before) old (found types mistakes) new
+    pub parts_done : (i : ℕ) (types : Option (List Ty)) (mistakes : List Mistake) (new : S) → PartsLeft i types mistakes new → length exps ≤ i → Proceeds stands (parts_step (phrases_of scope (exps_view exps)) before) old (found types mistakes) new
     unfolding parts_step
     parts_done i types mistakes new l h = record {
       goes = λ start k w.
@@ -145,7 +145,7 @@ module _ {S E : Type 0} (stands : S → Check → Check → Type 0) (halts : S �
 
   -- ---- phrases whose mistakes alone matter
 
-  pub up_mistakes : (p : Phrase) (before : List Mistake) (e : E) (old new : S) → GivesUp stands halts (phrase_step p before) old e new → GivesUp stands halts (mistakes_step p before) old e new
+  pub up_mistakes : (p : Phrase) (before : List Mistake) (e : E) (old new : S) → Aborts stands halts (phrase_step p before) old e new → Aborts stands halts (mistakes_step p before) old e new
   up_mistakes p before e old new g = record { ends = λ start k h. g.ends start (λ found. k found.mistakes) h }
 
   -- ---- a loop over statements
@@ -158,7 +158,7 @@ module _ {S E : Type 0} (stands : S → Check → Check → Type 0) (halts : S �
     pub statements_start : StatementsLeft 0 before old
     statements_start = record { comes = λ start k w. w }
 
-    pub statements_more : (i : ℕ) (a : Stmt) (mistakes more : List Mistake) (mid new : S) → StatementsLeft i mistakes mid → i < length stmts → a ≡ get_or stmts i a → Goes stands (statement_step scope (stmt_view a) mistakes) mid more new → StatementsLeft (i + 1) more new
+    pub statements_more : (i : ℕ) (a : Stmt) (mistakes more : List Mistake) (mid new : S) → StatementsLeft i mistakes mid → i < length stmts → a ≡ get_or stmts i a → Proceeds stands (statement_step scope (stmt_view a) mistakes) mid more new → StatementsLeft (i + 1) more new
     unfolding statements_step
     statements_more i a mistakes more mid new l h is g = record {
       comes = λ start k w.
@@ -166,7 +166,7 @@ module _ {S E : Type 0} (stands : S → Check → Check → Type 0) (halts : S �
           (subst (λ ss. stands mid start (statements_step scope (stmts_view ss) mistakes k)) (front_at stmts i a h is) (l.comes start k w));
     }
 
-    pub statements_up : (i : ℕ) (a : Stmt) (mistakes : List Mistake) (e : E) (mid new : S) → StatementsLeft i mistakes mid → i < length stmts → a ≡ get_or stmts i a → GivesUp stands halts (statement_step scope (stmt_view a) mistakes) mid e new → GivesUp stands halts (statements_step scope (stmts_view stmts) before) old e new
+    pub statements_up : (i : ℕ) (a : Stmt) (mistakes : List Mistake) (e : E) (mid new : S) → StatementsLeft i mistakes mid → i < length stmts → a ≡ get_or stmts i a → Aborts stands halts (statement_step scope (stmt_view a) mistakes) mid e new → Aborts stands halts (statements_step scope (stmts_view stmts) before) old e new
     unfolding statements_step
     statements_up i a mistakes e mid new l h is g = record {
       ends = λ start k w.
@@ -174,7 +174,7 @@ module _ {S E : Type 0} (stands : S → Check → Check → Type 0) (halts : S �
           (subst (λ ss. stands mid start (statements_step scope (stmts_view ss) mistakes k)) (front_at stmts i a h is) (l.comes start k w));
     }
 
-    pub statements_done : (i : ℕ) (mistakes : List Mistake) (new : S) → StatementsLeft i mistakes new → length stmts ≤ i → Goes stands (statements_step scope (stmts_view stmts) before) old mistakes new
+    pub statements_done : (i : ℕ) (mistakes : List Mistake) (new : S) → StatementsLeft i mistakes new → length stmts ≤ i → Proceeds stands (statements_step scope (stmts_view stmts) before) old mistakes new
     unfolding statements_step
     statements_done i mistakes new l h = record {
       goes = λ start k w. subst (λ ss. stands new start (statements_step scope (stmts_view ss) mistakes k)) (at_end stmts i h) (l.comes start k w);
@@ -187,19 +187,19 @@ module _ {S E : Type 0} (stands : S → Check → Check → Type 0) (halts : S �
     abbrev pub TypesLeft : ℕ → List Mistake → S → Type 0
     TypesLeft i mistakes mid = Comes stands (types_step vs before) (types_step (drop i vs) mistakes) old mid
 
-    pub types_more : (i : ℕ) (v : Variable) (mistakes more : List Mistake) (mid new : S) → TypesLeft i mistakes mid → i < length vs → v ≡ get_or vs i v → Goes stands (type_step v.mark v.ty mistakes) mid more new → TypesLeft (i + 1) more new
+    pub types_more : (i : ℕ) (v : Variable) (mistakes more : List Mistake) (mid new : S) → TypesLeft i mistakes mid → i < length vs → v ≡ get_or vs i v → Proceeds stands (type_step v.mark v.ty mistakes) mid more new → TypesLeft (i + 1) more new
     unfolding types_step
     types_more i v mistakes more mid new l h is g = record {
       comes = λ start k w. g.goes start (λ more. types_step (drop (i + 1) vs) more k) (subst (λ us. stands mid start (types_step us mistakes k)) (front_at vs i v h is) (l.comes start k w));
     }
 
-    pub types_up : (i : ℕ) (v : Variable) (mistakes : List Mistake) (e : E) (mid new : S) → TypesLeft i mistakes mid → i < length vs → v ≡ get_or vs i v → GivesUp stands halts (type_step v.mark v.ty mistakes) mid e new → GivesUp stands halts (types_step vs before) old e new
+    pub types_up : (i : ℕ) (v : Variable) (mistakes : List Mistake) (e : E) (mid new : S) → TypesLeft i mistakes mid → i < length vs → v ≡ get_or vs i v → Aborts stands halts (type_step v.mark v.ty mistakes) mid e new → Aborts stands halts (types_step vs before) old e new
     unfolding types_step
     types_up i v mistakes e mid new l h is g = record {
       ends = λ start k w. g.ends start (λ more. types_step (drop (i + 1) vs) more k) (subst (λ us. stands mid start (types_step us mistakes k)) (front_at vs i v h is) (l.comes start k w));
     }
 
-    pub types_done : (i : ℕ) (mistakes : List Mistake) (new : S) → TypesLeft i mistakes new → length vs ≤ i → Goes stands (types_step vs before) old mistakes new
+    pub types_done : (i : ℕ) (mistakes : List Mistake) (new : S) → TypesLeft i mistakes new → length vs ≤ i → Proceeds stands (types_step vs before) old mistakes new
     unfolding types_step
     types_done i mistakes new l h = record {
       goes = λ start k w. subst (λ us. stands new start (types_step us mistakes k)) (at_end vs i h) (l.comes start k w);
@@ -209,8 +209,8 @@ module _ {S E : Type 0} (stands : S → Check → Check → Type 0) (halts : S �
 
   module _ (class : Name) (m : Method) (scope : Scope) (before : List Mistake) (old next now : S) (a b : List Mistake) where
     pub goes_method : (c : List Mistake) (new : S) → scope ≡ method_scope class m → before ≡ add_repeated_each [] [] (variables_of m)
-        → Goes stands (declared_step m before) old a next → Goes stands (statements_step scope m.body a) next b now → Goes stands (mistakes_step (return_phrase scope m.return_mark m.returns m.returned) b) now c new
-        → Goes stands (method_step class m) old c new
+        → Proceeds stands (declared_step m before) old a next → Proceeds stands (statements_step scope m.body a) next b now → Proceeds stands (mistakes_step (return_phrase scope m.return_mark m.returns m.returned) b) now c new
+        → Proceeds stands (method_step class m) old c new
     unfolding method_step
     goes_method c new s r d ss last = record {
       goes = λ start k w.
@@ -222,8 +222,8 @@ module _ {S E : Type 0} (stands : S → Check → Check → Type 0) (halts : S �
     }
 
     pub up_return : (e : E) (new : S) → scope ≡ method_scope class m → before ≡ add_repeated_each [] [] (variables_of m)
-        → Goes stands (declared_step m before) old a next → Goes stands (statements_step scope m.body a) next b now → GivesUp stands halts (mistakes_step (return_phrase scope m.return_mark m.returns m.returned) b) now e new
-        → GivesUp stands halts (method_step class m) old e new
+        → Proceeds stands (declared_step m before) old a next → Proceeds stands (statements_step scope m.body a) next b now → Aborts stands halts (mistakes_step (return_phrase scope m.return_mark m.returns m.returned) b) now e new
+        → Aborts stands halts (method_step class m) old e new
     unfolding method_step
     up_return e new s r d ss last = record {
       ends = λ start k w.

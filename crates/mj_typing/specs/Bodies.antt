@@ -1,10 +1,10 @@
 -- The mistakes in a method, and in main.
 use Rattle.std.specs.Prelude.{◌≡◌, ℕ, ◌+◌, ◌-◌, ◌^◌, min, Bool, true, false, List, [], ◌∷◌, ◌++◌, Contains, if◌then◌else◌}
-use Rattle.mj_parser.specs.Trees.{Name, Expression, Statement, Statements, Block, If, While, Print, Assign, Store, done, Method, Main}
-use Rattle.mj_parser.specs.Trees as trees
-use Rattle.mj_parser.specs.declared.tree.Ty.{Ty}
-use Rattle.mj_parser.specs.declared.tree.Ty.TheVariants as ty
-use Rattle.mj_parser.specs.declared.tree.Variable.{Variable}
+use Rattle.mj_tree.specs.Trees.{Name, Expression, Statement, Statements, Block, If, While, Print, Assign, Store, done, Method, Main}
+use Rattle.mj_tree.specs.Trees as trees
+use Rattle.mj_tree.specs.declared.tree.Ty.{Ty}
+use Rattle.mj_tree.specs.declared.tree.Ty.TheVariants as ty
+use Rattle.mj_tree.specs.declared.tree.Variable.{Variable}
 use Rattle.mj_answer.specs.declared.code.Code.TheVariants.{E206, E207}
 use Rattle.mj_typing.specs.declared.verdict.Mistake.{Mistake}
 use Rattle.mj_typing.specs.Types.{is_same}

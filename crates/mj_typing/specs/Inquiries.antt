@@ -1,7 +1,7 @@
 -- What a check of a body asks about the declarations, and in which order.
 use Rattle.std.specs.Prelude.{Bool, List, Option}
-use Rattle.mj_parser.specs.Trees.{Name}
-use Rattle.mj_parser.specs.declared.tree.Ty.{Ty}
+use Rattle.mj_tree.specs.Trees.{Name}
+use Rattle.mj_tree.specs.declared.tree.Ty.{Ty}
 
 -- the types of a method's formals, and the one that it returns
 pub record Sig : Type 0 where

@@ -1,7 +1,7 @@
 -- What holds of the definitions.
 use Rattle.std.specs.Prelude.{◌≡◌, ◌↔◌, ℕ, suc, List, [], ◌∷◌, length, Some, Contains}
-use Rattle.mj_parser.specs.Trees.{Name, Expression, Method, Main}
-use Rattle.mj_parser.specs.declared.tree.Ty.{Ty}
+use Rattle.mj_tree.specs.Trees.{Name, Expression, Method, Main}
+use Rattle.mj_tree.specs.declared.tree.Ty.{Ty}
 use Rattle.mj_typing.specs.declared.verdict.Mistake.{Mistake}
 use Rattle.mj_typing.specs.declared.verdict.Verdict.{Verdict}
 use Rattle.mj_typing.specs.declared.verdict.Verdict.TheVariants.{Is, Fine, Wrong, Silent}

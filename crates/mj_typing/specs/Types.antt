@@ -1,9 +1,9 @@
 -- Tests of types.
 use Rattle.std.specs.Cmp.Lexicographic.{pointwise}
 use Rattle.std.specs.Prelude.{Bool, true, false, nat_eq, Option, Some, None}
-use Rattle.mj_parser.specs.Trees.{Name}
-use Rattle.mj_parser.specs.declared.tree.Ty.{Ty}
-use Rattle.mj_parser.specs.declared.tree.Ty.TheVariants.{Int, Boolean, IntArray, Class}
+use Rattle.mj_tree.specs.Trees.{Name}
+use Rattle.mj_tree.specs.declared.tree.Ty.{Ty}
+use Rattle.mj_tree.specs.declared.tree.Ty.TheVariants.{Int, Boolean, IntArray, Class}
 
 abbrev pub is_same : Name → Name → Bool
 is_same x y = pointwise nat_eq x y

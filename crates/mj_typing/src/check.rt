@@ -1,9 +1,10 @@
 //! Whole bodies.
 ghost use Rattle.std.specs.Prelude.{◌≡◌, ◌++◌, ◌∷◌, [], IfOk, IfErr, OnOk};
 ghost use Rattle.mj_answer.specs.declared.code.Code.TheVariants.{E206};
-ghost use Rattle.mj_parser.specs.Views.{method_view, main_view};
-ghost use Rattle.mj_typing.specs.Bodies.{method_step, main_step, declared_step, type_step, types_step};
-ghost use Rattle.mj_typing.specs.Steps.{Goes, GivesUp};
+ghost use Rattle.mj_tree.specs.Views.{method_view, main_view, stmt_view};
+ghost use Rattle.mj_typing.specs.Bodies.{method_step, main_step, statement_step, declared_step, type_step, types_step};
+ghost use Rattle.mj_typing.specs.Steps.{Proceeds, Aborts};
+ghost use Rattle.mj_typing.specs.Table.{main_scope};
 
 use crate::asking::{Asking, Stop};
 use crate::body::{check_return, check_statement, check_statements};
@@ -11,7 +12,7 @@ use crate::scope::Scope;
 use crate::verdict::Mistake;
 use mj_answer::Code;
 use mj_lexer::Name;
-use mj_parser::{MainTree, MethodTree, Ty, Variable};
+use mj_tree::{MainTree, MethodTree, Stmt, Ty, Variable};
 use std::alloc::{AllocError, Global};
 
 /// The token of a method's return type, behind `public`.
@@ -19,7 +20,8 @@ const RETURN_TYPE_MARK: usize = 1;
 
 /// Notes that a declared type names no class.
 fn report_undeclared(mistakes: &mut Vec<Mistake>, mark: usize) -> Result<(), AllocError>
-    ensures { OnOk result (mistakes.new.items ≡ mistakes.old.items ++ record { mark = mark; code = E206 } ∷ []) }
+    ensures { OnOk result
+        (mistakes.new.items ≡ mistakes.old.items ++ record { mark = mark; code = E206 } ∷ []) }
 {
     mistakes.push(Mistake {
         mark,
@@ -36,8 +38,12 @@ fn check_type<A: Asking>(
     ty: &Ty,
     mistakes: &mut Vec<Mistake>,
 ) -> Result<(), Stop<A::Refusal>>
-    ensures ok { OnOk result (Goes A.stands (type_step mark ty.now mistakes.old.items) asking.old mistakes.new.items asking.new) }
-    ensures err { IfErr result (λ e. GivesUp A.stands A.halts (type_step mark ty.now mistakes.old.items) asking.old e asking.new) }
+    ensures ok { OnOk result
+        (Proceeds A.stands (type_step mark ty.now mistakes.old.items) asking.old
+        mistakes.new.items asking.new) }
+    ensures err { IfErr result (λ e.
+        Aborts A.stands A.halts (type_step mark ty.now mistakes.old.items) asking.old e
+        asking.new) }
     ensures follows { A.follows asking.old asking.new }
 {
     let Ty::Class(class) = ty else {
@@ -56,8 +62,12 @@ fn check_types<A: Asking>(
     variables: &[Variable],
     mistakes: &mut Vec<Mistake>,
 ) -> Result<(), Stop<A::Refusal>>
-    ensures ok { OnOk result (Goes A.stands (types_step variables.now mistakes.old.items) asking.old mistakes.new.items asking.new) }
-    ensures err { IfErr result (λ e. GivesUp A.stands A.halts (types_step variables.now mistakes.old.items) asking.old e asking.new) }
+    ensures ok { OnOk result
+        (Proceeds A.stands (types_step variables.now mistakes.old.items) asking.old
+        mistakes.new.items asking.new) }
+    ensures err { IfErr result (λ e.
+        Aborts A.stands A.halts (types_step variables.now mistakes.old.items) asking.old e
+        asking.new) }
     ensures follows { A.follows asking.old asking.new }
 {
     for variable in variables {
@@ -74,8 +84,12 @@ fn check_declared<A: Asking>(
     method: &MethodTree,
     mistakes: &mut Vec<Mistake>,
 ) -> Result<(), Stop<A::Refusal>>
-    ensures ok { OnOk result (Goes A.stands (declared_step (method_view method.now) mistakes.old.items) asking.old mistakes.new.items asking.new) }
-    ensures err { IfErr result (λ e. GivesUp A.stands A.halts (declared_step (method_view method.now) mistakes.old.items) asking.old e asking.new) }
+    ensures ok { OnOk result
+        (Proceeds A.stands (declared_step (method_view method.now) mistakes.old.items)
+        asking.old mistakes.new.items asking.new) }
+    ensures err { IfErr result (λ e.
+        Aborts A.stands A.halts (declared_step (method_view method.now) mistakes.old.items)
+        asking.old e asking.new) }
     ensures follows { A.follows asking.old asking.new }
 {
     check_type(alloc, asking, RETURN_TYPE_MARK, &method.returns, mistakes)?;
@@ -91,8 +105,12 @@ pub fn check_method<A: Asking>(
     class: &Name,
     method: &MethodTree,
 ) -> Result<Vec<Mistake>, Stop<A::Refusal>>
-    ensures ok { IfOk result (λ mistakes. Goes A.stands (method_step class.now (method_view method.now)) asking.old mistakes.items asking.new) }
-    ensures err { IfErr result (λ e. GivesUp A.stands A.halts (method_step class.now (method_view method.now)) asking.old e asking.new) }
+    ensures ok { IfOk result (λ mistakes.
+        Proceeds A.stands (method_step class.now (method_view method.now)) asking.old
+        mistakes.items asking.new) }
+    ensures err { IfErr result (λ e.
+        Aborts A.stands A.halts (method_step class.now (method_view method.now)) asking.old e
+        asking.new) }
     ensures follows { A.follows asking.old asking.new }
 {
     let mut mistakes = Vec::new(alloc);
@@ -111,6 +129,22 @@ pub fn check_method<A: Asking>(
     Ok(mistakes)
 }
 
+/// The mistakes in the statement of main, unordered and with repeats.
+pub fn check_main_statement<A: Asking>(
+    alloc: Global,
+    asking: &mut A,
+    statement: &Stmt,
+) -> Result<Vec<Mistake>, Stop<A::Refusal>>
+    ensures ok { IfOk result (λ mistakes. Proceeds A.stands (statement_step main_scope (stmt_view statement.now) []) asking.old mistakes.items asking.new) }
+    ensures err { IfErr result (λ e. Aborts A.stands A.halts (statement_step main_scope (stmt_view statement.now) []) asking.old e asking.new) }
+    ensures follows { A.follows asking.old asking.new }
+{
+    let mut mistakes = Vec::new(alloc);
+    let scope = Scope::of_main(alloc);
+    check_statement(alloc, asking, &scope, statement, &mut mistakes)?;
+    Ok(mistakes)
+}
+
 /// The mistakes in main, unordered and with repeats.
 #[tactic(auto, unfolding(crate::specs::Bodies::main_step))]
 pub fn check_main<A: Asking>(
@@ -118,12 +152,11 @@ pub fn check_main<A: Asking>(
     asking: &mut A,
     main: &MainTree,
 ) -> Result<Vec<Mistake>, Stop<A::Refusal>>
-    ensures ok { IfOk result (λ mistakes. Goes A.stands (main_step (main_view main.now)) asking.old mistakes.items asking.new) }
-    ensures err { IfErr result (λ e. GivesUp A.stands A.halts (main_step (main_view main.now)) asking.old e asking.new) }
+    ensures ok { IfOk result (λ mistakes.
+        Proceeds A.stands (main_step (main_view main.now)) asking.old mistakes.items asking.new) }
+    ensures err { IfErr result (λ e.
+        Aborts A.stands A.halts (main_step (main_view main.now)) asking.old e asking.new) }
     ensures follows { A.follows asking.old asking.new }
 {
-    let mut mistakes = Vec::new(alloc);
-    let scope = Scope::of_main(alloc);
-    check_statement(alloc, asking, &scope, &main.statement, &mut mistakes)?;
-    Ok(mistakes)
+    check_main_statement(alloc, asking, &main.statement)
 }

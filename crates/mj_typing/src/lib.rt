@@ -12,8 +12,8 @@ mod types;
 mod verdict;
 mod walk;
 
-pub use asking::{Asking, Declarations, Signature, Stop};
-pub use check::{check_main, check_method};
+pub use asking::{Asking, Environment, Signature, Stop};
+pub use check::{check_main, check_main_statement, check_method};
 pub use laws::{body_laws, case_laws, row_laws, typing_laws};
 pub use plain::{main_mistakes, method_mistakes};
 pub use verdict::{Mistake, Verdict};

@@ -1,31 +1,33 @@
 //! Checks that need no asking.
 ghost use Rattle.std.specs.Prelude.{◌≡◌, IfOk, Ok, refl};
-ghost use Rattle.mj_parser.specs.Views.{method_view, main_view};
+ghost use Rattle.mj_tree.specs.Views.{method_view, main_view};
 ghost use Rattle.mj_typing.specs.Bodies.{method_faults, main_faults};
 ghost use Rattle.mj_typing.specs.Inquiries.{conclusion};
 
-use crate::asking::{Asking, Declarations, Stop};
+use crate::asking::{Asking, Environment, Stop};
 use crate::check::{check_main, check_method};
 use crate::verdict::Mistake;
 use mj_lexer::Name;
-use mj_parser::{MainTree, MethodTree, Ty};
+use mj_tree::{MainTree, MethodTree, Ty};
 use std::alloc::{AllocError, Global};
 use std::convert::Infallible;
 
 /// Asks declarations that answer by themselves.
 #[derive(Drop)]
-struct Plain<'a, D: Declarations> {
+struct Plain<'a, D: Environment> {
     declarations: &'a D,
 }
 
-impl<'a, D: Declarations> Asking for Plain<'a, D> {
+impl<'a, D: Environment> Asking for Plain<'a, D> {
     ghost use Rattle.std.proofs.Common.{◌∙◌};
 
     type Refusal = Infallible;
 
     type Method = D::Method;
 
-    ghost stands = { λ s start now. conclusion (D.world s.declarations.now) start ≡ conclusion (D.world s.declarations.now) now };
+    ghost stands = { λ s start now.
+        conclusion (D.world s.declarations.now) start
+        ≡ conclusion (D.world s.declarations.now) now };
 
     ghost halts = { λ s start e. Unit {0} };
 
@@ -81,24 +83,27 @@ fn unrefused(outcome: Result<Vec<Mistake>, Stop<Infallible>>) -> Result<Vec<Mist
 }
 
 /// The mistakes in a method of the class, where the declarations answer by themselves.
-pub fn method_mistakes<D: Declarations>(
+pub fn method_mistakes<D: Environment>(
     alloc: Global,
     declarations: &D,
     class: &Name,
     method: &MethodTree,
 ) -> Result<Vec<Mistake>, AllocError>
-    ensures { IfOk result (λ mistakes. mistakes.items ≡ method_faults (D.world declarations.now) class.now (method_view method.now)) }
+    ensures { IfOk result (λ mistakes.
+        mistakes.items
+        ≡ method_faults (D.world declarations.now) class.now (method_view method.now)) }
 {
     unrefused(check_method(alloc, &mut Plain { declarations }, class, method))
 }
 
 /// The mistakes in main, where the declarations answer by themselves.
-pub fn main_mistakes<D: Declarations>(
+pub fn main_mistakes<D: Environment>(
     alloc: Global,
     declarations: &D,
     main: &MainTree,
 ) -> Result<Vec<Mistake>, AllocError>
-    ensures { IfOk result (λ mistakes. mistakes.items ≡ main_faults (D.world declarations.now) (main_view main.now)) }
+    ensures { IfOk result (λ mistakes.
+        mistakes.items ≡ main_faults (D.world declarations.now) (main_view main.now)) }
 {
     unrefused(check_main(alloc, &mut Plain { declarations }, main))
 }

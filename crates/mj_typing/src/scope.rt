@@ -1,8 +1,8 @@
 //! The formals and locals of a method.
 ghost use Rattle.std.specs.Prelude.{◌≡◌, ◌++◌, ◌∷◌, List, [], IfOk, OnOk};
 ghost use Rattle.std.specs.Option.{option_copied};
-ghost use Rattle.mj_parser.specs.Views.{method_view};
-ghost use Rattle.mj_parser.specs.declared.tree.Variable.{Variable};
+ghost use Rattle.mj_tree.specs.Views.{method_view};
+ghost use Rattle.mj_tree.specs.declared.tree.Variable.{Variable};
 ghost use Rattle.mj_typing.specs.Bodies.{variables_of, name_mark, add_repeated, add_repeated_each};
 ghost use Rattle.mj_typing.specs.Seen.{Covers};
 ghost use Rattle.mj_typing.specs.Table.{local_of, main_scope, method_scope};
@@ -11,7 +11,7 @@ use crate::types::copy_of;
 use crate::verdict::Mistake;
 use mj_answer::Code;
 use mj_lexer::Name;
-use mj_parser::{MethodTree, Ty, Variable};
+use mj_tree::{MethodTree, Ty, Variable};
 use std::alloc::{AllocError, Global};
 use std::collections::BTreeMap;
 use std::marker::Model;
@@ -34,7 +34,8 @@ impl<'a> Model for Scope<'a> {
 
     ghost Value = { Scope };
 
-    ghost view = { λ s. record { class = option_copied s.class; variables = s.formals.now ++ s.locals.now } };
+    ghost view = { λ s.
+        record { class = option_copied s.class; variables = s.formals.now ++ s.locals.now } };
 
     ghost invariant = { λ s. Covers s.types (s.formals.now ++ s.locals.now) };
 }
@@ -60,7 +61,10 @@ impl<'a> Scope<'a> {
         mistakes: &mut Vec<Mistake>,
     ) -> Result<Self, AllocError>
         ensures value { IfOk result (λ s. s ≡ method_scope class.now (method_view method.now)) }
-        ensures repeated { OnOk result (mistakes.new.items ≡ add_repeated_each mistakes.old.items [] (variables_of (method_view method.now))) }
+        ensures repeated { OnOk result
+            (mistakes.new.items
+            ≡ add_repeated_each mistakes.old.items []
+            (variables_of (method_view method.now))) }
     {
         let mut types = BTreeMap::new(alloc);
         declare_all(alloc, &mut types, &method.formals, mistakes)?;
@@ -106,8 +110,12 @@ fn declare(
     variable: &Variable,
     mistakes: &mut Vec<Mistake>,
 ) -> Result<(), AllocError>
-    ensures types { OnOk result ((before : List Variable) → Covers types.old before → Covers types.new (before ++ variable.now ∷ [])) }
-    ensures repeated { OnOk result ((before : List Variable) → Covers types.old before → mistakes.new.items ≡ add_repeated mistakes.old.items before variable.now) }
+    ensures types { OnOk result
+        ((before : List Variable) → Covers types.old before
+        → Covers types.new (before ++ variable.now ∷ [])) }
+    ensures repeated { OnOk result
+        ((before : List Variable) → Covers types.old before
+        → mistakes.new.items ≡ add_repeated mistakes.old.items before variable.now) }
 {
     if types.contains_key(&variable.name) {
         let mark = name_mark(variable);
@@ -130,8 +138,12 @@ fn declare_all(
     variables: &[Variable],
     mistakes: &mut Vec<Mistake>,
 ) -> Result<(), AllocError>
-    ensures types { OnOk result ((before : List Variable) → Covers types.old before → Covers types.new (before ++ variables.now)) }
-    ensures repeated { OnOk result ((before : List Variable) → Covers types.old before → mistakes.new.items ≡ add_repeated_each mistakes.old.items before variables.now) }
+    ensures types { OnOk result
+        ((before : List Variable) → Covers types.old before
+        → Covers types.new (before ++ variables.now)) }
+    ensures repeated { OnOk result
+        ((before : List Variable) → Covers types.old before
+        → mistakes.new.items ≡ add_repeated_each mistakes.old.items before variables.now) }
 {
     for variable in variables {
         declare(alloc, types, variable, mistakes)?;

@@ -2,7 +2,7 @@
 ghost use Rattle.std.specs.Prelude.{◌≡◌, IfOk};
 ghost use Rattle.mj_typing.specs.Types.{is_int, is_boolean, is_int_array};
 
-use mj_parser::Ty;
+use mj_tree::Ty;
 use std::alloc::{AllocError, Global};
 
 /// An equal type.

@@ -1,6 +1,6 @@
 //! What phrases come to.
 use mj_answer::Code;
-use mj_parser::Ty;
+use mj_tree::Ty;
 
 /// What a phrase comes to.
 #[derive(Debug, Drop)]

@@ -8,7 +8,7 @@ use Rattle.std.proofs.lemmas.List.Elements.{Contains-append_left, Contains-push,
 use Rattle.mj_answer.proofs.Orders.{names}
 use Rattle.mj_answer.proofs.Alike.{Contains-cases, Contains-first, Contains-later}
 use Rattle.byte_readers.specs.Lawful.{Admitted}
-use Rattle.result_bytes.specs.Fits.{AreDistinct}
+use Rattle.result_bytes.specs.Storable.{AreDistinct}
 use Rattle.result_bytes.specs.Reading.{is_new}
 
 pub nowhere : (x : List ℕ) → Contains [] x → ⊥

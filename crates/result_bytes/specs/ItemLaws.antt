@@ -14,8 +14,8 @@ use Rattle.tree_bytes.specs.TypeLaws.{lawful_ty, lawful_field}
 use Rattle.result_bytes.specs.declared.parts.ChainEnd.{ChainEnd}
 use Rattle.result_bytes.specs.declared.parts.ChainEnd.TheVariants.{Top, Undeclared, Repeated}
 use Rattle.result_bytes.specs.Canon.{text, index_row, boolean, header, signature, chain_end, chain}
-use Rattle.result_bytes.specs.Fits.{most_files, FileNamesFit, TextFits, IndexRowFits, IndexFits, HeaderFits, SignatureFits, ChainEndFits, ChainFits}
-use Rattle.result_bytes.specs.Reading.{is_new, is_file_count, file_names_at, text_at, index_row_of, index_row_at, index_at, boolean_at, header_of, header_at, signature_of, signature_at, chain_end_at, chain_of, chain_at}
+use Rattle.result_bytes.specs.Storable.{most_files, FileNamesFit, TextFits, IndexRowFits, IndexFits, HeaderFits, SignatureFits, ChainEndFits, ChainFits}
+use Rattle.result_bytes.specs.Reading.{is_new, is_file_count, file_names_at, text_at, index_row_of, index_row_at, index_at, boolean_at, header_value, header_at, signature_value, signature_at, chain_end_at, chain_value, chain_at}
 use Rattle.answer_bytes.specs.OrderLaws.{lawful_by_name}
 use Rattle.result_bytes.specs.Distinct.{or_false, not_true, to_distinct, from_distinct, nowhere}
 use Rattle.answer_bytes.specs.AnswerLaws.{leaf_takes, tag_takes}
@@ -114,14 +114,14 @@ pub lawful_header : Lawful header_at header HeaderFits
 unfolding header_at
 lawful_header =
     lawful_where
-    (lawful_made (lawful_pair lawful_boolean (lawful_pair (lawful_option lawful_name) (lawful_pair (lawful_list lawful_field any) (lawful_list lawful_name any)))) header_of (λ h. (h.is_main, (h.superclass, (h.fields, h.methods)))) (λ _. refl) (λ _. refl))
+    (lawful_made (lawful_pair lawful_boolean (lawful_pair (lawful_option lawful_name) (lawful_pair (lawful_list lawful_field any) (lawful_list lawful_name any)))) header_value (λ h. (h.is_main, (h.superclass, (h.fields, h.methods)))) (λ _. refl) (λ _. refl))
     (λ h f. record { superclass = f.1.0; few_fields = f.1.1.0.few; fields = f.1.1.0.fit; few_methods = f.1.1.1.few; methods = f.1.1.1.fit })
     (λ h f. (tt, (f.superclass, (record { few = f.few_fields; fit = f.fields; admitted = any_admits [] h.fields }, record { few = f.few_methods; fit = f.methods; admitted = any_admits [] h.methods }))))
 
 pub lawful_signature : Lawful signature_at signature SignatureFits
 unfolding signature_at
 lawful_signature =
-    lawful_where (lawful_made (lawful_pair (lawful_list lawful_ty any) lawful_ty) signature_of (λ s. (s.formals, s.returns)) (λ _. refl) (λ _. refl))
+    lawful_where (lawful_made (lawful_pair (lawful_list lawful_ty any) lawful_ty) signature_value (λ s. (s.formals, s.returns)) (λ _. refl) (λ _. refl))
     (λ s f. record { few = f.0.few; formals = f.0.fit; returns = f.1 })
     (λ s f. (record { few = f.few; fit = f.formals; admitted = any_admits [] s.formals }, f.returns))
 
@@ -145,6 +145,6 @@ lawful_chain_end = record { takes = chain_end_takes; again = chain_end_again }
 pub lawful_chain : Lawful chain_at chain ChainFits
 unfolding chain_at
 lawful_chain =
-    lawful_where (lawful_made (lawful_pair (lawful_list lawful_name any) lawful_chain_end) chain_of (λ c. (c.classes, c.end)) (λ _. refl) (λ _. refl))
+    lawful_where (lawful_made (lawful_pair (lawful_list lawful_name any) lawful_chain_end) chain_value (λ c. (c.classes, c.end)) (λ _. refl) (λ _. refl))
     (λ c f. record { few = f.0.few; classes = f.0.fit; end = f.1 })
     (λ c f. (record { few = f.few; fit = f.classes; admitted = any_admits [] c.classes }, f.end))

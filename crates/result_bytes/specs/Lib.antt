@@ -1,8 +1,7 @@
 pub mod Payloads
 pub mod Canon
-pub mod Fits
+pub mod Storable
 pub mod Reading
 pub mod Values
 pub mod Distinct
 pub mod ItemLaws
-pub mod ValueLaws

@@ -1,7 +1,7 @@
 -- What contracts see of headers, signatures and chains.
 use Rattle.std.specs.Prelude.{ℕ, Bool, List, Option}
-use Rattle.mj_parser.specs.declared.tree.Ty.{Ty}
-use Rattle.mj_parser.specs.declared.tree.Field.{Field}
+use Rattle.mj_tree.specs.declared.tree.Ty.{Ty}
+use Rattle.mj_tree.specs.declared.tree.Field.{Field}
 use Rattle.result_bytes.specs.declared.parts.ChainEnd.{ChainEnd}
 
 pub record HeaderValue : Type 0 where

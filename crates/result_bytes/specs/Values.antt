@@ -6,9 +6,9 @@ use Rattle.item_ids.specs.Kinds.{number_of}
 use Rattle.byte_readers.specs.declared.breach.Breach.{Breach}
 use Rattle.byte_readers.specs.declared.breach.Breach.TheVariants as breaches
 use Rattle.byte_readers.specs.Spelling.{name, option, list}
-use Rattle.byte_readers.specs.Reading.{Reader, made_at, option_at}
+use Rattle.byte_readers.specs.Reading.{Decoder, made_at, option_at}
 use Rattle.tree_bytes.specs.Spelling.{file}
-use Rattle.tree_bytes.specs.Fits.{FileFits}
+use Rattle.tree_bytes.specs.Storable.{FileFits}
 use Rattle.tree_bytes.specs.Reading.{file_at}
 use Rattle.tree_bytes.specs.Bodies.{body, BodyFits, body_at}
 use Rattle.result_bytes.specs.declared.refusal.Refusal.{Refusal}
@@ -17,8 +17,8 @@ use Rattle.result_bytes.specs.declared.value.Value.{Value}
 use Rattle.result_bytes.specs.declared.value.Value.TheVariants.{Files, Source, Tree, Index, Header, Method, Sig, Supers, Members, CheckClass, CheckBody, Diags, Answer}
 use Rattle.result_bytes.specs.Canon.{text, index_row, header, signature, chain}
 use Rattle.answer_bytes.specs.Canon.{table, class_fault, answer}
-use Rattle.result_bytes.specs.Fits.{FileNamesFit, TextFits, IndexFits, HeaderFits, SignatureFits, ChainFits}
-use Rattle.answer_bytes.specs.Fits.{TableFits, ClassFaultsFit, AnswerFits}
+use Rattle.result_bytes.specs.Storable.{FileNamesFit, TextFits, IndexFits, HeaderFits, SignatureFits, ChainFits}
+use Rattle.answer_bytes.specs.Storable.{TableFits, ClassFaultsFit, AnswerFits}
 use Rattle.result_bytes.specs.Reading.{file_names_at, text_at, index_at, header_at, signature_at, chain_at}
 use Rattle.answer_bytes.specs.Reading.{table_at, class_faults_at, answer_at}
 
@@ -75,7 +75,7 @@ IsValue (Answer a) = AnswerFits a
 
 -- ---- reading from left to right
 
-unfoldable pub content_at : Kind → Reader Value
+unfoldable pub content_at : Kind → Decoder Value
 content_at kinds.Files bytes = made_at Files file_names_at bytes
 content_at kinds.Source bytes = made_at Source (option_at text_at) bytes
 content_at kinds.Tree bytes = made_at Tree (option_at file_at) bytes

@@ -9,7 +9,7 @@ use byte_readers::{
     Format, NameFormat, ReadError, check_list, put_list, put_option, read_list, read_option,
 };
 use mj_lexer::Name;
-use mj_parser::{Field, Ty};
+use mj_tree::{Field, Ty};
 use std::alloc::{AllocError, Global};
 use std::marker::Model;
 use tree_bytes::{FieldFormat, TypeFormat, check_ty, put_ty, read_ty};
@@ -26,19 +26,30 @@ pub struct Header {
 
 impl Model for Header {
     ghost use Rattle.result_bytes.specs.Payloads.{HeaderValue};
-    ghost use Rattle.result_bytes.specs.Fits.{HeaderFits};
-    ghost use Rattle.result_bytes.specs.Reading.{header_of};
+    ghost use Rattle.result_bytes.specs.Storable.{HeaderFits};
 
     ghost Value = { HeaderValue };
 
-    ghost view = { λ h. header_of (h.is_main, (h.superclass, (h.fields.items, h.methods.items))) };
+    ghost view = { λ h.
+        record {
+          is_main = h.is_main;
+          superclass = h.superclass;
+          fields = h.fields.items;
+          methods = h.methods.items;
+        } };
 
-    ghost invariant = { λ h. HeaderFits (header_of (h.is_main, (h.superclass, (h.fields.items, h.methods.items)))) };
+    ghost invariant = { λ h.
+        HeaderFits
+        (record {
+          is_main = h.is_main;
+          superclass = h.superclass;
+          fields = h.fields.items;
+          methods = h.methods.items;
+        }) };
 }
 
 impl Header {
-    ghost use Rattle.result_bytes.specs.Fits.{HeaderFits};
-    ghost use Rattle.result_bytes.specs.Reading.{header_of};
+    ghost use Rattle.result_bytes.specs.Storable.{HeaderFits};
 
     /// A header of these parts.
     #[tactic(auto, using(byte_readers::specs::Laws::all_storable))]
@@ -48,7 +59,13 @@ impl Header {
         fields: Vec<Field>,
         methods: Vec<Name>,
     ) -> Self
-        ensures { result ≡ header_of (is_main, (superclass, (fields.items, methods.items))) }
+        ensures { result
+            ≡ record {
+              is_main = is_main;
+              superclass = superclass;
+              fields = fields.items;
+              methods = methods.items;
+            } }
     {
         check_perhaps_name(&superclass);
         check_list::<FieldFormat>(&fields);
@@ -100,24 +117,23 @@ pub struct Signature {
 
 impl Model for Signature {
     ghost use Rattle.result_bytes.specs.Payloads.{SignatureValue};
-    ghost use Rattle.result_bytes.specs.Fits.{SignatureFits};
-    ghost use Rattle.result_bytes.specs.Reading.{signature_of};
+    ghost use Rattle.result_bytes.specs.Storable.{SignatureFits};
 
     ghost Value = { SignatureValue };
 
-    ghost view = { λ s. signature_of (s.formals.items, s.returns) };
+    ghost view = { λ s. record { formals = s.formals.items; returns = s.returns } };
 
-    ghost invariant = { λ s. SignatureFits (signature_of (s.formals.items, s.returns)) };
+    ghost invariant = { λ s.
+        SignatureFits (record { formals = s.formals.items; returns = s.returns }) };
 }
 
 impl Signature {
-    ghost use Rattle.result_bytes.specs.Fits.{SignatureFits};
-    ghost use Rattle.result_bytes.specs.Reading.{signature_of};
+    ghost use Rattle.result_bytes.specs.Storable.{SignatureFits};
 
     /// A signature of these types.
     #[tactic(auto, using(byte_readers::specs::Laws::all_storable))]
     pub fn new(formals: Vec<Ty>, returns: Ty) -> Self
-        ensures { result ≡ signature_of (formals.items, returns) }
+        ensures { result ≡ record { formals = formals.items; returns = returns } }
     {
         check_list::<TypeFormat>(&formals);
         check_ty(&returns);
@@ -149,24 +165,22 @@ pub struct Supers {
 
 impl Model for Supers {
     ghost use Rattle.result_bytes.specs.Payloads.{ChainValue};
-    ghost use Rattle.result_bytes.specs.Fits.{ChainFits};
-    ghost use Rattle.result_bytes.specs.Reading.{chain_of};
+    ghost use Rattle.result_bytes.specs.Storable.{ChainFits};
 
     ghost Value = { ChainValue };
 
-    ghost view = { λ s. chain_of (s.classes.items, s.end) };
+    ghost view = { λ s. record { classes = s.classes.items; end = s.end } };
 
-    ghost invariant = { λ s. ChainFits (chain_of (s.classes.items, s.end)) };
+    ghost invariant = { λ s. ChainFits (record { classes = s.classes.items; end = s.end }) };
 }
 
 impl Supers {
-    ghost use Rattle.result_bytes.specs.Fits.{ChainFits};
-    ghost use Rattle.result_bytes.specs.Reading.{chain_of};
+    ghost use Rattle.result_bytes.specs.Storable.{ChainFits};
 
     /// A chain of these classes with this end.
     #[tactic(auto, using(byte_readers::specs::Laws::all_storable))]
     pub fn new(classes: Vec<Name>, end: ChainEnd) -> Self
-        ensures { result ≡ chain_of (classes.items, end) }
+        ensures { result ≡ record { classes = classes.items; end = end } }
     {
         check_list::<NameFormat>(&classes);
         check_end(&end);
@@ -194,7 +208,7 @@ pub struct HeaderFormat;
 
 impl Format for HeaderFormat {
     ghost use Rattle.result_bytes.specs.Canon.{header};
-    ghost use Rattle.result_bytes.specs.Fits.{HeaderFits};
+    ghost use Rattle.result_bytes.specs.Storable.{HeaderFits};
     ghost use Rattle.result_bytes.specs.Reading.{header_at};
     ghost use Rattle.result_bytes.specs.ItemLaws.{lawful_header};
 
@@ -236,7 +250,7 @@ pub struct SignatureFormat;
 
 impl Format for SignatureFormat {
     ghost use Rattle.result_bytes.specs.Canon.{signature};
-    ghost use Rattle.result_bytes.specs.Fits.{SignatureFits};
+    ghost use Rattle.result_bytes.specs.Storable.{SignatureFits};
     ghost use Rattle.result_bytes.specs.Reading.{signature_at};
     ghost use Rattle.result_bytes.specs.ItemLaws.{lawful_signature};
 
@@ -274,7 +288,7 @@ pub struct SupersFormat;
 
 impl Format for SupersFormat {
     ghost use Rattle.result_bytes.specs.Canon.{chain};
-    ghost use Rattle.result_bytes.specs.Fits.{ChainFits};
+    ghost use Rattle.result_bytes.specs.Storable.{ChainFits};
     ghost use Rattle.result_bytes.specs.Reading.{chain_at};
     ghost use Rattle.result_bytes.specs.ItemLaws.{lawful_chain};
 

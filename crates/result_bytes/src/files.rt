@@ -1,8 +1,8 @@
 //! What is known of the project's files.
 ghost use Rattle.std.specs.Prelude.{◌≡◌, ◌<◌, ◌≤◌, ◌++◌, List, ℕ, [], length, OnOk};
 ghost use Rattle.byte_readers.specs.Spelling.{name, list};
-ghost use Rattle.byte_readers.specs.Reading.{Gives, name_at, list_from};
-ghost use Rattle.result_bytes.specs.Fits.{most_files, AreDistinct, FileNamesFit, TextFits};
+ghost use Rattle.byte_readers.specs.Reading.{Decodes, name_at, list_from};
+ghost use Rattle.result_bytes.specs.Storable.{most_files, AreDistinct, FileNamesFit, TextFits};
 ghost use Rattle.result_bytes.specs.Canon.{index_row};
 ghost use Rattle.result_bytes.specs.Reading.{is_new, file_names_at, index_at};
 
@@ -25,7 +25,7 @@ pub struct FileNames {
 
 impl Model for FileNames {
     ghost use Rattle.std.specs.Prelude.{ℕ, List};
-    ghost use Rattle.result_bytes.specs.Fits.{FileNamesFit};
+    ghost use Rattle.result_bytes.specs.Storable.{FileNamesFit};
 
     ghost Value = { List (List ℕ) };
 
@@ -65,7 +65,7 @@ pub fn put_file_names(out: &mut Vec<u8>, files: &FileNames) -> Result<(), AllocE
 
 /// Reads the names of the files.
 pub fn read_file_names(alloc: Global, bytes: &[u8]) -> Result<(FileNames, &[u8]), ReadError>
-    ensures { Gives (λ x. (x.0, x.1.now)) result (file_names_at bytes.now) }
+    ensures { Decodes (λ x. (x.0, x.1.now)) result (file_names_at bytes.now) }
 {
     let (names, rest) = read_names(alloc, bytes)?;
     Ok((FileNames { names }, rest))
@@ -74,7 +74,7 @@ pub fn read_file_names(alloc: Global, bytes: &[u8]) -> Result<(FileNames, &[u8])
 /// Reads 1 to 4,096 names that differ.
 #[tactic(auto, unfolding(crate::specs::Reading::file_names_at))]
 fn read_names(alloc: Global, bytes: &[u8]) -> Result<(Vec<Name>, &[u8]), ReadError>
-    ensures { Gives (λ x. (x.0.items, x.1.now)) result (file_names_at bytes.now) }
+    ensures { Decodes (λ x. (x.0.items, x.1.now)) result (file_names_at bytes.now) }
 {
     let (count, rest) = read_eight(bytes)?;
     if count == 0 || count > 4096 {
@@ -85,7 +85,8 @@ fn read_names(alloc: Global, bytes: &[u8]) -> Result<(Vec<Name>, &[u8]), ReadErr
 
 /// Reads so many names that differ.
 fn read_new_names(alloc: Global, count: u64, bytes: &[u8]) -> Result<(Vec<Name>, &[u8]), ReadError>
-    ensures { Gives (λ x. (x.0.items, x.1.now)) result (list_from name_at is_new [] count bytes.now) }
+    ensures { Decodes (λ x. (x.0.items, x.1.now)) result
+        (list_from name_at is_new [] count bytes.now) }
 {
     let mut items = Vec::new(alloc);
     let mut rest = bytes;
@@ -116,7 +117,7 @@ pub struct Text {
 
 impl Model for Text {
     ghost use Rattle.std.specs.Prelude.{ℕ, List};
-    ghost use Rattle.result_bytes.specs.Fits.{TextFits};
+    ghost use Rattle.result_bytes.specs.Storable.{TextFits};
 
     ghost Value = { List ℕ };
 
@@ -148,7 +149,7 @@ pub struct TextFormat;
 
 impl Format for TextFormat {
     ghost use Rattle.result_bytes.specs.Canon.{text};
-    ghost use Rattle.result_bytes.specs.Fits.{TextFits};
+    ghost use Rattle.result_bytes.specs.Storable.{TextFits};
     ghost use Rattle.result_bytes.specs.Reading.{text_at};
     ghost use Rattle.result_bytes.specs.ItemLaws.{lawful_text};
 
@@ -197,7 +198,7 @@ pub struct IndexRowFormat;
 
 impl Format for IndexRowFormat {
     ghost use Rattle.result_bytes.specs.Canon.{index_row};
-    ghost use Rattle.result_bytes.specs.Fits.{IndexRowFits};
+    ghost use Rattle.result_bytes.specs.Storable.{IndexRowFits};
     ghost use Rattle.result_bytes.specs.Reading.{index_row_at};
     ghost use Rattle.result_bytes.specs.ItemLaws.{lawful_index_row};
 
@@ -249,7 +250,7 @@ pub struct Index {
 impl Model for Index {
     ghost use Rattle.std.specs.Prelude.{List};
     ghost use Rattle.result_bytes.specs.declared.files.IndexRow.{IndexRow};
-    ghost use Rattle.result_bytes.specs.Fits.{IndexFits};
+    ghost use Rattle.result_bytes.specs.Storable.{IndexFits};
 
     ghost Value = { List IndexRow };
 
@@ -260,7 +261,7 @@ impl Model for Index {
 
 impl Index {
     ghost use Rattle.mj_answer.specs.Order.{IsAscendingByName};
-    ghost use Rattle.result_bytes.specs.Fits.{IndexFits};
+    ghost use Rattle.result_bytes.specs.Storable.{IndexFits};
 
     /// These rows.
     #[tactic(auto, using(byte_readers::specs::Laws::all_storable))]
@@ -291,7 +292,7 @@ pub fn put_index(out: &mut Vec<u8>, index: &Index) -> Result<(), AllocError>
 /// Reads an index.
 #[tactic(auto, unfolding(crate::specs::Reading::index_at))]
 pub fn read_index(alloc: Global, bytes: &[u8]) -> Result<(Index, &[u8]), ReadError>
-    ensures { Gives (λ x. (x.0, x.1.now)) result (index_at bytes.now) }
+    ensures { Decodes (λ x. (x.0, x.1.now)) result (index_at bytes.now) }
 {
     let (rows, rest) = read_ascending::<IndexRowFormat>(alloc, bytes)?;
     Ok((Index { rows }, rest))

@@ -1,9 +1,9 @@
 //! Parts of headers and chains.
 ghost use Rattle.std.specs.Prelude.{◌≡◌, ◌++◌, OnOk, IfSome};
 ghost use Rattle.byte_readers.specs.Names.{IsName};
-ghost use Rattle.byte_readers.specs.Reading.{Gives};
+ghost use Rattle.byte_readers.specs.Reading.{Decodes};
 ghost use Rattle.result_bytes.specs.Canon.{boolean, chain_end};
-ghost use Rattle.result_bytes.specs.Fits.{ChainEndFits};
+ghost use Rattle.result_bytes.specs.Storable.{ChainEndFits};
 ghost use Rattle.result_bytes.specs.Reading.{boolean_at, chain_end_at};
 
 use byte_readers::{Breach, ReadError, check_name, put_name, read_name, refused};
@@ -39,7 +39,7 @@ pub fn put_boolean(out: &mut Vec<u8>, value: bool) -> Result<(), AllocError>
 
 #[tactic(auto, unfolding(crate::specs::Reading::boolean_at))]
 pub fn read_boolean(bytes: &[u8]) -> Result<(bool, &[u8]), ReadError>
-    ensures { Gives (λ x. (x.0, x.1.now)) result (boolean_at bytes.now) }
+    ensures { Decodes (λ x. (x.0, x.1.now)) result (boolean_at bytes.now) }
 {
     match bytes {
         [] => Err(ReadError::Breach(Breach::Short)),
@@ -78,7 +78,7 @@ pub fn put_end(out: &mut Vec<u8>, end: &ChainEnd) -> Result<(), AllocError>
 
 #[tactic(auto, unfolding(crate::specs::Reading::chain_end_at))]
 pub fn read_end(alloc: Global, bytes: &[u8]) -> Result<(ChainEnd, &[u8]), ReadError>
-    ensures { Gives (λ x. (x.0, x.1.now)) result (chain_end_at bytes.now) }
+    ensures { Decodes (λ x. (x.0, x.1.now)) result (chain_end_at bytes.now) }
 {
     match bytes {
         [] => Err(ReadError::Breach(Breach::Short)),

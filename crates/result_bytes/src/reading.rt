@@ -1,6 +1,6 @@
 //! Values from bytes.
 ghost use Rattle.std.specs.Prelude.{◌≡◌, IfOk};
-ghost use Rattle.byte_readers.specs.Reading.{Gives};
+ghost use Rattle.byte_readers.specs.Reading.{Decodes};
 ghost use Rattle.result_bytes.specs.declared.value.Value.{Value};
 ghost use Rattle.result_bytes.specs.Values.{IsValue, canon, kind_of, content_at, decoded, refusal, IsUnlessMemory};
 
@@ -19,7 +19,8 @@ pub fn decode(alloc: Global, kind: Kind, bytes: &[u8]) -> Result<Value, Refusal>
     // What is read is a value of the kind, spelled so.
     ensures found { IfOk result (λ v. IsValue v × (kind_of v ≡ kind) × (bytes.now ≡ canon v)) }
     // What is spelled so is read, unless memory runs out.
-    ensures only { (v : Value) → IsValue v → kind_of v ≡ kind → bytes.now ≡ canon v → IsUnlessMemory result (Ok v) }
+    ensures only { (v : Value) → IsValue v → kind_of v ≡ kind → bytes.now ≡ canon v
+        → IsUnlessMemory result (Ok v) }
     // Which refusal it is.
     ensures exact { IsUnlessMemory result (decoded kind bytes.now) }
 {
@@ -51,7 +52,7 @@ fn read_value(alloc: Global, kind: Kind, bytes: &[u8]) -> Result<Value, Refusal>
 /// Reads what stands behind the kind's number.
 #[tactic(auto, unfolding(crate::specs::Values::content_at))]
 fn read_content(alloc: Global, kind: Kind, bytes: &[u8]) -> Result<(Value, &[u8]), ReadError>
-    ensures { Gives (λ x. (x.0, x.1.now)) result (content_at kind bytes.now) }
+    ensures { Decodes (λ x. (x.0, x.1.now)) result (content_at kind bytes.now) }
 {
     match kind {
         Kind::Files => {

@@ -2,8 +2,8 @@
 use Rattle.std.specs.Prelude.{ℕ, Bool, true, false, ◌||◌, ◌==◌, if◌then◌else◌, List, [], ◌∷◌, length, Option, Some, None, is_some, is_none, bytes_eq}
 use Rattle.item_ids.specs.declared.key.Key.{Key}
 use Rattle.item_ids.specs.declared.key.Key.TheVariants as keys
-use Rattle.mj_parser.specs.declared.place.Place.TheVariants.{Class}
-use Rattle.mj_parser.specs.declared.tree.Ty.TheVariants.{Int, Boolean}
+use Rattle.mj_tree.specs.declared.place.Place.TheVariants.{Class}
+use Rattle.mj_tree.specs.declared.tree.Ty.TheVariants.{Int, Boolean}
 use Rattle.mj_answer.specs.declared.code.Code.TheVariants as codes
 use Rattle.mj_answer.specs.declared.diagnostic.Diagnostic.{Diagnostic}
 use Rattle.result_bytes.specs.Payloads.{HeaderValue, SignatureValue}

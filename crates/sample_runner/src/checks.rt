@@ -11,7 +11,7 @@ use answer_bytes::Faults;
 use item_ids::Key;
 use mj_answer::{Code, Diagnostic};
 use mj_lexer::Name;
-use mj_parser::Place;
+use mj_tree::Place;
 use recorder::{Reader, Recorder, RunFault, ask_key};
 use result_bytes::Value;
 use std::alloc::{AllocError, Global};

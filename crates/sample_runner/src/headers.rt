@@ -9,7 +9,7 @@ ghost use Rattle.sample_runner.specs.Programs.{header_in as header_told, signatu
 use fingerprint::Sealed;
 use item_ids::Key;
 use mj_lexer::Name;
-use mj_parser::Ty;
+use mj_tree::Ty;
 use recorder::{Reader, Recorder, RunFault, ask_key};
 use result_bytes::{Header, Signature, Text, Value};
 use std::alloc::{AllocError, Global};

@@ -1,14 +1,14 @@
 -- What is written of lists of phrases, and how a call is seen.
 use Rattle.std.proofs.Common.{◌≡◌, ℕ, suc, List, [], ◌∷◌, ◌++◌, length, refl, sym, ap, ◌∙◌, append_assoc}
 use Rattle.std.specs.Global.{Vec, Box}
-use Rattle.mj_parser.specs.Trees as trees
-use Rattle.mj_parser.specs.declared.tree.Exp.{Exp}
-use Rattle.mj_parser.specs.declared.tree.Exp as exps1
-use Rattle.mj_parser.specs.declared.tree.Exp.TheVariants.{rolls-Call}
-use Rattle.mj_parser.specs.declared.tree.Exp.TheFolds.{fold-roll-Exp}
-use Rattle.mj_parser.specs.declared.tree.Stmt.{Stmt}
-use Rattle.mj_parser.specs.Trees.{Expression}
-use Rattle.mj_parser.specs.Views.{exp_layer, exp_view, exps_view, stmts_view}
+use Rattle.mj_tree.specs.Trees as trees
+use Rattle.mj_tree.specs.declared.tree.Exp.{Exp}
+use Rattle.mj_tree.specs.declared.tree.Exp as exps1
+use Rattle.mj_tree.specs.declared.tree.Exp.TheVariants.{rolls-Call}
+use Rattle.mj_tree.specs.declared.tree.Exp.TheFolds.{fold-roll-Exp}
+use Rattle.mj_tree.specs.declared.tree.Stmt.{Stmt}
+use Rattle.mj_tree.specs.Trees.{Expression}
+use Rattle.mj_tree.specs.Views.{exp_layer, exp_view, exps_view, stmts_view}
 use Rattle.tree_bytes.specs.Spelling.{count_exps, count_stmts}
 
 -- ---- the number of items

@@ -2,11 +2,11 @@
 use Rattle.std.specs.Prelude.{ℕ, zero, suc, List, [], ◌∷◌, Err, refl, ◌≡◌, ◌⊎◌}
 use Rattle.std.specs.Coded.{Coded, code_by, coded⊎}
 use Rattle.std.proofs.Common.{inl, inr}
-use Rattle.mj_parser.specs.Trees.{Statement, Method}
+use Rattle.mj_tree.specs.Trees.{Statement, Method}
 use Rattle.tree_bytes.specs.Spelling.{stmt, method}
-use Rattle.tree_bytes.specs.Fits.{TopStmtFits, MethodFits}
+use Rattle.tree_bytes.specs.Storable.{TopStmtFits, MethodFits}
 use Rattle.byte_readers.specs.declared.breach.Breach.TheVariants.{Short}
-use Rattle.byte_readers.specs.Reading.{Reader, refused, made_at}
+use Rattle.byte_readers.specs.Reading.{Decoder, refused, made_at}
 use Rattle.tree_bytes.specs.Reading.{top_stmt_at, method_at}
 use Rattle.tree_bytes.specs.Codes.{statement_code, method_code}
 
@@ -38,7 +38,7 @@ abbrev pub body : BodyValue → List ℕ
 body (OfMain s) = 0x00 ∷ stmt s
 body (OfMethod m) = 0x01 ∷ method m
 
-unfoldable pub body_at : Reader BodyValue
+unfoldable pub body_at : Decoder BodyValue
 body_at [] = Err Short
 body_at (zero ∷ rest) = made_at OfMain top_stmt_at rest
 body_at (suc zero ∷ rest) = made_at OfMethod method_at rest

@@ -1,5 +1,5 @@
 -- What contracts see of a body.
-use Rattle.mj_parser.specs.Views.{stmt_view, method_view}
+use Rattle.mj_tree.specs.Views.{stmt_view, method_view}
 use Rattle.tree_bytes.specs.declared.tree.MainOrMethod.{MainOrMethod}
 use Rattle.tree_bytes.specs.declared.tree.MainOrMethod.TheVariants.{Main, Method}
 use Rattle.tree_bytes.specs.Bodies.{BodyValue, OfMain, OfMethod}

@@ -3,12 +3,12 @@ use Rattle.std.specs.Prelude.{◌≡◌, ℕ, zero, suc, true, false, List, [], 
 use Rattle.std.specs.Coded.{code_by, coded×, coded_ℕ, coded_list, coded_option}
 use Rattle.std.proofs.Common.{ap, sym, ◌∙◌}
 use base.Stored.{Coded, Gv, gnil, gnum, gcons, num}
-use Rattle.mj_parser.specs.declared.tree.Operator.TheVariants.{And, Less, Plus, Minus, Times}
-use Rattle.mj_parser.specs.contracts.tree.Ty as ty_contracts
-use Rattle.mj_parser.specs.contracts.tree.Field as field_contracts
-use Rattle.mj_parser.specs.contracts.tree.Variable as variable_contracts
-use Rattle.mj_parser.specs.Trees.{Expression, Expressions, none, more, Statement, Statements, done, next, Method, Main, File}
-use Rattle.mj_parser.specs.Trees as trees
+use Rattle.mj_tree.specs.declared.tree.Operator.TheVariants.{And, Less, Plus, Minus, Times}
+use Rattle.mj_tree.specs.contracts.tree.Ty as ty_contracts
+use Rattle.mj_tree.specs.contracts.tree.Field as field_contracts
+use Rattle.mj_tree.specs.contracts.tree.Variable as variable_contracts
+use Rattle.mj_tree.specs.Trees.{Expression, Expressions, none, more, Statement, Statements, done, next, Method, Main, File}
+use Rattle.mj_tree.specs.Trees as trees
 use Rattle.tree_bytes.specs.Tags.{operator_byte, boolean_byte}
 
 abbrev code_n : List ℕ → Gv

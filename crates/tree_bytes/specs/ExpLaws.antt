@@ -3,15 +3,15 @@ use Rattle.std.proofs.Common.{◌≡◌, ℕ, zero, suc, ◌^◌, ◌<◌, false
 use Rattle.std.specs.List.{flat_map, AllByRecursion}
 use Rattle.std.proofs.lemmas.List.Concat.{flat_map-cons}
 use Rattle.std.proofs.lemmas.Bool.{ltb-false, le-ltb}
-use Rattle.mj_parser.specs.Trees as trees
+use Rattle.mj_tree.specs.Trees as trees
 use Rattle.byte_readers.specs.declared.breach.Breach.{Breach}
 use Rattle.byte_readers.specs.declared.breach.Breach.TheVariants.{NotCanonical}
 use Rattle.byte_readers.specs.Spelling.{four, eight, name}
-use Rattle.byte_readers.specs.Reading.{◌>>=◌, Reader, refused, any, byte_at, four_at, made_at}
+use Rattle.byte_readers.specs.Reading.{◌>>=◌, Decoder, refused, any, byte_at, four_at, made_at}
 use Rattle.byte_readers.specs.Lawful.{IsBytes, Takes, Lawful}
 use Rattle.byte_readers.specs.Laws.{IsBytes-rest, bind_ok, guard_ok, ok_is, Takes-then, takes_nothing, made_takes, made_again, lawful_four, lawful_name, lawful_pair, lawful_list, lawful_made, lawful_as, lawful_where, any_admits}
-use Rattle.mj_parser.specs.Trees.{Expression, Expressions, none, more}
-use Rattle.mj_parser.specs.Views.{expressions_of}
+use Rattle.mj_tree.specs.Trees.{Expression, Expressions, none, more}
+use Rattle.mj_tree.specs.Views.{expressions_of}
 use Rattle.tree_bytes.specs.declared.tag.ExpTag.{ExpTag}
 use Rattle.tree_bytes.specs.declared.tag.ExpTag.TheVariants as tags
 use Rattle.tree_bytes.specs.declared.tag.TwoParts.TheVariants as twos
@@ -19,7 +19,8 @@ use Rattle.tree_bytes.specs.declared.tag.OnePart.TheVariants as ones
 use Rattle.tree_bytes.specs.Tags.{exp_byte, exp_tag_of}
 use Rattle.tree_bytes.specs.TagLaws.{exp_byte_is, exp_tag_back}
 use Rattle.tree_bytes.specs.Spelling.{node, exp, exps, count_exps}
-use Rattle.tree_bytes.specs.Fits.{greatest_literal, ExpFits, ExpsFit}
+use Rattle.tree_bytes.specs.Storable.{ExpFits, ExpsFit}
+use Rattle.mj_lexer.specs.Bytes.{greatest_literal}
 use Rattle.tree_bytes.specs.Reading.{literal_at, exps_at, exp_body_at, exp_tagged, exp_at}
 
 -- ---- lists of expressions
@@ -58,7 +59,7 @@ unfolding list_of
 all_list_of room none h = tt
 all_list_of room (more t ts) h = (h.0, all_list_of room ts h.1)
 
-pub lawful_exps : (room : ℕ) {part : Reader Expression} → Lawful part exp (ExpFits room) → Lawful (exps_at part) (λ es. eight (count_exps es) ++ exps es) (λ es. (count_exps es < 2 ^ 64) × ExpsFit room es)
+pub lawful_exps : (room : ℕ) {part : Decoder Expression} → Lawful part exp (ExpFits room) → Lawful (exps_at part) (λ es. eight (count_exps es) ++ exps es) (λ es. (count_exps es < 2 ^ 64) × ExpsFit room es)
 lawful_exps room law =
     lawful_where
     (lawful_as (lawful_made (lawful_list law any) expressions_of list_of list_of_of of_list_of) (λ es. eight (count_exps es) ++ exps es) (λ es. rw (sym (length_list_of es), spelled_list_of es) refl))
@@ -90,7 +91,7 @@ record Body (room : ℕ) (tag : ExpTag) (mark : ℕ) (bytes : List ℕ) (t : Exp
   pub spelled : exp t ≡ node (exp_byte tag) mark text
   pub fits : ExpFits (suc room) t
 
-body_made : {A : Type 0} {p : Reader A} {sp : A → List ℕ} {P : A → Type 0} (law : Lawful p sp P) (make : A → Expression) (room : ℕ) (tag : ExpTag) (mark : ℕ) → ((a : A) → exp (make a) ≡ node (exp_byte tag) mark (sp a)) → ((a : A) → P a → ExpFits (suc room) (make a))
+body_made : {A : Type 0} {p : Decoder A} {sp : A → List ℕ} {P : A → Type 0} (law : Lawful p sp P) (make : A → Expression) (room : ℕ) (tag : ExpTag) (mark : ℕ) → ((a : A) → exp (make a) ≡ node (exp_byte tag) mark (sp a)) → ((a : A) → P a → ExpFits (suc room) (make a))
     → (bytes : List ℕ) (t : Expression) (rest : List ℕ) → IsBytes bytes → made_at make p bytes ≡ Ok (t, rest) → Body room tag mark bytes t rest
 body_made {A} {p} {sp} {P} law make room tag mark spelled fit bytes t rest fits e =
     let m = made_takes law make bytes t rest fits e in
@@ -103,7 +104,7 @@ body_leaf : (one : Expression) (room : ℕ) (tag : ExpTag) (mark : ℕ) → exp 
 body_leaf one room tag mark spelled fit bytes t rest fits e =
     subst (λ (x : Expression × List ℕ). Body room tag mark bytes x.0 x.1) (ok_is (one, bytes) (t, rest) e) record { text = []; takes = takes_nothing bytes fits; spelled = spelled; fits = fit }
 
-body_takes : (room : ℕ) (part : Reader Expression) (law : Lawful part exp (ExpFits room)) (tag : ExpTag) (mark : ℕ) → mark < 2 ^ 32 → (bytes : List ℕ) (t : Expression) (rest : List ℕ) → IsBytes bytes → exp_body_at part tag mark bytes ≡ Ok (t, rest) → Body room tag mark bytes t rest
+body_takes : (room : ℕ) (part : Decoder Expression) (law : Lawful part exp (ExpFits room)) (tag : ExpTag) (mark : ℕ) → mark < 2 ^ 32 → (bytes : List ℕ) (t : Expression) (rest : List ℕ) → IsBytes bytes → exp_body_at part tag mark bytes ≡ Ok (t, rest) → Body room tag mark bytes t rest
 body_takes room part law (tags.Two (twos.Binary operator)) mark lt bytes t rest fits e = body_made (lawful_pair law law) (λ x. trees.Binary operator mark x.0 x.1) room (tags.Two (twos.Binary operator)) mark (λ _. refl) (λ a h. (lt, h)) bytes t rest fits e
 body_takes room part law (tags.Two twos.Index) mark lt bytes t rest fits e = body_made (lawful_pair law law) (λ x. trees.Index mark x.0 x.1) room (tags.Two twos.Index) mark (λ _. refl) (λ a h. (lt, h)) bytes t rest fits e
 body_takes room part law (tags.One ones.Length) mark lt bytes t rest fits e = body_made law (trees.Length mark) room (tags.One ones.Length) mark (λ _. refl) (λ a h. (lt, h)) bytes t rest fits e
@@ -118,7 +119,7 @@ body_takes room part law tags.Variable mark lt bytes t rest fits e = body_made l
 body_takes room part law tags.This mark lt bytes t rest fits e = body_leaf (trees.This mark) room tags.This mark refl lt bytes t rest fits e
 body_takes room part law tags.NewObject mark lt bytes t rest fits e = body_made lawful_name (trees.NewObject mark) room tags.NewObject mark (λ _. refl) (λ a h. (lt, h)) bytes t rest fits e
 
-tagged_takes : (room : ℕ) (part : Reader Expression) (law : Lawful part exp (ExpFits room)) (whole : List ℕ) (b : ℕ) (o : Option ExpTag) → exp_tag_of b ≡ o → (bytes : List ℕ) (t : Expression) (rest : List ℕ) → IsBytes bytes → exp_tagged part whole o bytes ≡ Ok (t, rest) → Takes (b ∷ bytes) (exp t) rest × ExpFits (suc room) t
+tagged_takes : (room : ℕ) (part : Decoder Expression) (law : Lawful part exp (ExpFits room)) (whole : List ℕ) (b : ℕ) (o : Option ExpTag) → exp_tag_of b ≡ o → (bytes : List ℕ) (t : Expression) (rest : List ℕ) → IsBytes bytes → exp_tagged part whole o bytes ≡ Ok (t, rest) → Takes (b ∷ bytes) (exp t) rest × ExpFits (suc room) t
 tagged_takes room part law whole b None is bytes t rest fits e = absurd cc
 tagged_takes room part law whole b (Some tag) is bytes t rest fits e =
     let a = bind_ok (four_at bytes) (λ mark. exp_body_at part tag mark.0 mark.1) (t, rest) e in
@@ -129,23 +130,23 @@ tagged_takes room part law whole b (Some tag) is bytes t rest fits e =
     (record { parts = all; rest_fits = both.rest_fits }, body.fits)
 
 -- an expression whose parts are read so
-spelled_at : Reader Expression → List ℕ → Result (Expression × List ℕ) Breach
+spelled_at : Decoder Expression → List ℕ → Result (Expression × List ℕ) Breach
 spelled_at part bytes = byte_at bytes >>= λ tag. exp_tagged part bytes (exp_tag_of tag.0) tag.1
 
-exp_takes : (room : ℕ) (part : Reader Expression) (law : Lawful part exp (ExpFits room)) (bytes : List ℕ) (t : Expression) (rest : List ℕ) → IsBytes bytes → spelled_at part bytes ≡ Ok (t, rest) → Takes bytes (exp t) rest × ExpFits (suc room) t
+exp_takes : (room : ℕ) (part : Decoder Expression) (law : Lawful part exp (ExpFits room)) (bytes : List ℕ) (t : Expression) (rest : List ℕ) → IsBytes bytes → spelled_at part bytes ≡ Ok (t, rest) → Takes bytes (exp t) rest × ExpFits (suc room) t
 unfolding spelled_at
 exp_takes room part law [] t rest fits e = absurd cc
 exp_takes room part law (b ∷ bytes) t rest fits e = tagged_takes room part law (b ∷ bytes) b (exp_tag_of b) refl bytes t rest (IsBytes-rest b bytes fits) e
 
 -- behind a tag and a mark the rest is read
-at_body : (part : Reader Expression) (tag : ExpTag) (mark : ℕ) (text rest : List ℕ) → mark < 2 ^ 32 → spelled_at part (node (exp_byte tag) mark text ++ rest) ≡ exp_body_at part tag mark (text ++ rest)
+at_body : (part : Decoder Expression) (tag : ExpTag) (mark : ℕ) (text rest : List ℕ) → mark < 2 ^ 32 → spelled_at part (node (exp_byte tag) mark text ++ rest) ≡ exp_body_at part tag mark (text ++ rest)
 unfolding spelled_at
 at_body part tag mark text rest lt =
     let whole = node (exp_byte tag) mark text ++ rest in
     ap (λ (o : Option ExpTag). exp_tagged part whole o ((four mark ++ text) ++ rest)) (exp_tag_back tag)
     ∙ ap (exp_tagged part whole (Some tag)) (append_assoc (four mark) text rest) ∙ rw (lawful_four.again mark (text ++ rest) lt) refl
 
-exp_again : (room : ℕ) (part : Reader Expression) (law : Lawful part exp (ExpFits room)) (t : Expression) (rest : List ℕ) → ExpFits (suc room) t → spelled_at part (exp t ++ rest) ≡ Ok (t, rest)
+exp_again : (room : ℕ) (part : Decoder Expression) (law : Lawful part exp (ExpFits room)) (t : Expression) (rest : List ℕ) → ExpFits (suc room) t → spelled_at part (exp t ++ rest) ≡ Ok (t, rest)
 exp_again room part law (trees.Binary operator mark left right) rest h = at_body part (tags.Two (twos.Binary operator)) mark (exp left ++ exp right) rest h.0 ∙ made_again (lawful_pair law law) (λ x. trees.Binary operator mark x.0 x.1) (left, right) rest h.1
 exp_again room part law (trees.Index mark array index) rest h = at_body part (tags.Two twos.Index) mark (exp array ++ exp index) rest h.0 ∙ made_again (lawful_pair law law) (λ x. trees.Index mark x.0 x.1) (array, index) rest h.1
 exp_again room part law (trees.Length mark array) rest h = at_body part (tags.One ones.Length) mark (exp array) rest h.0 ∙ made_again law (trees.Length mark) array rest h.1

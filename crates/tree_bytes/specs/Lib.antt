@@ -1,6 +1,6 @@
 pub mod Tags
 pub mod Spelling
-pub mod Fits
+pub mod Storable
 pub mod Reading
 pub mod Codes
 pub mod Bodies

@@ -2,20 +2,20 @@
 use Rattle.std.proofs.Common.{◌≡◌, ℕ, zero, suc, ◌^◌, ◌<◌, List, [], ◌∷◌, ◌++◌, length, Option, Some, None, Result, Ok, refl, sym, ap, subst, ◌∙◌, append_assoc, arith}
 use Rattle.std.specs.List.{flat_map, AllByRecursion}
 use Rattle.std.proofs.lemmas.List.Concat.{flat_map-cons}
-use Rattle.mj_parser.specs.Trees as trees
+use Rattle.mj_tree.specs.Trees as trees
 use Rattle.byte_readers.specs.declared.breach.Breach.{Breach}
 use Rattle.byte_readers.specs.Spelling.{four, eight, name}
-use Rattle.byte_readers.specs.Reading.{◌>>=◌, Reader, any, byte_at, four_at, made_at}
+use Rattle.byte_readers.specs.Reading.{◌>>=◌, Decoder, any, byte_at, four_at, made_at}
 use Rattle.byte_readers.specs.Lawful.{IsBytes, Takes, Lawful}
 use Rattle.byte_readers.specs.Laws.{IsBytes-rest, bind_ok, Takes-then, made_takes, made_again, lawful_four, lawful_name, lawful_pair, lawful_list, lawful_made, lawful_as, lawful_where, any_admits}
-use Rattle.mj_parser.specs.Trees.{Statement, Statements, done, next}
-use Rattle.mj_parser.specs.Views.{statements_of}
+use Rattle.mj_tree.specs.Trees.{Statement, Statements, done, next}
+use Rattle.mj_tree.specs.Views.{statements_of}
 use Rattle.tree_bytes.specs.declared.tag.StmtTag.{StmtTag}
 use Rattle.tree_bytes.specs.declared.tag.StmtTag.TheVariants as tags
 use Rattle.tree_bytes.specs.Tags.{stmt_byte, stmt_tag_of}
 use Rattle.tree_bytes.specs.TagLaws.{stmt_byte_is, stmt_tag_back}
 use Rattle.tree_bytes.specs.Spelling.{node, exp, stmt, stmts, count_stmts}
-use Rattle.tree_bytes.specs.Fits.{StmtFits, StmtsFit}
+use Rattle.tree_bytes.specs.Storable.{StmtFits, StmtsFit}
 use Rattle.tree_bytes.specs.Reading.{stmts_at, stmt_body_at, stmt_tagged, exp_at, stmt_at}
 use Rattle.tree_bytes.specs.ExpLaws.{lawful_exp}
 
@@ -55,7 +55,7 @@ unfolding list_of
 all_list_of room done h = tt
 all_list_of room (next t ts) h = (h.0, all_list_of room ts h.1)
 
-pub lawful_stmts : (room : ℕ) {part : Reader Statement} → Lawful part stmt (StmtFits room) → Lawful (stmts_at part) (λ ss. eight (count_stmts ss) ++ stmts ss) (λ ss. (count_stmts ss < 2 ^ 64) × StmtsFit room ss)
+pub lawful_stmts : (room : ℕ) {part : Decoder Statement} → Lawful part stmt (StmtFits room) → Lawful (stmts_at part) (λ ss. eight (count_stmts ss) ++ stmts ss) (λ ss. (count_stmts ss < 2 ^ 64) × StmtsFit room ss)
 lawful_stmts room law =
     lawful_where
     (lawful_as (lawful_made (lawful_list law any) statements_of list_of list_of_of of_list_of) (λ ss. eight (count_stmts ss) ++ stmts ss) (λ ss. rw (sym (length_list_of ss), spelled_list_of ss) refl))
@@ -71,13 +71,13 @@ record Body (room : ℕ) (tag : StmtTag) (mark : ℕ) (bytes : List ℕ) (t : St
   pub spelled : stmt t ≡ node (stmt_byte tag) mark text
   pub fits : StmtFits (suc room) t
 
-body_made : {A : Type 0} {p : Reader A} {sp : A → List ℕ} {P : A → Type 0} (law : Lawful p sp P) (make : A → Statement) (room : ℕ) (tag : StmtTag) (mark : ℕ) → ((a : A) → stmt (make a) ≡ node (stmt_byte tag) mark (sp a)) → ((a : A) → P a → StmtFits (suc room) (make a))
+body_made : {A : Type 0} {p : Decoder A} {sp : A → List ℕ} {P : A → Type 0} (law : Lawful p sp P) (make : A → Statement) (room : ℕ) (tag : StmtTag) (mark : ℕ) → ((a : A) → stmt (make a) ≡ node (stmt_byte tag) mark (sp a)) → ((a : A) → P a → StmtFits (suc room) (make a))
     → (bytes : List ℕ) (t : Statement) (rest : List ℕ) → IsBytes bytes → made_at make p bytes ≡ Ok (t, rest) → Body room tag mark bytes t rest
 body_made {A} {p} {sp} {P} law make room tag mark spelled fit bytes t rest fits e =
     let m = made_takes law make bytes t rest fits e in
     subst (λ (t : Statement). Body room tag mark bytes t rest) m.1 record { text = sp m.0; takes = m.2; spelled = spelled m.0; fits = fit m.0 m.3 }
 
-body_takes : (room : ℕ) (part : Reader Statement) (law : Lawful part stmt (StmtFits room)) (tag : StmtTag) (mark : ℕ) → mark < 2 ^ 32 → (bytes : List ℕ) (t : Statement) (rest : List ℕ) → IsBytes bytes → stmt_body_at (exp_at room) part tag mark bytes ≡ Ok (t, rest) → Body room tag mark bytes t rest
+body_takes : (room : ℕ) (part : Decoder Statement) (law : Lawful part stmt (StmtFits room)) (tag : StmtTag) (mark : ℕ) → mark < 2 ^ 32 → (bytes : List ℕ) (t : Statement) (rest : List ℕ) → IsBytes bytes → stmt_body_at (exp_at room) part tag mark bytes ≡ Ok (t, rest) → Body room tag mark bytes t rest
 body_takes room part law tags.Block mark lt bytes t rest fits e = body_made (lawful_stmts room law) (trees.Block mark) room tags.Block mark (λ _. refl) (λ a h. (lt, h)) bytes t rest fits e
 body_takes room part law tags.If mark lt bytes t rest fits e = body_made (lawful_pair (lawful_exp room) (lawful_pair law law)) (λ x. trees.If mark x.0 x.1.0 x.1.1) room tags.If mark (λ _. refl) (λ a h. (lt, h)) bytes t rest fits e
 body_takes room part law tags.While mark lt bytes t rest fits e = body_made (lawful_pair (lawful_exp room) law) (λ x. trees.While mark x.0 x.1) room tags.While mark (λ _. refl) (λ a h. (lt, h)) bytes t rest fits e
@@ -87,7 +87,7 @@ body_takes room part law tags.Assign mark lt bytes t rest fits e =
 body_takes room part law tags.Store mark lt bytes t rest fits e =
     body_made (lawful_pair lawful_name (lawful_pair lawful_four (lawful_pair (lawful_exp room) (lawful_exp room)))) (λ x. trees.Store mark x.0 x.1.0 x.1.1.0 x.1.1.1) room tags.Store mark (λ _. refl) (λ a h. (lt, h)) bytes t rest fits e
 
-tagged_takes : (room : ℕ) (part : Reader Statement) (law : Lawful part stmt (StmtFits room)) (whole : List ℕ) (b : ℕ) (o : Option StmtTag) → stmt_tag_of b ≡ o → (bytes : List ℕ) (t : Statement) (rest : List ℕ) → IsBytes bytes → stmt_tagged (exp_at room) part whole o bytes ≡ Ok (t, rest) → Takes (b ∷ bytes) (stmt t) rest × StmtFits (suc room) t
+tagged_takes : (room : ℕ) (part : Decoder Statement) (law : Lawful part stmt (StmtFits room)) (whole : List ℕ) (b : ℕ) (o : Option StmtTag) → stmt_tag_of b ≡ o → (bytes : List ℕ) (t : Statement) (rest : List ℕ) → IsBytes bytes → stmt_tagged (exp_at room) part whole o bytes ≡ Ok (t, rest) → Takes (b ∷ bytes) (stmt t) rest × StmtFits (suc room) t
 tagged_takes room part law whole b None is bytes t rest fits e = absurd cc
 tagged_takes room part law whole b (Some tag) is bytes t rest fits e =
     let a = bind_ok (four_at bytes) (λ mark. stmt_body_at (exp_at room) part tag mark.0 mark.1) (t, rest) e in
@@ -98,23 +98,23 @@ tagged_takes room part law whole b (Some tag) is bytes t rest fits e =
     (record { parts = all; rest_fits = both.rest_fits }, body.fits)
 
 -- a statement whose parts are read so
-spelled_at : ℕ → Reader Statement → List ℕ → Result (Statement × List ℕ) Breach
+spelled_at : ℕ → Decoder Statement → List ℕ → Result (Statement × List ℕ) Breach
 spelled_at room part bytes = byte_at bytes >>= λ tag. stmt_tagged (exp_at room) part bytes (stmt_tag_of tag.0) tag.1
 
-stmt_takes : (room : ℕ) (part : Reader Statement) (law : Lawful part stmt (StmtFits room)) (bytes : List ℕ) (t : Statement) (rest : List ℕ) → IsBytes bytes → spelled_at room part bytes ≡ Ok (t, rest) → Takes bytes (stmt t) rest × StmtFits (suc room) t
+stmt_takes : (room : ℕ) (part : Decoder Statement) (law : Lawful part stmt (StmtFits room)) (bytes : List ℕ) (t : Statement) (rest : List ℕ) → IsBytes bytes → spelled_at room part bytes ≡ Ok (t, rest) → Takes bytes (stmt t) rest × StmtFits (suc room) t
 unfolding spelled_at
 stmt_takes room part law [] t rest fits e = absurd cc
 stmt_takes room part law (b ∷ bytes) t rest fits e = tagged_takes room part law (b ∷ bytes) b (stmt_tag_of b) refl bytes t rest (IsBytes-rest b bytes fits) e
 
 -- behind a tag and a mark the rest is read
-at_body : (room : ℕ) (part : Reader Statement) (tag : StmtTag) (mark : ℕ) (text rest : List ℕ) → mark < 2 ^ 32 → spelled_at room part (node (stmt_byte tag) mark text ++ rest) ≡ stmt_body_at (exp_at room) part tag mark (text ++ rest)
+at_body : (room : ℕ) (part : Decoder Statement) (tag : StmtTag) (mark : ℕ) (text rest : List ℕ) → mark < 2 ^ 32 → spelled_at room part (node (stmt_byte tag) mark text ++ rest) ≡ stmt_body_at (exp_at room) part tag mark (text ++ rest)
 unfolding spelled_at
 at_body room part tag mark text rest lt =
     let whole = node (stmt_byte tag) mark text ++ rest in
     ap (λ (o : Option StmtTag). stmt_tagged (exp_at room) part whole o ((four mark ++ text) ++ rest)) (stmt_tag_back tag)
     ∙ ap (stmt_tagged (exp_at room) part whole (Some tag)) (append_assoc (four mark) text rest) ∙ rw (lawful_four.again mark (text ++ rest) lt) refl
 
-stmt_again : (room : ℕ) (part : Reader Statement) (law : Lawful part stmt (StmtFits room)) (t : Statement) (rest : List ℕ) → StmtFits (suc room) t → spelled_at room part (stmt t ++ rest) ≡ Ok (t, rest)
+stmt_again : (room : ℕ) (part : Decoder Statement) (law : Lawful part stmt (StmtFits room)) (t : Statement) (rest : List ℕ) → StmtFits (suc room) t → spelled_at room part (stmt t ++ rest) ≡ Ok (t, rest)
 stmt_again room part law (trees.Block mark body) rest h = at_body room part tags.Block mark (eight (count_stmts body) ++ stmts body) rest h.0 ∙ made_again (lawful_stmts room law) (trees.Block mark) body rest h.1
 stmt_again room part law (trees.If mark c t e) rest h =
     at_body room part tags.If mark (exp c ++ (stmt t ++ stmt e)) rest h.0 ∙ made_again (lawful_pair (lawful_exp room) (lawful_pair law law)) (λ x. trees.If mark x.0 x.1.0 x.1.1) (c, (t, e)) rest h.1

@@ -2,7 +2,7 @@
 use Rattle.std.proofs.Common.{◌≡◌, ℕ, true, false, eqb, Some, refl}
 use Rattle.std.proofs.lemmas.Bool.{eqb-true}
 use Rattle.byte_readers.specs.Laws.{found_passes}
-use Rattle.mj_parser.specs.declared.tree.Operator.TheVariants.{And, Less, Plus, Minus, Times}
+use Rattle.mj_tree.specs.declared.tree.Operator.TheVariants.{And, Less, Plus, Minus, Times}
 use Rattle.tree_bytes.specs.declared.tag.ExpTag.{ExpTag}
 use Rattle.tree_bytes.specs.declared.tag.ExpTag.TheVariants.{Two, One, Call, Literal, Boolean, Variable, This, NewObject}
 use Rattle.tree_bytes.specs.declared.tag.TwoParts.TheVariants.{Binary, Index}

@@ -1,7 +1,7 @@
 -- The tags of phrases, one byte each.
 use Rattle.std.specs.Prelude.{ℕ, Bool, true, false, List, [], ◌∷◌, Option, find, ◌==◌}
-use Rattle.mj_parser.specs.declared.tree.Operator.{Operator}
-use Rattle.mj_parser.specs.declared.tree.Operator.TheVariants.{And, Less, Plus, Minus, Times}
+use Rattle.mj_tree.specs.declared.tree.Operator.{Operator}
+use Rattle.mj_tree.specs.declared.tree.Operator.TheVariants.{And, Less, Plus, Minus, Times}
 use Rattle.tree_bytes.specs.declared.tag.ExpTag.{ExpTag}
 use Rattle.tree_bytes.specs.declared.tag.ExpTag.TheVariants.{Two, One, Call, Literal, Boolean, Variable, This, NewObject}
 use Rattle.tree_bytes.specs.declared.tag.TwoParts.{TwoParts}

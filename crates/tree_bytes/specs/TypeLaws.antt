@@ -1,13 +1,13 @@
 -- Declared types, and what is declared with them: what is read is spelled so, and what is spelled so is read.
 use Rattle.std.proofs.Common.{◌≡◌, ℕ, zero, suc, List, [], ◌∷◌, ◌++◌, Result, Ok, refl, sym, subst}
-use Rattle.mj_parser.specs.declared.tree.Ty.{Ty}
-use Rattle.mj_parser.specs.declared.tree.Ty.TheVariants.{Int, Boolean, IntArray, Class}
+use Rattle.mj_tree.specs.declared.tree.Ty.{Ty}
+use Rattle.mj_tree.specs.declared.tree.Ty.TheVariants.{Int, Boolean, IntArray, Class}
 use Rattle.byte_readers.specs.declared.breach.Breach.{Breach}
 use Rattle.byte_readers.specs.Spelling.{name}
 use Rattle.byte_readers.specs.Lawful.{IsBytes, Takes, Lawful}
 use Rattle.byte_readers.specs.Laws.{IsBytes-rest, ok_is, takes_nothing, takes_behind, made_takes, made_again, lawful_name, lawful_four, lawful_pair, lawful_made}
 use Rattle.tree_bytes.specs.Spelling.{ty, field, variable}
-use Rattle.tree_bytes.specs.Fits.{TyFits, FieldFits, VariableFits}
+use Rattle.tree_bytes.specs.Storable.{TyFits, FieldFits, VariableFits}
 use Rattle.tree_bytes.specs.Reading.{ty_at, field_of, field_at, variable_of, variable_at}
 
 abbrev done : {A : Type 0} → A → Result A Breach

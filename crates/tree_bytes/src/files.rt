@@ -1,7 +1,7 @@
 //! Reading classes and files.
 ghost use Rattle.std.specs.Prelude.{◌≡◌, List, [], map, option_map};
-ghost use Rattle.mj_parser.specs.Views.{main_view, class_view, file_view};
-ghost use Rattle.byte_readers.specs.Reading.{Gives, option_at, list_at, list_from, any};
+ghost use Rattle.mj_tree.specs.Views.{main_view, class_view, file_view};
+ghost use Rattle.byte_readers.specs.Reading.{Decodes, option_at, list_at, list_from, any};
 ghost use Rattle.tree_bytes.specs.Reading.{main_at, class_at, file_at};
 
 use crate::methods::read_methods;
@@ -10,12 +10,12 @@ use crate::types::FieldFormat;
 use byte_readers::{
     Breach, NameFormat, ReadError, read_eight, read_list, read_name, read_option, refused,
 };
-use mj_parser::{ClassTree, FileTree, MainTree};
+use mj_tree::{ClassTree, FileTree, MainTree};
 use std::alloc::Global;
 
 #[tactic(auto, unfolding(crate::specs::Reading::main_at))]
 fn read_main(alloc: Global, bytes: &[u8]) -> Result<(MainTree, &[u8]), ReadError>
-    ensures { Gives (λ x. (main_view x.0, x.1.now)) result (main_at bytes.now) }
+    ensures { Decodes (λ x. (main_view x.0, x.1.now)) result (main_at bytes.now) }
 {
     let (name, rest) = read_name(alloc, bytes)?;
     let (statement, rest) = read_top_stmt(alloc, rest)?;
@@ -24,7 +24,8 @@ fn read_main(alloc: Global, bytes: &[u8]) -> Result<(MainTree, &[u8]), ReadError
 
 #[tactic(auto, unfolding(byte_readers::specs::Reading::option_at))]
 fn read_perhaps_main(alloc: Global, bytes: &[u8]) -> Result<(Option<MainTree>, &[u8]), ReadError>
-    ensures { Gives (λ x. (option_map main_view x.0, x.1.now)) result (option_at main_at bytes.now) }
+    ensures { Decodes (λ x. (option_map main_view x.0, x.1.now)) result
+        (option_at main_at bytes.now) }
 {
     match bytes {
         [] => Err(ReadError::Breach(Breach::Short)),
@@ -39,7 +40,7 @@ fn read_perhaps_main(alloc: Global, bytes: &[u8]) -> Result<(Option<MainTree>, &
 
 #[tactic(auto, unfolding(crate::specs::Reading::class_at))]
 fn read_class(alloc: Global, bytes: &[u8]) -> Result<(ClassTree, &[u8]), ReadError>
-    ensures { Gives (λ x. (class_view x.0, x.1.now)) result (class_at bytes.now) }
+    ensures { Decodes (λ x. (class_view x.0, x.1.now)) result (class_at bytes.now) }
 {
     let (name, rest) = read_name(alloc, bytes)?;
     let (superclass, rest) = read_option::<NameFormat>(alloc, rest)?;
@@ -58,7 +59,8 @@ fn read_class(alloc: Global, bytes: &[u8]) -> Result<(ClassTree, &[u8]), ReadErr
 
 #[tactic(auto, unfolding(byte_readers::specs::Reading::list_at))]
 fn read_classes(alloc: Global, bytes: &[u8]) -> Result<(Vec<ClassTree>, &[u8]), ReadError>
-    ensures { Gives (λ x. (map class_view x.0.items, x.1.now)) result (list_at class_at any bytes.now) }
+    ensures { Decodes (λ x. (map class_view x.0.items, x.1.now)) result
+        (list_at class_at any bytes.now) }
 {
     let (count, rest) = read_eight(bytes)?;
     read_all_classes(alloc, count, rest)
@@ -69,7 +71,8 @@ fn read_all_classes(
     count: u64,
     bytes: &[u8],
 ) -> Result<(Vec<ClassTree>, &[u8]), ReadError>
-    ensures { Gives (λ x. (map class_view x.0.items, x.1.now)) result (list_from class_at any [] count bytes.now) }
+    ensures { Decodes (λ x. (map class_view x.0.items, x.1.now)) result
+        (list_from class_at any [] count bytes.now) }
 {
     let mut items = Vec::new(alloc);
     let mut rest = bytes;
@@ -84,7 +87,7 @@ fn read_all_classes(
 /// Reads a file.
 #[tactic(auto, unfolding(crate::specs::Reading::file_at))]
 pub fn read_file(alloc: Global, bytes: &[u8]) -> Result<(FileTree, &[u8]), ReadError>
-    ensures { Gives (λ x. (file_view x.0, x.1.now)) result (file_at bytes.now) }
+    ensures { Decodes (λ x. (file_view x.0, x.1.now)) result (file_at bytes.now) }
 {
     let (main, rest) = read_perhaps_main(alloc, bytes)?;
     read_classes(alloc, rest).map(|(classes, rest)| (FileTree { main, classes }, rest))

@@ -14,7 +14,7 @@ pub struct TreeFormat;
 
 impl Format for TreeFormat {
     ghost use Rattle.tree_bytes.specs.Spelling.{file};
-    ghost use Rattle.tree_bytes.specs.Fits.{FileFits};
+    ghost use Rattle.tree_bytes.specs.Storable.{FileFits};
     ghost use Rattle.tree_bytes.specs.Reading.{file_at};
     ghost use Rattle.tree_bytes.specs.FileLaws.{lawful_file};
 

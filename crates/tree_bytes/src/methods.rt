@@ -1,7 +1,7 @@
 //! Reading methods.
 ghost use Rattle.std.specs.Prelude.{◌≡◌, List, [], map};
-ghost use Rattle.mj_parser.specs.Views.{method_view};
-ghost use Rattle.byte_readers.specs.Reading.{Gives, list_at, list_from, any};
+ghost use Rattle.mj_tree.specs.Views.{method_view};
+ghost use Rattle.byte_readers.specs.Reading.{Decodes, list_at, list_from, any};
 ghost use Rattle.tree_bytes.specs.Reading.{method_at, tagged_method_at};
 
 use crate::expressions::read_top_exp;
@@ -9,13 +9,13 @@ use crate::statements::read_top_stmts;
 use crate::types::read_ty;
 use crate::variables::VariableFormat;
 use byte_readers::{Breach, ReadError, read_eight, read_four, read_list, read_name, refused};
-use mj_parser::MethodTree;
+use mj_tree::MethodTree;
 use std::alloc::Global;
 
 /// Reads a method.
 #[tactic(auto, unfolding(crate::specs::Reading::method_at))]
 pub fn read_method(alloc: Global, bytes: &[u8]) -> Result<(MethodTree, &[u8]), ReadError>
-    ensures { Gives (λ x. (method_view x.0, x.1.now)) result (method_at bytes.now) }
+    ensures { Decodes (λ x. (method_view x.0, x.1.now)) result (method_at bytes.now) }
 {
     let (name, rest) = read_name(alloc, bytes)?;
     let (returns, rest) = read_ty(alloc, rest)?;
@@ -41,7 +41,7 @@ pub fn read_method(alloc: Global, bytes: &[u8]) -> Result<(MethodTree, &[u8]), R
 /// Reads a method of a class, behind its tag.
 #[tactic(auto, unfolding(crate::specs::Reading::tagged_method_at))]
 fn read_tagged_method(alloc: Global, bytes: &[u8]) -> Result<(MethodTree, &[u8]), ReadError>
-    ensures { Gives (λ x. (method_view x.0, x.1.now)) result (tagged_method_at bytes.now) }
+    ensures { Decodes (λ x. (method_view x.0, x.1.now)) result (tagged_method_at bytes.now) }
 {
     match bytes {
         [] => Err(ReadError::Breach(Breach::Short)),
@@ -53,7 +53,8 @@ fn read_tagged_method(alloc: Global, bytes: &[u8]) -> Result<(MethodTree, &[u8])
 /// Reads the methods of a class.
 #[tactic(auto, unfolding(byte_readers::specs::Reading::list_at))]
 pub fn read_methods(alloc: Global, bytes: &[u8]) -> Result<(Vec<MethodTree>, &[u8]), ReadError>
-    ensures { Gives (λ x. (map method_view x.0.items, x.1.now)) result (list_at tagged_method_at any bytes.now) }
+    ensures { Decodes (λ x. (map method_view x.0.items, x.1.now)) result
+        (list_at tagged_method_at any bytes.now) }
 {
     let (count, rest) = read_eight(bytes)?;
     read_all_methods(alloc, count, rest)
@@ -64,7 +65,8 @@ fn read_all_methods(
     count: u64,
     bytes: &[u8],
 ) -> Result<(Vec<MethodTree>, &[u8]), ReadError>
-    ensures { Gives (λ x. (map method_view x.0.items, x.1.now)) result (list_from tagged_method_at any [] count bytes.now) }
+    ensures { Decodes (λ x. (map method_view x.0.items, x.1.now)) result
+        (list_from tagged_method_at any [] count bytes.now) }
 {
     let mut items = Vec::new(alloc);
     let mut rest = bytes;

@@ -2,7 +2,7 @@
 ghost use Rattle.std.specs.Prelude.{◌≡◌};
 ghost use Rattle.tree_bytes.specs.Tags.{exp_tag_of, stmt_tag_of};
 
-use mj_parser::Operator;
+use mj_tree::Operator;
 
 /// An expression made of two.
 #[derive(Clone, Copy, Debug)]

@@ -1,9 +1,9 @@
 //! Trees that have a spelling.
 ghost use Rattle.std.specs.Prelude.{◌≡◌};
-ghost use Rattle.mj_parser.specs.Views.{file_view};
-ghost use Rattle.tree_bytes.specs.Fits.{FileFits};
+ghost use Rattle.mj_tree.specs.Views.{file_view};
+ghost use Rattle.tree_bytes.specs.Storable.{FileFits};
 
-use mj_parser::{FileTree, MethodTree, Stmt};
+use mj_tree::{FileTree, MethodTree, Stmt};
 use std::marker::Model;
 
 /// The tree of a file, with tokens in four bytes and at most 500 levels. Contracts see it without where it lies in
@@ -14,15 +14,15 @@ pub struct Tree {
 }
 
 impl Model for Tree {
-    ghost use Rattle.mj_parser.specs.Trees.{File};
+    ghost use Rattle.mj_tree.specs.Trees.{File};
     ghost use Rattle.tree_bytes.specs.Codes.{file_code};
 
     ghost Value = { File };
 
     ghost coded = { file_code };
 
-    ghost use Rattle.mj_parser.specs.Views.{file_view};
-    ghost use Rattle.tree_bytes.specs.Fits.{FileFits};
+    ghost use Rattle.mj_tree.specs.Views.{file_view};
+    ghost use Rattle.tree_bytes.specs.Storable.{FileFits};
 
     ghost view = { λ tree. file_view tree.root };
 

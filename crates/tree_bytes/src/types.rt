@@ -1,12 +1,12 @@
 //! Declared types and fields.
 ghost use Rattle.std.specs.Prelude.{◌≡◌, ◌++◌, OnOk};
-ghost use Rattle.byte_readers.specs.Reading.{Gives};
+ghost use Rattle.byte_readers.specs.Reading.{Decodes};
 ghost use Rattle.tree_bytes.specs.Spelling.{ty};
-ghost use Rattle.tree_bytes.specs.Fits.{TyFits};
+ghost use Rattle.tree_bytes.specs.Storable.{TyFits};
 ghost use Rattle.tree_bytes.specs.Reading.{ty_at};
 
 use byte_readers::{Breach, Format, ReadError, check_name, put_name, read_name, refused};
-use mj_parser::{Field, Ty};
+use mj_tree::{Field, Ty};
 use std::alloc::{AllocError, Global};
 
 /// A type has a spelling.
@@ -37,7 +37,7 @@ pub fn put_ty(out: &mut Vec<u8>, item: &Ty) -> Result<(), AllocError>
 /// Reads a type.
 #[tactic(auto, unfolding(crate::specs::Reading::ty_at))]
 pub fn read_ty(alloc: Global, bytes: &[u8]) -> Result<(Ty, &[u8]), ReadError>
-    ensures { Gives (λ x. (x.0, x.1.now)) result (ty_at bytes.now) }
+    ensures { Decodes (λ x. (x.0, x.1.now)) result (ty_at bytes.now) }
 {
     match bytes {
         [] => Err(ReadError::Breach(Breach::Short)),
@@ -57,7 +57,7 @@ pub struct TypeFormat;
 
 impl Format for TypeFormat {
     ghost use Rattle.tree_bytes.specs.Spelling.{ty};
-    ghost use Rattle.tree_bytes.specs.Fits.{TyFits};
+    ghost use Rattle.tree_bytes.specs.Storable.{TyFits};
     ghost use Rattle.tree_bytes.specs.Reading.{ty_at};
     ghost use Rattle.tree_bytes.specs.TypeLaws.{lawful_ty};
 
@@ -91,7 +91,7 @@ pub struct FieldFormat;
 
 impl Format for FieldFormat {
     ghost use Rattle.tree_bytes.specs.Spelling.{field};
-    ghost use Rattle.tree_bytes.specs.Fits.{FieldFits};
+    ghost use Rattle.tree_bytes.specs.Storable.{FieldFits};
     ghost use Rattle.tree_bytes.specs.Reading.{field_at};
     ghost use Rattle.tree_bytes.specs.TypeLaws.{lawful_field};
 

@@ -3,7 +3,7 @@ ghost use Rattle.std.specs.Prelude.{◌≡◌};
 
 use crate::types::{check_ty, put_ty, read_ty};
 use byte_readers::{Format, ReadError, check_name, put_four, put_name, read_four, read_name};
-use mj_parser::Variable;
+use mj_tree::Variable;
 use std::alloc::{AllocError, Global};
 
 /// Formals and locals: the name, the type, and the first token of the type.
@@ -11,7 +11,7 @@ pub struct VariableFormat;
 
 impl Format for VariableFormat {
     ghost use Rattle.tree_bytes.specs.Spelling.{variable};
-    ghost use Rattle.tree_bytes.specs.Fits.{VariableFits, IsMark};
+    ghost use Rattle.tree_bytes.specs.Storable.{VariableFits, IsMark};
     ghost use Rattle.tree_bytes.specs.Reading.{variable_at};
     ghost use Rattle.tree_bytes.specs.TypeLaws.{lawful_variable};
 

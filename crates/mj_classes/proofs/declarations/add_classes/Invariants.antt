@@ -1,5 +1,5 @@
 use Rattle.std.proofs.Common.{◌≡◌, ◌++◌, ◌+◌, map, drop}
-use Rattle.mj_parser.specs.Views.{class_view}
+use Rattle.mj_tree.specs.Views.{class_view}
 use Rattle.mj_classes.specs.Declarations.{numbered}
 use Rattle.mj_classes.specs.Classes.{classes_view}
 use Rattle.mj_classes.proofs.declarations.add_classes.Given as goal

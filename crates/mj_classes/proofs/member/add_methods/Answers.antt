@@ -1,5 +1,5 @@
 use Rattle.std.proofs.Common.{◌∙◌, sym, refl, arith}
-use Rattle.mj_parser.specs.Views.{method_view}
+use Rattle.mj_tree.specs.Views.{method_view}
 use Rattle.mj_classes.specs.Classes.{method_member_view}
 use Rattle.mj_classes.specs.Rows.{method_rows}
 use Rattle.mj_classes.proofs.Rows.{row_kept, row_added, all_rows}

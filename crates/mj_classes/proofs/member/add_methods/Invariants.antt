@@ -1,5 +1,5 @@
 use Rattle.std.proofs.Common.{◌++◌, take, map}
-use Rattle.mj_parser.specs.Views.{method_view}
+use Rattle.mj_tree.specs.Views.{method_view}
 use Rattle.mj_classes.specs.Tables.{own_rows}
 use Rattle.mj_classes.specs.Rows.{method_rows, SayAlike}
 use Rattle.mj_classes.proofs.member.add_methods.Given as goal

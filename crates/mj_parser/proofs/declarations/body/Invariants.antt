@@ -1,6 +1,6 @@
 use Rattle.std.proofs.Common.{◌≡◌, ℕ, suc, Option, List, ◌-◌, ◌≤◌, length, map}
-use Rattle.mj_parser.specs.Trees.{Statement}
-use Rattle.mj_parser.specs.Views.{stmt_view}
+use Rattle.mj_tree.specs.Trees.{Statement}
+use Rattle.mj_tree.specs.Views.{stmt_view}
 use Rattle.mj_parser.specs.Steps.{items_from}
 use Rattle.mj_parser.specs.FileReading.{not_return}
 use Rattle.mj_parser.specs.StatementReading.{stmt_at}

@@ -1,6 +1,6 @@
 use Rattle.std.proofs.Common.{◌≡◌, sym, ◌∙◌, ap, None, Some, arith, List, [], ◌∷◌, ◌++◌}
 use Rattle.std.proofs.lemmas.Result.{err_from_is_err_and}
-use Rattle.mj_parser.specs.declared.tree.Variable.{Variable}
+use Rattle.mj_tree.specs.declared.tree.Variable.{Variable}
 use Rattle.mj_parser.specs.FileReading.{variable_at}
 use Rattle.mj_parser.proofs.Items.{list_empty, list_no_first, list_begins, list_end, list_fail, list_go_on, list_closes, list_open, fails_on}
 use Rattle.mj_parser.proofs.declarations.formals.Goals as goal

@@ -1,8 +1,8 @@
 use Rattle.std.proofs.Common.{◌≡◌, sym, ◌∙◌, ap, None, Some, arith, map, List, [], ◌∷◌, ◌++◌}
-use Rattle.mj_parser.specs.declared.tree.Exp.{Exp}
+use Rattle.mj_tree.specs.declared.tree.Exp.{Exp}
 use Rattle.std.proofs.lemmas.List.{map-append}
 use Rattle.std.proofs.lemmas.Result.{err_from_is_err_and}
-use Rattle.mj_parser.specs.Views.{exp_view}
+use Rattle.mj_tree.specs.Views.{exp_view}
 use Rattle.mj_parser.specs.ExpressionReading.{exp_at}
 use Rattle.mj_parser.proofs.Items.{list_empty, list_no_first, list_begins, list_end, list_fail, list_go_on, list_closes, list_open, fails_on}
 use Rattle.mj_parser.proofs.Loops.{chain_ends, chain_too_deep, chain_no_part, chain_goes_on, post_ends, index_too_deep, no_index, index_goes_on, member_too_deep, no_member, member_goes_on, heights_push}

@@ -1,6 +1,6 @@
 use Rattle.std.proofs.Common.{◌≡◌, ℕ, Option, List, ◌<◌, ◌+◌, ◌-◌, ◌*◌, ◌≤◌, length, map}
-use Rattle.mj_parser.specs.Trees.{Expression}
-use Rattle.mj_parser.specs.Views.{exp_view, exps_view}
+use Rattle.mj_tree.specs.Trees.{Expression}
+use Rattle.mj_tree.specs.Views.{exp_view, exps_view}
 use Rattle.mj_parser.specs.Expressions.{height, heights}
 use Rattle.mj_parser.specs.Steps.{listed_at}
 use Rattle.mj_parser.specs.ExpressionReading.{Found, exp_at}

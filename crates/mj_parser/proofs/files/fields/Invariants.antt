@@ -1,5 +1,5 @@
 use Rattle.std.proofs.Common.{◌≡◌, ℕ, suc, Option, List, ◌-◌, ◌≤◌, length}
-use Rattle.mj_parser.specs.declared.tree.Field.{Field}
+use Rattle.mj_tree.specs.declared.tree.Field.{Field}
 use Rattle.mj_parser.specs.Steps.{items_from}
 use Rattle.mj_parser.specs.FileReading.{field_at, begins_type}
 use Rattle.mj_parser.proofs.Items.{ItemsLead}

@@ -1,6 +1,6 @@
 use Rattle.std.proofs.Common.{◌≡◌, ℕ, suc, Option, List, ◌-◌, ◌≤◌, length, map}
-use Rattle.mj_parser.specs.Trees.{Method}
-use Rattle.mj_parser.specs.Views.{method_view}
+use Rattle.mj_tree.specs.Trees.{Method}
+use Rattle.mj_tree.specs.Views.{method_view}
 use Rattle.mj_parser.specs.Steps.{items_from}
 use Rattle.mj_parser.specs.FileReading.{method_from, at_public}
 use Rattle.mj_parser.proofs.Items.{ItemsLead}

@@ -1,5 +1,5 @@
 use Rattle.std.proofs.Common.{◌≡◌, ◌++◌, map, drop}
-use Rattle.mj_parser.specs.Views.{method_view}
+use Rattle.mj_tree.specs.Views.{method_view}
 use Rattle.mj_project.specs.Repeats.{repeats}
 use Rattle.mj_classes.specs.Index.{declared_in}
 use Rattle.mj_rules.specs.FaultLists.{body_faults_of, each_numbered}

@@ -1,5 +1,5 @@
 use Rattle.std.proofs.Common.{◌≡◌, ◌∙◌, ◌++◌, List, ℕ, Result, Ok, Err, OnOk, map, ap, append_assoc}
-use Rattle.mj_parser.specs.Trees.{Method}
+use Rattle.mj_tree.specs.Trees.{Method}
 use Rattle.mj_answer.specs.declared.diagnostic.Diagnostic.{Diagnostic}
 use Rattle.mj_classes.specs.Classes.{class_ref_view}
 use Rattle.mj_classes.specs.Index.{declared_in}

@@ -1,6 +1,6 @@
 use Rattle.std.proofs.Common.{◌≡◌, ◌∙◌, ◌++◌, List, sym, ap, subst}
 use Rattle.mj_answer.specs.declared.diagnostic.Diagnostic.{Diagnostic}
-use Rattle.mj_answer.specs.Answers.{ClassAnswerValue}
+use Rattle.mj_answer.specs.AnswerValues.{ClassAnswerValue}
 use Rattle.mj_answer.specs.Order.{IsAscending}
 use Rattle.mj_classes.specs.Chains.{ancestry}
 use Rattle.mj_classes.specs.Classes.{class_ref_view, classes_view}

@@ -2,8 +2,8 @@ use Rattle.std.proofs.Common.{◌≡◌, ◌∙◌, ◌++◌, ◌∷◌, [], ◌
 use Rattle.std.proofs.lemmas.Option.{none-some}
 use Rattle.std.proofs.lemmas.List.{take_more, map-append}
 use Rattle.std.proofs.lemmas.List.Elements.{All-push}
-use Rattle.mj_parser.specs.Trees.{Name}
-use Rattle.mj_answer.specs.Answers.{ClassAnswerValue}
+use Rattle.mj_tree.specs.Trees.{Name}
+use Rattle.mj_answer.specs.AnswerValues.{ClassAnswerValue}
 use Rattle.mj_classes.specs.Declarations.{decl}
 use Rattle.mj_classes.specs.Classes.{class_ref_view}
 use Rattle.mj_classes.specs.Index.{declared_in}

@@ -1,6 +1,6 @@
 use Rattle.std.proofs.Common.{◌≡◌, ◌∙◌, List, sym, ap, subst}
 use Rattle.mj_answer.specs.declared.diagnostic.Diagnostic.{Diagnostic}
-use Rattle.mj_answer.specs.Answers.{AnswerValue}
+use Rattle.mj_answer.specs.AnswerValues.{AnswerValue}
 use Rattle.mj_answer.specs.Order.{IsAscending}
 use Rattle.mj_classes.specs.Declarations.{ClassDecl, declarations}
 use Rattle.mj_classes.specs.Classes.{files_view}

@@ -1,7 +1,7 @@
 use Rattle.std.proofs.Common.{◌<◌, ◌∙◌, List, ℕ, length, map, arith}
 use Rattle.std.proofs.lemmas.List.{length-map}
-use Rattle.mj_parser.specs.Trees.{Method}
-use Rattle.mj_parser.specs.Views.{method_view}
+use Rattle.mj_tree.specs.Trees.{Method}
+use Rattle.mj_tree.specs.Views.{method_view}
 use Rattle.mj_project.specs.Repeats.{repeats}
 use Rattle.mj_rules.specs.Tables.{sig_in}
 use Rattle.mj_rules.specs.FaultLists.{method_faults_of}

@@ -1,9 +1,9 @@
 use Rattle.std.proofs.Common.{◌≡◌, ◌∙◌, ◌++◌, List, drop, map, sym, ap, subst}
-use Rattle.mj_parser.specs.Trees.{Method}
-use Rattle.mj_parser.specs.declared.tree.Field.{Field}
-use Rattle.mj_parser.specs.declared.place.Place.TheVariants.{Class}
+use Rattle.mj_tree.specs.Trees.{Method}
+use Rattle.mj_tree.specs.declared.tree.Field.{Field}
+use Rattle.mj_tree.specs.declared.place.Place.TheVariants.{Class}
 use Rattle.mj_answer.specs.declared.code.Code.TheVariants.{E202}
-use Rattle.mj_answer.specs.Answers.{MethodRowValue}
+use Rattle.mj_answer.specs.AnswerValues.{MethodRowValue}
 use Rattle.mj_answer.specs.Order.{IsAscendingByName}
 use Rattle.mj_classes.specs.Chains.{chain_of}
 use Rattle.mj_classes.specs.Classes.{class_ref_view, classes_view, end_view}

@@ -1,5 +1,5 @@
 use Rattle.std.proofs.Common.{◌≡◌, map, take}
-use Rattle.mj_parser.specs.Views.{method_view}
+use Rattle.mj_tree.specs.Views.{method_view}
 use Rattle.mj_rules.proofs.declaration_faults.repeated_methods.Given as goal
 
 abbrev pub invariant-loop-method : goal.invariant-loop-method

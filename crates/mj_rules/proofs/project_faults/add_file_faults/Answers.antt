@@ -1,5 +1,5 @@
 use Rattle.std.proofs.Common.{◌≡◌, ◌||◌, ◌<◌, ◌∙◌, length, option_map, ap, sym, arith}
-use Rattle.mj_parser.specs.Views.{file_view}
+use Rattle.mj_tree.specs.Views.{file_view}
 use Rattle.mj_project.specs.Projects.{source_view, sources_view}
 use Rattle.mj_rules.specs.FaultLists.{has_main}
 use Rattle.mj_rules.specs.Sentences.{file_of}

@@ -1,6 +1,6 @@
 use Rattle.std.proofs.Common.{◌≡◌, ◌∙◌, ◌++◌, false, true, not, ap, inl, inr, arith}
 use Rattle.std.proofs.lemmas.Bool.Decides.{nat_tests}
-use Rattle.mj_parser.specs.declared.place.Place.TheVariants.{Project}
+use Rattle.mj_tree.specs.declared.place.Place.TheVariants.{Project}
 use Rattle.mj_answer.specs.declared.code.Code.TheVariants.{E102}
 use Rattle.mj_project.specs.Repeats.{repeats}
 use Rattle.mj_rules.specs.Sentences.{classes_in}

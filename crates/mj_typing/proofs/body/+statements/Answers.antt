@@ -1,7 +1,7 @@
 use Rattle.std.proofs.Common.{rules}
-use Rattle.mj_parser.specs.Views.{stmts_view}
+use Rattle.mj_tree.specs.Views.{stmts_view}
 use Rattle.mj_typing.specs.Bodies.{statement_step, statements_step}
-use Rattle.mj_typing.specs.Steps.{GivesUp}
+use Rattle.mj_typing.specs.Steps.{Aborts}
 use Rattle.mj_typing.proofs.Views.{stmt_view-Assign, stmt_view-Store}
 use Rattle.mj_typing.proofs.Walks.{statements_more, statements_up, statements_done}
 use Rattle.mj_typing.proofs.body.+statements.Goals as goal
@@ -28,7 +28,7 @@ check_statement-returns-in-Store-clause-err g t c =
 
 pub check_statements-returns-in_err-check_statement-clause-err : goal.check_statements-returns-in_err-check_statement-clause-err
 check_statements-returns-in_err-check_statement-clause-err g t c =
-    let h : GivesUp g.A.Asking.stands g.A.Asking.halts (statements_step c.args.scope.now (stmts_view c.args.statements.now.items) c.args.mistakes.now.items) c.args.asking.now c.in_err-check_statement.field-0.0 c.check_statement.new.asking =
+    let h : Aborts g.A.Asking.stands g.A.Asking.halts (statements_step c.args.scope.now (stmts_view c.args.statements.now.items) c.args.mistakes.now.items) c.args.asking.now c.in_err-check_statement.field-0.0 c.check_statement.new.asking =
     statements_up g.A.Asking.stands g.A.Asking.halts c.args.scope.now c.args.statements.now.items c.args.mistakes.now.items c.args.asking.now _ _ _ _ _ _ c.loop-statement.invariant.left (rw c.deref-statement-items.ensures.value at c.loop-statement-test.true) (rw c.deref-statement-items.ensures.value at c.statement-item.is) c.in_err-check_statement.ensures.err in
     search rules
 

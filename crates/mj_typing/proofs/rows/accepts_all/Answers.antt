@@ -1,13 +1,13 @@
 use Rattle.std.proofs.Common.{rules}
 use Rattle.mj_typing.specs.Inquiries.{and_then}
-use Rattle.mj_typing.specs.Steps.{GivesUp}
+use Rattle.mj_typing.specs.Steps.{Aborts}
 use Rattle.mj_typing.specs.Table.{accepts_all}
 use Rattle.mj_typing.proofs.Asked.{left_more, left_refused, left_up, left_none}
 use Rattle.mj_typing.proofs.rows.accepts_all.Goals as goal
 
 pub returns-in_err-accepts-clause-err : goal.returns-in_err-accepts-clause-err
 returns-in_err-accepts-clause-err g c =
-    let h : GivesUp g.A.Asking.stands g.A.Asking.halts (and_then (accepts_all c.args.types.now c.args.formals.now)) c.args.asking.now c.in_err-accepts.field-0.0 c.accepts.new.asking =
+    let h : Aborts g.A.Asking.stands g.A.Asking.halts (and_then (accepts_all c.args.types.now c.args.formals.now)) c.args.asking.now c.in_err-accepts.field-0.0 c.accepts.new.asking =
     left_up g.A.Asking.stands g.A.Asking.halts c.args.types.now c.args.formals.now _ _ _ _ _ _ _ c.loop-n.invariant.comes c.loop-n-test.true c.requires c.index-types-n.is c.index-formals-n.is c.in_err-accepts.ensures.err in
     search rules
 

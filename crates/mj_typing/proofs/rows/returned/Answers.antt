@@ -3,7 +3,7 @@ use Rattle.mj_answer.specs.declared.code.Code.TheVariants.{E319}
 use Rattle.mj_typing.specs.declared.verdict.Verdict.TheVariants.{Fine, Wrong}
 use Rattle.mj_typing.specs.Inquiries.{and_then}
 use Rattle.mj_typing.specs.Phrases.{fine}
-use Rattle.mj_typing.specs.Steps.{GivesUp}
+use Rattle.mj_typing.specs.Steps.{Aborts}
 use Rattle.mj_typing.specs.Table.{accepts, returned}
 use Rattle.mj_typing.proofs.Asked.{goes_demand, up_demand}
 use Rattle.mj_typing.proofs.rows.returned.Goals as goal
@@ -11,7 +11,7 @@ use Rattle.mj_typing.proofs.rows.returned.Goals as goal
 pub returns-in_err-accepts-clause-err : goal.returns-in_err-accepts-clause-err
 unfolding returned
 returns-in_err-accepts-clause-err g c =
-    let h : GivesUp g.A.Asking.stands g.A.Asking.halts (and_then (returned c.args.wanted.now c.args.value.now)) c.args.asking.now c.in_err-accepts.field-0.0 c.accepts.new.asking =
+    let h : Aborts g.A.Asking.stands g.A.Asking.halts (and_then (returned c.args.wanted.now c.args.value.now)) c.args.asking.now c.in_err-accepts.field-0.0 c.accepts.new.asking =
     up_demand g.A.Asking.stands g.A.Asking.halts (accepts c.args.value.now c.args.wanted.now) E319 fine _ _ _ c.in_err-accepts.ensures.err in
     search rules
 

@@ -1,5 +1,5 @@
 use Rattle.std.proofs.Common.{◌≡◌, List, ◌++◌, take, drop}
-use Rattle.mj_parser.specs.declared.tree.Variable.{Variable}
+use Rattle.mj_tree.specs.declared.tree.Variable.{Variable}
 use Rattle.mj_typing.specs.Bodies.{add_repeated_each}
 use Rattle.mj_typing.specs.Seen.{Covers}
 use Rattle.mj_typing.proofs.scope.declare_all.Given as goal

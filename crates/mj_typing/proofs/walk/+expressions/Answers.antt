@@ -1,8 +1,8 @@
 use Rattle.std.proofs.Common.{rules, refl, ap, Some}
-use Rattle.mj_parser.specs.Views.{exp_view, exps_view}
+use Rattle.mj_tree.specs.Views.{exp_view, exps_view}
 use Rattle.mj_typing.specs.declared.asking.Stop.TheVariants.{OutOfMemory}
 use Rattle.mj_typing.specs.Phrases.{phrase_step, parts_step}
-use Rattle.mj_typing.specs.Steps.{GivesUp}
+use Rattle.mj_typing.specs.Steps.{Aborts}
 use Rattle.mj_typing.specs.Table.{phrase_of, phrases_of, one_part, two_parts, some_parts, negation, binary, index, array_length, new_array, call}
 use Rattle.mj_typing.proofs.Views.{exp_view-Not, exp_view-Length, exp_view-NewArray, exp_view-Binary, exp_view-Index, exp_view-Call}
 use Rattle.mj_typing.proofs.Walks.{if_ok, if_err, goes_whole, up_whole, up_others, memory_one, memory_two, parts_start, parts_more, parts_up, parts_memory, parts_done}
@@ -35,7 +35,7 @@ check-returns-in-Some-3-clause-err g t c =
 
 pub check-returns-in_err-types-in-Call-clause-err : goal.check-returns-in_err-types-in-Call-clause-err
 check-returns-in_err-types-in-Call-clause-err g t c =
-    let h : GivesUp g.A.Asking.stands g.A.Asking.halts (phrase_step (phrase_of c.args.scope.now (exp_view c.args.exp.now)) c.args.mistakes.now.items) c.args.asking.now c.in_err-types-in-Call.field-0.0 c.check_all.new.asking =
+    let h : Aborts g.A.Asking.stands g.A.Asking.halts (phrase_step (phrase_of c.args.scope.now (exp_view c.args.exp.now)) c.args.mistakes.now.items) c.args.asking.now c.in_err-types-in-Call.field-0.0 c.check_all.new.asking =
     rw (c.in-Call.is, exp_view-Call c.in-Call.mark c.in-Call.receiver c.in-Call.method c.in-Call.arguments, ← c.deref-in-Call.ensures) (up_others g.A.Asking.stands g.A.Asking.halts c.in-Call.mark (some_parts (call c.in-Call.method)) (phrase_of c.args.scope.now (exp_view c.deref-in-Call.result.now)) (phrases_of c.args.scope.now (exps_view c.in-Call.arguments.items)) c.args.mistakes.now.items _ _ _ _ _ c.in_ok-receiver-in-Call.ensures.ok c.in_err-types-in-Call.ensures.err) in
     search rules
 
@@ -57,13 +57,13 @@ check_all-loop-exp-init g t c = record {
 
 pub check_all-returns-in_err-ty-clause-err : goal.check_all-returns-in_err-ty-clause-err
 check_all-returns-in_err-ty-clause-err g t c =
-    let h : GivesUp g.A.Asking.stands g.A.Asking.halts (parts_step (phrases_of c.args.scope.now (exps_view c.args.exps.now.items)) c.args.mistakes.now.items) c.args.asking.now c.in_err-ty.field-0.0 c.check.new.asking =
+    let h : Aborts g.A.Asking.stands g.A.Asking.halts (parts_step (phrases_of c.args.scope.now (exps_view c.args.exps.now.items)) c.args.mistakes.now.items) c.args.asking.now c.in_err-ty.field-0.0 c.check.new.asking =
     parts_up g.A.Asking.stands g.A.Asking.halts c.args.scope.now c.args.exps.now.items c.args.mistakes.now.items c.args.asking.now _ _ _ _ _ _ _ c.loop-exp.invariant.left (rw c.deref-exp-items.ensures.value at c.loop-exp-test.true) (rw c.deref-exp-items.ensures.value at c.exp-item.is) c.in_err-ty.ensures.err in
     search rules
 
 pub check_all-returns-in_err-types-clause-err : goal.check_all-returns-in_err-types-clause-err
 check_all-returns-in_err-types-clause-err g t c =
-    let h : GivesUp g.A.Asking.stands g.A.Asking.halts (parts_step (phrases_of c.args.scope.now (exps_view c.args.exps.now.items)) c.args.mistakes.now.items) c.args.asking.now OutOfMemory c.check.new.asking =
+    let h : Aborts g.A.Asking.stands g.A.Asking.halts (parts_step (phrases_of c.args.scope.now (exps_view c.args.exps.now.items)) c.args.mistakes.now.items) c.args.asking.now OutOfMemory c.check.new.asking =
     parts_memory g.A.Asking.stands g.A.Asking.halts c.args.scope.now c.args.exps.now.items c.args.mistakes.now.items c.args.asking.now OutOfMemory g.met.A.Asking.wanting _ _ _ _
     (parts_more g.A.Asking.stands g.A.Asking.halts c.args.scope.now c.args.exps.now.items c.args.mistakes.now.items c.args.asking.now _ _ _ _ _ _ _ _ _ c.loop-exp.invariant.left (rw c.deref-exp-items.ensures.value at c.loop-exp-test.true) (rw c.deref-exp-items.ensures.value at c.exp-item.is) c.in_ok-ty.ensures.ok refl) in
     search rules

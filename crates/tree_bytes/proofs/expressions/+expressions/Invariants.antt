@@ -1,5 +1,5 @@
 use Rattle.std.proofs.Common.{◌≡◌, ◌+◌, ◌-◌, ◌*◌, map, []}
-use Rattle.mj_parser.specs.Views.{exp_view}
+use Rattle.mj_tree.specs.Views.{exp_view}
 use Rattle.byte_readers.specs.Reading.{list_from, any}
 use Rattle.tree_bytes.specs.Reading.{exp_at}
 use Rattle.tree_bytes.proofs.expressions.+expressions.Given as goal

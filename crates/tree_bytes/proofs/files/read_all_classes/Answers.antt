@@ -1,7 +1,7 @@
 use Rattle.std.proofs.Common.{◌≡◌, ◌∷◌, ◌++◌, [], map, refl}
 use Rattle.std.proofs.lemmas.Result.{err_from_is_err_and}
 use Rattle.std.proofs.lemmas.List.{map_push}
-use Rattle.mj_parser.specs.Views.{class_view}
+use Rattle.mj_tree.specs.Views.{class_view}
 use Rattle.byte_readers.specs.Reading.{any}
 use Rattle.byte_readers.proofs.Loop.{goes_on, ends, is_done}
 use Rattle.tree_bytes.specs.Reading.{class_at}

@@ -1,5 +1,5 @@
 use Rattle.std.proofs.Common.{◌≡◌, ◌-◌, map, []}
-use Rattle.mj_parser.specs.Views.{class_view}
+use Rattle.mj_tree.specs.Views.{class_view}
 use Rattle.byte_readers.specs.Reading.{list_from, any}
 use Rattle.tree_bytes.specs.Reading.{class_at}
 use Rattle.tree_bytes.proofs.files.read_all_classes.Given as goal

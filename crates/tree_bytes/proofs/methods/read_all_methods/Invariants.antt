@@ -1,5 +1,5 @@
 use Rattle.std.proofs.Common.{◌≡◌, ◌-◌, map, []}
-use Rattle.mj_parser.specs.Views.{method_view}
+use Rattle.mj_tree.specs.Views.{method_view}
 use Rattle.byte_readers.specs.Reading.{list_from, any}
 use Rattle.tree_bytes.specs.Reading.{tagged_method_at}
 use Rattle.tree_bytes.proofs.methods.read_all_methods.Given as goal

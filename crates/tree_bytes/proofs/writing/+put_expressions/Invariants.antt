@@ -1,7 +1,7 @@
 use Rattle.std.proofs.Common.{◌≡◌, ◌++◌, ◌+◌, ◌*◌, drop, max}
 use denote.Param.Weighed.{most}
-use Rattle.mj_parser.proofs.tree.Exp.TheLaws.{the_size}
-use Rattle.mj_parser.specs.Views.{exps_view}
+use Rattle.mj_tree.proofs.tree.Exp.TheLaws.{the_size}
+use Rattle.mj_tree.specs.Views.{exps_view}
 use Rattle.tree_bytes.specs.Spelling.{exps}
 use Rattle.tree_bytes.proofs.writing.+put_expressions.Given as goal
 

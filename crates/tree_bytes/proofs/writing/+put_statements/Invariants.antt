@@ -1,6 +1,6 @@
 use Rattle.std.proofs.Common.{◌≡◌, ◌++◌, ◌+◌, ◌*◌, drop, max}
-use Rattle.mj_parser.proofs.tree.Stmt.TheLaws.{the_size}
-use Rattle.mj_parser.specs.Views.{stmts_view}
+use Rattle.mj_tree.proofs.tree.Stmt.TheLaws.{the_size}
+use Rattle.mj_tree.specs.Views.{stmts_view}
 use Rattle.tree_bytes.specs.Spelling.{stmts}
 use Rattle.tree_bytes.proofs.writing.+put_statements.Given as goal
 

@@ -1,6 +1,6 @@
 use Rattle.std.proofs.Common.{◌≡◌, ◌++◌, map, drop}
 use Rattle.std.specs.List.{flat_map}
-use Rattle.mj_parser.specs.Views.{class_view}
+use Rattle.mj_tree.specs.Views.{class_view}
 use Rattle.byte_readers.specs.Spelling.{list}
 use Rattle.tree_bytes.specs.Spelling.{class}
 use Rattle.tree_bytes.proofs.writing.put_classes.Given as goal

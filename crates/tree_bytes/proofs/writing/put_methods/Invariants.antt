@@ -1,6 +1,6 @@
 use Rattle.std.proofs.Common.{◌≡◌, ◌++◌, map, drop}
 use Rattle.std.specs.List.{flat_map}
-use Rattle.mj_parser.specs.Views.{method_view}
+use Rattle.mj_tree.specs.Views.{method_view}
 use Rattle.byte_readers.specs.Spelling.{list}
 use Rattle.tree_bytes.specs.Spelling.{tagged_method}
 use Rattle.tree_bytes.proofs.writing.put_methods.Given as goal

@@ -1,7 +1,7 @@
 use Rattle.std.proofs.Common.{◌∙◌, sym, ap}
 use Rattle.std.specs.Prelude.{find, option_map}
 use Rattle.std.specs.Str.{bytes_eq}
-use Rattle.mj_parser.specs.Views.{method_view}
+use Rattle.mj_tree.specs.Views.{method_view}
 use Rattle.mj_classes.proofs.Positions.{find-map}
 use Rattle.mj_classes.proofs.class.ClassRef.method.Goals as goal
 
