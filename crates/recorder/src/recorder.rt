@@ -170,12 +170,7 @@ fn kept_answer(read: &Read) -> Result<Arc<Sealed>, Refused>
 }
 
 /// Keeps one more read.
-fn keep(
-    alloc: Global,
-    reads: &mut Reads,
-    key: &Key,
-    answer: &Arc<Sealed>,
-) -> Result<(), AllocError>
+fn keep(alloc: Global, reads: &mut Reads, key: &Key, answer: &Arc<Sealed>) -> Result<(), AllocError>
     ensures ok { OnOk result (reads.new ≡ reads.old ++ record { key = key.now; value = arc_value answer.now } ∷ []) }
     ensures err { OnErr result (reads.new ≡ reads.old) }
     ensures kept { IsTold (record { key = key.now; value = arc_value answer.now }) }

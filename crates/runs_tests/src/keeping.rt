@@ -95,7 +95,10 @@ fn texts_of_open_faults(rt: HostRuntime) -> Result<(), Fail> {
 fn texts_of_run_faults(rt: HostRuntime) -> Result<(), Fail> {
     for (fault, text) in [
         (RunFault::Read(ReadFault::Stopped), "8.1 Read(7.1 Stopped)"),
-        (RunFault::Read(ReadFault::OutOfMemory), "8.1 Read(7.2 OutOfMemory)"),
+        (
+            RunFault::Read(ReadFault::OutOfMemory),
+            "8.1 Read(7.2 OutOfMemory)",
+        ),
         (RunFault::Read(ReadFault::NotHeld), "8.1 Read(7.3 NotHeld)"),
         (RunFault::OutOfMemory, "8.2 OutOfMemory"),
     ] {
