@@ -31,7 +31,7 @@ fn check_perhaps_name(name: Option<&Name>)
     }
 }
 
-/// Keys are totally ordered, the order tells all keys apart, and so do `==` and kind, class and member.
+/// Keys are totally ordered. The order tells all keys apart; so do `==`, and kind, class and member.
 pub fn keys_in_order()
     ensures total { IsTotalOrder key_cmp }
     ensures exact { (a b : Key) → (key_cmp a b ≡ Equal) ↔ (a ≡ b) }

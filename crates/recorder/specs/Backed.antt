@@ -41,14 +41,18 @@ NoneTwice key (x ∷ xs) = AllByRecursion (λ y. key y ≢ key x) xs × NoneTwic
 abbrev pub Alike : (Key → Value) → (Key → Value) → List Key → Type 0
 Alike m n ks = AllByRecursion (λ k. m k ≡ n k) ks
 
--- Where p by one pair of meaning and reads and r by another agree on the first i reads of q in p, these are its first
--- reads in r too, and both lists end there or go on with the same key.
-abbrev pub NextAlike : Meaning → ReadLists → Meaning → ReadLists → Project → Project → Key → ℕ → Type 0
-NextAlike m l n k p r q i = IsProject p → IsProject r → Alike (m p) (n r) (take i (l p q)) → take (suc i) (l p q) ≡ take (suc i) (k r q)
+-- Where p by one pair of meaning and reads and r by another agree on the first i reads of q in p, these
+-- are its first reads in r too, and both lists end there or go on with the same key.
+abbrev pub NextAlike
+    : Meaning → ReadLists → Meaning → ReadLists → Project → Project → Key → ℕ → Type 0
+NextAlike m l n k p r q i =
+    IsProject p → IsProject r → Alike (m p) (n r) (take i (l p q))
+    → take (suc i) (l p q) ≡ take (suc i) (k r q)
 
 -- where they agree on all reads of q in p, they agree on q
 abbrev pub ValueAlike : Meaning → ReadLists → Meaning → ReadLists → Project → Project → Key → Type 0
-ValueAlike m l n k p r q = IsProject p → IsProject r → 0 < rank q → Alike (m p) (n r) (l p q) → m p q ≡ n r q
+ValueAlike m l n k p r q =
+    IsProject p → IsProject r → 0 < rank q → Alike (m p) (n r) (l p q) → m p q ≡ n r q
 
 -- what two pairs of meaning and reads keep at a key
 pub record ReadLaws (m : Meaning) (l : ReadLists) (n : Meaning) (k : ReadLists) (q : Key) : Type 0 where
@@ -64,7 +68,8 @@ pub record RunnerLaws (mean : Meaning) (reads : ReadLists) : Type 0 where
   pub kind : (p : Project) (q : Key) → IsProject p → IsOfKind q (mean p q)
   pub lower : (p : Project) (q : Key) → IsProject p → AreLower q (reads p q)
   pub once : (p : Project) (q : Key) → IsProject p → NoneTwice (λ k. k) (reads p q)
-  -- two projects that agree on what a key reads first read alike, and have one value where they agree on all reads
+  -- two projects that agree on what a key reads first read alike, and where they agree on all reads of
+  -- it, they have one value
   pub next : (p r : Project) (q : Key) (i : ℕ) → NextAlike mean reads mean reads p r q i
   pub same : (p r : Project) (q : Key) → ValueAlike mean reads mean reads p r q
 

@@ -13,7 +13,7 @@ use std::alloc::{AllocError, Global};
 use std::marker::Model;
 use std::sync::Arc;
 
-/// Keys with their answers, each of the key's kind, found by key. It holds no answer for any other key.
+/// Keys with their answers, each of the key's kind, found by key. It has no answer for any other key.
 #[derive(Drop)]
 pub struct AnswerList {
     alloc: Global,
@@ -57,8 +57,10 @@ impl AnswerList {
 
     /// The key with its answer, which is of the key's kind.
     pub fn find(&self, key: &Key) -> Option<&Read>
-        ensures found { MatchOption result (IsUnread key.now self.now) (λ r. (r.now.key ≡ key.now) × Contains self.now r.now) }
-        ensures kind { MatchOption result (IsUnread key.now self.now) (λ r. IsOfKind key.now r.now.value) }
+        ensures found { MatchOption result (IsUnread key.now self.now)
+            (λ r. (r.now.key ≡ key.now) × Contains self.now r.now) }
+        ensures kind { MatchOption result (IsUnread key.now self.now)
+            (λ r. IsOfKind key.now r.now.value) }
     {
         self.reads.find(key)
     }

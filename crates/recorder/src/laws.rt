@@ -15,9 +15,12 @@ pub fn programs_keep_the_laws()
     ensures { (prog_of : Key → Prog) (mean : Meaning) (reads : ReadLists) → Tied prog_of mean reads → RunnerLaws mean reads }
 {}
 
-/// Where two pairs of meaning and reads are those of programs, and these are the same for a key, it reads alike by both.
+/// Where two pairs of meaning and reads are those of programs, and a key has the same program by both, it
+/// reads alike by both.
 pub fn programs_read_alike()
-    ensures { (prog_of other : Key → Prog) (m : Meaning) (l : ReadLists) (n : Meaning) (k : ReadLists) → Tied prog_of m l → Tied other n k → (q : Key) → prog_of q ≡ other q → ReadLaws m l n k q }
+    ensures { (prog_of other : Key → Prog) (m : Meaning) (l : ReadLists) (n : Meaning)
+        (k : ReadLists) → Tied prog_of m l → Tied other n k → (q : Key) → prog_of q ≡ other q
+        → ReadLaws m l n k q }
 {}
 
 /// What performs the program of a key is a run of the key, where values and reads are those of programs.

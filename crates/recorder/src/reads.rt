@@ -56,7 +56,8 @@ impl Reads {
 
     /// A read of the key.
     pub(crate) fn find(&self, key: &Key) -> Option<&Read>
-        ensures { MatchOption result (IsUnread key.now self.now) (λ r. (r.now.key ≡ key.now) × Contains self.now r.now) }
+        ensures { MatchOption result (IsUnread key.now self.now)
+            (λ r. (r.now.key ≡ key.now) × Contains self.now r.now) }
     {
         match self.places.get(key) {
             Some(at) => Some(&self.list[*at]),
@@ -98,8 +99,10 @@ fn note_place(
     key: &Key,
     at: usize,
 ) -> Result<(), AllocError>
-    ensures ok { OnOk result ((q : SpecKey) → get key_cmp places.new q ≡ with_place (get key_cmp places.old) key.now at q) }
-    ensures err { OnErr result ((q : SpecKey) → get key_cmp places.new q ≡ get key_cmp places.old q) }
+    ensures ok { OnOk result ((q : SpecKey) →
+        get key_cmp places.new q ≡ with_place (get key_cmp places.old) key.now at q) }
+    ensures err { OnErr result ((q : SpecKey) →
+        get key_cmp places.new q ≡ get key_cmp places.old q) }
 {
     if !places.contains_key(key) {
         places.insert(key.copy(alloc)?, at)?;

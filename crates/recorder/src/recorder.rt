@@ -147,8 +147,13 @@ fn answer_of<D: Reader>(
     ensures keeps { Keeps (D.answers inner.new) (D.faults inner.new) reads.new None }
     ensures kind { IfOk result (λ a. IsOfKind key.now (arc_value a)) }
     ensures answer { IfOk result (λ a. D.answers inner.new key.now (arc_value a)) }
-    ensures ok { IfOk result (λ a. ((inner.new ≡ inner.old) × (reads.new ≡ reads.old) × Contains reads.old (record { key = key.now; value = arc_value a })) ⊎ ((reads.new ≡ reads.old ++ record { key = key.now; value = arc_value a } ∷ []) × IsUnread key.now reads.old)) }
-    ensures err { IfErr result (λ r. (reads.new ≡ reads.old) × (IsForMemory r ⊎ (IsByReader (D.faults inner.new) key.now r × IsUnread key.now reads.old))) }
+    ensures ok { IfOk result (λ a.
+        ((inner.new ≡ inner.old) × (reads.new ≡ reads.old)
+        × Contains reads.old (record { key = key.now; value = arc_value a }))
+        ⊎ ((reads.new ≡ reads.old ++ record { key = key.now; value = arc_value a } ∷ [])
+        × IsUnread key.now reads.old)) }
+    ensures err { IfErr result (λ r. (reads.new ≡ reads.old)
+        × (IsForMemory r ⊎ (IsByReader (D.faults inner.new) key.now r × IsUnread key.now reads.old))) }
     ensures again { IsUnread key.now reads.old ⊎ (inner.new ≡ inner.old) }
     ensures follows { D.follows inner.old inner.new }
 {
@@ -171,7 +176,8 @@ fn kept_answer(read: &Read) -> Result<Arc<Sealed>, Refused>
 
 /// Keeps one more read.
 fn keep(alloc: Global, reads: &mut Reads, key: &Key, answer: &Arc<Sealed>) -> Result<(), AllocError>
-    ensures ok { OnOk result (reads.new ≡ reads.old ++ record { key = key.now; value = arc_value answer.now } ∷ []) }
+    ensures ok { OnOk result
+        (reads.new ≡ reads.old ++ record { key = key.now; value = arc_value answer.now } ∷ []) }
     ensures err { OnErr result (reads.new ≡ reads.old) }
     ensures kept { IsTold (record { key = key.now; value = arc_value answer.now }) }
 {
@@ -190,8 +196,10 @@ fn first_answer<D: Reader>(
     requires keeps { Keeps (D.answers inner.old) (D.faults inner.old) reads.old None }
     requires unread { IsUnread key.now reads.old }
     ensures keeps { Keeps (D.answers inner.new) (D.faults inner.new) reads.new None }
-    ensures ok { IfOk result (λ a. (reads.new ≡ reads.old ++ record { key = key.now; value = arc_value a } ∷ []) × IsOfKind key.now (arc_value a) × D.answers inner.new key.now (arc_value a)) }
-    ensures err { IfErr result (λ r. (reads.new ≡ reads.old) × (IsForMemory r ⊎ IsByReader (D.faults inner.new) key.now r)) }
+    ensures ok { IfOk result (λ a. (reads.new ≡ reads.old ++ record { key = key.now; value = arc_value a } ∷ [])
+        × IsOfKind key.now (arc_value a) × D.answers inner.new key.now (arc_value a)) }
+    ensures err { IfErr result (λ r. (reads.new ≡ reads.old)
+        × (IsForMemory r ⊎ IsByReader (D.faults inner.new) key.now r)) }
     ensures follows { D.follows inner.old inner.new }
 {
     match inner.read(key) {
