@@ -5,6 +5,7 @@ use fingerprint::{OpenFault, Sealed};
 use item_ids::{Key, Kind, is_key};
 use recorder::{AnswerList, ReadFault, RunFault, programs_read_alike};
 use result_bytes::Refusal;
+use std::fmt::Display;
 use std::sync::Arc;
 use std::test::*;
 
@@ -67,43 +68,50 @@ fn answers_that_are_not_there(rt: HostRuntime) -> Result<(), Fail> {
     Ok(())
 }
 
-#[test]
-fn texts_of_refusals(rt: HostRuntime) -> Result<(), Fail> {
-    for (refusal, text) in [
-        (Refusal::Short, "5.1 Short"),
-        (Refusal::Trailing, "5.2 Trailing"),
-        (Refusal::NotCanonical(17), "5.3 NotCanonical(17)"),
-        (Refusal::WrongKind, "5.4 WrongKind"),
-    ] {
-        assert!(rt; format!(in rt.alloc(); "{refusal}")? == text);
+/// Whether the fault is written so.
+fn is_written<F: Display>(rt: HostRuntime, fault: &F, text: &str) -> Result<bool, Fail> {
+    let written = format!(in rt.alloc(); "{fault}")?;
+    Ok(written.as_str() == text)
+}
+
+const REFUSALS: &[(Refusal, &str)] = &[
+    (Refusal::Short, "5.1 Short"),
+    (Refusal::Trailing, "5.2 Trailing"),
+    (Refusal::NotCanonical(17), "5.3 NotCanonical(17)"),
+    (Refusal::WrongKind, "5.4 WrongKind"),
+    (Refusal::OutOfMemory, "out of memory"),
+];
+
+const OPEN_FAULTS: &[(OpenFault, &str)] = &[
+    (OpenFault::Refused(Refusal::Short), "5.1 Short"),
+    (OpenFault::WrongPrint, "6.1 WrongPrint"),
+];
+
+const RUN_FAULTS: &[(RunFault, &str)] = &[
+    (RunFault::Read(ReadFault::Stopped), "8.1 Read(7.1 Stopped)"),
+    (
+        RunFault::Read(ReadFault::OutOfMemory),
+        "8.1 Read(7.2 OutOfMemory)",
+    ),
+    (RunFault::Read(ReadFault::NotHeld), "8.1 Read(7.3 NotHeld)"),
+    (RunFault::OutOfMemory, "8.2 OutOfMemory"),
+];
+
+/// Whether all of them are written so.
+fn are_written<F: Display>(rt: HostRuntime, table: &[(F, &str)]) -> Result<bool, Fail> {
+    for (fault, text) in table {
+        if !is_written(rt, fault, text)? {
+            return Ok(false);
+        }
     }
-    Ok(())
+    Ok(true)
 }
 
 #[test]
-fn texts_of_open_faults(rt: HostRuntime) -> Result<(), Fail> {
-    for (fault, text) in [
-        (OpenFault::Refused(Refusal::Short), "5.1 Short"),
-        (OpenFault::WrongPrint, "6.1 WrongPrint"),
-    ] {
-        assert!(rt; format!(in rt.alloc(); "{fault}")? == text);
-    }
-    Ok(())
-}
-
-#[test]
-fn texts_of_run_faults(rt: HostRuntime) -> Result<(), Fail> {
-    for (fault, text) in [
-        (RunFault::Read(ReadFault::Stopped), "8.1 Read(7.1 Stopped)"),
-        (
-            RunFault::Read(ReadFault::OutOfMemory),
-            "8.1 Read(7.2 OutOfMemory)",
-        ),
-        (RunFault::Read(ReadFault::NotHeld), "8.1 Read(7.3 NotHeld)"),
-        (RunFault::OutOfMemory, "8.2 OutOfMemory"),
-    ] {
-        assert!(rt; format!(in rt.alloc(); "{fault}")? == text);
-    }
+fn texts_of_faults(rt: HostRuntime) -> Result<(), Fail> {
+    assert!(rt; are_written(rt, REFUSALS)?);
+    assert!(rt; are_written(rt, OPEN_FAULTS)?);
+    assert!(rt; are_written(rt, RUN_FAULTS)?);
     Ok(())
 }
 
