@@ -1,5 +1,4 @@
 //! A reader that answers nothing.
-ghost use Rattle.std.specs.Prelude.{◌≡◌};
 
 use fingerprint::Sealed;
 use item_ids::Key;
