@@ -1,5 +1,5 @@
 //! Sealed results.
-ghost use Rattle.std.specs.Prelude.{◌≡◌, IfOk};
+ghost use Rattle.std.specs.Prelude.{◌≡◌, ◌↔◌, IsTrue, IfOk};
 ghost use Rattle.result_bytes.specs.declared.value.Value.{Value};
 ghost use Rattle.result_bytes.specs.Values.{IsValue, canon, kind_of};
 ghost use Rattle.fingerprint.specs.Prints.{print_of};
@@ -7,9 +7,10 @@ ghost use Rattle.fingerprint.specs.Opening.{IsOpened, IsOkUnlessMemory};
 
 use crate::print::Print;
 use item_ids::Kind;
-use result_bytes::{Refusal, Value, decode, encode};
+use result_bytes::{Refusal, Value, decode, encode, is_value, one_spelling};
 use std::alloc::{AllocError, Global};
 use std::marker::Model;
+use thiserror::Error;
 
 /// A value with its canonical bytes and their print. Contracts see the value.
 #[derive(Debug, Drop)]
@@ -37,19 +38,23 @@ impl Model for Sealed {
 }
 
 /// Why bytes and a print are no sealed value of a kind.
-#[derive(Clone, Copy, Debug, PartialEq, Eq)]
+#[derive(Clone, Copy, Debug, PartialEq, Eq, Error)]
 pub enum OpenFault {
     /// The bytes are refused.
+    #[error("{0}")]
     Refused(Refusal),
     /// The bytes spell a value, and the print is that of others.
+    #[error("6.1 WrongPrint")]
     WrongPrint,
 }
 
 impl Sealed {
-    /// The value.
+    /// The value, which keeps what its bytes demand.
     pub fn value(&self) -> &Value
-        ensures { result.now ≡ self.now }
+        ensures value { result.now ≡ self.now }
+        ensures kept { IsValue self.now }
     {
+        is_value(&self.value);
         &self.value
     }
 
@@ -66,13 +71,32 @@ impl Sealed {
     {
         self.print
     }
+
+    /// Whether the other one is the same result, by their bytes.
+    pub fn same_result(&self, other: &Sealed) -> bool
+        ensures { IsTrue result ↔ (self.now ≡ other.now) }
+    {
+        one_spelling();
+        is_value(self.value());
+        is_value(other.value());
+        self.bytes() == other.bytes()
+    }
+
+    /// Whether the other one has the same print.
+    pub fn same_print(&self, other: &Sealed) -> bool
+        ensures { IsTrue result ↔ (print_of self.now ≡ print_of other.now) }
+    {
+        other.print() == self.print()
+    }
 }
 
 /// The value with its bytes and print.
 #[tactic(auto, unfolding(crate::specs::Prints::print_of))]
 pub fn seal(alloc: Global, value: Value) -> Result<Sealed, AllocError>
-    ensures { IfOk result (λ sealed. sealed ≡ value) }
+    ensures sealed { IfOk result (λ sealed. sealed ≡ value) }
+    ensures kept { IfOk result IsValue }
 {
+    is_value(&value);
     let bytes = encode(alloc, &value)?;
     let print = Print::of(&bytes);
     Ok(Sealed {

@@ -1,6 +1,6 @@
 -- Keys that the order doesn't tell apart are one key.
-use Rattle.std.proofs.Common.{◌≡◌, refl, sym, ap, ◌∙◌}
-use Rattle.std.specs.Ordering.{nat_cmp, ordering_then}
+use Rattle.std.proofs.Common.{◌≡◌, ◌↔◌, IsTrue, true, refl, sym, ap, ◌∙◌}
+use Rattle.std.specs.Ordering.{nat_cmp, ordering_then, is_eq}
 use Rattle.std.specs.declared.cmp.Ordering.{Ordering}
 use Rattle.std.specs.declared.cmp.Ordering.TheVariants.{Less, Equal, Greater}
 use Rattle.std.specs.Cmp.Lexicographic.{slice_cmp}
@@ -40,3 +40,18 @@ key_exact a b h =
 
 pub key_itself : (a b : Key) → a ≡ b → key_cmp a b ≡ Equal
 key_itself a b e = ap (key_cmp a) (sym e) ∙ tied_itself key_total a
+
+equal_is : (o : Ordering) → is_eq o ≡ true → o ≡ Equal
+equal_is Less h = cc
+equal_is Equal h = refl
+equal_is Greater h = cc
+
+pub test_same : (a b : Key) → is_eq (key_cmp a b) ≡ true → a ≡ b
+test_same a b h = key_exact a b (equal_is (key_cmp a b) h)
+
+pub test_itself : (a b : Key) → a ≡ b → is_eq (key_cmp a b) ≡ true
+test_itself a b e = ap is_eq (key_itself a b e)
+
+-- `==` of keys is equality
+pub key_tests : (a b : Key) → IsTrue (is_eq (key_cmp a b)) ↔ (a ≡ b)
+key_tests a b = (test_same a b, test_itself a b)

@@ -1,10 +1,11 @@
 -- What a key asks for, and the order of keys.
-use Rattle.std.specs.Prelude.{ℕ, List, Option, Some, None}
+use Rattle.std.specs.Prelude.{ℕ, List, Option, Some, None, IfSome}
 use Rattle.std.specs.Ordering.{nat_cmp, on, then_cmp}
 use Rattle.std.specs.declared.cmp.Ordering.{Ordering}
 use Rattle.std.specs.Cmp.{IsTotalOrder}
 use Rattle.std.specs.Cmp.Lexicographic.{slice_cmp, on_texts}
 use Rattle.std.proofs.lemmas.Cmp.{then_total, on_total, nat_cmp_total}
+use Rattle.byte_readers.specs.Names.{IsName}
 use Rattle.item_ids.specs.declared.kind.Kind.{Kind}
 use Rattle.item_ids.specs.declared.kind.Kind.TheVariants as kinds
 use Rattle.item_ids.specs.declared.key.Key.{Key}
@@ -48,6 +49,11 @@ member_of (Method class member) = Some member
 member_of (Sig class member) = Some member
 member_of (CheckBody class member) = Some member
 member_of _ = None
+
+-- what a key keeps in its type: what names it is a name
+pub record IsKey (key : Key) : Type 0 where
+  pub class : IfSome (class_of key) IsName
+  pub member : IfSome (member_of key) IsName
 
 abbrev pub number : Key → ℕ
 number key = number_of (kind_of key)

@@ -1,2 +1,3 @@
 pub mod Kinds
 pub mod Keys
+pub mod Places

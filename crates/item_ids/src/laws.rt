@@ -1,16 +1,41 @@
 //! What holds of all keys.
-ghost use Rattle.std.specs.Prelude.{◌≡◌, ◌↔◌, ◌<◌};
+ghost use Rattle.std.specs.Prelude.{◌≡◌, ◌↔◌, ◌<◌, IsTrue, IfSome};
+ghost use Rattle.std.specs.Option.{option_copied};
+ghost use Rattle.std.specs.Ordering.{eq_by_cmp};
 ghost use Rattle.std.specs.Cmp.{IsTotalOrder};
 ghost use Rattle.std.specs.declared.cmp.Ordering.TheVariants.{Less, Equal};
 ghost use Rattle.item_ids.specs.declared.key.Key.{Key};
 ghost use Rattle.item_ids.specs.declared.kind.Kind.{Kind};
 ghost use Rattle.item_ids.specs.Kinds.{number_of, rank_of};
-ghost use Rattle.item_ids.specs.Keys.{kind_of, class_of, member_of, key_cmp};
+ghost use Rattle.item_ids.specs.Keys.{kind_of, class_of, member_of, key_cmp, IsKey};
+ghost use Rattle.byte_readers.specs.Names.{IsName};
 
-/// Keys are totally ordered, the order tells all keys apart, and so do kind, class and member.
+use crate::key::Key;
+use byte_readers::check_name;
+use mj_lexer::Name;
+
+/// A key keeps in its type that what names it is a name.
+pub fn is_key(key: &Key)
+    ensures { IsKey key.now }
+{
+    check_perhaps_name(key.class());
+    check_perhaps_name(key.member());
+}
+
+/// A name that is there is one.
+fn check_perhaps_name(name: Option<&Name>)
+    ensures { IfSome (option_copied name.entry) IsName }
+{
+    if let Some(name) = name {
+        check_name(name);
+    }
+}
+
+/// Keys are totally ordered. The order tells all keys apart; so do `==`, and kind, class and member.
 pub fn keys_in_order()
     ensures total { IsTotalOrder key_cmp }
     ensures exact { (a b : Key) → (key_cmp a b ≡ Equal) ↔ (a ≡ b) }
+    ensures same { (a b : Key) → IsTrue (eq_by_cmp key_cmp a b) ↔ (a ≡ b) }
     ensures apart { (a b : Key) → kind_of a ≡ kind_of b → class_of a ≡ class_of b → member_of a ≡ member_of b → a ≡ b }
 {}
 

@@ -7,4 +7,4 @@ mod laws;
 
 pub use key::Key;
 pub use kind::{Kind, rank};
-pub use laws::{keys_in_order, ranks_in_order};
+pub use laws::{is_key, keys_in_order, ranks_in_order};

@@ -5,3 +5,4 @@ pub mod ProgramLaws
 pub mod Whole
 pub mod StepRules
 pub mod LoopRules
+pub mod Rules

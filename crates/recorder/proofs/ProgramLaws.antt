@@ -7,7 +7,7 @@ use Rattle.result_bytes.specs.declared.value.Value.{Value}
 use Rattle.result_bytes.specs.Values.{kind_of as kind_of_value}
 use Rattle.mj_project.specs.Projects.{IsProject}
 use Rattle.recorder.specs.Projects.{Project}
-use Rattle.recorder.specs.Backed.{Meaning, ReadLists, rank, IsOfKind, AreLower, NoneTwice, Alike, RunnerLaws}
+use Rattle.recorder.specs.Backed.{Meaning, ReadLists, rank, IsOfKind, AreLower, NoneTwice, Alike, NextAlike, ValueAlike, ReadLaws, RunnerLaws}
 use Rattle.recorder.specs.Programs.{Prog, Ret, Ask, runs, asks, is_seen, Fits, Tied}
 use Rattle.recorder.proofs.Recorded.{all_last, all_map}
 use Rattle.recorder.proofs.Seen.{seen_alike, unseen_last}
@@ -113,6 +113,23 @@ place_of (CheckBody class member) = IsAbove (omega arith)
 place_of (Diags class) = IsAbove (omega arith)
 place_of Answer = IsAbove (omega arith)
 
+module _ (prog_of other : Key → Prog) (m n : Meaning) (l k : ReadLists) (t : Tied prog_of m l) (u : Tied other n k) where
+  next_law : (p r : Project) (q : Key) (i : ℕ) → prog_of q ≡ other q → Place q → NextAlike m l n k p r q i
+  next_law p r _ i e IsFiles h g a = ap (take (suc i)) (t.no_reads p Files h refl ∙ sym (u.no_reads r Files g refl))
+  next_law p r _ i e (IsSource file) h g a = ap (take (suc i)) (t.no_reads p (Source file) h refl ∙ sym (u.no_reads r (Source file) g refl))
+  next_law p r q i e (IsAbove above) h g a =
+      ap (take (suc i)) (t.asked p q h above)
+      ∙ asks_next (prog_of q) (m p) (n r) [] i tt (subst (λ ks. Alike (m p) (n r) (take i ks)) (t.asked p q h above) a)
+      ∙ ap (λ x. take (suc i) (asks x (n r) [])) e
+      ∙ ap (take (suc i)) (sym (u.asked r q g above))
+
+  same_law : (p r : Project) (q : Key) → prog_of q ≡ other q → ValueAlike m l n k p r q
+  same_law p r q e h g above a =
+      t.means p q h above
+      ∙ asks_same (prog_of q) (m p) (n r) [] tt (subst (Alike (m p) (n r)) (t.asked p q h above) a)
+      ∙ ap (λ x. runs x (n r)) e
+      ∙ sym (u.means r q g above)
+
 module _ (prog_of : Key → Prog) (mean : Meaning) (reads : ReadLists) (t : Tied prog_of mean reads) where
   kind_law : (p : Project) (q : Key) → IsProject p → Place q → IsOfKind q (mean p q)
   kind_law p _ h IsFiles = ap kind_of_value (t.files p h)
@@ -129,14 +146,6 @@ module _ (prog_of : Key → Prog) (mean : Meaning) (reads : ReadLists) (t : Tied
   once_law p _ h (IsSource file) = subst (NoneTwice (λ k. k)) (sym (t.no_reads p (Source file) h refl)) tt
   once_law p q h (IsAbove above) = subst (NoneTwice (λ k. k)) (sym (t.asked p q h above)) (asks_once (prog_of q) (mean p) [])
 
-  next_law : (p r : Project) (q : Key) (i : ℕ) → IsProject p → IsProject r → Place q → Alike (mean p) (mean r) (take i (reads p q)) → take (suc i) (reads p q) ≡ take (suc i) (reads r q)
-  next_law p r _ i h g IsFiles a = ap (take (suc i)) (t.no_reads p Files h refl ∙ sym (t.no_reads r Files g refl))
-  next_law p r _ i h g (IsSource file) a = ap (take (suc i)) (t.no_reads p (Source file) h refl ∙ sym (t.no_reads r (Source file) g refl))
-  next_law p r q i h g (IsAbove above) a =
-      ap (take (suc i)) (t.asked p q h above)
-      ∙ asks_next (prog_of q) (mean p) (mean r) [] i tt (subst (λ l. Alike (mean p) (mean r) (take i l)) (t.asked p q h above) a)
-      ∙ ap (take (suc i)) (sym (t.asked r q g above))
-
   pub program_laws : RunnerLaws mean reads
   program_laws = record {
     files = t.files;
@@ -145,8 +154,13 @@ module _ (prog_of : Key → Prog) (mean : Meaning) (reads : ReadLists) (t : Tied
     kind = λ p q h. kind_law p q h (place_of q);
     lower = λ p q h. lower_law p q h (place_of q);
     once = λ p q h. once_law p q h (place_of q);
-    next = λ p r q i h g a. next_law p r q i h g (place_of q) a;
-    same = λ p r q h g above a. t.means p q h above
-        ∙ asks_same (prog_of q) (mean p) (mean r) [] tt (subst (Alike (mean p) (mean r)) (t.asked p q h above) a)
-        ∙ sym (t.means r q g above);
+    next = λ p r q i. next_law prog_of prog_of mean mean reads reads t t p r q i refl (place_of q);
+    same = λ p r q. same_law prog_of prog_of mean mean reads reads t t p r q refl;
   }
+
+-- two pairs whose program of a key is the same keep to the laws of reads at this key
+pub programs_alike : (prog_of other : Key → Prog) (m : Meaning) (l : ReadLists) (n : Meaning) (k : ReadLists) → Tied prog_of m l → Tied other n k → (q : Key) → prog_of q ≡ other q → ReadLaws m l n k q
+programs_alike prog_of other m l n k t u q e = record {
+  next = λ p r i. next_law prog_of other m n l k t u p r q i e (place_of q);
+  same = λ p r. same_law prog_of other m n l k t u p r q e;
+}

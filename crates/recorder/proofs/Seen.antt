@@ -1,34 +1,18 @@
 -- Whether a key stands in a list.
-use Rattle.std.proofs.Common.{◌≡◌, ◌≢◌, ◌⊎◌, ◌↔◌, IsTrue, inl, inr, Contains, Bool, true, false, List, [], ◌∷◌, ◌++◌, sym, ◌∙◌, ap, subst, refl, if◌then◌else◌}
+use Rattle.std.proofs.Common.{◌≡◌, ◌≢◌, ◌⊎◌, inl, inr, Contains, Bool, true, false, List, [], ◌∷◌, ◌++◌, sym, ◌∙◌, ap, subst, refl, if◌then◌else◌}
 use Rattle.std.specs.List.{AllByRecursion}
 use Rattle.std.specs.Ordering.{is_eq}
-use Rattle.std.specs.declared.cmp.Ordering.{Ordering}
-use Rattle.std.specs.declared.cmp.Ordering.TheVariants.{Less, Equal, Greater}
 use Rattle.item_ids.specs.declared.key.Key.{Key}
 use Rattle.item_ids.specs.Keys.{key_cmp}
-use Rattle.item_ids.proofs.Apart.{key_exact, key_itself}
+use Rattle.item_ids.proofs.Apart.{test_same, test_itself}
 use Rattle.result_bytes.specs.declared.value.Value.{Value}
 use Rattle.recorder.specs.Backed.{Told, Alike, keys}
 use Rattle.recorder.specs.Recording.{IsUnread}
 use Rattle.recorder.specs.Programs.{is_seen}
 use Rattle.recorder.proofs.Recorded.{all_at}
 
-pub equal_is : (o : Ordering) → is_eq o ≡ true → o ≡ Equal
-equal_is Less h = cc
-equal_is Equal h = refl
-equal_is Greater h = cc
-
 differs : false ≡ true → ⊥
 differs e = cc
-
-test_same : (a b : Key) → is_eq (key_cmp a b) ≡ true → a ≡ b
-test_same a b h = key_exact a b (equal_is (key_cmp a b) h)
-
-test_itself : (a b : Key) → a ≡ b → is_eq (key_cmp a b) ≡ true
-test_itself a b e = ap is_eq (key_itself a b e)
-
-pub key_tests : (a b : Key) → IsTrue (is_eq (key_cmp a b)) ↔ (a ≡ b)
-key_tests a b = (test_same a b, test_itself a b)
 
 -- a key stands in the list, or it is none of its keys
 seen_cases : (ks : List Key) (k : Key) → (is_seen ks k ≡ true) ⊎ AllByRecursion (λ x. x ≢ k) ks

@@ -4,10 +4,10 @@ use Rattle.std.specs.List.{AllByRecursion}
 use Rattle.item_ids.specs.declared.key.Key.{Key}
 use Rattle.item_ids.specs.declared.key.Key.TheVariants.{Files, Source}
 use Rattle.item_ids.specs.Kinds.{rank_of}
-use Rattle.item_ids.specs.Keys.{kind_of}
+use Rattle.item_ids.specs.Keys.{kind_of, IsKey}
 use Rattle.result_bytes.specs.declared.value.Value.{Value}
 use Rattle.result_bytes.specs.declared.value.Value.TheVariants as values
-use Rattle.result_bytes.specs.Values.{kind_of as kind_of_value}
+use Rattle.result_bytes.specs.Values.{kind_of as kind_of_value, IsValue}
 use Rattle.mj_project.specs.Projects.{names_of, IsProject}
 use Rattle.recorder.specs.Projects.{Project, bytes_at}
 
@@ -41,6 +41,24 @@ NoneTwice key (x ∷ xs) = AllByRecursion (λ y. key y ≢ key x) xs × NoneTwic
 abbrev pub Alike : (Key → Value) → (Key → Value) → List Key → Type 0
 Alike m n ks = AllByRecursion (λ k. m k ≡ n k) ks
 
+-- Where p by one pair of meaning and reads and r by another agree on the first i reads of q in p, these
+-- are its first reads in r too, and both lists end there or go on with the same key.
+abbrev pub NextAlike
+    : Meaning → ReadLists → Meaning → ReadLists → Project → Project → Key → ℕ → Type 0
+NextAlike m l n k p r q i =
+    IsProject p → IsProject r → Alike (m p) (n r) (take i (l p q))
+    → take (suc i) (l p q) ≡ take (suc i) (k r q)
+
+-- where they agree on all reads of q in p, they agree on q
+abbrev pub ValueAlike : Meaning → ReadLists → Meaning → ReadLists → Project → Project → Key → Type 0
+ValueAlike m l n k p r q =
+    IsProject p → IsProject r → 0 < rank q → Alike (m p) (n r) (l p q) → m p q ≡ n r q
+
+-- what two pairs of meaning and reads keep at a key
+pub record ReadLaws (m : Meaning) (l : ReadLists) (n : Meaning) (k : ReadLists) (q : Key) : Type 0 where
+  pub next : (p r : Project) (i : ℕ) → NextAlike m l n k p r q i
+  pub same : (p r : Project) → ValueAlike m l n k p r q
+
 pub record RunnerLaws (mean : Meaning) (reads : ReadLists) : Type 0 where
   -- the inputs are the names and the bytes of the files, and read nothing
   pub files : (p : Project) → IsProject p → mean p Files ≡ values.Files (names_of p)
@@ -50,11 +68,10 @@ pub record RunnerLaws (mean : Meaning) (reads : ReadLists) : Type 0 where
   pub kind : (p : Project) (q : Key) → IsProject p → IsOfKind q (mean p q)
   pub lower : (p : Project) (q : Key) → IsProject p → AreLower q (reads p q)
   pub once : (p : Project) (q : Key) → IsProject p → NoneTwice (λ k. k) (reads p q)
-  -- where two projects agree on the first i reads of q in p, these are its first reads in r too, and both lists end
-  -- there or go on with the same key
-  pub next : (p r : Project) (q : Key) (i : ℕ) → IsProject p → IsProject r → Alike (mean p) (mean r) (take i (reads p q)) → take (suc i) (reads p q) ≡ take (suc i) (reads r q)
-  -- where two projects agree on all reads of q, they agree on q
-  pub same : (p r : Project) (q : Key) → IsProject p → IsProject r → 0 < rank q → Alike (mean p) (mean r) (reads p q) → mean p q ≡ mean r q
+  -- two projects that agree on what a key reads first read alike, and where they agree on all reads of
+  -- it, they have one value
+  pub next : (p r : Project) (q : Key) (i : ℕ) → NextAlike mean reads mean reads p r q i
+  pub same : (p r : Project) (q : Key) → ValueAlike mean reads mean reads p r q
 
 -- ---- what the reads of a run say
 
@@ -62,6 +79,11 @@ pub record RunnerLaws (mean : Meaning) (reads : ReadLists) : Type 0 where
 pub record Told : Type 0 where
   pub key : Key
   pub value : Value
+
+-- key and value are such as types keep them
+pub record IsTold (t : Told) : Type 0 where
+  pub key : IsKey t.key
+  pub value : IsValue t.value
 
 abbrev pub keys : List Told → List Key
 keys told = map (λ t. t.key) told

@@ -3,3 +3,4 @@ pub mod Backed
 pub mod Recording
 pub mod Runs
 pub mod Programs
+pub mod Codes

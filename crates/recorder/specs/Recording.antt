@@ -3,7 +3,7 @@ use Rattle.std.specs.Prelude.{◌≡◌, ◌≢◌, ◌⊎◌, List, [], ◌∷�
 use Rattle.std.specs.List.{AllByRecursion}
 use Rattle.item_ids.specs.declared.key.Key.{Key}
 use Rattle.result_bytes.specs.declared.value.Value.{Value}
-use Rattle.recorder.specs.Backed.{Told, IsOfKind, NoneTwice}
+use Rattle.recorder.specs.Backed.{Told, IsTold, IsOfKind, NoneTwice}
 use Rattle.recorder.specs.declared.reader.ReadFault.{ReadFault}
 use Rattle.recorder.specs.declared.reader.ReadFault.TheVariants.{OutOfMemory}
 use Rattle.recorder.specs.declared.refused.Refused.{Refused}
@@ -37,6 +37,7 @@ IsByReader MayRefuse k r = (r.key ≡ Some k) × (r.fault ≢ OutOfMemory) × Ma
 -- what a recorder keeps over a reader with these answers and faults
 pub record Keeps (MayAnswer : Key → Value → Type 0) (MayRefuse : Key → ReadFault → Type 0) (told : List Told) (refused : Option Refused) : Type 0 where
   pub answers : AllByRecursion (λ t. MayAnswer t.key t.value) told
+  pub held : AllByRecursion IsTold told
   pub kinds : AllByRecursion (λ t. IsOfKind t.key t.value) told
   pub once : NoneTwice (λ t. t.key) told
   pub refusal : IfSome refused (λ r. IsForMemory r ⊎ ((k : Key) × IsByReader MayRefuse k r))

@@ -1,8 +1,11 @@
 -- What a run of a query keeps to.
-use Rattle.std.specs.Prelude.{◌≡◌, ◌<◌, List, [], ◌∷◌, ◌++◌, Some, IfSome, Result, IfOk, IfErr}
+use Rattle.std.specs.Prelude.{◌≡◌, ◌<◌, List, [], ◌∷◌, ◌++◌, None, Some, IfSome, Result, IfOk, IfErr}
+use Rattle.std.specs.List.{AllByRecursion}
 use Rattle.item_ids.specs.declared.key.Key.{Key}
+use Rattle.item_ids.specs.Keys.{IsKey}
 use Rattle.result_bytes.specs.declared.value.Value.{Value}
-use Rattle.recorder.specs.Backed.{Meaning, ReadLists, Told, rank, keys, IsOfKind, AreLower, NoneTwice, Asked, IsNext, Backed}
+use Rattle.result_bytes.specs.Values.{IsValue}
+use Rattle.recorder.specs.Backed.{Meaning, ReadLists, Told, IsTold, rank, keys, IsOfKind, AreLower, NoneTwice, Asked, IsNext, Backed}
 use Rattle.recorder.specs.Recording.{Recording, fault_of, key_of}
 use Rattle.recorder.specs.declared.reader.ReadFault.{ReadFault}
 use Rattle.recorder.specs.declared.runner.RunFault.{RunFault}
@@ -27,7 +30,8 @@ pub record IsRun (mean : Meaning) (reads : ReadLists) (q : Key) {D : Type 0} (r 
   pub asked : Asked mean reads q r.told
   pub lower : AreLower q (keys r.told)
   pub refused : IsNextRefused mean reads q r
-  -- the value is of the key's kind and follows from the reads
+  -- with a value no read was refused; the value is of the key's kind and follows from the reads
+  pub unrefused : IfOk result (λ v. r.refused ≡ None)
   pub kind : IfOk result (λ v. IsOfKind q v)
   pub backed : IfOk result (λ v. Backed mean reads q r.told v)
   pub fault : IfErr result (λ e. IsFaultKept r e)
@@ -49,3 +53,7 @@ pub record IsOutcome (mean : Meaning) (reads : ReadLists) (o : Ran) : Type 0 whe
   pub backed : Backed mean reads o.key o.told o.value
   pub lower : AreLower o.key (keys o.told)
   pub once : NoneTwice (λ t. t.key) o.told
+  -- the key, the value and what was read are such as types keep them
+  pub key : IsKey o.key
+  pub value : IsValue o.value
+  pub told : AllByRecursion IsTold o.told

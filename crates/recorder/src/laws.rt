@@ -1,8 +1,8 @@
 //! What holds of runners by programs.
-ghost use Rattle.std.specs.Prelude.{◌<◌, Result};
+ghost use Rattle.std.specs.Prelude.{◌≡◌, ◌<◌, Result};
 ghost use Rattle.item_ids.specs.declared.key.Key.{Key};
 ghost use Rattle.result_bytes.specs.declared.value.Value.{Value};
-ghost use Rattle.recorder.specs.Backed.{Meaning, ReadLists, rank, RunnerLaws};
+ghost use Rattle.recorder.specs.Backed.{Meaning, ReadLists, rank, ReadLaws, RunnerLaws};
 ghost use Rattle.recorder.specs.Recording.{Recording};
 ghost use Rattle.recorder.specs.Runs.{IsRun};
 ghost use Rattle.recorder.specs.Programs.{Prog, Tied, Performs};
@@ -13,6 +13,14 @@ use crate::reader::Reader;
 /// Values and reads that are those of programs keep to the laws of runners.
 pub fn programs_keep_the_laws()
     ensures { (prog_of : Key → Prog) (mean : Meaning) (reads : ReadLists) → Tied prog_of mean reads → RunnerLaws mean reads }
+{}
+
+/// Where two pairs of meaning and reads are those of programs, and a key has the same program by both, it
+/// reads alike by both.
+pub fn programs_read_alike()
+    ensures { (prog_of other : Key → Prog) (m : Meaning) (l : ReadLists) (n : Meaning)
+        (k : ReadLists) → Tied prog_of m l → Tied other n k → (q : Key) → prog_of q ≡ other q
+        → ReadLaws m l n k q }
 {}
 
 /// What performs the program of a key is a run of the key, where values and reads are those of programs.

@@ -1,16 +1,19 @@
 //! Runs of queries: readers, what a run reads and what it leaves, and programs that say what a run does.
 #![tactic(auto)]
 
+mod answers;
 mod laws;
 mod outcome;
 mod reader;
+mod reads;
 mod recorder;
 mod refused;
 mod runner;
 mod steps;
 mod told;
 
-pub use laws::{programs_are_runs, programs_keep_the_laws};
+pub use answers::AnswerList;
+pub use laws::{programs_are_runs, programs_keep_the_laws, programs_read_alike};
 pub use outcome::{Outcome, record};
 pub use reader::{ReadFault, Reader};
 pub use recorder::Recorder;

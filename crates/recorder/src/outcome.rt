@@ -1,6 +1,7 @@
 //! The outcome of a run.
 ghost use Rattle.std.specs.Prelude.{◌≡◌, ◌⊎◌, ◌<◌, [], IfOk, IfErr, None, Err};
 ghost use Rattle.std.specs.Arc.{arc_value};
+ghost use Rattle.result_bytes.specs.Values.{IsValue};
 ghost use Rattle.recorder.specs.Backed.{rank, keys, AreLower, Asked};
 ghost use Rattle.recorder.specs.Runs.{IsOutcome, IsNextRefused, IsFaultKept, Logs};
 
@@ -9,7 +10,7 @@ use crate::recorder::Recorder;
 use crate::runner::{RunFault, Runner};
 use crate::told::{Read, copy_reads};
 use fingerprint::{Sealed, seal};
-use item_ids::Key;
+use item_ids::{Key, is_key};
 use result_bytes::Value;
 use std::alloc::{AllocError, AllocFailed, Global};
 use std::marker::{Model, PhantomData};
@@ -27,12 +28,11 @@ pub struct Outcome<R: Runner> {
 impl<R: Runner> Model for Outcome<R> {
     ghost use Rattle.std.specs.Arc.{arc_value};
     ghost use Rattle.recorder.specs.Runs.{Ran, IsOutcome};
-    ghost use Rattle.result_bytes.specs.contracts.value.Value as value_contracts;
-    ghost use Rattle.std.specs.Coded.{codes};
+    ghost use Rattle.recorder.specs.Codes.{coded_ran};
 
     ghost Value = { Ran };
 
-    ghost coded = { Prim.hlevel (codes, value_contracts.the_row.coded) };
+    ghost coded = { coded_ran };
 
     ghost view = { λ o. record { key = o.key; told = o.reads.items; value = arc_value o.sealed } };
 
@@ -78,6 +78,7 @@ pub fn record<R: Runner, D: Reader>(
     // The outcome is that of the run.
     ensures of_run { IfOk result (λ o. (o.key ≡ key.now) × (o.told ≡ recorder.new.told)) }
     ensures outcome { IfOk result (λ o. IsOutcome R.mean R.reads o) }
+    ensures unrefused { IfOk result (λ _. recorder.new.refused ≡ None) }
 
     // Whatever came of it, the run kept to its contract.
     ensures asked { Asked R.mean R.reads key.now recorder.new.told }
@@ -87,6 +88,7 @@ pub fn record<R: Runner, D: Reader>(
     ensures log { Logs key.now (R.log runner.old) (R.log runner.new) ⊎ ((result ≡ Err RunFault.OutOfMemory) × (R.log runner.new ≡ R.log runner.old) × (recorder.new ≡ recorder.old)) }
     ensures follows { D.follows recorder.old.inner recorder.new.inner }
 {
+    is_key(key);
     let value = runner.run(alloc, key, recorder)?;
     let reads = copy_reads(alloc, recorder.reads())?;
     let sealed = shared(alloc, value)?;
@@ -101,7 +103,8 @@ pub fn record<R: Runner, D: Reader>(
 
 /// The sealed value, to be shared.
 fn shared(alloc: Global, value: Value) -> Result<Arc<Sealed>, AllocError>
-    ensures { IfOk result (λ a. arc_value a ≡ value) }
+    ensures value { IfOk result (λ a. arc_value a ≡ value) }
+    ensures kept { IfOk result (λ a. IsValue (arc_value a)) }
 {
     Ok(Arc::new(alloc, seal(alloc, value)?)?)
 }

@@ -9,15 +9,19 @@ ghost use Rattle.recorder.specs.declared.reader.ReadFault.{ReadFault};
 use fingerprint::Sealed;
 use item_ids::Key;
 use std::sync::Arc;
+use thiserror::Error;
 
 /// Why a read isn't answered.
-#[derive(Clone, Copy, Debug, PartialEq, Eq)]
+#[derive(Clone, Copy, Debug, PartialEq, Eq, Error)]
 pub enum ReadFault {
     /// The work on all queries has ended.
+    #[error("7.1 Stopped")]
     Stopped,
     /// Memory ran out.
+    #[error("7.2 OutOfMemory")]
     OutOfMemory,
     /// The reader holds no answer for the key.
+    #[error("7.3 NotHeld")]
     NotHeld,
 }
 

@@ -2,15 +2,16 @@
 ghost use Rattle.std.specs.Prelude.{◌≡◌, ◌⊎◌, List, [], ◌∷◌, ◌++◌, Contains, OnOk, OnErr, IfOk, IfErr, IfSome, Some, None, MatchOption, option_copied};
 ghost use Rattle.std.specs.Arc.{arc_value};
 ghost use Rattle.std.specs.List.{AllByRecursion};
-ghost use Rattle.recorder.specs.Backed.{IsOfKind};
+ghost use Rattle.recorder.specs.Backed.{IsTold, IsOfKind};
 ghost use Rattle.recorder.specs.Recording.{fault_of, key_of, IsUnread, IsForMemory, IsByReader, Keeps, Answers, Refuses};
 
 use crate::reader::{ReadFault, Reader};
+use crate::reads::Reads;
 use crate::refused::{Refused, for_memory, refusal_of};
-use crate::told::Read;
+use crate::told::{Read, is_told};
 use fingerprint::Sealed;
 use item_ids::Key;
-use std::alloc::{AllocError, AllocFailed, Global};
+use std::alloc::{AllocError, Global};
 use std::marker::Model;
 use std::sync::Arc;
 
@@ -21,22 +22,21 @@ use std::sync::Arc;
 pub struct Recorder<D: Reader> {
     alloc: Global,
     inner: D,
-    reads: Vec<Read>,
+    reads: Reads,
     refused: Option<Refused>,
 }
 
 impl<D: Reader> Model for Recorder<D> {
     ghost use Rattle.recorder.specs.Recording.{Recording, Keeps};
-    ghost use Rattle.result_bytes.specs.contracts.value.Value as value_contracts;
-    ghost use Rattle.std.specs.Coded.{codes};
+    ghost use Rattle.recorder.specs.Codes.{coded_recording};
 
     ghost Value = { Recording D };
 
-    ghost coded = { Prim.hlevel (codes, D.code, value_contracts.the_row.coded) };
+    ghost coded = { coded_recording D.code };
 
-    ghost view = { λ r. record { inner = r.inner; told = r.reads.items; refused = r.refused } };
+    ghost view = { λ r. record { inner = r.inner; told = r.reads; refused = r.refused } };
 
-    ghost invariant = { λ r. Keeps (D.answers r.inner) (D.faults r.inner) r.reads.items r.refused };
+    ghost invariant = { λ r. Keeps (D.answers r.inner) (D.faults r.inner) r.reads r.refused };
 }
 
 impl<D: Reader> Recorder<D> {
@@ -47,7 +47,7 @@ impl<D: Reader> Recorder<D> {
         Recorder {
             alloc,
             inner,
-            reads: Vec::new(alloc),
+            reads: Reads::new(alloc),
             refused: None,
         }
     }
@@ -140,34 +140,27 @@ impl<D: Reader> Reader for Recorder<D> {
 fn answer_of<D: Reader>(
     alloc: Global,
     inner: &mut D,
-    reads: &mut Vec<Read>,
+    reads: &mut Reads,
     key: &Key,
 ) -> Result<Arc<Sealed>, Refused>
-    requires keeps { Keeps (D.answers inner.old) (D.faults inner.old) reads.old.items None }
-    ensures keeps { Keeps (D.answers inner.new) (D.faults inner.new) reads.new.items None }
+    requires keeps { Keeps (D.answers inner.old) (D.faults inner.old) reads.old None }
+    ensures keeps { Keeps (D.answers inner.new) (D.faults inner.new) reads.new None }
     ensures kind { IfOk result (λ a. IsOfKind key.now (arc_value a)) }
     ensures answer { IfOk result (λ a. D.answers inner.new key.now (arc_value a)) }
-    ensures ok { IfOk result (λ a. ((inner.new ≡ inner.old) × (reads.new.items ≡ reads.old.items) × Contains reads.old.items (record { key = key.now; value = arc_value a })) ⊎ ((reads.new.items ≡ reads.old.items ++ record { key = key.now; value = arc_value a } ∷ []) × IsUnread key.now reads.old.items)) }
-    ensures err { IfErr result (λ r. (reads.new.items ≡ reads.old.items) × (IsForMemory r ⊎ (IsByReader (D.faults inner.new) key.now r × IsUnread key.now reads.old.items))) }
-    ensures again { IsUnread key.now reads.old.items ⊎ (inner.new ≡ inner.old) }
+    ensures ok { IfOk result (λ a.
+        ((inner.new ≡ inner.old) × (reads.new ≡ reads.old)
+        × Contains reads.old (record { key = key.now; value = arc_value a }))
+        ⊎ ((reads.new ≡ reads.old ++ record { key = key.now; value = arc_value a } ∷ [])
+        × IsUnread key.now reads.old)) }
+    ensures err { IfErr result (λ r. (reads.new ≡ reads.old)
+        × (IsForMemory r ⊎ (IsByReader (D.faults inner.new) key.now r × IsUnread key.now reads.old))) }
+    ensures again { IsUnread key.now reads.old ⊎ (inner.new ≡ inner.old) }
     ensures follows { D.follows inner.old inner.new }
 {
-    match find(reads, key) {
+    match reads.find(key) {
         Some(read) => kept_answer(read),
         None => first_answer(alloc, inner, reads, key),
     }
-}
-
-/// The read of the key.
-fn find<'a>(reads: &'a [Read], key: &Key) -> Option<&'a Read>
-    ensures { MatchOption result (IsUnread key.now reads.now) (λ r. (r.now.key ≡ key.now) × Contains reads.now r.now) }
-{
-    for read in reads {
-        if read.is_of(key) {
-            return Some(read);
-        }
-    }
-    None
 }
 
 /// One more owner of the kept answer.
@@ -182,31 +175,31 @@ fn kept_answer(read: &Read) -> Result<Arc<Sealed>, Refused>
 }
 
 /// Keeps one more read.
-fn keep(
-    alloc: Global,
-    reads: &mut Vec<Read>,
-    key: &Key,
-    answer: &Arc<Sealed>,
-) -> Result<(), AllocError>
-    ensures ok { OnOk result (reads.new.items ≡ reads.old.items ++ record { key = key.now; value = arc_value answer.now } ∷ []) }
-    ensures err { OnErr result (reads.new.items ≡ reads.old.items) }
+fn keep(alloc: Global, reads: &mut Reads, key: &Key, answer: &Arc<Sealed>) -> Result<(), AllocError>
+    ensures ok { OnOk result
+        (reads.new ≡ reads.old ++ record { key = key.now; value = arc_value answer.now } ∷ []) }
+    ensures err { OnErr result (reads.new ≡ reads.old) }
+    ensures kept { IsTold (record { key = key.now; value = arc_value answer.now }) }
 {
-    reads.push(Read::new(key.copy(alloc)?, Arc::try_clone(answer)?))?;
-    Ok(())
+    is_told(key, answer);
+    let read = Read::new(key.copy(alloc)?, Arc::try_clone(answer)?);
+    reads.push(alloc, read)
 }
 
 /// The reader's answer to a key that wasn't read.
 fn first_answer<D: Reader>(
     alloc: Global,
     inner: &mut D,
-    reads: &mut Vec<Read>,
+    reads: &mut Reads,
     key: &Key,
 ) -> Result<Arc<Sealed>, Refused>
-    requires keeps { Keeps (D.answers inner.old) (D.faults inner.old) reads.old.items None }
-    requires unread { IsUnread key.now reads.old.items }
-    ensures keeps { Keeps (D.answers inner.new) (D.faults inner.new) reads.new.items None }
-    ensures ok { IfOk result (λ a. (reads.new.items ≡ reads.old.items ++ record { key = key.now; value = arc_value a } ∷ []) × IsOfKind key.now (arc_value a) × D.answers inner.new key.now (arc_value a)) }
-    ensures err { IfErr result (λ r. (reads.new.items ≡ reads.old.items) × (IsForMemory r ⊎ IsByReader (D.faults inner.new) key.now r)) }
+    requires keeps { Keeps (D.answers inner.old) (D.faults inner.old) reads.old None }
+    requires unread { IsUnread key.now reads.old }
+    ensures keeps { Keeps (D.answers inner.new) (D.faults inner.new) reads.new None }
+    ensures ok { IfOk result (λ a. (reads.new ≡ reads.old ++ record { key = key.now; value = arc_value a } ∷ [])
+        × IsOfKind key.now (arc_value a) × D.answers inner.new key.now (arc_value a)) }
+    ensures err { IfErr result (λ r. (reads.new ≡ reads.old)
+        × (IsForMemory r ⊎ IsByReader (D.faults inner.new) key.now r)) }
     ensures follows { D.follows inner.old inner.new }
 {
     match inner.read(key) {

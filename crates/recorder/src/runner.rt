@@ -9,13 +9,16 @@ use crate::recorder::Recorder;
 use item_ids::Key;
 use result_bytes::Value;
 use std::alloc::{AllocError, AllocFailed, Global};
+use thiserror::Error;
 
 /// Why a run has no result.
-#[derive(Clone, Copy, Debug, PartialEq, Eq)]
+#[derive(Clone, Copy, Debug, PartialEq, Eq, Error)]
 pub enum RunFault {
     /// A read was refused.
+    #[error("8.1 Read({0})")]
     Read(ReadFault),
     /// Memory ran out.
+    #[error("8.2 OutOfMemory")]
     OutOfMemory,
 }
 

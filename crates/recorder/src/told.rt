@@ -1,9 +1,12 @@
 //! A key that was read, with its answer.
 ghost use Rattle.std.specs.Prelude.{◌≡◌, ◌↔◌, IfOk, IsTrue};
 ghost use Rattle.std.specs.Arc.{arc_value};
+ghost use Rattle.item_ids.specs.Keys.{IsKey};
+ghost use Rattle.result_bytes.specs.Values.{IsValue};
+ghost use Rattle.recorder.specs.Backed.{IsTold};
 
 use fingerprint::Sealed;
-use item_ids::Key;
+use item_ids::{Key, is_key};
 use std::alloc::{AllocError, Global};
 use std::marker::Model;
 use std::sync::Arc;
@@ -18,12 +21,11 @@ pub struct Read {
 impl Model for Read {
     ghost use Rattle.std.specs.Arc.{arc_value};
     ghost use Rattle.recorder.specs.Backed.{Told};
-    ghost use Rattle.result_bytes.specs.contracts.value.Value as value_contracts;
-    ghost use Rattle.std.specs.Coded.{codes};
+    ghost use Rattle.recorder.specs.Codes.{coded_told};
 
     ghost Value = { Told };
 
-    ghost coded = { Prim.hlevel (codes, value_contracts.the_row.coded) };
+    ghost coded = { coded_told };
 
     ghost view = { λ r. record { key = r.key; value = arc_value r.answer } };
 }
@@ -38,15 +40,19 @@ impl Read {
 
     /// The key.
     pub fn key(&self) -> &Key
-        ensures { result.now ≡ self.now.key }
+        ensures key { result.now ≡ self.now.key }
+        ensures kept { IsKey self.now.key }
     {
+        is_key(&self.key);
         &self.key
     }
 
     /// The answer.
     pub fn answer(&self) -> &Arc<Sealed>
-        ensures { arc_value result.now ≡ self.now.value }
+        ensures answer { arc_value result.now ≡ self.now.value }
+        ensures kept { IsValue self.now.value }
     {
+        let _value = self.answer.value();
         &self.answer
     }
 
@@ -66,6 +72,14 @@ impl Read {
             answer: Arc::try_clone(&self.answer)?,
         })
     }
+}
+
+/// Keys and answers are such as their types keep them.
+pub(crate) fn is_told(key: &Key, answer: &Arc<Sealed>)
+    ensures { IsTold (record { key = key.now; value = arc_value answer.now }) }
+{
+    is_key(key);
+    let _value = answer.value();
 }
 
 /// The reads again, each answer with one more owner.

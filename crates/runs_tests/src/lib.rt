@@ -2,7 +2,11 @@
 #![tactic(auto)]
 
 #[cfg(test)]
+mod borrowing;
+#[cfg(test)]
 mod given;
+#[cfg(test)]
+mod keeping;
 #[cfg(test)]
 mod reading;
 #[cfg(test)]

@@ -9,8 +9,7 @@ use Rattle.mj_project.specs.Projects.{names_of}
 use Rattle.recorder.specs.Projects.{Project}
 use Rattle.recorder.specs.Backed.{rank, RunnerLaws}
 use Rattle.recorder.specs.Programs.{Prog, Ret, Ask, runs, asks, Fits, Tied}
-use Rattle.recorder.proofs.ProgramLaws.{program_laws}
-use Rattle.recorder.proofs.LoopRules.{fold_of, each_runs, each_fits}
+use Rattle.recorder.proofs.Rules.{program_laws, fold_of, each_runs, each_fits}
 use Rattle.sample_runner.specs.Phrases.{Phrase, Phrases, Named, Called, NoMore, More, phrase_for}
 use Rattle.sample_runner.specs.Meaning.{header_at, signature_of, signature_at, is_main, any_main, meet, type_of, types_of, faults_if, sample_mean}
 use Rattle.sample_runner.specs.Programs.{names_in, header_in, signature_in, header_steps, sig_rest, sig_steps, main_step, class_steps, meet_step, phrase_step, phrases_step, body_steps, steps_of, prog_of, sample_reads}

@@ -67,7 +67,7 @@ fn look_at<D: Reader>(
 }
 
 /// Whether some file is empty.
-#[tactic(auto, using(recorder::proofs::LoopRules::loop_more, recorder::proofs::LoopRules::loop_up, recorder::proofs::LoopRules::loop_end))]
+#[tactic(auto, using(recorder::proofs::Rules::loop_more, recorder::proofs::Rules::loop_up, recorder::proofs::Rules::loop_end))]
 fn look_at_all<D: Reader>(
     alloc: Global,
     recorder: &mut Recorder<D>,

@@ -1,5 +1,5 @@
 use Rattle.item_ids.specs.Keys.{key_total}
-use Rattle.item_ids.proofs.Apart.{key_exact, key_itself}
+use Rattle.item_ids.proofs.Apart.{key_exact, key_itself, key_tests}
 use Rattle.item_ids.proofs.laws.keys_in_order.Goals as goal
 
 pub returns-clause-total : goal.returns-clause-total
@@ -7,3 +7,6 @@ returns-clause-total c = key_total
 
 pub returns-clause-exact : goal.returns-clause-exact
 returns-clause-exact c = λ a b. (key_exact a b, key_itself a b)
+
+pub returns-clause-same : goal.returns-clause-same
+returns-clause-same c = key_tests

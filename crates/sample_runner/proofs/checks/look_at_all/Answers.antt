@@ -1,6 +1,6 @@
 use Rattle.std.proofs.Common.{rules, false}
 use Rattle.recorder.specs.Programs.{GivesUp, each}
-use Rattle.recorder.proofs.LoopRules.{loop_more, loop_up}
+use Rattle.recorder.proofs.Rules.{loop_more, loop_up}
 use Rattle.sample_runner.specs.Programs.{main_step}
 use Rattle.sample_runner.proofs.checks.look_at_all.Goals as goal
 

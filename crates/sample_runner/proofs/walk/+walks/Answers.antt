@@ -1,6 +1,6 @@
 use Rattle.std.proofs.Common.{rules, ◌≡◌, IfOk, IfErr, map, ap, ◌∙◌, subst, sym}
 use Rattle.recorder.specs.Programs.{Goes, GivesUp, each}
-use Rattle.recorder.proofs.LoopRules.{loop_more, loop_up, loop_end}
+use Rattle.recorder.proofs.Rules.{loop_more, loop_up, loop_end}
 use Rattle.sample_runner.specs.Phrases.{Phrase as SpecPhrase, Called, phrases_of}
 use Rattle.sample_runner.specs.Programs.{phrase_step, part_step}
 use Rattle.sample_runner.specs.View.{view_of}

@@ -1,5 +1,5 @@
 use Rattle.std.proofs.Common.{rules}
-use Rattle.recorder.proofs.Seen.{key_tests}
+use Rattle.item_ids.proofs.Apart.{key_tests}
 use Rattle.recorder.proofs.told.Read.is_of.Goals as goal
 
 pub returns : goal.returns

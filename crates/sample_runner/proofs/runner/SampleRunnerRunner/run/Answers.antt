@@ -1,5 +1,5 @@
 use Rattle.std.proofs.Common.{refl}
-use Rattle.recorder.proofs.Whole.{run_performed}
+use Rattle.recorder.proofs.Rules.{run_performed}
 use Rattle.sample_runner.specs.Meaning.{sample_mean}
 use Rattle.sample_runner.specs.Programs.{sample_reads, prog_of, steps_of}
 use Rattle.sample_runner.specs.Tie.{sample_tied}

@@ -1,6 +1,0 @@
-use Rattle.std.proofs.Common.{take}
-use Rattle.recorder.specs.Recording.{IsUnread}
-use Rattle.recorder.proofs.recorder.find.Given as goal
-
-abbrev pub invariant-loop-read : goal.invariant-loop-read
-invariant-loop-read l = IsUnread l.key (take l.read-index l.reads)
