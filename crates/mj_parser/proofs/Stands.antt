@@ -72,15 +72,15 @@ pub stands : (ts : List Token) (i : ℕ) (t : Terminal) → has ts i t ≡ true 
 unfolding has Stands
 stands ts i t h = terminal_there t (kind_at ts i) h
 
-pub has_is : {ts : List Token} {i : ℕ} {t : Terminal} → Stands ts i t → has ts i t ≡ true
+pub has_is : (ts : List Token) (i : ℕ) (t : Terminal) → Stands ts i t → has ts i t ≡ true
 unfolding has Stands
-has_is {ts} {i} {t} s = there_terminal t (kind_at ts i) s
+has_is ts i t s = there_terminal t (kind_at ts i) s
 
 pub stands_law : StandsLaw
-stands_law ts i t = (λ s. has_is s, stands ts i t)
+stands_law ts i t = (has_is ts i t, stands ts i t)
 
 pub stands_within : (ts : List Token) (i : ℕ) (t : Terminal) → Stands ts i t → i < length ts
-stands_within ts i t s = has_within ts i t (has_is s)
+stands_within ts i t s = has_within ts i t (has_is ts i t s)
 
 -- a step that found something where this stands, or where it doesn't
 pub when_stands : {A : Type 0} (ts : List Token) (i : ℕ) (t : Terminal) (o : Option A) (y : A) → when (has ts i t) o ≡ Some y → Stands ts i t × (o ≡ Some y)
