@@ -14,8 +14,9 @@ use Rattle.mj_parser.specs.Statements.{IsStmt, AreStmts}
 use Rattle.mj_parser.specs.Rows.{InRow}
 use Rattle.mj_parser.specs.Declarations.{type_size, IsVariable, variable_size, IsMoreFormal, more_formal_size, AreFormals, IsLocal, local_size, method_size, formals_place, locals_place, body_place, return_place, IsMethod, IsMethodAt, class_size, IsClass, IsMainPart, Derives}
 use Rattle.mj_parser.specs.MarkBounds.{ExpMarksBelow, ExpsMarksBelow, StmtMarksBelow, StmtsMarksBelow, VariableBelow, MethodMarksBelow, ClassMarksBelow, MainMarksBelow, FileMarksBelow}
-use Rattle.mj_parser.proofs.Marks.{has_within, name_within, says_name}
+use Rattle.mj_parser.proofs.Marks.{name_within, says_name}
 use Rattle.mj_parser.proofs.StatementAgain.{print_name}
+use Rattle.mj_parser.proofs.Stands.{stands_within}
 
 within_value : (ts : List Token) (j v : ℕ) (k : Option Token) → slice_get ts j ≡ k → value_of (token_kind k) ≡ Some v → j < length ts
 within_value ts j v None e h = absurd cc
@@ -31,18 +32,18 @@ says_within ts j word h = name_within ts j word (says_name ts j word h)
 module _ (ts : List Token) (n : ℕ) (le : length ts ≤ n) where
   mutual
     exp_below : (d i : ℕ) (e : Expression) → IsExp ts d i e → ExpMarksBelow n e
-    exp_below d i (Binary o m l r) h = let w = has_within ts m (terminal_of o) h.3 in (omega arith, exp_below _ i l h.1, exp_below _ (m + 1) r h.4)
-    exp_below d i (Index m a x) h = let w = has_within ts m terminals.LeftBracket h.3 in (omega arith, exp_below 0 i a h.0, exp_below 5 (m + 1) x h.4)
+    exp_below d i (Binary o m l r) h = let w = stands_within ts m (terminal_of o) h.3 in (omega arith, exp_below _ i l h.1, exp_below _ (m + 1) r h.4)
+    exp_below d i (Index m a x) h = let w = stands_within ts m terminals.LeftBracket h.3 in (omega arith, exp_below 0 i a h.0, exp_below 5 (m + 1) x h.4)
     exp_below d i (Length m a) h = let w = says_within ts m (codes "length") h.3 in (omega arith, exp_below 0 i a h.0)
     exp_below d i (Call m e name gs) h = let w = name_within ts m name h.3 in (omega arith, exp_below 0 i e h.0, args_below (m + 2) gs h.5)
     exp_below d i (Literal m v) h = let w = value_within ts i v h.1 in let at = h.0 in omega arith
-    exp_below d i (Boolean m v) h = let w = has_within ts i (terminal_of_bool v) h.1 in let at = h.0 in omega arith
+    exp_below d i (Boolean m v) h = let w = stands_within ts i (terminal_of_bool v) h.1 in let at = h.0 in omega arith
     exp_below d i (Named m name) h = let w = name_within ts i name h.1 in let at = h.0 in omega arith
-    exp_below d i (This m) h = let w = has_within ts i terminals.This h.1 in let at = h.0 in omega arith
-    exp_below d i (NewArray m x) h = let w = has_within ts i terminals.New h.1 in let at = h.0 in (omega arith, exp_below 5 (i + 3) x h.4)
-    exp_below d i (NewObject m c) h = let w = has_within ts i terminals.New h.1 in let at = h.0 in omega arith
-    exp_below d i (Not m e) h = let w = has_within ts i terminals.Not h.2 in let at = h.1 in (omega arith, exp_below 1 (i + 1) e h.3)
-    exp_below d i (Parenthesized m e) h = let w = has_within ts i terminals.LeftParenthesis h.1 in let at = h.0 in (omega arith, exp_below 5 (i + 1) e h.2)
+    exp_below d i (This m) h = let w = stands_within ts i terminals.This h.1 in let at = h.0 in omega arith
+    exp_below d i (NewArray m x) h = let w = stands_within ts i terminals.New h.1 in let at = h.0 in (omega arith, exp_below 5 (i + 3) x h.4)
+    exp_below d i (NewObject m c) h = let w = stands_within ts i terminals.New h.1 in let at = h.0 in omega arith
+    exp_below d i (Not m e) h = let w = stands_within ts i terminals.Not h.2 in let at = h.1 in (omega arith, exp_below 1 (i + 1) e h.3)
+    exp_below d i (Parenthesized m e) h = let w = stands_within ts i terminals.LeftParenthesis h.1 in let at = h.0 in (omega arith, exp_below 5 (i + 1) e h.2)
 
     args_below : (i : ℕ) (es : Expressions) → AreArguments ts i es → ExpsMarksBelow n es
     args_below i none h = tt
@@ -54,12 +55,12 @@ module _ (ts : List Token) (n : ℕ) (le : length ts ≤ n) where
 
   mutual
     stmt_below : (i : ℕ) (s : Statement) → IsStmt ts i s → StmtMarksBelow n s
-    stmt_below i (Block m body) h = let w = has_within ts i terminals.LeftBrace h.1 in let at = h.0 in (omega arith, stmts_below (i + 1) body h.2)
-    stmt_below i (If m e s t) h = let w = has_within ts i terminals.If h.1 in let at = h.0 in (omega arith, exp_below 5 (i + 2) e h.3, stmt_below _ s h.5, stmt_below _ t h.7)
-    stmt_below i (While m e s) h = let w = has_within ts i terminals.While h.1 in let at = h.0 in (omega arith, exp_below 5 (i + 2) e h.3, stmt_below _ s h.5)
+    stmt_below i (Block m body) h = let w = stands_within ts i terminals.LeftBrace h.1 in let at = h.0 in (omega arith, stmts_below (i + 1) body h.2)
+    stmt_below i (If m e s t) h = let w = stands_within ts i terminals.If h.1 in let at = h.0 in (omega arith, exp_below 5 (i + 2) e h.3, stmt_below _ s h.5, stmt_below _ t h.7)
+    stmt_below i (While m e s) h = let w = stands_within ts i terminals.While h.1 in let at = h.0 in (omega arith, exp_below 5 (i + 2) e h.3, stmt_below _ s h.5)
     stmt_below i (Print m e) h = let w = name_within ts i (codes "System") (print_name ts i h.1) in let at = h.0 in (omega arith, exp_below 5 (i + 6) e h.2)
-    stmt_below i (Assign m name k e) h = let w = has_within ts (i + 1) terminals.Assign h.3 in let at = h.0 in let at2 = h.1 in (omega arith, omega arith, exp_below 5 (i + 2) e h.4)
-    stmt_below i (Store m name k x e) h = let w = has_within ts _ terminals.Assign h.6 in let at = h.0 in let at2 = h.1 in (omega arith, omega arith, exp_below 5 (i + 2) x h.4, exp_below 5 _ e h.7)
+    stmt_below i (Assign m name k e) h = let w = stands_within ts (i + 1) terminals.Assign h.3 in let at = h.0 in let at2 = h.1 in (omega arith, omega arith, exp_below 5 (i + 2) e h.4)
+    stmt_below i (Store m name k x e) h = let w = stands_within ts _ terminals.Assign h.6 in let at = h.0 in let at2 = h.1 in (omega arith, omega arith, exp_below 5 (i + 2) x h.4, exp_below 5 _ e h.7)
 
     stmts_below : (i : ℕ) (ss : Statements) → AreStmts ts i ss → StmtsMarksBelow n ss
     stmts_below i done h = tt
@@ -82,7 +83,7 @@ module _ (ts : List Token) (n : ℕ) (le : length ts ≤ n) where
 
   method_below : (m : Method) → IsMethod ts m → MethodMarksBelow n m
   method_below m h =
-      let w = has_within ts (return_place m) terminals.Return h.return_word in
+      let w = stands_within ts (return_place m) terminals.Return h.return_word in
       let at = h.return_mark in
       record {
         formals = formals_below (formals_place m) m.formals h.formals;

@@ -17,6 +17,7 @@ use Rattle.mj_parser.proofs.Loops.{ChainLeads, PostLeads, chain_ends, chain_goes
 use Rattle.mj_parser.specs.Steps.{items_from, behind_comma, at_comma, listed_at}
 use Rattle.mj_parser.proofs.Lists.{exps_list, list_exps}
 use Rattle.mj_parser.proofs.Marks.{says_name, has_other, has_named, has_valued, has_within, IsCloser, Stops, stops_closer, at_is, stops_operator}
+use Rattle.mj_parser.proofs.Stands.{has_is}
 
 -- ---- what begins an expression
 
@@ -34,14 +35,14 @@ begins ts n b (Index m a x) d i neg h = begins ts n b a 0 i (λ lt. absurd (omeg
 begins ts n b (Length m a) d i neg h = begins ts n b a 0 i (λ lt. absurd (omega arith)) h.0
 begins ts n b (Call m e name gs) d i neg h = begins ts n b e 0 i (λ lt. absurd (omega arith)) h.0
 begins ts n b (Literal m v) d i neg h = has_valued ts i n v h.1
-begins ts n b (Boolean m true) d i neg h = has_other ts i terminals.True n h.1 b.is_true
-begins ts n b (Boolean m false) d i neg h = has_other ts i terminals.False n h.1 b.is_false
+begins ts n b (Boolean m true) d i neg h = has_other ts i terminals.True n (has_is _ _ _ h.1) b.is_true
+begins ts n b (Boolean m false) d i neg h = has_other ts i terminals.False n (has_is _ _ _ h.1) b.is_false
 begins ts n b (Named m name) d i neg h = has_named ts i n name h.1
-begins ts n b (This m) d i neg h = has_other ts i terminals.This n h.1 b.is_this
-begins ts n b (NewArray m s) d i neg h = has_other ts i terminals.New n h.1 b.is_new
-begins ts n b (NewObject m c) d i neg h = has_other ts i terminals.New n h.1 b.is_new
-begins ts n b (Not m e) d i neg h = has_other ts i terminals.Not n h.2 (neg h.0)
-begins ts n b (Parenthesized m e) d i neg h = has_other ts i terminals.LeftParenthesis n h.1 b.is_paren
+begins ts n b (This m) d i neg h = has_other ts i terminals.This n (has_is _ _ _ h.1) b.is_this
+begins ts n b (NewArray m s) d i neg h = has_other ts i terminals.New n (has_is _ _ _ h.1) b.is_new
+begins ts n b (NewObject m c) d i neg h = has_other ts i terminals.New n (has_is _ _ _ h.1) b.is_new
+begins ts n b (Not m e) d i neg h = has_other ts i terminals.Not n (has_is _ _ _ h.2) (neg h.0)
+begins ts n b (Parenthesized m e) d i neg h = has_other ts i terminals.LeftParenthesis n (has_is _ _ _ h.1) b.is_paren
 
 height_some : (e : Expression) → 0 < height e
 height_some (Binary o m l r) = omega arith
@@ -114,7 +115,7 @@ module _ (part : TierParser) (ts : List Token) (room : ℕ) (reads : (d i j : �
 
   stops_more : (gs : Expressions) (k j : ℕ) → AreMore ts k gs → j ≡ k + sizes_more gs → has ts j terminals.RightParenthesis ≡ true → Stops ts 5 k
   stops_more none k j h at e = let same : j ≡ k = omega arith in stops_closer ts 5 k terminals.RightParenthesis (rw (← same) e) closer_paren
-  stops_more (more f fs) k j h at e = stops_closer ts 5 k terminals.Comma h.0 closer_comma
+  stops_more (more f fs) k j h at e = stops_closer ts 5 k terminals.Comma (has_is _ _ _ h.0) closer_comma
 
   more_again : (gs : Expressions) (gas k j : ℕ) → AreMore ts k gs → heights gs ≤ room → j ≡ k + sizes_more gs → has ts j terminals.RightParenthesis ≡ true → length ts < gas + k → items_from gas (behind_comma (part 5)) (at_comma ts) k ≡ Some (exps_list gs, j)
   unfolding items_from
@@ -125,7 +126,7 @@ module _ (part : TierParser) (ts : List Token) (room : ℕ) (reads : (d i j : �
   more_again (more f fs) (suc gas) k j h fits at e enough =
       let w = has_within ts j terminals.RightParenthesis e in
       let r = reads 5 (k + 1) (k + 1 + size f) f h.1 (omega arith) refl (omega arith) (stops_more fs (k + 1 + size f) j h.2 (omega arith) e) in
-      rw (items_from, h.0, r, more_again fs gas (k + 1 + size f) j h.2 (omega arith) (omega arith) e (omega arith)) refl
+      rw (items_from, (has_is _ _ _ h.0), r, more_again fs gas (k + 1 + size f) j h.2 (omega arith) (omega arith) e (omega arith)) refl
 
   args_again : (gs : Expressions) (i j : ℕ) → AreArguments ts i gs → heights gs ≤ room → j ≡ i + sizes gs → has ts j terminals.RightParenthesis ≡ true → listed_at (part 5) ts i ≡ Some (exps_list gs, j + 1)
   unfolding listed_at
@@ -196,39 +197,39 @@ module _ (part : TierParser) (ts : List Token) (room : ℕ) (reads : (d i j : �
   post_chain : (e : Expression) (i j : ℕ) (total : Found) → IsExp ts 0 i e → height e ≤ suc room → j ≡ i + size e → has ts j terminals.LeftParenthesis ≡ false → PostLeads part ts room e j total → post_at part ts room i ≡ total
   post_chain (Binary o m l r) i j total h fits at np leads = let lt = h.0 in absurd (omega arith)
   post_chain (Index m a x) i j total h fits at np leads =
-      let w = has_within ts m terminals.LeftBracket h.3 in
-      let takes : takes_index ts a m ≡ true = rw (h.3, h.1) refl in
+      let w = has_within ts m terminals.LeftBracket (has_is _ _ _ h.3) in
+      let takes : takes_index ts a m ≡ true = rw ((has_is _ _ _ h.3), h.1) refl in
       let m-is = h.2 in
-      post_chain a i m total h.0 (omega arith) h.2 (has_other ts m terminals.LeftBracket terminals.LeftParenthesis h.3 refl)
-      (index_goes_on part ts room a m (omega arith) (Index m a x) j total takes (omega arith) (index_again m j a x h.4 (omega arith) h.5 (omega arith)) (omega arith) leads)
+      post_chain a i m total h.0 (omega arith) h.2 (has_other ts m terminals.LeftBracket terminals.LeftParenthesis (has_is _ _ _ h.3) refl)
+      (index_goes_on part ts room a m (omega arith) (Index m a x) j total takes (omega arith) (index_again m j a x h.4 (omega arith) (has_is _ _ _ h.5) (omega arith)) (omega arith) leads)
   post_chain (Length m a) i j total h fits at np leads =
-      let w = has_within ts (i + size a) terminals.Dot h.2 in
-      let takes : takes_index ts a (i + size a) ≡ false = rw (has_other ts (i + size a) terminals.Dot terminals.LeftBracket h.2 refl) refl in
+      let w = has_within ts (i + size a) terminals.Dot (has_is _ _ _ h.2) in
+      let takes : takes_index ts a (i + size a) ≡ false = rw (has_other ts (i + size a) terminals.Dot terminals.LeftBracket (has_is _ _ _ h.2) refl) refl in
       let m-is = h.1 in
       let j-is : j ≡ m + 1 = omega arith in
-      post_chain a i (i + size a) total h.0 (omega arith) refl (has_other ts (i + size a) terminals.Dot terminals.LeftParenthesis h.2 refl)
-      (member_goes_on part ts room a (i + size a) (omega arith) (Length m a) j total takes h.2 (omega arith) (rw (← h.1) (length_again m j a h.3 (rw (← j-is) np) j-is)) (omega arith) leads)
+      post_chain a i (i + size a) total h.0 (omega arith) refl (has_other ts (i + size a) terminals.Dot terminals.LeftParenthesis (has_is _ _ _ h.2) refl)
+      (member_goes_on part ts room a (i + size a) (omega arith) (Length m a) j total takes (has_is _ _ _ h.2) (omega arith) (rw (← h.1) (length_again m j a h.3 (rw (← j-is) np) j-is)) (omega arith) leads)
   post_chain (Call m e name gs) i j total h fits at np leads =
-      let w = has_within ts (i + size e) terminals.Dot h.2 in
-      let takes : takes_index ts e (i + size e) ≡ false = rw (has_other ts (i + size e) terminals.Dot terminals.LeftBracket h.2 refl) refl in
+      let w = has_within ts (i + size e) terminals.Dot (has_is _ _ _ h.2) in
+      let takes : takes_index ts e (i + size e) ≡ false = rw (has_other ts (i + size e) terminals.Dot terminals.LeftBracket (has_is _ _ _ h.2) refl) refl in
       let m-is = h.1 in
-      post_chain e i (i + size e) total h.0 (omega arith) refl (has_other ts (i + size e) terminals.Dot terminals.LeftParenthesis h.2 refl)
-      (member_goes_on part ts room e (i + size e) (omega arith) (Call m e name gs) j total takes h.2 (omega arith) (rw (← h.1) (call_again m j e name gs h.3 h.4 h.5 (omega arith) h.6 (omega arith))) (omega arith) leads)
+      post_chain e i (i + size e) total h.0 (omega arith) refl (has_other ts (i + size e) terminals.Dot terminals.LeftParenthesis (has_is _ _ _ h.2) refl)
+      (member_goes_on part ts room e (i + size e) (omega arith) (Call m e name gs) j total takes (has_is _ _ _ h.2) (omega arith) (rw (← h.1) (call_again m j e name gs h.3 (has_is _ _ _ h.4) h.5 (omega arith) (has_is _ _ _ h.6) (omega arith))) (omega arith) leads)
   post_chain (Literal m v) i j total h fits at np leads = prim_then _ i j total (rw (h.0, at) (prim_valued i v h.1)) leads
-  post_chain (Boolean m true) i j total h fits at np leads = prim_then _ i j total (rw (h.0, at) (prim_fixed i terminals.True only_true h.1 ∙ terminal_true i)) leads
-  post_chain (Boolean m false) i j total h fits at np leads = prim_then _ i j total (rw (h.0, at) (prim_fixed i terminals.False only_false h.1 ∙ terminal_false i)) leads
+  post_chain (Boolean m true) i j total h fits at np leads = prim_then _ i j total (rw (h.0, at) (prim_fixed i terminals.True only_true (has_is _ _ _ h.1) ∙ terminal_true i)) leads
+  post_chain (Boolean m false) i j total h fits at np leads = prim_then _ i j total (rw (h.0, at) (prim_fixed i terminals.False only_false (has_is _ _ _ h.1) ∙ terminal_false i)) leads
   post_chain (Named m name) i j total h fits at np leads = prim_then _ i j total (rw (h.0, at) (prim_named i name h.1)) leads
-  post_chain (This m) i j total h fits at np leads = prim_then _ i j total (rw (h.0, at) (prim_fixed i terminals.This only_this h.1 ∙ terminal_this i)) leads
+  post_chain (This m) i j total h fits at np leads = prim_then _ i j total (rw (h.0, at) (prim_fixed i terminals.This only_this (has_is _ _ _ h.1) ∙ terminal_this i)) leads
   post_chain (NewArray m s) i j total h fits at np leads =
       let j-is : j ≡ i + 3 + size s + 1 = omega arith in
-      let w = has_within ts (i + 3 + size s) terminals.RightBracket h.5 in
-      prim_then _ i j total (rw (h.0, j-is) (prim_fixed i terminals.New only_new h.1 ∙ terminal_array i (i + 3 + size s) s h.2 h.3 (reads 5 (i + 3) (i + 3 + size s) s h.4 (omega arith) refl (omega arith) (stops_closer ts 5 (i + 3 + size s) terminals.RightBracket h.5 closer_bracket)) h.5)) leads
-  post_chain (NewObject m c) i j total h fits at np leads = prim_then _ i j total (rw (h.0, at) (prim_fixed i terminals.New only_new h.1 ∙ terminal_object i c h.2 h.3 h.4)) leads
+      let w = has_within ts (i + 3 + size s) terminals.RightBracket (has_is _ _ _ h.5) in
+      prim_then _ i j total (rw (h.0, j-is) (prim_fixed i terminals.New only_new (has_is _ _ _ h.1) ∙ terminal_array i (i + 3 + size s) s (has_is _ _ _ h.2) (has_is _ _ _ h.3) (reads 5 (i + 3) (i + 3 + size s) s h.4 (omega arith) refl (omega arith) (stops_closer ts 5 (i + 3 + size s) terminals.RightBracket (has_is _ _ _ h.5) closer_bracket)) (has_is _ _ _ h.5))) leads
+  post_chain (NewObject m c) i j total h fits at np leads = prim_then _ i j total (rw (h.0, at) (prim_fixed i terminals.New only_new (has_is _ _ _ h.1) ∙ terminal_object i c h.2 (has_is _ _ _ h.3) (has_is _ _ _ h.4))) leads
   post_chain (Not m e) i j total h fits at np leads = let lt = h.0 in absurd (omega arith)
   post_chain (Parenthesized m e) i j total h fits at np leads =
       let j-is : j ≡ i + 1 + size e + 1 = omega arith in
-      let w = has_within ts (i + 1 + size e) terminals.RightParenthesis h.3 in
-      prim_then _ i j total (rw (h.0, j-is) (prim_fixed i terminals.LeftParenthesis only_paren h.1 ∙ terminal_paren i (i + 1 + size e) e (reads 5 (i + 1) (i + 1 + size e) e h.2 (omega arith) refl (omega arith) (stops_closer ts 5 (i + 1 + size e) terminals.RightParenthesis h.3 closer_paren)) h.3)) leads
+      let w = has_within ts (i + 1 + size e) terminals.RightParenthesis (has_is _ _ _ h.3) in
+      prim_then _ i j total (rw (h.0, j-is) (prim_fixed i terminals.LeftParenthesis only_paren (has_is _ _ _ h.1) ∙ terminal_paren i (i + 1 + size e) e (reads 5 (i + 1) (i + 1 + size e) e h.2 (omega arith) refl (omega arith) (stops_closer ts 5 (i + 1 + size e) terminals.RightParenthesis (has_is _ _ _ h.3) closer_paren)) (has_is _ _ _ h.3))) leads
 
   -- ---- tiers
 
@@ -249,7 +250,7 @@ module _ (part : TierParser) (ts : List Token) (room : ℕ) (reads : (d i j : �
   unfolding tier_at
   tier_one (Not m e) i j h fits at w s =
       let j-is : j ≡ i + 1 + size e = omega arith in
-      rw (tier_at, h.2, reads 1 (i + 1) j e h.3 (omega arith) j-is w s, h.1) refl
+      rw (tier_at, (has_is _ _ _ h.2), reads 1 (i + 1) j e h.3 (omega arith) j-is w s, h.1) refl
   tier_one (Binary o m l r) i j h fits at w s = let lt = h.0 in absurd (below_some o (omega arith))
     where
       below_some : (o : Operator) → tier_of o ≡ 0 → ⊥
@@ -283,9 +284,9 @@ module _ (part : TierParser) (ts : List Token) (room : ℕ) (reads : (d i j : �
               let lt = h.0 in
               let same : tier_of o ≡ suc d = omega arith in
               let m-is = h.2 in
-              let here = has_within ts m (terminal_of o) h.3 in
-              climb l i m total (subst (λ (k : ℕ). IsExp ts (suc k) i l) same h.1) (omega arith) h.2 (omega arith) (subst (λ (k : ℕ). Stops ts k m) same (stops_operator ts m o h.3))
-              (chain_goes_on part ts room (suc d) l m (omega arith) o r j total (subst (λ (k : ℕ). operator_at ts m k ≡ Some o) same (at_is ts m o h.3)) (omega arith)
+              let here = has_within ts m (terminal_of o) (has_is _ _ _ h.3) in
+              climb l i m total (subst (λ (k : ℕ). IsExp ts (suc k) i l) same h.1) (omega arith) h.2 (omega arith) (subst (λ (k : ℕ). Stops ts k m) same (stops_operator ts m o (has_is _ _ _ h.3)))
+              (chain_goes_on part ts room (suc d) l m (omega arith) o r j total (subst (λ (k : ℕ). operator_at ts m k ≡ Some o) same (at_is ts m o (has_is _ _ _ h.3))) (omega arith)
               (reads (suc d) (m + 1) j r (subst (λ (k : ℕ). IsExp ts k (m + 1) r) same h.4) (omega arith) (omega arith) w s) (omega arith) leads)
         ]
     climb (Not m e) i j total h fits at w s leads = lower_then (Not m e) i j total (omega arith, h.1, h.2, h.3) fits at w s leads

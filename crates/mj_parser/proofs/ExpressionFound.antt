@@ -8,13 +8,14 @@ use Rattle.mj_lexer.specs.declared.token.Terminal.TheVariants as terminals
 use Rattle.mj_lexer.specs.declared.token.Kind.{Kind}
 use Rattle.mj_lexer.specs.declared.token.Kind.TheVariants as kinds
 use Rattle.mj_tree.specs.declared.tree.Operator.{Operator}
-use Rattle.mj_parser.specs.Tokens.{same_terminal, is_terminal, name_of, value_of, kind_at, has, name_at, value_at, says}
+use Rattle.mj_parser.specs.Tokens.{Stands, same_terminal, is_terminal, name_of, value_of, kind_at, has, name_at, value_at, says}
 use Rattle.mj_tree.specs.Trees.{Expression, Binary, Index, Length, Call, Literal, Boolean, Named, This, NewArray, NewObject, Not, Parenthesized}
 use Rattle.mj_parser.specs.Expressions.{tier_of, terminal_of, size, sizes, sizes_more, height, heights, is_new_array, IsExp, AreArguments, AreMore}
 use Rattle.mj_tree.specs.Views.{expressions_of}
 use Rattle.mj_parser.specs.Steps.{◌>>=◌, items_from, behind_comma, at_comma, listed_at}
 use Rattle.mj_parser.proofs.Binds.{bind_some, when_some, if_some, some_or_none, some_is, and_both, not_false}
 use Rattle.mj_parser.specs.ExpressionReading.{TierParser, closed, operator_here, of_tier, operator_at, takes_index, new_at, terminal_at, prim_of, prim_at, index_at, member_at, post_from, post_at, binary_from, tier_at, exp_at}
+use Rattle.mj_parser.proofs.Stands.{stands, when_stands, if_stands, both_stand}
 
 -- a tree that was read up to a place
 pub record Sound (ts : List Token) (d i room : ℕ) (x : Expression × ℕ) : Type 0 where
@@ -38,18 +39,18 @@ weaker ts d c i (Parenthesized m e) le h = h
 
 -- ---- operators
 
-here_marks : (ts : List Token) (j : ℕ) (o : Operator) → operator_here ts j ≡ Some o → has ts j (terminal_of o) ≡ true
+here_marks : (ts : List Token) (j : ℕ) (o : Operator) → operator_here ts j ≡ Some o → Stands ts j (terminal_of o)
 unfolding operator_here
 here_marks ts j o e =
-    elim (if_some (has ts j terminals.And) _ _ o e) [
+    elim (if_stands ts j terminals.And _ _ o e) [
       | inl a ↦ rw (← some_is _ _ a.1) a.0
-      | inr a ↦ elim (if_some (has ts j terminals.Less) _ _ o a.1) [
+      | inr a ↦ elim (if_stands ts j terminals.Less _ _ o a.1) [
         | inl b ↦ rw (← some_is _ _ b.1) b.0
-        | inr b ↦ elim (if_some (has ts j terminals.Plus) _ _ o b.1) [
+        | inr b ↦ elim (if_stands ts j terminals.Plus _ _ o b.1) [
           | inl c ↦ rw (← some_is _ _ c.1) c.0
-          | inr c ↦ elim (if_some (has ts j terminals.Minus) _ _ o c.1) [
+          | inr c ↦ elim (if_stands ts j terminals.Minus _ _ o c.1) [
             | inl f ↦ rw (← some_is _ _ f.1) f.0
-            | inr f ↦ elim (if_some (has ts j terminals.Times) _ _ o f.1) [
+            | inr f ↦ elim (if_stands ts j terminals.Times _ _ o f.1) [
               | inl g ↦ rw (← some_is _ _ g.1) g.0
               | inr g ↦ absurd (let n = g.1 in cc)
             ]
@@ -78,7 +79,7 @@ module _ (part : TierParser) (ts : List Token) (room : ℕ) (sound : (d i : ℕ)
   unfolding items_from
   more_found zero k x e = absurd cc
   more_found (suc gas) k x e =
-      elim (if_some (has ts k terminals.Comma) _ _ x e) [
+      elim (if_stands ts k terminals.Comma _ _ x e) [
         | inl a ↦
             let b = bind_some (part 5 (k + 1)) _ x a.1 in
             let c = bind_some (items_from gas (behind_comma (part 5)) (at_comma ts) b.0.1) _ x b.2 in
@@ -100,19 +101,19 @@ module _ (part : TierParser) (ts : List Token) (room : ℕ) (sound : (d i : ℕ)
     pub are : AreArguments ts i (expressions_of x.0)
     pub at : x.1 ≡ i + sizes (expressions_of x.0) + 1
     pub low : heights (expressions_of x.0) ≤ room
-    pub close : has ts (i + sizes (expressions_of x.0)) terminals.RightParenthesis ≡ true
+    pub close : Stands ts (i + sizes (expressions_of x.0)) terminals.RightParenthesis
 
   args_found : (i : ℕ) (x : List Expression × ℕ) → listed_at (part 5) ts i ≡ Some x → ArgsSound i x
   unfolding listed_at
   args_found i x e =
-      elim (if_some (has ts i terminals.RightParenthesis) _ _ x e) [
+      elim (if_stands ts i terminals.RightParenthesis _ _ x e) [
         | inl a ↦
             let same : i + 0 ≡ i = omega arith in
             subst (ArgsSound i) (some_is _ x a.1) (record { are = tt; at = omega arith; low = omega arith; close = rw same a.0 })
         | inr a ↦
             let b = bind_some (part 5 i) _ x a.1 in
             let c = bind_some (items_from (suc (length ts)) (behind_comma (part 5)) (at_comma ts) b.0.1) _ x b.2 in
-            let f = when_some (has ts c.0.1 terminals.RightParenthesis) _ x c.2 in
+            let f = when_stands ts c.0.1 terminals.RightParenthesis _ x c.2 in
             let s = sound 5 i b.0 b.1 in
             let t = more_found (suc (length ts)) b.0.1 c.0 c.1 in
             let place = s.at in
@@ -141,19 +142,19 @@ module _ (part : TierParser) (ts : List Token) (room : ℕ) (sound : (d i : ℕ)
   unfolding value_at
   valued i v e = ap value_of e
 
-  marked : (i : ℕ) (m : Terminal) → same_terminal m m ≡ true → kind_at ts i ≡ Some (kinds.Terminal m) → has ts i m ≡ true
-  unfolding has
-  marked i m r e = ap (is_terminal m) e ∙ r
+  marked : (i : ℕ) (m : Terminal) → kind_at ts i ≡ Some (kinds.Terminal m) → Stands ts i m
+  unfolding Stands
+  marked i m e = e
 
-  new_found : (i : ℕ) (x : Expression × ℕ) → has ts i terminals.New ≡ true → new_at part ts i ≡ Some x → Primary i x
+  new_found : (i : ℕ) (x : Expression × ℕ) → Stands ts i terminals.New → new_at part ts i ≡ Some x → Primary i x
   unfolding new_at Primary
   new_found i x h e =
-      elim (if_some (has ts (i + 1) terminals.Int) _ _ x e) [
+      elim (if_stands ts (i + 1) terminals.Int _ _ x e) [
         | inl a ↦
-            let b = when_some (has ts (i + 2) terminals.LeftBracket) _ x a.1 in
+            let b = when_stands ts (i + 2) terminals.LeftBracket _ x a.1 in
             let c = bind_some (part 5 (i + 3)) _ x b.1 in
             let s = sound 5 (i + 3) c.0 c.1 in
-            let d = when_some (has ts c.0.1 terminals.RightBracket) _ x c.2 in
+            let d = when_stands ts c.0.1 terminals.RightBracket _ x c.2 in
             let place = s.at in
             let low = s.low in
             subst (Sound ts 0 i (suc room)) (some_is _ x d.1) (record {
@@ -164,27 +165,27 @@ module _ (part : TierParser) (ts : List Token) (room : ℕ) (sound : (d i : ℕ)
         | inr a ↦
             let b = bind_some (name_at ts (i + 1)) _ x a.1 in
             let c = when_some (has ts (i + 2) terminals.LeftParenthesis && has ts (i + 3) terminals.RightParenthesis) _ x b.2 in
-            let both = and_both (has ts (i + 2) terminals.LeftParenthesis) (has ts (i + 3) terminals.RightParenthesis) c.0 in
+            let both = both_stand ts (i + 2) terminals.LeftParenthesis (i + 3) terminals.RightParenthesis c.0 in
             subst (Sound ts 0 i (suc room)) (some_is _ x c.1) (record { is = (refl, h, b.1, both.0, both.1); at = refl; low = omega arith })
       ]
 
-  paren_found : (i : ℕ) (x : Expression × ℕ) → has ts i terminals.LeftParenthesis ≡ true → (part 5 (i + 1) >>= closed ts terminals.RightParenthesis (Parenthesized i)) ≡ Some x → Primary i x
+  paren_found : (i : ℕ) (x : Expression × ℕ) → Stands ts i terminals.LeftParenthesis → (part 5 (i + 1) >>= closed ts terminals.RightParenthesis (Parenthesized i)) ≡ Some x → Primary i x
   unfolding Primary
   paren_found i x h e =
       let c = bind_some (part 5 (i + 1)) _ x e in
       let s = sound 5 (i + 1) c.0 c.1 in
-      let d = when_some (has ts c.0.1 terminals.RightParenthesis) _ x c.2 in
+      let d = when_stands ts c.0.1 terminals.RightParenthesis _ x c.2 in
       let place = s.at in
       let low = s.low in
       subst (Sound ts 0 i (suc room)) (some_is _ x d.1) (record { is = (refl, h, s.is, rw (← s.at) d.0); at = omega arith; low = omega arith })
 
   terminal_found : (i : ℕ) (m : Terminal) (x : Expression × ℕ) → kind_at ts i ≡ Some (kinds.Terminal m) → terminal_at part ts i m ≡ Some x → Primary i x
   unfolding terminal_at Primary
-  terminal_found i terminals.True x k e = subst (Sound ts 0 i (suc room)) (some_is _ x e) (record { is = (refl, marked i terminals.True refl k); at = refl; low = omega arith })
-  terminal_found i terminals.False x k e = subst (Sound ts 0 i (suc room)) (some_is _ x e) (record { is = (refl, marked i terminals.False refl k); at = refl; low = omega arith })
-  terminal_found i terminals.This x k e = subst (Sound ts 0 i (suc room)) (some_is _ x e) (record { is = (refl, marked i terminals.This refl k); at = refl; low = omega arith })
-  terminal_found i terminals.New x k e = new_found i x (marked i terminals.New refl k) e
-  terminal_found i terminals.LeftParenthesis x k e = paren_found i x (marked i terminals.LeftParenthesis refl k) e
+  terminal_found i terminals.True x k e = subst (Sound ts 0 i (suc room)) (some_is _ x e) (record { is = (refl, marked i terminals.True k); at = refl; low = omega arith })
+  terminal_found i terminals.False x k e = subst (Sound ts 0 i (suc room)) (some_is _ x e) (record { is = (refl, marked i terminals.False k); at = refl; low = omega arith })
+  terminal_found i terminals.This x k e = subst (Sound ts 0 i (suc room)) (some_is _ x e) (record { is = (refl, marked i terminals.This k); at = refl; low = omega arith })
+  terminal_found i terminals.New x k e = new_found i x (marked i terminals.New k) e
+  terminal_found i terminals.LeftParenthesis x k e = paren_found i x (marked i terminals.LeftParenthesis k) e
   terminal_found i _ x k e = absurd cc
 
   prim_of_found : (i : ℕ) (k : Option Kind) (x : Expression × ℕ) → kind_at ts i ≡ k → prim_of part ts i k ≡ Some x → Primary i x
@@ -206,18 +207,18 @@ module _ (part : TierParser) (ts : List Token) (room : ℕ) (sound : (d i : ℕ)
       let both = and_both (has ts j terminals.LeftBracket) (not (is_new_array a)) t in
       let c = bind_some (part 5 (j + 1)) _ x e in
       let s = sound 5 (j + 1) c.0 c.1 in
-      let d = when_some (has ts c.0.1 terminals.RightBracket) _ x c.2 in
+      let d = when_stands ts c.0.1 terminals.RightBracket _ x c.2 in
       let place = s.at in
       let low2 = s.low in
-      subst (Sound ts 0 i (suc room)) (some_is _ x d.1) (record { is = (h, not_false (is_new_array a) both.1, at, both.0, s.is, rw (← s.at) d.0); at = omega arith; low = omega arith })
+      subst (Sound ts 0 i (suc room)) (some_is _ x d.1) (record { is = (h, not_false (is_new_array a) both.1, at, stands ts j terminals.LeftBracket both.0, s.is, rw (← s.at) d.0); at = omega arith; low = omega arith })
 
-  member_found : (i j m : ℕ) (a : Expression) (x : Expression × ℕ) → IsExp ts 0 i a → j ≡ i + size a → m ≡ j + 1 → height a ≤ room → has ts j terminals.Dot ≡ true → member_at part ts a m ≡ Some x → Primary i x
+  member_found : (i j m : ℕ) (a : Expression) (x : Expression × ℕ) → IsExp ts 0 i a → j ≡ i + size a → m ≡ j + 1 → height a ≤ room → Stands ts j terminals.Dot → member_at part ts a m ≡ Some x → Primary i x
   unfolding member_at Primary
   member_found i j m a x h at m-is low t e =
       let b = bind_some (name_at ts m) _ x e in
       let m-at : m ≡ i + size a + 1 = omega arith in
-      let dot : has ts (i + size a) terminals.Dot ≡ true = rw (← at) t in
-      elim (if_some (has ts (m + 1) terminals.LeftParenthesis) _ _ x b.2) [
+      let dot : Stands ts (i + size a) terminals.Dot = rw (← at) t in
+      elim (if_stands ts (m + 1) terminals.LeftParenthesis _ _ x b.2) [
         | inl c ↦
             let d = bind_some (listed_at (part 5) ts (m + 2)) _ x c.1 in
             let s = args_found (m + 2) d.0 d.1 in
@@ -238,7 +239,7 @@ module _ (part : TierParser) (ts : List Token) (room : ℕ) (sound : (d i : ℕ)
             let b = when_some (leb (height left) room) _ x a.1 in
             let c = bind_some (index_at part ts left j) _ x b.1 in
             post_found gas i c.0.1 c.0.0 x (index_found i j left c.0 s.is s.at (leb-true _ _ b.0) a.0 c.1) c.2
-        | inr a ↦ elim (if_some (has ts j terminals.Dot) _ _ x a.1) [
+        | inr a ↦ elim (if_stands ts j terminals.Dot _ _ x a.1) [
           | inl d ↦
               let b = when_some (leb (height left) room) _ x d.1 in
               let c = bind_some (member_at part ts left (j + 1)) _ x b.1 in
@@ -284,7 +285,7 @@ module _ (part : TierParser) (ts : List Token) (room : ℕ) (sound : (d i : ℕ)
   unfolding tier_at
   tier_found zero i x e = post_at_found i x e
   tier_found (suc zero) i x e =
-      elim (if_some (has ts i terminals.Not) _ _ x e) [
+      elim (if_stands ts i terminals.Not _ _ x e) [
         | inl a ↦
             let c = bind_some (part 1 (i + 1)) _ x a.1 in
             let s = sound 1 (i + 1) c.0 c.1 in

@@ -26,6 +26,7 @@ use Rattle.mj_parser.proofs.Marks.{has_other, has_named, has_within}
 use Rattle.mj_parser.proofs.Rows.{row_again}
 use Rattle.mj_parser.proofs.ExpressionAgain.{closer_semicolon}
 use Rattle.mj_parser.proofs.StatementAgain.{print_name, print_dot, no_statement, exp_before, stmts_again, stmt_again}
+use Rattle.mj_parser.proofs.Stands.{has_is}
 
 -- ---- tokens
 
@@ -60,16 +61,16 @@ flat_row (x ∷ xs) = let rest = flat_row xs in omega arith
 
 type_again : (ts : List Token) (i : ℕ) (ty : Ty) (name : Name) → IsType ts i ty → name_at ts (i + type_size ty) ≡ Some name → type_at ts i ≡ Some (ty, i + type_size ty)
 unfolding type_at
-type_again ts i types.Int name h n = rw (type_at, h, has_named ts (i + 1) terminals.LeftBracket name n) refl
-type_again ts i types.Boolean name h n = rw (type_at, has_other ts i terminals.Boolean terminals.Int h refl, h) refl
-type_again ts i types.IntArray name h n = rw (type_at, h.0, h.1, h.2) refl
+type_again ts i types.Int name h n = rw (type_at, (has_is _ _ _ h), has_named ts (i + 1) terminals.LeftBracket name n) refl
+type_again ts i types.Boolean name h n = rw (type_at, has_other ts i terminals.Boolean terminals.Int (has_is _ _ _ h) refl, (has_is _ _ _ h)) refl
+type_again ts i types.IntArray name h n = rw (type_at, (has_is _ _ _ h.0), (has_is _ _ _ h.1), (has_is _ _ _ h.2)) refl
 type_again ts i (types.Class class) name h n = rw (type_at, has_named ts i terminals.Int class h, has_named ts i terminals.Boolean class h, h) refl
 
 -- a token that begins no type
 no_type : (ts : List Token) (n : Terminal) → same_terminal terminals.Int n ≡ false → same_terminal terminals.Boolean n ≡ false → (i : ℕ) (ty : Ty) → IsType ts i ty → has ts i n ≡ false
-no_type ts n a b i types.Int h = has_other ts i terminals.Int n h a
-no_type ts n a b i types.Boolean h = has_other ts i terminals.Boolean n h b
-no_type ts n a b i types.IntArray h = has_other ts i terminals.Int n h.0 a
+no_type ts n a b i types.Int h = has_other ts i terminals.Int n (has_is _ _ _ h) a
+no_type ts n a b i types.Boolean h = has_other ts i terminals.Boolean n (has_is _ _ _ h) b
+no_type ts n a b i types.IntArray h = has_other ts i terminals.Int n (has_is _ _ _ h.0) a
 no_type ts n a b i (types.Class class) h = has_named ts i n class h
 
 variable_again : (ts : List Token) (i j : ℕ) (v : Variable) → IsVariable ts i v → j ≡ i + variable_size v → variable_at ts i ≡ Some (v, j)
@@ -83,7 +84,7 @@ local_again : (ts : List Token) (i j : ℕ) (v : Variable) → IsLocal ts i v �
 unfolding local_at
 local_again ts i j v h at =
     let j-is : j ≡ i + variable_size v + 1 = omega arith in
-    rw (local_at, j-is, variable_again ts i (i + variable_size v) v h.0 refl, h.1) refl
+    rw (local_at, j-is, variable_again ts i (i + variable_size v) v h.0 refl, has_is _ _ _ h.1) refl
 
 field_again : (ts : List Token) (i j : ℕ) (f : Field) → IsField ts i f → j ≡ i + field_size f → field_at ts i ≡ Some (f, j)
 unfolding field_at
@@ -92,15 +93,15 @@ field_again ts i j f h at =
     rw (field_at, local_again ts i j v ((refl, h.0, h.1), h.2) at) refl
 
 type_begins : (ts : List Token) (i : ℕ) (ty : Ty) → IsType ts i ty → begins_type ts i ≡ true
-type_begins ts i types.Int h = rw h refl
-type_begins ts i types.Boolean h = rw (has_other ts i terminals.Boolean terminals.Int h refl, h) refl
-type_begins ts i types.IntArray h = rw h.0 refl
+type_begins ts i types.Int h = rw (has_is _ _ _ h) refl
+type_begins ts i types.Boolean h = rw (has_other ts i terminals.Boolean terminals.Int (has_is _ _ _ h) refl, (has_is _ _ _ h)) refl
+type_begins ts i types.IntArray h = rw (has_is _ _ _ h.0) refl
 type_begins ts i (types.Class class) h = rw (has_named ts i terminals.Int class h, has_named ts i terminals.Boolean class h, h) refl
 
 local_begins : (ts : List Token) (i : ℕ) (ty : Ty) (name : Name) → IsType ts i ty → name_at ts (i + type_size ty) ≡ Some name → begins_local ts i ≡ true
-local_begins ts i types.Int name h n = rw h refl
-local_begins ts i types.Boolean name h n = rw (has_other ts i terminals.Boolean terminals.Int h refl, h) refl
-local_begins ts i types.IntArray name h n = rw h.0 refl
+local_begins ts i types.Int name h n = rw (has_is _ _ _ h) refl
+local_begins ts i types.Boolean name h n = rw (has_other ts i terminals.Boolean terminals.Int (has_is _ _ _ h) refl, (has_is _ _ _ h)) refl
+local_begins ts i types.IntArray name h n = rw (has_is _ _ _ h.0) refl
 local_begins ts i (types.Class class) name h n = rw (has_named ts i terminals.Int class h, has_named ts i terminals.Boolean class h, h, n) refl
 
 -- where a symbol stands that is no type, none begins
@@ -114,12 +115,12 @@ no_local_named : (ts : List Token) (i : ℕ) (name : Name) (t : Terminal) → na
 no_local_named ts i name t n h = rw (has_named ts i terminals.Int name n, has_named ts i terminals.Boolean name n, n, nameless ts (i + 1) t h) refl
 
 no_local_at : (ts : List Token) (i : ℕ) (s : Statement) → IsStmt ts i s → begins_local ts i ≡ false
-no_local_at ts i (Block m body) h = no_local_here ts i terminals.LeftBrace h.1 refl refl
-no_local_at ts i (If m e s t) h = no_local_here ts i terminals.If h.1 refl refl
-no_local_at ts i (While m e s) h = no_local_here ts i terminals.While h.1 refl refl
+no_local_at ts i (Block m body) h = no_local_here ts i terminals.LeftBrace (has_is _ _ _ h.1) refl refl
+no_local_at ts i (If m e s t) h = no_local_here ts i terminals.If (has_is _ _ _ h.1) refl refl
+no_local_at ts i (While m e s) h = no_local_here ts i terminals.While (has_is _ _ _ h.1) refl refl
 no_local_at ts i (Print m v) h = no_local_named ts i (codes "System") terminals.Dot (print_name ts i h.1) (print_dot ts i h.1)
-no_local_at ts i (Assign m name k v) h = no_local_named ts i name terminals.Assign h.2 h.3
-no_local_at ts i (Store m name k x v) h = no_local_named ts i name terminals.LeftBracket h.2 h.3
+no_local_at ts i (Assign m name k v) h = no_local_named ts i name terminals.Assign h.2 (has_is _ _ _ h.3)
+no_local_at ts i (Store m name k x v) h = no_local_named ts i name terminals.LeftBracket h.2 (has_is _ _ _ h.3)
 
 -- behind the locals stands a statement or `return`
 no_local_behind : (ts : List Token) (i : ℕ) (ss : Statements) → AreStmts ts i ss → has ts (i + stmts_size ss) terminals.Return ≡ true → begins_local ts i ≡ false
@@ -132,7 +133,7 @@ formals_again ts i j [] h at e = let same : i ≡ j = omega arith in rw (listed_
 formals_again ts i j (v ∷ vs) h at e =
     let w = has_within ts j terminals.RightParenthesis e in
     let v-is = h.0 in
-    let r = row_again (IsMoreFormal ts) more_formal_size flat 0 (behind_comma (variable_at ts)) (at_comma ts) (length ts) (λ k x g low. variable_again ts (k + 1) (k + more_formal_size x) x g.1 (omega arith)) (λ k x g. g.0) (λ x. omega arith) vs (suc (length ts)) (i + variable_size v) j h.1 (flat_row vs)
+    let r = row_again (IsMoreFormal ts) more_formal_size flat 0 (behind_comma (variable_at ts)) (at_comma ts) (length ts) (λ k x g low. variable_again ts (k + 1) (k + more_formal_size x) x g.1 (omega arith)) (λ k x g. has_is _ _ _ g.0) (λ x. omega arith) vs (suc (length ts)) (i + variable_size v) j h.1 (flat_row vs)
     (omega arith) (has_other ts j terminals.RightParenthesis terminals.Comma e refl) (omega arith) (omega arith) in
     rw (listed_at, no_type ts terminals.RightParenthesis refl refl i v.ty v-is.1, variable_again ts i (i + variable_size v) v h.0 refl, r, e) refl
 
@@ -142,25 +143,25 @@ signature_again : (ts : List Token) (m : Method) (k : ℕ) → IsMethod ts m →
 unfolding signature_at
 signature_again ts m k h at =
     let k-is : k ≡ formals_place m + formals_size m.formals + 1 + 1 = omega arith in
-    rw (signature_at, k-is, h.public_word, type_again ts 1 m.returns m.name h.returns h.name, h.name, h.opening, formals_again ts (formals_place m) (formals_place m + formals_size m.formals) m.formals h.formals refl h.closing, h.brace) refl
+    rw (signature_at, k-is, (has_is _ _ _ h.public_word), type_again ts 1 m.returns m.name h.returns h.name, h.name, (has_is _ _ _ h.opening), formals_again ts (formals_place m) (formals_place m + formals_size m.formals) m.formals h.formals refl (has_is _ _ _ h.closing), (has_is _ _ _ h.brace)) refl
 
 method_again : (ts : List Token) (m : Method) → IsMethod ts m → method_height m ≤ 500 → method_at ts ≡ Some (m, method_size m)
 unfolding method_at method_of
 method_again ts m h low =
-    let w = has_within ts (return_place m) terminals.Return h.return_word in
+    let w = has_within ts (return_place m) terminals.Return (has_is _ _ _ h.return_word) in
     let ls = row_again (IsLocal ts) local_size flat 0 (local_at ts) (begins_local ts) (length ts) (λ k x g lw. local_again ts k (k + local_size x) x g refl) (λ k x g. local_begins ts k x.ty x.name g.0.1 g.0.2) (λ x. omega arith) m.locals (suc (length ts)) (locals_place m) (body_place m) h.locals (flat_row m.locals)
-    refl (no_local_behind ts (body_place m) m.body h.body h.return_word) (omega arith) (omega arith) in
-    let bs = stmts_again ts 500 (stmt_at 500 ts) (λ i j s. stmt_again ts 500 i j s) (not_return ts) (λ i s g. ap not (no_statement ts terminals.Return refl refl refl s i g)) m.body (suc (length ts)) (body_place m) (return_place m) h.body (omega arith) refl (ap not h.return_word) (omega arith) (omega arith) in
-    let v = exp_before ts 500 terminals.Semicolon closer_semicolon (return_place m + 1) (return_place m + 1 + size m.returned) m.returned h.returned (omega arith) refl h.semicolon in
+    refl (no_local_behind ts (body_place m) m.body h.body (has_is _ _ _ h.return_word)) (omega arith) (omega arith) in
+    let bs = stmts_again ts 500 (stmt_at 500 ts) (λ i j s. stmt_again ts 500 i j s) (not_return ts) (λ i s g. ap not (no_statement ts terminals.Return refl refl refl s i g)) m.body (suc (length ts)) (body_place m) (return_place m) h.body (omega arith) refl (ap not (has_is _ _ _ h.return_word)) (omega arith) (omega arith) in
+    let v = exp_before ts 500 terminals.Semicolon closer_semicolon (return_place m + 1) (return_place m + 1 + size m.returned) m.returned h.returned (omega arith) refl (has_is _ _ _ h.semicolon) in
     let make : ℕ → Option (Method × ℕ) = λ k. Some (record { name = m.name; returns = m.returns; formals = m.formals; locals = m.locals; body = m.body; returned = m.returned; return_mark = k }, method_size m) in
-    rw (method_at, signature_again ts m (locals_place m) h refl, ls, bs, method_of, v, h.semicolon, h.end_brace, list_stmts m.body) (ap make (sym h.return_mark))
+    rw (method_at, signature_again ts m (locals_place m) h refl, ls, bs, method_of, v, (has_is _ _ _ h.semicolon), (has_is _ _ _ h.end_brace), list_stmts m.body) (ap make (sym h.return_mark))
 
 method_from_again : (ts : List Token) (i : ℕ) (m : Method) → IsMethodAt ts i m → method_height m ≤ 500 → method_from ts i ≡ Some (m, i + method_size m)
 unfolding method_from
 method_from_again ts i m h low = rw (method_from, method_again (drop i ts) m h low) refl
 
 method_begins : (ts : List Token) (i : ℕ) (m : Method) → IsMethodAt ts i m → has ts i terminals.Public ≡ true
-method_begins ts i m h = let same : i + 0 ≡ i = omega arith in subst (λ (k : ℕ). has ts k terminals.Public ≡ true) same (sym (has_drop ts i 0 terminals.Public) ∙ h.public_word)
+method_begins ts i m h = let same : i + 0 ≡ i = omega arith in subst (λ (k : ℕ). has ts k terminals.Public ≡ true) same (sym (has_drop ts i 0 terminals.Public) ∙ (has_is _ _ _ h.public_word))
 
 -- ---- classes
 
@@ -169,7 +170,7 @@ unfolding superclass_at
 superclass_again ts i j None h e at =
     let same : i ≡ j = omega arith in
     rw (superclass_at, same, has_other ts j terminals.LeftBrace terminals.Extends e refl) refl
-superclass_again ts i j (Some name) h e at = rw (superclass_at, at, h.0, h.1) refl
+superclass_again ts i j (Some name) h e at = rw (superclass_at, at, (has_is _ _ _ h.0), h.1) refl
 
 -- behind the fields stands a method or the brace
 no_field_behind : (ts : List Token) (i : ℕ) (ms : List Method) → InRow (IsMethodAt ts) method_size i ms → has ts (i + row_size method_size ms) terminals.RightBrace ≡ true → begins_type ts i ≡ false
@@ -183,18 +184,18 @@ class_again ts i j c h low at =
     let fields-from = i + head_size c in
     let fields-to = i + head_size c + row_size field_size c.fields in
     let methods-to = i + head_size c + row_size field_size c.fields + row_size method_size c.methods in
-    let w = has_within ts (i + head_size c + row_size field_size c.fields + row_size method_size c.methods) terminals.RightBrace h.end_brace in
+    let w = has_within ts (i + head_size c + row_size field_size c.fields + row_size method_size c.methods) terminals.RightBrace (has_is _ _ _ h.end_brace) in
     let j-is : j ≡ i + head_size c + row_size field_size c.fields + row_size method_size c.methods + 1 = omega arith in
     let head-is : i + (2 + superclass_size c.superclass) + 1 ≡ i + head_size c = omega arith in
-    let ss = superclass_again ts (i + 2) (i + (2 + superclass_size c.superclass)) c.superclass h.superclass h.brace (omega arith) in
+    let ss = superclass_again ts (i + 2) (i + (2 + superclass_size c.superclass)) c.superclass h.superclass (has_is _ _ _ h.brace) (omega arith) in
     let fs = row_again (IsField ts) field_size flat 0 (field_at ts) (begins_type ts) (length ts) (λ k x g lw. field_again ts k (k + field_size x) x g refl) (λ k x g. type_begins ts k x.ty g.0) (λ x. omega arith) c.fields (suc (length ts)) (i + head_size c) (i + head_size c + row_size field_size c.fields) h.fields (flat_row c.fields)
-    refl (no_field_behind ts (i + head_size c + row_size field_size c.fields) c.methods h.methods h.end_brace) (omega arith) (omega arith) in
+    refl (no_field_behind ts (i + head_size c + row_size field_size c.fields) c.methods h.methods (has_is _ _ _ h.end_brace)) (omega arith) (omega arith) in
     let ms = row_again (IsMethodAt ts) method_size method_height 500 (method_from ts) (at_public ts) (length ts) (method_from_again ts) (method_begins ts) (λ x. omega arith) c.methods (suc (length ts)) (i + head_size c + row_size field_size c.fields) (i + head_size c + row_size field_size c.fields + row_size method_size c.methods) h.methods low
-    refl (has_other ts _ terminals.RightBrace terminals.Public h.end_brace refl) (omega arith) (omega arith) in
-    rw (class_at, j-is, h.class_word, h.name, ss, h.brace, head-is, fs, ms, h.end_brace) refl
+    refl (has_other ts _ terminals.RightBrace terminals.Public (has_is _ _ _ h.end_brace) refl) (omega arith) (omega arith) in
+    rw (class_at, j-is, (has_is _ _ _ h.class_word), h.name, ss, (has_is _ _ _ h.brace), head-is, fs, ms, (has_is _ _ _ h.end_brace)) refl
 
 class_begins : (ts : List Token) (i : ℕ) (c : Class) → IsClass ts i c → before_end ts i ≡ true
-class_begins ts i c h = lt-ltb i (length ts) (has_within ts i terminals.Class h.class_word)
+class_begins ts i c h = lt-ltb i (length ts) (has_within ts i terminals.Class (has_is _ _ _ h.class_word))
 
 -- ---- files
 
@@ -204,7 +205,7 @@ main_method_again ts s j a b h c d low at = rw (main_method_at, at, a, b, stmt_a
 
 main_again : (ts : List Token) (m : Main) → IsMain ts m → stmt_height m.statement ≤ 500 → main_at ts ≡ Some (m, main_size m)
 unfolding main_at main_from
-main_again ts m h low = rw (main_at, h.class_word, h.name, h.brace, main_from, main_method_again (drop 3 ts) m.statement (11 + stmt_size m.statement + 2) h.head h.parameter h.statement h.end_brace h.end_class low refl) refl
+main_again ts m h low = rw (main_at, (has_is _ _ _ h.class_word), h.name, (has_is _ _ _ h.brace), main_from, main_method_again (drop 3 ts) m.statement (11 + stmt_size m.statement + 2) h.head h.parameter h.statement (has_is _ _ _ h.end_brace) (has_is _ _ _ h.end_class) low refl) refl
 
 head_words : (a b c d e : Bool) → (a && b && c && d && e) ≡ true → (a ≡ true) × (b ≡ true)
 head_words true true c d e h = (refl, refl)
@@ -216,12 +217,12 @@ main_begins ts m h =
     let words = head_words (has (drop 3 ts) 0 terminals.Public) (has (drop 3 ts) 1 terminals.Static) _ _ _ h.head in
     let at_three : has ts 3 terminals.Public ≡ true = sym (has_drop ts 3 0 terminals.Public) ∙ words.0 in
     let at_four : has ts 4 terminals.Static ≡ true = sym (has_drop ts 3 1 terminals.Static) ∙ words.1 in
-    rw (h.brace, at_three, at_four) refl
+    rw ((has_is _ _ _ h.brace), at_three, at_four) refl
 
 -- a class that isn't the main class doesn't begin like it
 unlike_main : (ts : List Token) (s : Option Name) (fs : List Field) (ms : List Method) → IsSuperclass ts 2 s → InRow (IsField ts) field_size (0 + (2 + superclass_size s + 1)) fs → InRow (IsMethodAt ts) method_size (0 + (2 + superclass_size s + 1) + row_size field_size fs) ms
     → has ts (0 + (2 + superclass_size s + 1) + row_size field_size fs + row_size method_size ms) terminals.RightBrace ≡ true → has ts 2 terminals.LeftBrace ≡ true → has ts 3 terminals.Public ≡ true → has ts 4 terminals.Static ≡ true → ⊥
-unlike_main ts (Some name) fs ms hs hf hm e a b c = let n = has_other ts 2 terminals.Extends terminals.LeftBrace hs.0 refl in absurd cc
+unlike_main ts (Some name) fs ms hs hf hm e a b c = let n = has_other ts 2 terminals.Extends terminals.LeftBrace (has_is _ _ _ hs.0) refl in absurd cc
 unlike_main ts None (f ∷ fs) ms hs hf hm e a b c = let n = no_type ts terminals.Public refl refl 3 f.ty hf.0.0 in absurd cc
 unlike_main ts None [] [] hs hf hm e a b c = let n = has_other ts 3 terminals.RightBrace terminals.Public e refl in absurd cc
 unlike_main ts None [] (m ∷ ms) hs hf hm e a b c =
@@ -242,7 +243,7 @@ no_main ts (c ∷ cs) h whole = not_true (begins_main ts) (λ e.
     let both = and_both (has ts 2 terminals.LeftBrace && has ts 3 terminals.Public) (has ts 4 terminals.Static) e in
     let first = and_both (has ts 2 terminals.LeftBrace) (has ts 3 terminals.Public) both.0 in
     let k = h.0 in
-    unlike_main ts c.superclass c.fields c.methods k.superclass k.fields k.methods k.end_brace first.0 first.1 both.1)
+    unlike_main ts c.superclass c.fields c.methods k.superclass k.fields k.methods (has_is _ _ _ k.end_brace) first.0 first.1 both.1)
 
 main_part_again : (ts : List Token) (m : Option Main) (cs : List Class) → IsMainPart ts m → InRow (IsClass ts) class_size (main_part_size m) cs → main_part_size m + row_size class_size cs ≡ length ts → main_part_height m ≤ 500 → main_part_at ts ≡ Some (m, main_part_size m)
 unfolding main_part_at

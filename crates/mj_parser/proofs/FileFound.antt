@@ -2,13 +2,12 @@
 use Rattle.std.proofs.Common.{◌≡◌, ℕ, suc, ◌+◌, ◌≤◌, true, ◌&&◌, List, [], ◌∷◌, length, drop, Option, Some, None, refl, ap, subst, arith, inl, inr}
 use Rattle.std.proofs.lemmas.Bool.{ltb-false}
 use Rattle.std.proofs.lemmas.List.{length-drop}
-use Rattle.mj_parser.proofs.Marks.{has_within}
 use Rattle.mj_lexer.specs.declared.token.Token.{Token}
 use Rattle.mj_lexer.specs.declared.token.Terminal.TheVariants as terminals
 use Rattle.mj_tree.specs.declared.tree.Ty.{Ty}
 use Rattle.mj_tree.specs.declared.tree.Field.{Field}
 use Rattle.mj_tree.specs.declared.tree.Variable.{Variable}
-use Rattle.mj_parser.specs.Tokens.{has, name_at}
+use Rattle.mj_parser.specs.Tokens.{Stands, has, name_at}
 use Rattle.mj_tree.specs.Trees.{Name, Statement, Method, Main, Class, File}
 use Rattle.mj_tree.specs.Views.{statements_of}
 use Rattle.mj_parser.specs.Expressions.{size, IsExp}
@@ -23,6 +22,7 @@ use Rattle.mj_parser.proofs.Binds.{bind_some, when_some, if_some, some_is, and_b
 use Rattle.mj_parser.proofs.Rows.{PartSound, row_found}
 use Rattle.mj_parser.proofs.ExpressionFound.{exp_found}
 use Rattle.mj_parser.proofs.StatementFound.{not_is_false, stmts_found, stmt_found}
+use Rattle.mj_parser.proofs.Stands.{stands, when_stands, if_stands, both_stand, stands_within}
 
 abbrev flat : {A : Type 0} → A → ℕ
 flat x = 0
@@ -35,14 +35,14 @@ SoundType ts i x = PartSound (IsType ts) type_size flat 0 i x
 type_found : (ts : List Token) (i : ℕ) (x : Ty × ℕ) → type_at ts i ≡ Some x → SoundType ts i x
 unfolding type_at
 type_found ts i x e =
-    elim (if_some (has ts i terminals.Int) _ _ x e) [
-      | inl a ↦ elim (if_some (has ts (i + 1) terminals.LeftBracket) _ _ x a.1) [
+    elim (if_stands ts i terminals.Int _ _ x e) [
+      | inl a ↦ elim (if_stands ts (i + 1) terminals.LeftBracket _ _ x a.1) [
         | inl b ↦
-            let c = when_some (has ts (i + 2) terminals.RightBracket) _ x b.1 in
+            let c = when_stands ts (i + 2) terminals.RightBracket _ x b.1 in
             subst (SoundType ts i) (some_is _ x c.1) (record { is = (a.0, b.0, c.0); at = refl; low = omega arith })
         | inr b ↦ subst (SoundType ts i) (some_is _ x b.1) (record { is = a.0; at = refl; low = omega arith })
       ]
-      | inr a ↦ elim (if_some (has ts i terminals.Boolean) _ _ x a.1) [
+      | inr a ↦ elim (if_stands ts i terminals.Boolean _ _ x a.1) [
         | inl b ↦ subst (SoundType ts i) (some_is _ x b.1) (record { is = b.0; at = refl; low = omega arith })
         | inr b ↦
             let c = bind_some (name_at ts i) _ x b.1 in
@@ -69,10 +69,10 @@ local_found : (ts : List Token) (i : ℕ) (x : Variable × ℕ) → local_at ts 
 unfolding local_at
 local_found ts i x e =
     let a = bind_some (variable_at ts i) _ x e in
-    let b = when_some (has ts a.0.1 terminals.Semicolon) _ x a.2 in
+    let b = when_stands ts a.0.1 terminals.Semicolon _ x a.2 in
     let v = variable_found ts i a.0 a.1 in
     let at = v.at in
-    subst (SoundLocal ts i) (some_is _ x b.1) (record { is = (v.is, subst (λ (k : ℕ). has ts k terminals.Semicolon ≡ true) v.at b.0); at = omega arith; low = omega arith })
+    subst (SoundLocal ts i) (some_is _ x b.1) (record { is = (v.is, subst (λ (k : ℕ). Stands ts k terminals.Semicolon) v.at b.0); at = omega arith; low = omega arith })
 
 abbrev SoundField : List Token → ℕ → Field × ℕ → Type 0
 SoundField ts i x = PartSound (IsField ts) field_size flat 0 i x
@@ -87,25 +87,25 @@ field_found ts i x e =
     subst (SoundField ts i) (some_is _ x a.2) (record { is = (is.0.1, is.0.2, is.1); at = omega arith; low = omega arith })
 
 more_formal_found : (ts : List Token) (i : ℕ) (x : Variable × ℕ) → at_comma ts i ≡ true → behind_comma (variable_at ts) i ≡ Some x → PartSound (IsMoreFormal ts) more_formal_size flat 0 i x
-more_formal_found ts i x c e = let v = variable_found ts (i + 1) x e in let at = v.at in record { is = (c, v.is); at = omega arith; low = omega arith }
+more_formal_found ts i x c e = let v = variable_found ts (i + 1) x e in let at = v.at in record { is = (stands ts i terminals.Comma c, v.is); at = omega arith; low = omega arith }
 
 -- formals up to the parenthesis
 record SoundFormals (ts : List Token) (i : ℕ) (x : List Variable × ℕ) : Type 0 where
   are : AreFormals ts i x.0
   at : x.1 ≡ i + formals_size x.0 + 1
-  close : has ts (i + formals_size x.0) terminals.RightParenthesis ≡ true
+  close : Stands ts (i + formals_size x.0) terminals.RightParenthesis
 
 formals_found : (ts : List Token) (i : ℕ) (x : List Variable × ℕ) → listed_at (variable_at ts) ts i ≡ Some x → SoundFormals ts i x
 unfolding listed_at
 formals_found ts i x e =
-    elim (if_some (has ts i terminals.RightParenthesis) _ _ x e) [
+    elim (if_stands ts i terminals.RightParenthesis _ _ x e) [
       | inl a ↦
           let same : i ≡ i + 0 = omega arith in
-          subst (SoundFormals ts i) (some_is _ x a.1) (record { are = tt; at = omega arith; close = subst (λ (k : ℕ). has ts k terminals.RightParenthesis ≡ true) same a.0 })
+          subst (SoundFormals ts i) (some_is _ x a.1) (record { are = tt; at = omega arith; close = subst (λ (k : ℕ). Stands ts k terminals.RightParenthesis) same a.0 })
       | inr a ↦
           let b = bind_some (variable_at ts i) _ x a.1 in
           let c = bind_some (items_from (suc (length ts)) (behind_comma (variable_at ts)) (at_comma ts) b.0.1) _ x b.2 in
-          let f = when_some (has ts c.0.1 terminals.RightParenthesis) _ x c.2 in
+          let f = when_stands ts c.0.1 terminals.RightParenthesis _ x c.2 in
           let v = variable_found ts i b.0 b.1 in
           let r = row_found (IsMoreFormal ts) more_formal_size flat 0 (behind_comma (variable_at ts)) (at_comma ts) (more_formal_found ts) (suc (length ts)) b.0.1 c.0 c.1 in
           let v-at = v.at in
@@ -114,31 +114,31 @@ formals_found ts i x e =
           subst (SoundFormals ts i) (some_is _ x f.1) (record {
             are = (v.is, subst (λ (k : ℕ). InRow (IsMoreFormal ts) more_formal_size k c.0.0) v.at r.are);
             at = omega arith;
-            close = subst (λ (k : ℕ). has ts k terminals.RightParenthesis ≡ true) there f.0;
+            close = subst (λ (k : ℕ). Stands ts k terminals.RightParenthesis) there f.0;
           })
     ]
 
 -- ---- methods
 
 record SoundSignature (ts : List Token) (x : Signature × ℕ) : Type 0 where
-  public_word : has ts 0 terminals.Public ≡ true
+  public_word : Stands ts 0 terminals.Public
   returns : IsType ts 1 x.0.returns
   name : name_at ts (1 + type_size x.0.returns) ≡ Some x.0.name
-  opening : has ts (1 + type_size x.0.returns + 1) terminals.LeftParenthesis ≡ true
+  opening : Stands ts (1 + type_size x.0.returns + 1) terminals.LeftParenthesis
   formals : AreFormals ts (1 + type_size x.0.returns + 2) x.0.formals
-  closing : has ts (1 + type_size x.0.returns + 2 + formals_size x.0.formals) terminals.RightParenthesis ≡ true
-  brace : has ts (1 + type_size x.0.returns + 2 + formals_size x.0.formals + 1) terminals.LeftBrace ≡ true
+  closing : Stands ts (1 + type_size x.0.returns + 2 + formals_size x.0.formals) terminals.RightParenthesis
+  brace : Stands ts (1 + type_size x.0.returns + 2 + formals_size x.0.formals + 1) terminals.LeftBrace
   at : x.1 ≡ 1 + type_size x.0.returns + 2 + formals_size x.0.formals + 2
 
 signature_found : (ts : List Token) (x : Signature × ℕ) → signature_at ts ≡ Some x → SoundSignature ts x
 unfolding signature_at
 signature_found ts x e =
-    let a = when_some (has ts 0 terminals.Public) _ x e in
+    let a = when_stands ts 0 terminals.Public _ x e in
     let b = bind_some (type_at ts 1) _ x a.1 in
     let n = bind_some (name_at ts b.0.1) _ x b.2 in
-    let p = when_some (has ts (b.0.1 + 1) terminals.LeftParenthesis) _ x n.2 in
+    let p = when_stands ts (b.0.1 + 1) terminals.LeftParenthesis _ x n.2 in
     let fs = bind_some (listed_at (variable_at ts) ts (b.0.1 + 2)) _ x p.1 in
-    let q = when_some (has ts fs.0.1 terminals.LeftBrace) _ x fs.2 in
+    let q = when_stands ts fs.0.1 terminals.LeftBrace _ x fs.2 in
     let t = type_found ts 1 b.0 b.1 in
     let f = formals_found ts (b.0.1 + 2) fs.0 fs.1 in
     let t-at = t.at in
@@ -148,10 +148,10 @@ signature_found ts x e =
       public_word = a.0;
       returns = t.is;
       name = subst (λ (k : ℕ). name_at ts k ≡ Some n.0) t.at n.1;
-      opening = subst (λ (k : ℕ). has ts (k + 1) terminals.LeftParenthesis ≡ true) t.at p.0;
+      opening = subst (λ (k : ℕ). Stands ts (k + 1) terminals.LeftParenthesis) t.at p.0;
       formals = subst (λ (k : ℕ). AreFormals ts (k + 2) fs.0.0) t.at f.are;
-      closing = subst (λ (k : ℕ). has ts (k + 2 + formals_size fs.0.0) terminals.RightParenthesis ≡ true) t.at f.close;
-      brace = subst (λ (k : ℕ). has ts k terminals.LeftBrace ≡ true) there q.0;
+      closing = subst (λ (k : ℕ). Stands ts (k + 2 + formals_size fs.0.0) terminals.RightParenthesis) t.at f.close;
+      brace = subst (λ (k : ℕ). Stands ts k terminals.LeftBrace) there q.0;
       at = omega arith;
     })
 
@@ -168,7 +168,7 @@ method_found ts x e =
     let b = bind_some (items_from (suc (length ts)) (stmt_at 500 ts) (not_return ts) l.0.1) _ x l.2 in
     let r = bind_some (exp_at 500 ts 5 (b.0.1 + 1)) _ x b.2 in
     let c = when_some (has ts r.0.1 terminals.Semicolon && has ts (r.0.1 + 1) terminals.RightBrace) _ x r.2 in
-    let both = and_both (has ts r.0.1 terminals.Semicolon) (has ts (r.0.1 + 1) terminals.RightBrace) c.0 in
+    let both = both_stand ts r.0.1 terminals.Semicolon (r.0.1 + 1) terminals.RightBrace c.0 in
     let s = signature_found ts a.0 a.1 in
     let ls = row_found (IsLocal ts) local_size flat 0 (local_at ts) (begins_local ts) (λ i y g. local_found ts i y) (suc (length ts)) a.0.1 l.0 l.1 in
     let bs = stmts_found ts 500 (stmt_at 500 ts) (stmt_found ts 500) (not_return ts) (suc (length ts)) l.0.1 b.0 b.1 in
@@ -193,11 +193,11 @@ method_found ts x e =
         brace = s.brace;
         locals = subst (λ (k : ℕ). InRow (IsLocal ts) local_size k l.0.0) s.at ls.are;
         body = subst (λ (k : ℕ). AreStmts ts k (statements_of b.0.0)) body-at bs.are;
-        return_word = subst (λ (k : ℕ). has ts k terminals.Return ≡ true) return-at (not_is_false (has ts b.0.1 terminals.Return) bs.ends);
+        return_word = subst (λ (k : ℕ). Stands ts k terminals.Return) return-at (stands ts b.0.1 terminals.Return (not_is_false (has ts b.0.1 terminals.Return) bs.ends));
         return_mark = return-at;
         returned = subst (λ (k : ℕ). IsExp ts 5 (k + 1) r.0.0) return-at v.is;
-        semicolon = subst (λ (k : ℕ). has ts k terminals.Semicolon ≡ true) semicolon-at both.0;
-        end_brace = subst (λ (k : ℕ). has ts (k + 1) terminals.RightBrace ≡ true) semicolon-at both.1;
+        semicolon = subst (λ (k : ℕ). Stands ts k terminals.Semicolon) semicolon-at both.0;
+        end_brace = subst (λ (k : ℕ). Stands ts (k + 1) terminals.RightBrace) semicolon-at both.1;
       };
       at = omega arith;
       low = omega arith;
@@ -216,7 +216,7 @@ method_from_found ts i x e =
 superclass_found : (ts : List Token) (i : ℕ) (x : Option Name × ℕ) → superclass_at ts i ≡ Some x → PartSound (IsSuperclass ts) superclass_size flat 0 i x
 unfolding superclass_at
 superclass_found ts i x e =
-    elim (if_some (has ts i terminals.Extends) _ _ x e) [
+    elim (if_stands ts i terminals.Extends _ _ x e) [
       | inl a ↦
           let b = bind_some (name_at ts (i + 1)) _ x a.1 in
           subst (PartSound (IsSuperclass ts) superclass_size flat 0 i) (some_is _ x b.2) (record { is = (a.0, b.1); at = refl; low = omega arith })
@@ -229,13 +229,13 @@ SoundClass ts i x = PartSound (IsClass ts) class_size class_height 500 i x
 class_found : (ts : List Token) (i : ℕ) (x : Class × ℕ) → class_at ts i ≡ Some x → SoundClass ts i x
 unfolding class_at
 class_found ts i x e =
-    let a = when_some (has ts i terminals.Class) _ x e in
+    let a = when_stands ts i terminals.Class _ x e in
     let n = bind_some (name_at ts (i + 1)) _ x a.1 in
     let s = bind_some (superclass_at ts (i + 2)) _ x n.2 in
-    let b = when_some (has ts s.0.1 terminals.LeftBrace) _ x s.2 in
+    let b = when_stands ts s.0.1 terminals.LeftBrace _ x s.2 in
     let f = bind_some (items_from (suc (length ts)) (field_at ts) (begins_type ts) (s.0.1 + 1)) _ x b.1 in
     let m = bind_some (items_from (suc (length ts)) (method_from ts) (at_public ts) f.0.1) _ x f.2 in
-    let c = when_some (has ts m.0.1 terminals.RightBrace) _ x m.2 in
+    let c = when_stands ts m.0.1 terminals.RightBrace _ x m.2 in
     let ss = superclass_found ts (i + 2) s.0 s.1 in
     let fs = row_found (IsField ts) field_size flat 0 (field_at ts) (begins_type ts) (λ k y g. field_found ts k y) (suc (length ts)) (s.0.1 + 1) f.0 f.1 in
     let ms = row_found (IsMethodAt ts) method_size method_height 500 (method_from ts) (at_public ts) (λ k y g. method_from_found ts k y) (suc (length ts)) f.0.1 m.0 m.1 in
@@ -251,10 +251,10 @@ class_found ts i x e =
         class_word = a.0;
         name = n.1;
         superclass = ss.is;
-        brace = subst (λ (k : ℕ). has ts k terminals.LeftBrace ≡ true) brace-at b.0;
+        brace = subst (λ (k : ℕ). Stands ts k terminals.LeftBrace) brace-at b.0;
         fields = subst (λ (k : ℕ). InRow (IsField ts) field_size k f.0.0) fields-at fs.are;
         methods = subst (λ (k : ℕ). InRow (IsMethodAt ts) method_size k m.0.0) methods-at ms.are;
-        end_brace = subst (λ (k : ℕ). has ts k terminals.RightBrace ≡ true) end-at c.0;
+        end_brace = subst (λ (k : ℕ). Stands ts k terminals.RightBrace) end-at c.0;
       };
       at = omega arith;
       low = ms.low;
@@ -266,8 +266,8 @@ record SoundMainMethod (ts : List Token) (x : Statement × ℕ) : Type 0 where
   head : main_head ts ≡ true
   parameter : main_parameter ts ≡ true
   statement : IsStmt ts 11 x.0
-  end_brace : has ts (11 + stmt_size x.0) terminals.RightBrace ≡ true
-  end_class : has ts (11 + stmt_size x.0 + 1) terminals.RightBrace ≡ true
+  end_brace : Stands ts (11 + stmt_size x.0) terminals.RightBrace
+  end_class : Stands ts (11 + stmt_size x.0 + 1) terminals.RightBrace
   at : x.1 ≡ 11 + stmt_size x.0 + 2
   low : stmt_height x.0 ≤ 500
 
@@ -278,15 +278,15 @@ main_method_found ts x e =
     let o = and_both (main_head ts) (main_parameter ts) a.0 in
     let s = bind_some (stmt_at 500 ts 11) _ x a.1 in
     let c = when_some (has ts s.0.1 terminals.RightBrace && has ts (s.0.1 + 1) terminals.RightBrace) _ x s.2 in
-    let both = and_both (has ts s.0.1 terminals.RightBrace) (has ts (s.0.1 + 1) terminals.RightBrace) c.0 in
+    let both = both_stand ts s.0.1 terminals.RightBrace (s.0.1 + 1) terminals.RightBrace c.0 in
     let t = stmt_found ts 500 11 s.0 s.1 in
     let at = t.at in
     subst (SoundMainMethod ts) (some_is _ x c.1) (record {
       head = o.0;
       parameter = o.1;
       statement = t.is;
-      end_brace = subst (λ (k : ℕ). has ts k terminals.RightBrace ≡ true) t.at both.0;
-      end_class = subst (λ (k : ℕ). has ts (k + 1) terminals.RightBrace ≡ true) t.at both.1;
+      end_brace = subst (λ (k : ℕ). Stands ts k terminals.RightBrace) t.at both.0;
+      end_class = subst (λ (k : ℕ). Stands ts (k + 1) terminals.RightBrace) t.at both.1;
       at = omega arith;
       low = t.low;
     })
@@ -299,9 +299,9 @@ record SoundMain (ts : List Token) (x : Main × ℕ) : Type 0 where
 main_found : (ts : List Token) (x : Main × ℕ) → main_at ts ≡ Some x → SoundMain ts x
 unfolding main_at main_from
 main_found ts x e =
-    let a = when_some (has ts 0 terminals.Class) _ x e in
+    let a = when_stands ts 0 terminals.Class _ x e in
     let n = bind_some (name_at ts 1) _ x a.1 in
-    let b = when_some (has ts 2 terminals.LeftBrace) _ x n.2 in
+    let b = when_stands ts 2 terminals.LeftBrace _ x n.2 in
     let f = bind_some (main_from ts) _ x b.1 in
     let s = bind_some (main_method_at (drop 3 ts)) _ f.0 f.1 in
     let t = main_method_found (drop 3 ts) s.0 s.1 in
@@ -331,7 +331,7 @@ main_part_found ts x e =
 
 -- a class ends within the tokens
 class_within : (ts : List Token) (i : ℕ) (c : Class) → IsClass ts i c → i + class_size c ≤ length ts
-class_within ts i c h = let w = has_within ts _ terminals.RightBrace h.end_brace in omega arith
+class_within ts i c h = let w = stands_within ts _ terminals.RightBrace h.end_brace in omega arith
 
 classes_within : (ts : List Token) (i : ℕ) (cs : List Class) → i ≤ length ts → InRow (IsClass ts) class_size i cs → i + row_size class_size cs ≤ length ts
 classes_within ts i [] w h = omega arith
@@ -342,7 +342,7 @@ classes_within ts i (c ∷ cs) w h =
 main_within : (ts : List Token) (m : Option Main) → IsMainPart ts m → main_part_size m ≤ length ts
 main_within ts None h = omega arith
 main_within ts (Some m) h =
-    let w = has_within (drop 3 ts) (11 + stmt_size m.statement + 1) terminals.RightBrace h.end_class in
+    let w = stands_within (drop 3 ts) (11 + stmt_size m.statement + 1) terminals.RightBrace h.end_class in
     let l = length-drop 3 ts in
     omega arith
 

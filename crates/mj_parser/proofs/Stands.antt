@@ -1,14 +1,17 @@
--- What stands at a place is the token there.
-use Rattle.std.proofs.Common.{◌≡◌, ℕ, true, List, [], ◌∷◌, Option, Some, None, refl, sym, ap, ◌∙◌}
-use Rattle.std.specs.Prelude.{◌↔◌, slice_get}
-use Rattle.std.proofs.lemmas.Bool.{eqb-true, eq-eqb}
+-- What stands at a place is what reading tests.
+use Rattle.std.proofs.Common.{◌≡◌, ℕ, ◌<◌, Bool, true, false, List, [], ◌∷◌, length, Option, Some, None, refl, sym, ap, ◌∙◌, ◌⊎◌, inl, inr, eq-eqb}
+use Rattle.std.specs.Prelude.{◌&&◌, slice_get, if◌then◌else◌}
+use Rattle.std.proofs.lemmas.Bool.{eqb-true}
 use Rattle.mj_lexer.specs.declared.token.Token.{Token}
 use Rattle.mj_lexer.specs.declared.token.Terminal.{Terminal}
 use Rattle.mj_lexer.specs.declared.token.Terminal.TheVariants.{LeftBrace, RightBrace, LeftParenthesis, RightParenthesis, LeftBracket, RightBracket, Semicolon, Comma, Dot, Assign, And, Less, Plus, Minus, Times, Not, Class, Public, Static, Void, Extends, Return, Int, Boolean, If, Else, While, True, False, This, New}
 use Rattle.mj_lexer.specs.declared.token.Kind.{Kind}
 use Rattle.mj_lexer.specs.declared.token.Kind.TheVariants as kinds
-use Rattle.mj_parser.specs.Tokens.{terminal_number, same_terminal, is_terminal, kind_at, has}
+use Rattle.mj_parser.specs.Tokens.{terminal_number, same_terminal, is_terminal, kind_at, has, Stands}
+use Rattle.mj_parser.specs.Steps.{when}
 use Rattle.mj_parser.specs.Laws.{StandsLaw}
+use Rattle.mj_parser.proofs.Binds.{if_some, when_some, and_both}
+use Rattle.mj_parser.proofs.Marks.{has_within}
 
 -- the terminals by their numbers
 abbrev all_terminals : List Terminal
@@ -65,6 +68,27 @@ terminal_there t (Some (kinds.Terminal u)) h = ap (λ (x : Terminal). Some (kind
 there_terminal : (t : Terminal) (k : Option Kind) → k ≡ Some (kinds.Terminal t) → is_terminal t k ≡ true
 there_terminal t k e = rw e (eq-eqb (terminal_number t) (terminal_number t) refl)
 
+pub stands : (ts : List Token) (i : ℕ) (t : Terminal) → has ts i t ≡ true → Stands ts i t
+unfolding has Stands
+stands ts i t h = terminal_there t (kind_at ts i) h
+
+pub has_is : (ts : List Token) (i : ℕ) (t : Terminal) → Stands ts i t → has ts i t ≡ true
+unfolding has Stands
+has_is ts i t s = there_terminal t (kind_at ts i) s
+
 pub stands_law : StandsLaw
-unfolding has
-stands_law = λ ts i t. (terminal_there t (kind_at ts i), there_terminal t (kind_at ts i))
+stands_law ts i t = (has_is ts i t, stands ts i t)
+
+pub stands_within : (ts : List Token) (i : ℕ) (t : Terminal) → Stands ts i t → i < length ts
+stands_within ts i t s = has_within ts i t (has_is ts i t s)
+
+-- a step that found something where this stands, or where it doesn't
+pub when_stands : {A : Type 0} (ts : List Token) (i : ℕ) (t : Terminal) (o : Option A) (y : A) → when (has ts i t) o ≡ Some y → Stands ts i t × (o ≡ Some y)
+when_stands ts i t o y e = let w = when_some (has ts i t) o y e in (stands ts i t w.0, w.1)
+
+pub if_stands : {A : Type 0} (ts : List Token) (i : ℕ) (t : Terminal) (o p : Option A) (y : A) → (if has ts i t then o else p) ≡ Some y
+    → (Stands ts i t × (o ≡ Some y)) ⊎ ((has ts i t ≡ false) × (p ≡ Some y))
+if_stands ts i t o p y e = elim (if_some (has ts i t) o p y e) [ inl a ↦ inl (stands ts i t a.0, a.1) | inr a ↦ inr a ]
+
+pub both_stand : (ts : List Token) (i : ℕ) (t : Terminal) (j : ℕ) (u : Terminal) → (has ts i t && has ts j u) ≡ true → Stands ts i t × Stands ts j u
+both_stand ts i t j u e = let b = and_both (has ts i t) (has ts j u) e in (stands ts i t b.0, stands ts j u b.1)

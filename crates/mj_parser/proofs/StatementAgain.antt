@@ -14,6 +14,7 @@ use Rattle.mj_parser.specs.StatementReading.{not_brace, block_at, condition_at, 
 use Rattle.mj_parser.proofs.Lists.{stmts_list, list_stmts}
 use Rattle.mj_parser.proofs.Marks.{has_other, has_named, has_within, says_name, IsCloser, stops_closer}
 use Rattle.mj_parser.proofs.ExpressionAgain.{exp_again, closer_paren, closer_bracket, closer_semicolon}
+use Rattle.mj_parser.proofs.Stands.{has_is}
 
 pub stmt_some : (s : Statement) → 0 < stmt_size s
 stmt_some (Block m body) = omega arith
@@ -50,9 +51,9 @@ print_dot ts i h = second (says ts i (codes "System")) (has ts (i + 1) terminals
 
 -- this token begins no statement
 pub no_statement : (ts : List Token) (n : Terminal) → same_terminal terminals.LeftBrace n ≡ false → same_terminal terminals.If n ≡ false → same_terminal terminals.While n ≡ false → (s : Statement) (i : ℕ) → IsStmt ts i s → has ts i n ≡ false
-no_statement ts n a b c (Block m body) i h = has_other ts i terminals.LeftBrace n h.1 a
-no_statement ts n a b c (If m e s t) i h = has_other ts i terminals.If n h.1 b
-no_statement ts n a b c (While m e s) i h = has_other ts i terminals.While n h.1 c
+no_statement ts n a b c (Block m body) i h = has_other ts i terminals.LeftBrace n (has_is _ _ _ h.1) a
+no_statement ts n a b c (If m e s t) i h = has_other ts i terminals.If n (has_is _ _ _ h.1) b
+no_statement ts n a b c (While m e s) i h = has_other ts i terminals.While n (has_is _ _ _ h.1) c
 no_statement ts n a b c (Print m v) i h = has_named ts i n (codes "System") (print_name ts i h.1)
 no_statement ts n a b c (Assign m name k v) i h = has_named ts i n name h.2
 no_statement ts n a b c (Store m name k x v) i h = has_named ts i n name h.2
@@ -157,12 +158,12 @@ module _ (ts : List Token) (room : ℕ) (part : PartParser Statement) (reads : (
   of_named name i x n e = rw (stmt_of, has_named ts i terminals.LeftBrace name n, has_named ts i terminals.If name n, has_named ts i terminals.While name n) e
 
   part_again : (i j : ℕ) (s : Statement) → IsStmt ts i s → stmt_height s ≤ suc room → j ≡ i + stmt_size s → stmt_of (exp_at room ts 5) part ts i ≡ Some (s, j)
-  part_again i j (Block m body) h low at = rw h.0 (of_block i (Some (Block i body, j)) h.1 (block_again i j body h.2 (omega arith) h.3 (omega arith)))
-  part_again i j (If m e s t) h low at = rw h.0 (of_if i (Some (If i e s t, j)) h.1 (if_again i j e s t h.2 h.3 (omega arith) h.4 h.5 (omega arith) h.6 h.7 (omega arith) (omega arith)))
-  part_again i j (While m e s) h low at = rw h.0 (of_while i (Some (While i e s, j)) h.1 (while_again i j e s h.2 h.3 (omega arith) h.4 h.5 (omega arith) (omega arith)))
-  part_again i j (Print m e) h low at = rw h.0 (of_named (codes "System") i (Some (Print i e, j)) (print_name ts i h.1) (named_print i (Some (Print i e, j)) h.1 (print_again i j e h.1 h.2 (omega arith) h.3 h.4 (omega arith))))
-  part_again i j (Assign m name k e) h low at = rw (h.0, h.1) (of_named name i (Some (Assign (i + 1) name i e, j)) h.2 (named_assign name i (Some (Assign (i + 1) name i e, j)) h.2 h.3 (assign_again name i j e h.4 (omega arith) h.5 (omega arith))))
-  part_again i j (Store m name k x e) h low at = rw (h.0, h.1) (of_named name i (Some (Store (i + 2 + size x + 1) name i x e, j)) h.2 (named_store name i (Some (Store (i + 2 + size x + 1) name i x e, j)) h.2 h.3 (store_again name i j x e h.4 (omega arith) h.5 h.6 h.7 (omega arith) h.8 (omega arith))))
+  part_again i j (Block m body) h low at = rw h.0 (of_block i (Some (Block i body, j)) (has_is _ _ _ h.1) (block_again i j body h.2 (omega arith) (has_is _ _ _ h.3) (omega arith)))
+  part_again i j (If m e s t) h low at = rw h.0 (of_if i (Some (If i e s t, j)) (has_is _ _ _ h.1) (if_again i j e s t (has_is _ _ _ h.2) h.3 (omega arith) (has_is _ _ _ h.4) h.5 (omega arith) (has_is _ _ _ h.6) h.7 (omega arith) (omega arith)))
+  part_again i j (While m e s) h low at = rw h.0 (of_while i (Some (While i e s, j)) (has_is _ _ _ h.1) (while_again i j e s (has_is _ _ _ h.2) h.3 (omega arith) (has_is _ _ _ h.4) h.5 (omega arith) (omega arith)))
+  part_again i j (Print m e) h low at = rw h.0 (of_named (codes "System") i (Some (Print i e, j)) (print_name ts i h.1) (named_print i (Some (Print i e, j)) h.1 (print_again i j e h.1 h.2 (omega arith) (has_is _ _ _ h.3) (has_is _ _ _ h.4) (omega arith))))
+  part_again i j (Assign m name k e) h low at = rw (h.0, h.1) (of_named name i (Some (Assign (i + 1) name i e, j)) h.2 (named_assign name i (Some (Assign (i + 1) name i e, j)) h.2 (has_is _ _ _ h.3) (assign_again name i j e h.4 (omega arith) (has_is _ _ _ h.5) (omega arith))))
+  part_again i j (Store m name k x e) h low at = rw (h.0, h.1) (of_named name i (Some (Store (i + 2 + size x + 1) name i x e, j)) h.2 (named_store name i (Some (Store (i + 2 + size x + 1) name i x e, j)) h.2 (has_is _ _ _ h.3) (store_again name i j x e h.4 (omega arith) (has_is _ _ _ h.5) (has_is _ _ _ h.6) h.7 (omega arith) (has_is _ _ _ h.8) (omega arith))))
 
 pub stmt_again : (ts : List Token) (room i j : ℕ) (s : Statement) → IsStmt ts i s → stmt_height s ≤ room → j ≡ i + stmt_size s → stmt_at room ts i ≡ Some (s, j)
 unfolding stmt_at

@@ -1,10 +1,9 @@
 -- Laws of the grammar.
-use Rattle.std.specs.Prelude.{◌≡◌, ◌↔◌, ℕ, List, length, Some}
+use Rattle.std.specs.Prelude.{◌≡◌, ◌↔◌, ℕ, true, List, length, Some}
 use Rattle.mj_lexer.specs.declared.token.Token.{Token}
 use Rattle.mj_lexer.specs.declared.token.Terminal.{Terminal}
-use Rattle.mj_lexer.specs.declared.token.Kind.TheVariants as kinds
 use Rattle.mj_tree.specs.Trees.{File}
-use Rattle.mj_parser.specs.Tokens.{kind_at, Stands}
+use Rattle.mj_parser.specs.Tokens.{has, Stands}
 use Rattle.mj_parser.specs.Declarations.{Derives}
 use Rattle.mj_parser.specs.FileReading.{tree_of}
 use Rattle.mj_parser.specs.MarkBounds.{FileMarksBelow}
@@ -13,10 +12,10 @@ use Rattle.mj_parser.specs.MarkBounds.{FileMarksBelow}
 abbrev pub GrammarLaws : Type 0
 GrammarLaws = (ts : List Token) (f : File) → Derives ts f ↔ (tree_of ts ≡ Some f)
 
--- A terminal stands at a place exactly where the token there is this terminal.
+-- Reading tests what stands at a place.
 abbrev pub StandsLaw : Type 0
 StandsLaw = (ts : List Token) (i : ℕ) (terminal : Terminal)
-    → Stands ts i terminal ↔ (kind_at ts i ≡ Some (kinds.Terminal terminal))
+    → Stands ts i terminal ↔ (has ts i terminal ≡ true)
 
 -- Every mark of a file's tree is less than the number of its tokens.
 abbrev pub MarkLaws : Type 0

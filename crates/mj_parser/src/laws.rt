@@ -1,7 +1,7 @@
 //! Laws of the grammar.
 ghost use Rattle.mj_parser.specs.Laws.{GrammarLaws, StandsLaw, MarkLaws};
 
-/// A list of tokens is a file exactly where reading it finds that file; what stands at a place is the token there.
+/// A list of tokens is a file exactly where reading it finds that file; reading tests what stands at a place.
 pub fn grammar_laws()
     ensures grammar { GrammarLaws }
     ensures stands { StandsLaw }

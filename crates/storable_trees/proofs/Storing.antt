@@ -22,7 +22,8 @@ use Rattle.mj_parser.specs.Expressions.{terminal_of, terminal_of_bool, any_tier,
 use Rattle.mj_parser.specs.Statements.{stmt_height, stmts_height, stmts_size, IsStmt, AreStmts}
 use Rattle.mj_parser.specs.Rows.{InRow, row_size, row_height}
 use Rattle.mj_parser.specs.Declarations.{type_size, IsType, IsVariable, variable_size, IsMoreFormal, more_formal_size, formals_size, AreFormals, IsLocal, local_size, field_size, IsField, IsSuperclass, head_size, method_size, method_height, formals_place, locals_place, body_place, return_place, IsMethod, IsMethodAt, class_size, class_height, IsClass, IsMainPart, main_part_size, main_part_height, Derives}
-use Rattle.mj_parser.proofs.Marks.{has_within, name_within, says_name}
+use Rattle.mj_parser.proofs.Marks.{name_within, says_name}
+use Rattle.mj_parser.proofs.Stands.{stands_within}
 use Rattle.mj_parser.proofs.StatementAgain.{print_name}
 use Rattle.byte_readers.specs.Names.{IsName}
 use Rattle.tree_bytes.specs.Storable.{TyFits, FieldFits, VariableFits, ExpFits, ExpsFit, StmtFits, StmtsFit, TopStmtFits, TopStmtsFit, TopExpFits, MethodFits, MainFits, ClassFits, FileFits}
@@ -70,22 +71,22 @@ module _ (ts : List Token) (fit : All TokenFits ts) (few : length ts ≤ limit) 
   mutual
     exp_fits : (room d i : ℕ) (e : Expression) → height e ≤ room → IsExp ts d i e → ExpFits room e
     exp_fits zero d i e low h = absurd (let some = some_height e in omega arith)
-    exp_fits (suc room) d i (Binary o m l r) low h = let w = has_within ts m (terminal_of o) h.3 in (omega arith, (exp_fits room _ i l (omega arith) h.1, exp_fits room _ (m + 1) r (omega arith) h.4))
-    exp_fits (suc room) d i (Index m a x) low h = let w = has_within ts m terminals.LeftBracket h.3 in (omega arith, (exp_fits room _ i a (omega arith) h.0, exp_fits room _ (m + 1) x (omega arith) h.4))
+    exp_fits (suc room) d i (Binary o m l r) low h = let w = stands_within ts m (terminal_of o) h.3 in (omega arith, (exp_fits room _ i l (omega arith) h.1, exp_fits room _ (m + 1) r (omega arith) h.4))
+    exp_fits (suc room) d i (Index m a x) low h = let w = stands_within ts m terminals.LeftBracket h.3 in (omega arith, (exp_fits room _ i a (omega arith) h.0, exp_fits room _ (m + 1) x (omega arith) h.4))
     exp_fits (suc room) d i (Length m a) low h = let w = name_within ts m (codes "length") (says_name ts m (codes "length") h.3) in (omega arith, exp_fits room _ i a (omega arith) h.0)
     exp_fits (suc room) d i (Call m e name es) low h =
         let w = name_within ts m name h.3 in
-        let end = has_within ts (m + 2 + sizes es) terminals.RightParenthesis h.6 in
+        let end = stands_within ts (m + 2 + sizes es) terminals.RightParenthesis h.6 in
         let count = arguments_count es in
         (omega arith, (exp_fits room _ i e (omega arith) h.0, (name_fits m name h.3, (omega arith, arguments_fit room (m + 2) es (omega arith) h.5))))
     exp_fits (suc room) d i (Literal m v) low h = let w = value_within ts i v h.1 in let at = h.0 in (omega arith, value_fits i v h.1)
-    exp_fits (suc room) d i (Boolean m v) low h = let w = has_within ts i (terminal_of_bool v) h.1 in let at = h.0 in omega arith
+    exp_fits (suc room) d i (Boolean m v) low h = let w = stands_within ts i (terminal_of_bool v) h.1 in let at = h.0 in omega arith
     exp_fits (suc room) d i (Named m name) low h = let w = name_within ts i name h.1 in let at = h.0 in (omega arith, name_fits i name h.1)
-    exp_fits (suc room) d i (This m) low h = let w = has_within ts i terminals.This h.1 in let at = h.0 in omega arith
-    exp_fits (suc room) d i (NewArray m x) low h = let w = has_within ts i terminals.New h.1 in let at = h.0 in (omega arith, exp_fits room _ (i + 3) x (omega arith) h.4)
-    exp_fits (suc room) d i (NewObject m c) low h = let w = has_within ts i terminals.New h.1 in let at = h.0 in (omega arith, name_fits (i + 1) c h.2)
-    exp_fits (suc room) d i (Not m e) low h = let w = has_within ts i terminals.Not h.2 in let at = h.1 in (omega arith, exp_fits room _ (i + 1) e (omega arith) h.3)
-    exp_fits (suc room) d i (Parenthesized m e) low h = let w = has_within ts i terminals.LeftParenthesis h.1 in let at = h.0 in (omega arith, exp_fits room _ (i + 1) e (omega arith) h.2)
+    exp_fits (suc room) d i (This m) low h = let w = stands_within ts i terminals.This h.1 in let at = h.0 in omega arith
+    exp_fits (suc room) d i (NewArray m x) low h = let w = stands_within ts i terminals.New h.1 in let at = h.0 in (omega arith, exp_fits room _ (i + 3) x (omega arith) h.4)
+    exp_fits (suc room) d i (NewObject m c) low h = let w = stands_within ts i terminals.New h.1 in let at = h.0 in (omega arith, name_fits (i + 1) c h.2)
+    exp_fits (suc room) d i (Not m e) low h = let w = stands_within ts i terminals.Not h.2 in let at = h.1 in (omega arith, exp_fits room _ (i + 1) e (omega arith) h.3)
+    exp_fits (suc room) d i (Parenthesized m e) low h = let w = stands_within ts i terminals.LeftParenthesis h.1 in let at = h.0 in (omega arith, exp_fits room _ (i + 1) e (omega arith) h.2)
 
     arguments_fit : (room i : ℕ) (es : Expressions) → heights es ≤ room → AreArguments ts i es → ExpsFit room es
     arguments_fit room i none low h = tt
@@ -99,16 +100,16 @@ module _ (ts : List Token) (fit : All TokenFits ts) (few : length ts ≤ limit) 
     stmt_fits : (room i : ℕ) (s : Statement) → stmt_height s ≤ room → IsStmt ts i s → StmtFits room s
     stmt_fits zero i s low h = absurd (let some = some_stmt_height s in omega arith)
     stmt_fits (suc room) i (Block m body) low h =
-        let w = has_within ts i terminals.LeftBrace h.1 in
+        let w = stands_within ts i terminals.LeftBrace h.1 in
         let at = h.0 in
-        let end = has_within ts (i + 1 + stmts_size body) terminals.RightBrace h.3 in
+        let end = stands_within ts (i + 1 + stmts_size body) terminals.RightBrace h.3 in
         let count = statements_count body in
         (omega arith, (omega arith, stmts_fit room (i + 1) body (omega arith) h.2))
-    stmt_fits (suc room) i (If m e s t) low h = let w = has_within ts i terminals.If h.1 in let at = h.0 in (omega arith, (exp_fits room _ (i + 2) e (omega arith) h.3, (stmt_fits room _ s (omega arith) h.5, stmt_fits room _ t (omega arith) h.7)))
-    stmt_fits (suc room) i (While m e s) low h = let w = has_within ts i terminals.While h.1 in let at = h.0 in (omega arith, (exp_fits room _ (i + 2) e (omega arith) h.3, stmt_fits room _ s (omega arith) h.5))
+    stmt_fits (suc room) i (If m e s t) low h = let w = stands_within ts i terminals.If h.1 in let at = h.0 in (omega arith, (exp_fits room _ (i + 2) e (omega arith) h.3, (stmt_fits room _ s (omega arith) h.5, stmt_fits room _ t (omega arith) h.7)))
+    stmt_fits (suc room) i (While m e s) low h = let w = stands_within ts i terminals.While h.1 in let at = h.0 in (omega arith, (exp_fits room _ (i + 2) e (omega arith) h.3, stmt_fits room _ s (omega arith) h.5))
     stmt_fits (suc room) i (Print m e) low h = let w = name_within ts i (codes "System") (print_name ts i h.1) in let at = h.0 in (omega arith, exp_fits room _ (i + 6) e (omega arith) h.2)
-    stmt_fits (suc room) i (Assign m name k e) low h = let w = has_within ts (i + 1) terminals.Assign h.3 in let at = h.0 in let at2 = h.1 in (omega arith, (name_fits i name h.2, (omega arith, exp_fits room _ (i + 2) e (omega arith) h.4)))
-    stmt_fits (suc room) i (Store m name k x e) low h = let w = has_within ts _ terminals.Assign h.6 in let at = h.0 in let at2 = h.1 in (omega arith, (name_fits i name h.2, (omega arith, (exp_fits room _ (i + 2) x (omega arith) h.4, exp_fits room _ _ e (omega arith) h.7))))
+    stmt_fits (suc room) i (Assign m name k e) low h = let w = stands_within ts (i + 1) terminals.Assign h.3 in let at = h.0 in let at2 = h.1 in (omega arith, (name_fits i name h.2, (omega arith, exp_fits room _ (i + 2) e (omega arith) h.4)))
+    stmt_fits (suc room) i (Store m name k x e) low h = let w = stands_within ts _ terminals.Assign h.6 in let at = h.0 in let at2 = h.1 in (omega arith, (name_fits i name h.2, (omega arith, (exp_fits room _ (i + 2) x (omega arith) h.4, exp_fits room _ _ e (omega arith) h.7))))
 
     stmts_fit : (room i : ℕ) (ss : Statements) → stmts_height ss ≤ room → AreStmts ts i ss → StmtsFit room ss
     stmts_fit room i done low h = tt
@@ -141,9 +142,9 @@ module _ (ts : List Token) (fit : All TokenFits ts) (few : length ts ≤ limit) 
   method_fits : (m : Method) → method_height m ≤ most_levels → IsMethod ts m → MethodFits m
   unfolding TopStmtsFit TopExpFits
   method_fits m low h =
-      let closing = has_within ts (formals_place m + formals_size m.formals) terminals.RightParenthesis h.closing in
+      let closing = stands_within ts (formals_place m + formals_size m.formals) terminals.RightParenthesis h.closing in
       let formals = formals_count m.formals in
-      let return_word = has_within ts (return_place m) terminals.Return h.return_word in
+      let return_word = stands_within ts (return_place m) terminals.Return h.return_word in
       let locals = row_count local_size (λ v. omega arith) m.locals in
       let statements = statements_count m.body in
       let at = h.return_mark in
@@ -180,7 +181,7 @@ module _ (ts : List Token) (fit : All TokenFits ts) (few : length ts ≤ limit) 
 
   class_fits : (i : ℕ) (c : Class) → class_height c ≤ most_levels → IsClass ts i c → ClassFits c
   class_fits i c low h =
-      let end = has_within ts (i + head_size c + row_size field_size c.fields + row_size method_size c.methods) terminals.RightBrace h.end_brace in
+      let end = stands_within ts (i + head_size c + row_size field_size c.fields + row_size method_size c.methods) terminals.RightBrace h.end_brace in
       let fields = row_count field_size (λ f. omega arith) c.fields in
       let methods = row_count method_size (λ m. omega arith) c.methods in
       record {
