@@ -49,60 +49,75 @@ fn project(alloc: Global) -> Result<Vec<Option<FileTree>>, Fail> {
     Ok(files)
 }
 
-/// `name(file.number)`, the names behind it in the chain, and its end.
-fn chain_text(alloc: Global, class: &ClassRef, chain: &ClassChain) -> Result<String, AllocError> {
-    let mut text = format!(in alloc;
-        "{}({}.{})",
-        class.name().as_str(),
-        class.file,
-        class.number
-    )?;
-    for class in chain.classes.as_slice() {
-        write!(text, " {}", class.name().as_str())?;
+/// A class, the numbers of its file and of the class in it, the names of its chain, how the chain ends, and the name at
+/// its end.
+type Chain<'a> = (&'a str, usize, usize, &'a [&'a str], &'a str, &'a str);
+
+const CHAINS: &[Chain] = &[
+    ("M", 0, 0, &["M"], "top", ""),
+    ("A", 0, 1, &["A"], "top", ""),
+    ("B", 0, 2, &["B", "A"], "top", ""),
+    ("C", 2, 1, &["C", "D"], "again", "C"),
+    ("D", 2, 2, &["D", "C"], "again", "D"),
+    ("E", 2, 3, &["E", "C", "D"], "again", "C"),
+    ("F", 2, 4, &["F"], "again", "F"),
+    ("G", 2, 5, &["G"], "undeclared", "Missing"),
+    ("Missing", 0, 0, &[], "missing", ""),
+];
+
+/// Whether the chain ends so.
+fn is_end(end: &End, how: &str, of: &str) -> bool {
+    match end {
+        End::Top => how == "top",
+        End::Undeclared(name) => how == "undeclared" && name.as_str() == of,
+        End::Repeated(name) => how == "again" && name.as_str() == of,
     }
-    match &chain.end {
-        End::Top => text.push_str(" top")?,
-        End::Undeclared(name) => write!(text, " undeclared {}", name.as_str())?,
-        End::Repeated(name) => write!(text, " again {}", name.as_str())?,
-    }
-    Ok(text)
 }
 
-/// The chain of a class with its place and its end; nothing where it isn't declared.
-fn told(alloc: Global, declarations: &Declarations, class: &Name) -> Result<String, AllocError> {
+/// Whether the classes have these names.
+fn are_named(classes: &[ClassRef], names: &[&str]) -> bool {
+    classes.len() == names.len()
+        && classes
+            .iter()
+            .zip(names)
+            .all(|(class, name)| class.name().as_str() == *name)
+}
+
+/// Whether the class has this place and this chain.
+fn is_chain(class: &ClassRef, chain: &ClassChain, row: &Chain) -> bool {
+    class.name().as_str() == row.0
+        && class.file == row.1
+        && class.number == row.2
+        && are_named(chain.classes.as_slice(), row.3)
+        && is_end(&chain.end, row.4, row.5)
+}
+
+/// Whether the class has this chain, or is missing.
+fn is_climbed(
+    alloc: Global,
+    declarations: &Declarations,
+    class: &Name,
+    row: &Chain,
+) -> Result<bool, AllocError> {
     match (declarations.find(class), declarations.chain(alloc, class)?) {
-        (Some(found), Some(climbed)) => chain_text(alloc, &found, &climbed),
-        (None, None) => Ok(String::new(alloc)),
-        _ => String::from_str(alloc, "found or climbed alone"),
+        (Some(found), Some(chain)) => Ok(is_chain(&found, &chain, row)),
+        (None, None) => Ok(row.4 == "missing"),
+        _ => Ok(false),
     }
 }
 
-/// Whether the chain of the class reads so.
-fn has_chain(alloc: Global, class: &str, want: &str) -> Result<bool, Fail> {
+fn has_chain(alloc: Global, row: &Chain) -> Result<bool, Fail> {
     let files = project(alloc)?;
     let declarations = Declarations::new(alloc, &files)?;
-    let name = name(alloc, class)?;
-    Ok(told(alloc, &declarations, &name)?.as_str() == want)
+    let name = name(alloc, row.0)?;
+    Ok(is_climbed(alloc, &declarations, &name, row)?)
 }
-
-/// Classes with their chains.
-const CHAINS: &[(&str, &str)] = &[
-    ("M", "M(0.0) M top"),
-    ("A", "A(0.1) A top"),
-    ("B", "B(0.2) B A top"),
-    ("C", "C(2.1) C D again C"),
-    ("D", "D(2.2) D C again D"),
-    ("E", "E(2.3) E C D again C"),
-    ("F", "F(2.4) F again F"),
-    ("G", "G(2.5) G undeclared Missing"),
-    ("Missing", ""),
-];
 
 #[test]
 fn chains(rt: HostRuntime) -> Result<(), Fail> {
     chain_laws();
-    for (class, want) in CHAINS {
-        assert!(rt; has_chain(rt.alloc(), class, want)?, "{class}");
+    for row in CHAINS {
+        assert!(rt; has_chain(rt.alloc(), row)?, "{row:?}");
     }
     Ok(())
 }

@@ -2,7 +2,7 @@
 //! phrase demands is compared row by row with the program's output.
 use mj_lexer::{Name, lex};
 use mj_parser::parse;
-use mj_tree::{ClassTree, FileTree, Ty};
+use mj_tree::{ClassTree, FileTree, MainTree, Ty};
 use mj_typing::{
     Asking, Mistake, Signature, Stop, body_laws, case_laws, check_main, check_method, row_laws,
     typing_laws,
@@ -216,15 +216,19 @@ fn mistakes_in_order(rt: HostRuntime) -> Result<(), Fail> {
 const MAIN: &str =
     "class M { public static void main(String[] a) { System.out.println(x + (this.f(y))); } }";
 
-/// Whether this is what the check of a main asks and finds, where no question is answered.
-fn is_of_main(alloc: Global, text: &str, want: &str) -> Result<bool, Fail> {
-    let tree = tree_of(alloc, text)?;
-    let Some(main) = &tree.main else {
-        return Ok(false);
-    };
+/// Whether this is what the check of the main asks and finds, where no question is answered.
+fn is_of_statement(alloc: Global, main: &MainTree, want: &str) -> Result<bool, AllocError> {
     let mut scribe = Scribe::new(alloc, 0);
     let found = check_main(alloc, &mut scribe, main);
     Ok(told(scribe, found)?.as_str() == want)
+}
+
+fn is_of_main(alloc: Global, text: &str, want: &str) -> Result<bool, Fail> {
+    let tree = tree_of(alloc, text)?;
+    match &tree.main {
+        Some(main) => Ok(is_of_statement(alloc, main, want)?),
+        None => Ok(false),
+    }
 }
 
 #[test]
