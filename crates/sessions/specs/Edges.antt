@@ -1,5 +1,5 @@
 -- Edges of a record, one after the other.
-use Rattle.std.specs.Prelude.{◌≡◌, ℕ, ◌==◌, Bool, false, List, map, slice_index_or}
+use Rattle.std.specs.Prelude.{◌≡◌, ◌≢◌, ℕ, ◌<◌, ◌==◌, Bool, true, false, List, map, length, slice_index_or}
 use Rattle.std.specs.List.{AllByRecursion}
 use Rattle.item_ids.specs.declared.key.Key.{Key}
 use Rattle.sessions.specs.Sessions.{RecordValue, IsEdge, AreDistinct}
@@ -15,3 +15,12 @@ IsNewEdge seen front key e = IsEdge front key e × (slice_index_or seen e false 
 -- the edges of a key behind these records
 abbrev pub AreEdges : List RecordValue → Key → List ℕ → Type 0
 AreEdges front key edges = AllByRecursion (IsEdge front key) edges × AreDistinct edges
+
+-- e is none of these
+abbrev pub IsNoneOf : List ℕ → ℕ → Type 0
+IsNoneOf edges e = AllByRecursion (λ other. other ≢ e) edges
+
+-- what was seen are these edges
+pub record Tells (seen : List Bool) (edges : List ℕ) : Type 0 where
+  pub unseen : (e : ℕ) → e < length seen → slice_index_or seen e false ≡ false → IsNoneOf edges e
+  pub seen_one : (e : ℕ) → e < length seen → slice_index_or seen e false ≡ true → ¬ IsNoneOf edges e
