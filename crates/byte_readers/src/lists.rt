@@ -47,7 +47,8 @@ fn read_items<F: Format>(
     count: u64,
     bytes: &[u8],
 ) -> Result<(Vec<F::Item>, &[u8]), ReadError>
-    ensures { Decodes (λ x. (x.0.items, x.1.now)) result (list_from F.reading any [] count bytes.now) }
+    ensures { Decodes (λ x. (x.0.items, x.1.now)) result
+        (list_from F.reading any [] count bytes.now) }
 {
     let mut items = Vec::new(alloc);
     let mut rest = bytes;
@@ -65,7 +66,8 @@ pub fn read_ascending<F: Ordered>(
     alloc: Global,
     bytes: &[u8],
 ) -> Result<(Vec<F::Item>, &[u8]), ReadError>
-    ensures { Decodes (λ x. (x.0.items, x.1.now)) result (list_at F.reading (is_after F.precedes) bytes.now) }
+    ensures { Decodes (λ x. (x.0.items, x.1.now)) result
+        (list_at F.reading (is_after F.precedes) bytes.now) }
 {
     let (count, rest) = read_eight(bytes)?;
     read_ascending_items::<F>(alloc, count, rest)
@@ -76,7 +78,8 @@ fn read_ascending_items<F: Ordered>(
     count: u64,
     bytes: &[u8],
 ) -> Result<(Vec<F::Item>, &[u8]), ReadError>
-    ensures { Decodes (λ x. (x.0.items, x.1.now)) result (list_from F.reading (is_after F.precedes) [] count bytes.now) }
+    ensures { Decodes (λ x. (x.0.items, x.1.now)) result
+        (list_from F.reading (is_after F.precedes) [] count bytes.now) }
 {
     let mut items = Vec::new(alloc);
     let mut rest = bytes;

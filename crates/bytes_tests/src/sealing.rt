@@ -1,51 +1,68 @@
-use fingerprint::{OpenFault, Print, open_sealed, seal};
+use fingerprint::{OpenFault, Print, Sealed, open_sealed, seal};
 use item_ids::Kind;
-use result_bytes::{Refusal, decode};
+use result_bytes::{Refusal, Value, decode};
 use std::test::*;
 
 // The header of a main class without anything, and the SHA-256 of its bytes by another program.
-const BYTES: &str = "0401010000000000000000000000000000000000";
+const BYTES: &[u8] = &[
+    0x04, 0x01, 0x01, 0, 0, 0, 0, 0, 0, 0, 0, 0, 0, 0, 0, 0, 0, 0, 0, 0,
+];
 
 const PRINT: &str = "5603f464e62d0ee9b83adcef05c37be471164ec3a036663119d6551a2fdd60c7";
 
-fn bytes_of(rt: HostRuntime, digits: &str) -> Result<Vec<u8>, Fail> {
-    Ok(
-        hex::decode(rt.alloc(), digits)
-            .ok()
-            .ok_or("hexadecimal digits")?,
-    )
+fn header(rt: HostRuntime) -> Result<Value, Fail> {
+    match decode(rt.alloc(), Kind::Header, BYTES) {
+        Ok(value) => Ok(value),
+        Err(_) => Err("a header".into()),
+    }
+}
+
+fn is_text(rt: HostRuntime, print: &Print, want: &str) -> Result<bool, Fail> {
+    Ok(print.text(rt.alloc())?.as_str() == want)
+}
+
+fn is_header(sealed: &Sealed) -> bool {
+    sealed.bytes() == BYTES && sealed.value().kind() == Kind::Header
 }
 
 #[test]
 fn a_value_is_sealed(rt: HostRuntime) -> Result<(), Fail> {
-    let bytes = bytes_of(rt, BYTES)?;
-    let value = decode(rt.alloc(), Kind::Header, &bytes)
-        .ok()
-        .ok_or("a header")?;
-    let sealed = seal(rt.alloc(), value)?;
-    assert_eq!(rt; sealed.bytes(), bytes.as_slice());
-    assert_eq!(rt; sealed.print().text(rt.alloc())?.as_str(), PRINT);
-    assert!(rt; sealed.value().kind() == Kind::Header);
+    let sealed = seal(rt.alloc(), header(rt)?)?;
+    assert!(rt; is_header(&sealed));
+    assert!(rt; is_text(rt, &sealed.print(), PRINT)?);
     Ok(())
 }
 
 #[test]
-fn sealed_bytes_are_opened(rt: HostRuntime) -> Result<(), Fail> {
-    let print = Print::of(bytes_of(rt, BYTES)?.as_slice());
-    assert_eq!(rt; print.text(rt.alloc())?.as_str(), PRINT);
-    let sealed = open_sealed(rt.alloc(), Kind::Header, bytes_of(rt, BYTES)?, print)
-        .ok()
-        .ok_or("a header")?;
-    assert!(rt; sealed.print() == print);
+fn bytes_have_a_print(rt: HostRuntime) -> Result<(), Fail> {
+    assert!(rt; is_text(rt, &Print::of(BYTES), PRINT)?);
     Ok(())
+}
+
+fn is_opened(rt: HostRuntime, print: Print) -> Result<bool, Fail> {
+    let bytes = BYTES.to_vec(rt.alloc())?;
+    match open_sealed(rt.alloc(), Kind::Header, bytes, print) {
+        Ok(sealed) => Ok(is_header(&sealed) && sealed.print() == print),
+        Err(_) => Ok(false),
+    }
+}
+
+#[test]
+fn sealed_bytes_are_opened(rt: HostRuntime) -> Result<(), Fail> {
+    assert!(rt; is_opened(rt, Print::of(BYTES))?);
+    Ok(())
+}
+
+fn is_refused(rt: HostRuntime, kind: Kind, print: Print, want: OpenFault) -> Result<bool, Fail> {
+    let bytes = BYTES.to_vec(rt.alloc())?;
+    Ok(open_sealed(rt.alloc(), kind, bytes, print).err() == Some(want))
 }
 
 #[test]
 fn other_prints_and_bytes_are_refused(rt: HostRuntime) -> Result<(), Fail> {
     let print = Print::of(b"".as_slice());
-    let wrong = open_sealed(rt.alloc(), Kind::Header, bytes_of(rt, BYTES)?, print);
-    assert!(rt; wrong.err() == Some(OpenFault::WrongPrint));
-    let refused = open_sealed(rt.alloc(), Kind::Supers, bytes_of(rt, BYTES)?, print);
-    assert!(rt; refused.err() == Some(OpenFault::Refused(Refusal::WrongKind)));
+    let of_another_kind = OpenFault::Refused(Refusal::WrongKind);
+    assert!(rt; is_refused(rt, Kind::Header, print, OpenFault::WrongPrint)?);
+    assert!(rt; is_refused(rt, Kind::Supers, print, of_another_kind)?);
     Ok(())
 }

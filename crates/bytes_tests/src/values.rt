@@ -5,7 +5,7 @@ use result_bytes::{Refusal, Value, decode, encode};
 use std::test::*;
 
 // What spells a value. The project of the first rows is the file M.java with the main class M, whose statement prints 1.
-const SPELLINGS: [(Kind, &str); 17] = [
+const SPELLINGS: &[(Kind, &str)] = &[
     (Kind::Files, "000000000000000001064d2e6a617661"),
     (Kind::Source, "0100"),
     (Kind::Source, "01010000000000000003000aff"),
@@ -35,7 +35,7 @@ const SPELLINGS: [(Kind, &str); 17] = [
 ];
 
 // What spells nothing, and why.
-const REFUSALS: [(Kind, &str, Refusal); 24] = [
+const REFUSALS: &[(Kind, &str, Refusal)] = &[
     (Kind::Files, "", Refusal::Short),
     (Kind::CheckClass, "09", Refusal::Short),
     (Kind::CheckClass, "09ffffffffffffffff", Refusal::Short),
@@ -126,7 +126,7 @@ const REFUSALS: [(Kind, &str, Refusal); 24] = [
 ];
 
 // A method with every form of type, statement and expression, and a class that has it.
-const EVERY_PHRASE: [(Kind, &str); 2] = [
+const EVERY_PHRASE: &[(Kind, &str)] = &[
     (
         Kind::Method,
         "0501010166030141000000000000000101610200000004000000000000000101620100000009000000000000000b00000000070000000000000002030000000708000000070000000500000000070000000000000000010000000709000000070300000007080000000700000005030000000708000000070000000502000000070a0000000703000000070400000007080000000700000005080000000700000005030000000706000000070b000000070178040000000701780000000307000000070c00000007016d0000000000000002080000000700000005090000000705000000070178000000030d0000000708000000070000000505000000070b00000007017808000000070000000503000000070f0000000710000000070e0000000701410300000007000000000708000000070000000508000000070000000503000000070100000007080000000700000005080000000700000005030000000702000000070800000007000000050800000007000000050300000007030000000708000000070000000508000000070000000508000000070000000500000063",
@@ -138,7 +138,7 @@ const EVERY_PHRASE: [(Kind, &str); 2] = [
 ];
 
 // The answers of example projects: their bytes, and the text that is printed for them.
-const ANSWERS: [(&str, &str); 19] = [
+const ANSWERS: &[(&str, &str)] = &[
     // one-literal, and all that answer as it does
     (
         "0c00000000000000000000000000000001014d000000000000000000000000000000000000000000000000",
@@ -235,97 +235,114 @@ fn bytes_of(rt: HostRuntime, digits: &str) -> Result<Vec<u8>, Fail> {
     )
 }
 
-fn value_of(rt: HostRuntime, kind: Kind, bytes: &[u8]) -> Result<Value, Fail> {
+// Whether the bytes spell a value that has just this spelling.
+fn is_spelling(rt: HostRuntime, kind: Kind, bytes: &[u8]) -> Result<bool, Fail> {
     match decode(rt.alloc(), kind, bytes) {
-        Ok(value) => Ok(value),
-        Err(_refusal) => Err("no value".into()),
+        Ok(value) => Ok(encode(rt.alloc(), &value)?.as_slice() == bytes),
+        Err(_refusal) => Ok(false),
     }
 }
 
-fn spelled(rt: HostRuntime, value: &Value) -> Result<Vec<u8>, Fail> {
-    Ok(encode(rt.alloc(), value)?)
-}
-
-fn again(rt: HostRuntime, kind: Kind, bytes: &[u8]) -> Result<Vec<u8>, Fail> {
-    match decode(rt.alloc(), kind, bytes) {
-        Ok(value) => spelled(rt, &value),
-        Err(_refusal) => Err("no value".into()),
-    }
-}
-
-fn answer_of(rt: HostRuntime, bytes: &[u8]) -> Result<WholeAnswer, Fail> {
-    match value_of(rt, Kind::Answer, bytes)? {
-        Value::Answer(whole) => Ok(whole),
-        _other => Err("a value of another kind".into()),
-    }
-}
-
-fn printed(rt: HostRuntime, bytes: &[u8]) -> Result<String, Fail> {
-    let whole = answer_of(rt, bytes)?;
-    Ok(render(rt.alloc(), whole.answer())?)
+fn are_spelling(rt: HostRuntime, kind: Kind, digits: &str) -> Result<bool, Fail> {
+    let bytes = bytes_of(rt, digits)?;
+    is_spelling(rt, kind, &bytes)
 }
 
 #[test]
 fn spellings(rt: HostRuntime) -> Result<(), Fail> {
-    for (kind, digits) in SPELLINGS.iter().chain(&EVERY_PHRASE) {
-        let bytes = bytes_of(rt, digits)?;
-        assert_eq!(rt; again(rt, *kind, &bytes)?.as_slice(), bytes.as_slice());
+    for (kind, digits) in SPELLINGS.iter().chain(EVERY_PHRASE) {
+        assert!(rt; are_spelling(rt, *kind, digits)?, "{digits}");
     }
     Ok(())
 }
 
+// Whether the bytes are refused so.
+fn is_refused(rt: HostRuntime, kind: Kind, digits: &str, want: Refusal) -> Result<bool, Fail> {
+    let bytes = bytes_of(rt, digits)?;
+    Ok(decode(rt.alloc(), kind, &bytes).err() == Some(want))
+}
+
 #[test]
 fn refusals(rt: HostRuntime) -> Result<(), Fail> {
-    for (kind, digits, refusal) in &REFUSALS {
-        let bytes = bytes_of(rt, digits)?;
-        assert!(rt; decode(rt.alloc(), *kind, &bytes).err() == Some(*refusal));
+    for (kind, digits, refusal) in REFUSALS {
+        assert!(rt; is_refused(rt, *kind, digits, *refusal)?, "{digits}");
     }
     Ok(())
+}
+
+fn is_text(rt: HostRuntime, whole: &WholeAnswer, want: &str) -> Result<bool, Fail> {
+    Ok(render(rt.alloc(), whole.answer())?.as_str() == want)
+}
+
+// Whether the bytes spell an answer of this text.
+fn is_printed(rt: HostRuntime, digits: &str, want: &str) -> Result<bool, Fail> {
+    let bytes = bytes_of(rt, digits)?;
+    match decode(rt.alloc(), Kind::Answer, &bytes) {
+        Ok(Value::Answer(whole)) => is_text(rt, &whole, want),
+        _ => Ok(false),
+    }
 }
 
 // The bytes were made from the text that is printed for each example, by another program.
 #[test]
 fn answers(rt: HostRuntime) -> Result<(), Fail> {
-    for (digits, text) in &ANSWERS {
-        let bytes = bytes_of(rt, digits)?;
-        assert_eq!(rt;
-            again(rt, Kind::Answer, &bytes)?.as_slice(),
-            bytes.as_slice()
-        );
-        assert_eq!(rt; printed(rt, &bytes)?.as_str(), *text);
+    for (digits, text) in ANSWERS {
+        let is_both = are_spelling(rt, Kind::Answer, digits)? && is_printed(rt, digits, text)?;
+        assert!(rt; is_both, "{digits}");
     }
     Ok(())
+}
+
+// The bytes with one byte changed.
+fn changed(rt: HostRuntime, bytes: &[u8], at: usize, flip: u8) -> Result<Vec<u8>, Fail> {
+    let mut other = bytes.to_vec(rt.alloc())?;
+    if let Some(byte) = other.get_mut(at) {
+        *byte ^= flip;
+    }
+    Ok(other)
+}
+
+// Whether the bytes spell a value whose spelling is another one.
+fn is_spelled_as(rt: HostRuntime, kind: Kind, bytes: &[u8], other: &[u8]) -> Result<bool, Fail> {
+    match decode(rt.alloc(), kind, other) {
+        Ok(value) => Ok(encode(rt.alloc(), &value)?.as_slice() == bytes),
+        Err(_refusal) => Ok(false),
+    }
+}
+
+// Whether a change of this byte leaves the value as it was.
+fn is_idle(rt: HostRuntime, kind: Kind, bytes: &[u8], at: usize, flip: u8) -> Result<bool, Fail> {
+    let other = changed(rt, bytes, at, flip)?;
+    is_spelled_as(rt, kind, bytes, &other)
+}
+
+// Whether each byte counts.
+fn is_tight(rt: HostRuntime, kind: Kind, bytes: &[u8]) -> Result<bool, Fail> {
+    for at in 0..bytes.len() {
+        for flip in [0x01, 0x80, 0xff] {
+            if is_idle(rt, kind, bytes, at, flip)? {
+                return Ok(false);
+            }
+        }
+    }
+    Ok(true)
+}
+
+fn are_tight(rt: HostRuntime, kind: Kind, digits: &str) -> Result<bool, Fail> {
+    let bytes = bytes_of(rt, digits)?;
+    is_tight(rt, kind, &bytes)
 }
 
 // No byte of a tree can be another one without a refusal or another value.
 #[test]
 fn each_byte_of_a_tree(rt: HostRuntime) -> Result<(), Fail> {
-    for (kind, digits) in &EVERY_PHRASE {
-        let bytes = bytes_of(rt, digits)?;
-        for at in 0..bytes.len() {
-            changed(rt, *kind, &bytes, at)?;
-        }
+    for (kind, digits) in EVERY_PHRASE {
+        assert!(rt; are_tight(rt, *kind, digits)?, "{kind:?}");
     }
     Ok(())
 }
 
-fn changed(rt: HostRuntime, kind: Kind, bytes: &[u8], at: usize) -> Result<(), Fail> {
-    for flip in [0x01, 0x80, 0xff] {
-        let mut other = bytes.to_vec(rt.alloc())?;
-        if let Some(byte) = other.get_mut(at) {
-            *byte ^= flip;
-        }
-        if let Ok(value) = decode(rt.alloc(), kind, &other) {
-            let spelled = encode(rt.alloc(), &value)?;
-            if spelled.as_slice() == bytes {
-                return Err("one spelling of two values".into());
-            }
-        }
-    }
-    Ok(())
-}
-
-/// The bytes of a main class whose statement prints 1 behind so many `!`.
+// The bytes of a main class whose statement prints 1 behind so many `!`.
 fn nested(rt: HostRuntime, levels: usize) -> Result<Vec<u8>, Fail> {
     let mut bytes = bytes_of(rt, "050100030000000b")?;
     for _ in 0..levels {
@@ -336,15 +353,16 @@ fn nested(rt: HostRuntime, levels: usize) -> Result<Vec<u8>, Fail> {
 }
 
 #[test]
-fn levels(rt: HostRuntime) -> Result<(), Fail> {
+fn deepest_tree(rt: HostRuntime) -> Result<(), Fail> {
     let deepest = nested(rt, 498)?;
-    assert_eq!(rt;
-        again(rt, Kind::Method, &deepest)?.as_slice(),
-        deepest.as_slice()
-    );
+    assert!(rt; is_spelling(rt, Kind::Method, &deepest)?);
+    Ok(())
+}
+
+#[test]
+fn tree_that_is_too_deep(rt: HostRuntime) -> Result<(), Fail> {
     let deeper = nested(rt, 499)?;
-    assert!(rt;
-        decode(rt.alloc(), Kind::Method, &deeper).err() == Some(Refusal::NotCanonical(2503))
-    );
+    let refusal = decode(rt.alloc(), Kind::Method, &deeper).err();
+    assert!(rt; refusal == Some(Refusal::NotCanonical(2503)));
     Ok(())
 }

@@ -7,7 +7,8 @@ use Rattle.mj_rules.specs.declared.places.FaultLine.{FaultLine}
 
 -- neither the project nor a class has a fault
 abbrev pub is_clean : AnswerValue → Bool
-is_clean answer = length answer.faults == 0 && list_all (λ class. length class.faults == 0) answer.classes
+is_clean answer =
+    length answer.faults == 0 && list_all (λ class. length class.faults == 0) answer.classes
 
 -- the file, its line and its column, if the fault has them
 abbrev pub place_words : Option (List ℕ) → Option (ℕ × ℕ) → List ℕ
@@ -17,7 +18,9 @@ place_words None at = codes "project"
 
 -- Main.java:3:7: E304
 abbrev pub line_text : FaultLine → List ℕ
-line_text line = place_words (option_map (λ file. file.now) line.file) line.at ++ codes ": E" ++ decimal (code_number line.code) ++ codes "\n"
+line_text line =
+    place_words (option_map (λ file. file.now) line.file) line.at ++ codes ": E"
+        ++ decimal (code_number line.code) ++ codes "\n"
 
 -- a line for each fault of the answer, in its order
 pub record AreLinesOf (answer : AnswerValue) (text : List ℕ) : Type 0 where
@@ -27,7 +30,8 @@ pub record AreLinesOf (answer : AnswerValue) (text : List ℕ) : Type 0 where
 
 -- why files are no project; want of memory has no text
 abbrev pub refusal_words : ProjectFault → List ℕ
-refusal_words (RepeatedFile file) = codes "refused: 3.1 RepeatedFile(" ++ decimal file ++ codes ")\n"
+refusal_words (RepeatedFile file) =
+    codes "refused: 3.1 RepeatedFile(" ++ decimal file ++ codes ")\n"
 refusal_words NoFiles = codes "refused: 3.2 NoFiles\n"
 refusal_words TooManyFiles = codes "refused: 3.3 TooManyFiles\n"
 refusal_words (BadFileName file) = codes "refused: 3.4 BadFileName(" ++ decimal file ++ codes ")\n"

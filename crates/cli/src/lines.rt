@@ -37,7 +37,8 @@ pub(crate) fn fault_text(
 }
 
 fn write_lines(text: &mut String, lines: &[FaultLine<'_>]) -> Result<(), AllocError>
-    ensures { OnOk result (string_bytes text.new ≡ string_bytes text.old ++ flat_map line_text lines.now) }
+    ensures { OnOk result
+        (string_bytes text.new ≡ string_bytes text.old ++ flat_map line_text lines.now) }
 {
     for line in lines {
         write_line(text, line)?;

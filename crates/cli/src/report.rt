@@ -70,7 +70,10 @@ impl Report {
 
 /// Writes the notes, and then the answer. Where one of them can't be written the run is refused.
 pub fn deliver<W: Write, E: Write>(report: &Report, out: &mut W, err: &mut E) -> Status
-    ensures { (result ≡ Status.Refused) ⊎ ((result ≡ report.now.status) × IsWritten report.now (W.contents out.old) (W.contents out.new) (E.contents err.old) (E.contents err.new)) }
+    ensures { (result ≡ Status.Refused)
+        ⊎ ((result ≡ report.now.status)
+        × IsWritten report.now (W.contents out.old) (W.contents out.new)
+        (E.contents err.old) (E.contents err.new)) }
 {
     if write(err, report.notes.as_bytes()).is_err() {
         return Status::Refused;
@@ -84,7 +87,9 @@ pub fn deliver<W: Write, E: Write>(report: &Report, out: &mut W, err: &mut E) ->
 
 /// Says that memory ran out, and takes none for it. Where that can't be written the run is refused.
 pub fn no_memory<E: Write>(err: &mut E) -> Status
-    ensures { (result ≡ Status.Refused) ⊎ ((result ≡ Status.OutOfMemory) × Appends (E.contents err.old) (E.contents err.new) (codes "out of memory\n")) }
+    ensures { (result ≡ Status.Refused)
+        ⊎ ((result ≡ Status.OutOfMemory)
+        × Appends (E.contents err.old) (E.contents err.new) (codes "out of memory\n")) }
 {
     match write(err, b"out of memory\n") {
         Ok(()) => Status::OutOfMemory,
@@ -94,7 +99,9 @@ pub fn no_memory<E: Write>(err: &mut E) -> Status
 
 /// Says why the system gave no words.
 pub fn no_words<E: Write>(error: &io::Error, err: &mut E) -> Status
-    ensures { (result ≡ Status.Refused) ⊎ ((result ≡ Status.OutOfMemory) × (error_kind error.now ≡ ErrorKind.OutOfMemory) × Appends (E.contents err.old) (E.contents err.new) (codes "out of memory\n")) }
+    ensures { (result ≡ Status.Refused)
+        ⊎ ((result ≡ Status.OutOfMemory) × (error_kind error.now ≡ ErrorKind.OutOfMemory)
+        × Appends (E.contents err.old) (E.contents err.new) (codes "out of memory\n")) }
 {
     if error.kind() == ErrorKind::OutOfMemory {
         return no_memory(err);

@@ -26,9 +26,11 @@ pub fn run<R: Files + AllocGlobal, W: Write, E: Write>(
     err: &mut E,
 ) -> u8
     ensures status { IsStatus result }
-    ensures answer { (names : List (List ℕ)) → scratch_files (map string_bytes list.items) ≡ Some names
+    ensures answer { (names : List (List ℕ))
+        → scratch_files (map string_bytes list.items) ≡ Some names
         → IsTrue (asks_plainly (map string_bytes list.items)) → (result ≡ 0) ⊎ (result ≡ 1)
-        → Prints names result (W.contents out.old) (W.contents out.new) (E.contents err.old) (E.contents err.new) }
+        → Prints names result (W.contents out.old) (W.contents out.new) (E.contents err.old)
+        (E.contents err.new) }
 {
     let status = match report_of(rt, list) {
         Ok(report) => deliver(&report, out, err),
@@ -41,7 +43,9 @@ pub fn run<R: Files + AllocGlobal, W: Write, E: Write>(
 fn report_of<R: Files + AllocGlobal>(rt: &R, list: Vec<String>) -> Result<Report, AllocError>
     ensures { (names : List (List ℕ)) → scratch_files (map string_bytes list.items) ≡ Some names
         → IsTrue (asks_plainly (map string_bytes list.items))
-        → IfOk result (λ report. (report.status ≡ Status.Clean) ⊎ (report.status ≡ Status.Diagnostics) → ReportsOn names report) }
+        → IfOk result (λ report.
+        (report.status ≡ Status.Clean) ⊎ (report.status ≡ Status.Diagnostics)
+        → ReportsOn names report) }
 {
     match perform(rt, list) {
         Ok(report) => Ok(report),
@@ -51,8 +55,11 @@ fn report_of<R: Files + AllocGlobal>(rt: &R, list: Vec<String>) -> Result<Report
 
 // What the words ask for.
 fn perform<R: Files + AllocGlobal>(rt: &R, list: Vec<String>) -> Result<Report, Failure>
-    ensures reports { (names : List (List ℕ)) → scratch_files (map string_bytes list.items) ≡ Some names → IfOk result (ReportsOn names) }
-    ensures plain { IsTrue (asks_plainly (map string_bytes list.items)) → IfErr result (λ failure. status_of_failure failure ≢ Status.Clean) }
+    ensures reports { (names : List (List ℕ))
+        → scratch_files (map string_bytes list.items) ≡ Some names
+        → IfOk result (ReportsOn names) }
+    ensures plain { IsTrue (asks_plainly (map string_bytes list.items))
+        → IfErr result (λ failure. status_of_failure failure ≢ Status.Clean) }
 {
     match words(rt.alloc(), list)? {
         Words::Scratch(names) => scratch(rt, names),
@@ -74,7 +81,8 @@ fn scratch<R: Files + AllocGlobal>(rt: &R, names: Vec<String>) -> Result<Report,
 fn answered(alloc: Global, project: &Project, answer: &Answer) -> Result<Report, AllocError>
     ensures notes { IfOk result (λ report. AreLinesOf answer.now (string_bytes report.notes)) }
     ensures answer { IfOk result (λ report. string_bytes report.answer ≡ text_of answer.now) }
-    ensures status { IfOk result (λ report. report.status ≡ status_of_answer (is_clean answer.now)) }
+    ensures status { IfOk result (λ report.
+        report.status ≡ status_of_answer (is_clean answer.now)) }
 {
     let status = if is_clean(answer) {
         Status::Clean
@@ -93,7 +101,8 @@ fn read_files<R: Files + AllocGlobal>(
     rt: &R,
     names: Vec<String>,
 ) -> Result<Vec<(String, Vec<u8>)>, Failure>
-    ensures named { IfOk result (λ files. map (λ file. string_bytes file.0) files.items ≡ map string_bytes names.items) }
+    ensures named { IfOk result (λ files.
+        map (λ file. string_bytes file.0) files.items ≡ map string_bytes names.items) }
     ensures failed { IfErr result (λ failure. status_of_failure failure ≢ Status.Clean) }
 {
     let mut files = Vec::new(rt.alloc());
@@ -112,7 +121,8 @@ fn read_files<R: Files + AllocGlobal>(
 // What is written of a failure. Want of memory has no text, which would take memory.
 fn explained(alloc: Global, failure: Failure) -> Result<Report, AllocError>
     ensures status { IfOk result (λ report. report.status ≡ status_of_failure failure) }
-    ensures no_answer { IfOk result (λ report. report.status ≡ Status.Refused → string_bytes report.answer ≡ []) }
+    ensures no_answer { IfOk result (λ report.
+        report.status ≡ Status.Refused → string_bytes report.answer ≡ []) }
 {
     match failure {
         Failure::Words(WordsFault::Help(text)) => Ok(Report::help(alloc, text)),

@@ -22,7 +22,11 @@ Standard output:
   the faults of the project, and then each class with its members and its faults
 
 Standard error:
-  one line FILE:LINE:COL: CODE for each fault, or why there is no answer
+  one line FILE:LINE:COL: CODE for each fault, or why there is no answer:
+  cannot read FILE
+  refused: 3.1 RepeatedFile(N)  file N, counted from 0, has the name of an earlier one
+  refused: 3.3 TooManyFiles     there are more than 4,096 files
+  refused: 3.4 BadFileName(N)   the name of file N is empty or has over 255 bytes
 
 Exit status:
   0  no diagnostics, or help was asked for

@@ -180,7 +180,8 @@ impl Eq for Code {
 impl PartialOrd for Code {
     ghost partial_cmp = { as_partial_cmp (on code_number nat_cmp) };
 
-    ghost laws = { partial_order_from_own_ties (Prim.search (comparing, rules)) (λ c d. unsigned_ties (code_number c) (code_number d)) };
+    ghost laws = { partial_order_from_own_ties (Prim.search (comparing, rules))
+        (λ c d. unsigned_ties (code_number c) (code_number d)) };
 
     fn partial_cmp(&self, other: &Code) -> Option<Ordering> {
         Some(self.cmp(other))

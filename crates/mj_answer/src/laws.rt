@@ -10,7 +10,8 @@ ghost use Rattle.mj_answer.specs.Order.{NameBefore, PlaceBefore, Before, IsStric
 /// A code is the one with its number.
 pub fn code_numbers()
     ensures there { (code : Code) → code_of (code_number code) ≡ Some code }
-    ensures back { (number : ℕ) (code : Code) → code_of number ≡ Some code → code_number code ≡ number }
+    ensures back { (number : ℕ) (code : Code) → code_of number ≡ Some code
+        → code_number code ≡ number }
 {}
 
 /// Names, places and faults are in strict total orders.

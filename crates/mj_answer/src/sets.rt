@@ -22,7 +22,8 @@ pub fn ascending<T: Ord + Drop>(items: Vec<T>) -> Vec<T>
 /// These faults as a set.
 pub fn fault_set(faults: Vec<Diagnostic>) -> Vec<Diagnostic>
     ensures ascending { IsAscending result.items }
-    ensures same { (fault : Diagnostic) → Contains result.items fault ↔ Contains faults.items fault }
+    ensures same { (fault : Diagnostic)
+        → Contains result.items fault ↔ Contains faults.items fault }
 {
     ascending(faults)
 }

@@ -28,13 +28,20 @@ impl Model for MethodRow {
 
     ghost Value = { MethodRowValue };
 
-    ghost view = { λ row. record { name = row.name; owner = row.owner; formals = row.formals.items; returns = row.returns } };
+    ghost view = { λ row.
+        record {
+          name = row.name;
+          owner = row.owner;
+          formals = row.formals.items;
+          returns = row.returns;
+        } };
 }
 
 impl MethodRow {
     /// A method of these formal types and this return type.
     pub fn new(name: Name, owner: Name, formals: Vec<Ty>, returns: Ty) -> Self
-        ensures { result ≡ record { name = name; owner = owner; formals = formals.items; returns = returns } }
+        ensures { result
+            ≡ record { name = name; owner = owner; formals = formals.items; returns = returns } }
     {
         MethodRow {
             name,
@@ -124,7 +131,8 @@ impl Model for ClassAnswer {
 
     ghost Value = { ClassAnswerValue };
 
-    ghost view = { λ class. record { name = class.name; table = class.table; faults = class.faults.items } };
+    ghost view = { λ class.
+        record { name = class.name; table = class.table; faults = class.faults.items } };
 }
 
 impl ClassAnswer {
@@ -174,7 +182,8 @@ impl Model for Answer {
 
     ghost Value = { AnswerValue };
 
-    ghost view = { λ answer. record { faults = answer.faults.items; classes = answer.classes.items } };
+    ghost view = { λ answer.
+        record { faults = answer.faults.items; classes = answer.classes.items } };
 }
 
 impl Answer {

@@ -20,7 +20,8 @@ pub fn render(alloc: Global, answer: &Answer) -> Result<String, AllocError>
 }
 
 fn write_classes(text: &mut String, classes: &[ClassAnswer]) -> Result<(), AllocError>
-    ensures { OnOk result (string_bytes text.new ≡ string_bytes text.old ++ flat_map class_text classes.now) }
+    ensures { OnOk result
+        (string_bytes text.new ≡ string_bytes text.old ++ flat_map class_text classes.now) }
 {
     for class in classes {
         write_class(text, class)?;
@@ -38,7 +39,8 @@ fn write_class(text: &mut String, class: &ClassAnswer) -> Result<(), AllocError>
 }
 
 fn write_fields(text: &mut String, rows: &[FieldRow]) -> Result<(), AllocError>
-    ensures { OnOk result (string_bytes text.new ≡ string_bytes text.old ++ flat_map field_line rows.now) }
+    ensures { OnOk result
+        (string_bytes text.new ≡ string_bytes text.old ++ flat_map field_line rows.now) }
 {
     for row in rows {
         write_field(text, row)?;
@@ -59,7 +61,8 @@ fn write_field(text: &mut String, row: &FieldRow) -> Result<(), AllocError>
 }
 
 fn write_methods(text: &mut String, rows: &[MethodRow]) -> Result<(), AllocError>
-    ensures { OnOk result (string_bytes text.new ≡ string_bytes text.old ++ flat_map method_line rows.now) }
+    ensures { OnOk result
+        (string_bytes text.new ≡ string_bytes text.old ++ flat_map method_line rows.now) }
 {
     for row in rows {
         write_method(text, row)?;
@@ -106,7 +109,8 @@ fn type_name(ty: &Ty) -> &str
 }
 
 fn write_faults(text: &mut String, faults: &[Diagnostic]) -> Result<(), AllocError>
-    ensures { OnOk result (string_bytes text.new ≡ string_bytes text.old ++ flat_map fault_line faults.now) }
+    ensures { OnOk result
+        (string_bytes text.new ≡ string_bytes text.old ++ flat_map fault_line faults.now) }
 {
     for fault in faults {
         write_fault(text, fault)?;
@@ -115,7 +119,9 @@ fn write_faults(text: &mut String, faults: &[Diagnostic]) -> Result<(), AllocErr
 }
 
 fn write_indented_faults(text: &mut String, faults: &[Diagnostic]) -> Result<(), AllocError>
-    ensures { OnOk result (string_bytes text.new ≡ string_bytes text.old ++ flat_map indented_fault_line faults.now) }
+    ensures { OnOk result
+        (string_bytes text.new
+        ≡ string_bytes text.old ++ flat_map indented_fault_line faults.now) }
 {
     for fault in faults {
         text.push_str("  ")?;

@@ -42,7 +42,8 @@ pub record IsChain (cs : List ClassDecl) (c : Name) (chain : List Name) (end : E
 
 -- A type is accepted by another: they are equal, or classes of which the second stands in the chain of the first.
 abbrev pub Sub : List ClassDecl → Ty → Ty → Type 0
-Sub cs (Class t) (Class u) = (t ≡ u) ⊎ ((chain : List Name) × (end : EndOf) × IsChain cs t chain end × Contains chain u)
+Sub cs (Class t) (Class u) =
+    (t ≡ u) ⊎ ((chain : List Name) × (end : EndOf) × IsChain cs t chain end × Contains chain u)
 Sub cs t u = t ≡ u
 
 -- ---- the same as functions
@@ -58,7 +59,8 @@ on_from on names u None = (names, Undeclared u)
 on_from on names u (Some k) = on names k
 
 -- how a chain goes on behind these names, the last of which extends this
-abbrev pub on_by : List ClassDecl → (List Name → ClassDecl → Chain) → List Name → Option Name → Chain
+abbrev pub on_by : List ClassDecl → (List Name → ClassDecl → Chain) → List Name → Option Name
+    → Chain
 on_by cs on names None = (names, Top)
 on_by cs on names (Some u) = if is_in names u then (names, Repeated u) else on_from on names u (decl cs u)
 

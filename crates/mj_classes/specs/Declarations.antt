@@ -17,10 +17,26 @@ pub record ClassDecl : Type 0 where
 
 -- A main class extends nothing and has no members.
 abbrev pub main_decl : ℕ → Main → ClassDecl
-main_decl file m = record { file = file; number = 0; name = m.name; superclass = None; main = Some m.statement; fields = []; methods = [] }
+main_decl file m = record {
+  file = file;
+  number = 0;
+  name = m.name;
+  superclass = None;
+  main = Some m.statement;
+  fields = [];
+  methods = [];
+}
 
 abbrev pub class_decl : ℕ → ℕ → Class → ClassDecl
-class_decl file number c = record { file = file; number = number; name = c.name; superclass = c.superclass; main = None; fields = c.fields; methods = c.methods }
+class_decl file number c = record {
+  file = file;
+  number = number;
+  name = c.name;
+  superclass = c.superclass;
+  main = None;
+  fields = c.fields;
+  methods = c.methods;
+}
 
 abbrev pub numbered : ℕ → ℕ → List Class → List ClassDecl
 numbered file number [] = []

@@ -11,8 +11,10 @@ use Rattle.mj_classes.specs.Tables.{IsTable, field_table, method_table}
 
 -- A class has a chain exactly where it is declared, and then one chain with one end, which `chain_of` gives.
 pub record ChainLaws : Type 0 where
-  pub given : (cs : List ClassDecl) (c : Name) (chain : List Name) (end : EndOf) → IsChain cs c chain end ↔ (chain_of cs c ≡ Some (chain, end))
-  pub declared : (cs : List ClassDecl) (c : Name) (k : ClassDecl) → decl cs c ≡ Some k → (chain : List Name) × (end : EndOf) × IsChain cs c chain end
+  pub given : (cs : List ClassDecl) (c : Name) (chain : List Name) (end : EndOf)
+      → IsChain cs c chain end ↔ (chain_of cs c ≡ Some (chain, end))
+  pub declared : (cs : List ClassDecl) (c : Name) (k : ClassDecl) → decl cs c ≡ Some k
+      → (chain : List Name) × (end : EndOf) × IsChain cs c chain end
   pub undeclared : (cs : List ClassDecl) (c : Name) → decl cs c ≡ None → chain_of cs c ≡ None
 
 -- Acceptance is an order on the types whose chains end.
@@ -20,11 +22,16 @@ pub record AcceptanceLaws : Type 0 where
   pub given : (cs : List ClassDecl) (t u : Ty) → Sub cs t u ↔ (accepts cs t u ≡ true)
   pub reflexive : (cs : List ClassDecl) (t : Ty) → Sub cs t t
   pub transitive : (cs : List ClassDecl) (t u v : Ty) → Sub cs t u → Sub cs u v → Sub cs t v
-  pub antisymmetric : (cs : List ClassDecl) (t u : Name) → Sub cs (Class t) (Class u) → Sub cs (Class u) (Class t) → t ≢ u
+  pub antisymmetric : (cs : List ClassDecl) (t u : Name) → Sub cs (Class t) (Class u)
+      → Sub cs (Class u) (Class t) → t ≢ u
       → (chain : List Name) × (again : Name) × IsChain cs t chain (Repeated again)
 
 pub record MemberLaws : Type 0 where
-  pub field : (cs : List ClassDecl) (c x owner : Name) (field : Field) → FieldOf cs c x owner field ↔ (field_of cs c x ≡ Some (owner, field))
-  pub method : (cs : List ClassDecl) (c m owner : Name) (method : Method) → MethodOf cs c m owner method ↔ (method_of cs c m ≡ Some (owner, method))
-  pub fields : (cs : List ClassDecl) (c : Name) → IsTable (λ f. f.name) (λ owner f. FieldOf cs c f.name owner f) (field_table cs c)
-  pub methods : (cs : List ClassDecl) (c : Name) → IsTable (λ m. m.name) (λ owner m. MethodOf cs c m.name owner m) (method_table cs c)
+  pub field : (cs : List ClassDecl) (c x owner : Name) (field : Field)
+      → FieldOf cs c x owner field ↔ (field_of cs c x ≡ Some (owner, field))
+  pub method : (cs : List ClassDecl) (c m owner : Name) (method : Method)
+      → MethodOf cs c m owner method ↔ (method_of cs c m ≡ Some (owner, method))
+  pub fields : (cs : List ClassDecl) (c : Name)
+      → IsTable (λ f. f.name) (λ owner f. FieldOf cs c f.name owner f) (field_table cs c)
+  pub methods : (cs : List ClassDecl) (c : Name)
+      → IsTable (λ m. m.name) (λ owner m. MethodOf cs c m.name owner m) (method_table cs c)

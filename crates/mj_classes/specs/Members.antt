@@ -19,7 +19,8 @@ pub record IsNearest {A : Type 0} (own : ClassDecl → Option A) (cs : List Clas
   pub farther : List Name
   pub end : EndOf
   pub is_chain : IsChain cs c (nearer ++ (owner ∷ farther)) end
-  pub none_nearer : (d : Name) (k : ClassDecl) → Contains nearer d → decl cs d ≡ Some k → own k ≡ None
+  pub none_nearer : (d : Name) (k : ClassDecl) → Contains nearer d → decl cs d ≡ Some k
+      → own k ≡ None
   pub here : (k : ClassDecl) × (decl cs owner ≡ Some k) × (own k ≡ Some found)
 
 abbrev pub FieldOf : List ClassDecl → Name → Name → Name → Field → Type 0

@@ -22,4 +22,5 @@ method_rows es = rows_by method_member_view es
 
 -- under each name the first list has what the second has
 abbrev pub SayAlike : {A : Type 0} → List (Name × A) → List (Name × A) → Type 0
-SayAlike rows entries = (n : Name) → names.find (slice_cmp nat_cmp) n rows ≡ names.find (slice_cmp nat_cmp) n entries
+SayAlike rows entries =
+    (n : Name) → names.find (slice_cmp nat_cmp) n rows ≡ names.find (slice_cmp nat_cmp) n entries

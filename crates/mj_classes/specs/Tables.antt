@@ -25,7 +25,8 @@ abbrev pub own_rows : {A : Type 0} → (A → Name) → Name → List A → List
 own_rows name owner own = map (λ a. (name a, (owner, a))) own
 
 -- all that these classes declare, in order
-abbrev pub all_along : {A : Type 0} → (A → Name) → (ClassDecl → List A) → List ClassDecl → List (Name × (Name × A))
+abbrev pub all_along : {A : Type 0} → (A → Name) → (ClassDecl → List A) → List ClassDecl
+    → List (Name × (Name × A))
 all_along name own [] = []
 all_along name own (k ∷ ks) = own_rows name k.name (own k) ++ all_along name own ks
 

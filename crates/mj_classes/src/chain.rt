@@ -33,8 +33,11 @@ impl<'a> Declarations<'a> {
 
     /// The chain of a class, if it is declared.
     pub fn chain(&self, alloc: Global, name: &Name) -> Result<Option<ClassChain<'a>>, AllocError>
-        ensures chain { IfOk result (λ o. option_map chain_view o ≡ chain_of (declared_in self.now) name.now) }
-        ensures classes { IfOk result (λ o. MatchOption o (decl (declared_in self.now) name.now ≡ None) (λ c. classes_view c.classes.items ≡ ancestry (declared_in self.now) name.now)) }
+        ensures chain { IfOk result (λ o.
+            option_map chain_view o ≡ chain_of (declared_in self.now) name.now) }
+        ensures classes { IfOk result (λ o.
+            MatchOption o (decl (declared_in self.now) name.now ≡ None)
+            (λ c. classes_view c.classes.items ≡ ancestry (declared_in self.now) name.now)) }
     {
         match self.find(name) {
             Some(class) => Ok(Some(self.climb(alloc, class)?)),
@@ -44,9 +47,14 @@ impl<'a> Declarations<'a> {
 
     /// The chain of a declared class.
     fn climb(&self, alloc: Global, first: ClassRef<'a>) -> Result<ClassChain<'a>, AllocError>
-        requires { decl (declared_in self.now) (class_ref_view first).name ≡ Some (class_ref_view first) }
-        ensures chain { IfOk result (λ c. chain_of (declared_in self.now) (class_ref_view first.entry).name ≡ Some (chain_view c)) }
-        ensures classes { IfOk result (λ c. classes_view c.classes.items ≡ ancestry (declared_in self.now) (class_ref_view first.entry).name) }
+        requires { decl (declared_in self.now) (class_ref_view first).name
+            ≡ Some (class_ref_view first) }
+        ensures chain { IfOk result (λ c.
+            chain_of (declared_in self.now) (class_ref_view first.entry).name
+            ≡ Some (chain_view c)) }
+        ensures classes { IfOk result (λ c.
+            classes_view c.classes.items
+            ≡ ancestry (declared_in self.now) (class_ref_view first.entry).name) }
     {
         let mut classes = Vec::new(alloc);
         let mut names = BTreeSet::new(alloc);

@@ -75,7 +75,8 @@ impl<'a> ClassRef<'a> {
 
     /// The first method of a name that the class itself declares.
     pub fn method(&self, name: &Name) -> Option<&'a MethodTree>
-        ensures { option_map method_view (option_copied result) ≡ own_method name.now (class_ref_view self.now) }
+        ensures { option_map method_view (option_copied result)
+            ≡ own_method name.now (class_ref_view self.now) }
     {
         first_method(self.methods(), name)
     }

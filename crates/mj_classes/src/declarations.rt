@@ -19,7 +19,8 @@ use std::collections::BTreeMap;
 pub struct Declarations<'a> {
     classes: Vec<ClassRef<'a>>,
     by_name: BTreeMap<Name, usize>,
-    ghost indexed: { (q : List ℕ) → get (slice_cmp nat_cmp) by_name q ≡ position (λ k. bytes_eq k.name q) (classes_view classes.items) },
+    ghost indexed: { (q : List ℕ) → get (slice_cmp nat_cmp) by_name q
+        ≡ position (λ k. bytes_eq k.name q) (classes_view classes.items) },
 }
 
 impl<'a> Declarations<'a> {
@@ -72,7 +73,9 @@ fn add_file<'a>(
     file: usize,
     tree: &'a FileTree,
 ) -> Result<(), AllocError>
-    ensures { OnOk result (classes_view classes.new.items ≡ classes_view classes.old.items ++ classes_of file (file_view tree.now)) }
+    ensures { OnOk result
+        (classes_view classes.new.items
+        ≡ classes_view classes.old.items ++ classes_of file (file_view tree.now)) }
 {
     match &tree.main {
         Some(main) => {
@@ -95,7 +98,9 @@ fn add_classes<'a>(
     trees: &'a [ClassTree],
 ) -> Result<(), AllocError>
     requires { first ≤ 1 }
-    ensures { OnOk result (classes_view classes.new.items ≡ classes_view classes.old.items ++ numbered file first (map class_view trees.now)) }
+    ensures { OnOk result
+        (classes_view classes.new.items
+        ≡ classes_view classes.old.items ++ numbered file first (map class_view trees.now)) }
 {
     for (n, class) in trees.iter().enumerate() {
         classes.push(ClassRef {
@@ -109,7 +114,10 @@ fn add_classes<'a>(
 
 /// The place of the first class of each name.
 fn indexed(alloc: Global, classes: &[ClassRef]) -> Result<BTreeMap<Name, usize>, AllocError>
-    ensures { IfOk result (λ m. (q : List ℕ) → get (slice_cmp nat_cmp) m q ≡ position (λ k. bytes_eq k.name q) (classes_view classes.now)) }
+    ensures { IfOk result (λ m.
+        (q : List ℕ)
+        → get (slice_cmp nat_cmp) m q
+        ≡ position (λ k. bytes_eq k.name q) (classes_view classes.now)) }
 {
     let mut by_name = BTreeMap::new(alloc);
     for (at, class) in classes.iter().enumerate() {

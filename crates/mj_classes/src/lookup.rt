@@ -48,7 +48,8 @@ impl<'a> Declarations<'a> {
 
     /// The field of a name that a class has: the nearest one.
     pub fn field(&self, class: &Name, name: &Name) -> Option<FieldMember<'a>>
-        ensures { option_map field_member_view result ≡ field_of (declared_in self.now) class.now name.now }
+        ensures { option_map field_member_view result
+            ≡ field_of (declared_in self.now) class.now name.now }
     {
         let owner = self.nearest(class, &Sought::Field(name))?;
         let field = owner.field(name)?;
@@ -60,7 +61,8 @@ impl<'a> Declarations<'a> {
 
     /// The method of a name that a class has: the nearest one.
     pub fn method(&self, class: &Name, name: &Name) -> Option<MethodMember<'a>>
-        ensures { option_map method_member_view result ≡ method_of (declared_in self.now) class.now name.now }
+        ensures { option_map method_member_view result
+            ≡ method_of (declared_in self.now) class.now name.now }
     {
         let owner = self.nearest(class, &Sought::Method(name))?;
         let method = owner.method(name)?;
@@ -73,7 +75,8 @@ impl<'a> Declarations<'a> {
     /// The first class of a chain in which something is found. A walk that comes back to a class which it has passed
     /// has seen the whole chain; that class is replaced by a later one each time that twice as many steps were made.
     fn nearest(&self, name: &Name, sought: &Sought) -> Option<ClassRef<'a>>
-        ensures { option_map class_ref_view result ≡ find (is_sought sought.now) (ancestry (declared_in self.now) name.now) }
+        ensures { option_map class_ref_view result
+            ≡ find (is_sought sought.now) (ancestry (declared_in self.now) name.now) }
     {
         let mut class = self.find(name)?;
         let mut passed = class;
@@ -94,7 +97,8 @@ impl<'a> Declarations<'a> {
 
     /// The declared class that a class extends.
     fn above(&self, class: &ClassRef<'a>) -> Option<ClassRef<'a>>
-        ensures { option_map class_ref_view result ≡ above (declared_in self.now) (class_ref_view class.now) }
+        ensures { option_map class_ref_view result
+            ≡ above (declared_in self.now) (class_ref_view class.now) }
     {
         self.find(class.superclass()?)
     }

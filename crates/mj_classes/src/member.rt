@@ -33,7 +33,8 @@ pub fn field_table<'a>(
     alloc: Global,
     classes: &[ClassRef<'a>],
 ) -> Result<Vec<FieldMember<'a>>, AllocError>
-    ensures { IfOk result (λ v. map field_member_view v.items ≡ fields_along (classes_view classes.now)) }
+    ensures { IfOk result (λ v.
+        map field_member_view v.items ≡ fields_along (classes_view classes.now)) }
 {
     let mut rows = BTreeMap::new(alloc);
     for class in classes {
@@ -48,7 +49,8 @@ pub fn method_table<'a>(
     alloc: Global,
     classes: &[ClassRef<'a>],
 ) -> Result<Vec<MethodMember<'a>>, AllocError>
-    ensures { IfOk result (λ v. map method_member_view v.items ≡ methods_along (classes_view classes.now)) }
+    ensures { IfOk result (λ v.
+        map method_member_view v.items ≡ methods_along (classes_view classes.now)) }
 {
     let mut rows = BTreeMap::new(alloc);
     for class in classes {
@@ -62,7 +64,11 @@ fn add_fields<'a>(
     rows: &mut BTreeMap<&'a Name, FieldMember<'a>>,
     class: &ClassRef<'a>,
 ) -> Result<(), AllocError>
-    ensures { OnOk result (SayAlike (field_rows rows.new.entries) (field_rows rows.old.entries ++ own_rows (λ f. f.name) (class_ref_view class.now).name (class_ref_view class.now).fields)) }
+    ensures { OnOk result
+        (SayAlike (field_rows rows.new.entries)
+        (field_rows rows.old.entries
+        ++ own_rows (λ f. f.name) (class_ref_view class.now).name
+        (class_ref_view class.now).fields)) }
 {
     let owner = class.name();
     for field in class.fields() {
@@ -79,7 +85,11 @@ fn add_methods<'a>(
     rows: &mut BTreeMap<&'a Name, MethodMember<'a>>,
     class: &ClassRef<'a>,
 ) -> Result<(), AllocError>
-    ensures { OnOk result (SayAlike (method_rows rows.new.entries) (method_rows rows.old.entries ++ own_rows (λ m. m.name) (class_ref_view class.now).name (class_ref_view class.now).methods)) }
+    ensures { OnOk result
+        (SayAlike (method_rows rows.new.entries)
+        (method_rows rows.old.entries
+        ++ own_rows (λ m. m.name) (class_ref_view class.now).name
+        (class_ref_view class.now).methods)) }
 {
     let owner = class.name();
     for method in class.methods() {

@@ -108,7 +108,8 @@ fn closes(a: u8, b: u8) -> bool
 
 /// How many bytes come up to the end of the comment that is open at the front.
 fn comment_len(text: &[u8]) -> Option<usize>
-    ensures { MatchOption result (after_comment 1 text.now ≡ None) (λ n. (n ≤ length text.now) × (after_comment 1 text.now ≡ Some (drop n text.now))) }
+    ensures { MatchOption result (after_comment 1 text.now ≡ None)
+        (λ n. (n ≤ length text.now) × (after_comment 1 text.now ≡ Some (drop n text.now))) }
 {
     let mut depth = 1usize;
     let mut i = 0;

@@ -15,7 +15,8 @@ use crate::name::Name;
 /// The tokens and the fault that are computed are those that the text is cut into, or breaks by;
 /// each text has the one or the other.
 pub fn lexing_laws(text: &[u8])
-    ensures tokens { (tokens : List Token) → Lexes text.now tokens ↔ (tokens_of text.now ≡ Some tokens) }
+    ensures tokens { (tokens : List Token)
+        → Lexes text.now tokens ↔ (tokens_of text.now ≡ Some tokens) }
     ensures fault { (fault : LexFault) → Breaks text.now fault ↔ (fault_of text.now ≡ Some fault) }
     ensures one { IsSome (tokens_of text.now) ↔ IsNone (fault_of text.now) }
 {}

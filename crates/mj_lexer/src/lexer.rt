@@ -98,9 +98,11 @@ fn tokens(alloc: Global, text: &[u8]) -> Result<Vec<Token>, LexFault>
 /// A text that is too long is refused as such; any other by the first fault from the left.
 pub fn lex(alloc: Global, text: &[u8]) -> Result<Vec<Token>, LexFault>
     ensures found { IfOk result (λ v. Lexes text.now v.items) }
-    ensures only { (others : List Token) → Lexes text.now others → MatchResult result (λ v. v.items ≡ others) (λ e. e ≡ OutOfMemory) }
+    ensures only { (others : List Token) → Lexes text.now others
+        → MatchResult result (λ v. v.items ≡ others) (λ e. e ≡ OutOfMemory) }
     ensures fault { IfErr result (λ e. e ≢ OutOfMemory → Breaks text.now e) }
-    ensures fault_only { (f : LexFault) → Breaks text.now f → MatchResult result (λ _. ⊥) (λ e. (e ≡ f) ⊎ (e ≡ OutOfMemory)) }
+    ensures fault_only { (f : LexFault) → Breaks text.now f
+        → MatchResult result (λ _. ⊥) (λ e. (e ≡ f) ⊎ (e ≡ OutOfMemory)) }
 
     // The same by the function that computes them.
     ensures tokens { IfOk result (λ v. lexing_of text.now ≡ Ok v.items) }

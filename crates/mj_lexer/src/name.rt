@@ -28,7 +28,8 @@ impl Model for Name {
 
     ghost view = { λ n. string_bytes n.text };
 
-    ghost invariant = { λ n. (0 < length (string_bytes n.text)) × (length (string_bytes n.text) ≤ most_name_bytes) };
+    ghost invariant = { λ n.
+        (0 < length (string_bytes n.text)) × (length (string_bytes n.text) ≤ most_name_bytes) };
 }
 
 impl Name {
@@ -48,7 +49,8 @@ impl Name {
 
     /// A name with this text, or `None` where the text is empty or too long.
     pub fn try_new(alloc: Global, text: &str) -> Result<Option<Self>, AllocError>
-        ensures { IfOk result (λ name. SomeIff name ((0 < length text.now) × (length text.now ≤ most_name_bytes)) text.now) }
+        ensures { IfOk result (λ name.
+            SomeIff name ((0 < length text.now) × (length text.now ≤ most_name_bytes)) text.now) }
     {
         if text.is_empty() || text.len() > Name::MOST {
             return Ok(None);
@@ -101,7 +103,8 @@ impl Eq for Name {
 impl PartialOrd for Name {
     ghost partial_cmp = { as_partial_cmp (slice_cmp nat_cmp) };
 
-    ghost laws = { partial_order_from_own_ties (Prim.search (comparing, rules)) (Prim.search (comparing, rules)) };
+    ghost laws = { partial_order_from_own_ties (Prim.search (comparing, rules))
+        (Prim.search (comparing, rules)) };
 
     fn partial_cmp(&self, other: &Name) -> Option<Ordering> {
         Some(self.cmp(other))

@@ -4,6 +4,7 @@ pub mod Rooms
 pub mod Binds
 pub mod Lists
 pub mod Marks
+pub mod Stands
 pub mod ExpressionFound
 pub mod ExpressionAgain
 pub mod Rows

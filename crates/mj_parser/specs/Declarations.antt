@@ -6,10 +6,11 @@ use Rattle.mj_tree.specs.declared.tree.Ty.{Ty}
 use Rattle.mj_tree.specs.declared.tree.Ty.TheVariants as types
 use Rattle.mj_tree.specs.declared.tree.Field.{Field}
 use Rattle.mj_tree.specs.declared.tree.Variable.{Variable}
+use Rattle.mj_tree.specs.Limits.{most_levels}
 use Rattle.mj_parser.specs.Rows.{row_size, row_height, InRow}
-use Rattle.mj_parser.specs.Tokens.{has, says, name_at}
+use Rattle.mj_parser.specs.Tokens.{has, Stands, says, name_at}
 use Rattle.mj_tree.specs.Trees.{Name, Method, Main, Class, File}
-use Rattle.mj_parser.specs.Expressions.{size, height, IsExp}
+use Rattle.mj_parser.specs.Expressions.{any_tier, size, height, IsExp}
 use Rattle.mj_parser.specs.Statements.{stmt_size, stmts_size, stmt_height, stmts_height, IsStmt, AreStmts}
 
 -- ---- types and variables
@@ -21,21 +22,24 @@ type_size types.IntArray = 3
 type_size (types.Class name) = 1
 
 abbrev pub IsType : List Token → ℕ → Ty → Type 0
-IsType ts i types.Int = has ts i terminals.Int ≡ true
-IsType ts i types.Boolean = has ts i terminals.Boolean ≡ true
-IsType ts i types.IntArray = (has ts i terminals.Int ≡ true) × (has ts (i + 1) terminals.LeftBracket ≡ true) × (has ts (i + 2) terminals.RightBracket ≡ true)
+IsType ts i types.Int = Stands ts i terminals.Int
+IsType ts i types.Boolean = Stands ts i terminals.Boolean
+IsType ts i types.IntArray =
+    Stands ts i terminals.Int × Stands ts (i + 1) terminals.LeftBracket
+        × Stands ts (i + 2) terminals.RightBracket
 IsType ts i (types.Class name) = name_at ts i ≡ Some name
 
 -- a type and a name
 abbrev pub IsVariable : List Token → ℕ → Variable → Type 0
-IsVariable ts i v = (v.mark ≡ i) × IsType ts i v.ty × (name_at ts (i + type_size v.ty) ≡ Some v.name)
+IsVariable ts i v =
+    (v.mark ≡ i) × IsType ts i v.ty × (name_at ts (i + type_size v.ty) ≡ Some v.name)
 
 abbrev pub variable_size : Variable → ℕ
 variable_size v = type_size v.ty + 1
 
 -- formals, with a comma between each two
 abbrev pub IsMoreFormal : List Token → ℕ → Variable → Type 0
-IsMoreFormal ts i v = (has ts i terminals.Comma ≡ true) × IsVariable ts (i + 1) v
+IsMoreFormal ts i v = Stands ts i terminals.Comma × IsVariable ts (i + 1) v
 
 abbrev pub more_formal_size : Variable → ℕ
 more_formal_size v = 1 + variable_size v
@@ -46,11 +50,12 @@ formals_size (v ∷ vs) = variable_size v + row_size more_formal_size vs
 
 abbrev pub AreFormals : List Token → ℕ → List Variable → Type 0
 AreFormals ts i [] = Unit {0}
-AreFormals ts i (v ∷ vs) = IsVariable ts i v × InRow (IsMoreFormal ts) more_formal_size (i + variable_size v) vs
+AreFormals ts i (v ∷ vs) =
+    IsVariable ts i v × InRow (IsMoreFormal ts) more_formal_size (i + variable_size v) vs
 
 -- a local
 abbrev pub IsLocal : List Token → ℕ → Variable → Type 0
-IsLocal ts i v = IsVariable ts i v × (has ts (i + variable_size v) terminals.Semicolon ≡ true)
+IsLocal ts i v = IsVariable ts i v × Stands ts (i + variable_size v) terminals.Semicolon
 
 abbrev pub local_size : Variable → ℕ
 local_size v = variable_size v + 1
@@ -78,28 +83,33 @@ method_height m = max (stmts_height m.body) (height m.returned)
 
 -- the tokens begin with those of the method
 pub record IsMethod (ts : List Token) (m : Method) : Type 0 where
-  pub public_word : has ts 0 terminals.Public ≡ true
+  pub public_word : Stands ts 0 terminals.Public
   pub returns : IsType ts 1 m.returns
   pub name : name_at ts (1 + type_size m.returns) ≡ Some m.name
-  pub opening : has ts (1 + type_size m.returns + 1) terminals.LeftParenthesis ≡ true
+  pub opening : Stands ts (1 + type_size m.returns + 1) terminals.LeftParenthesis
   pub formals : AreFormals ts (formals_place m) m.formals
-  pub closing : has ts (formals_place m + formals_size m.formals) terminals.RightParenthesis ≡ true
-  pub brace : has ts (formals_place m + formals_size m.formals + 1) terminals.LeftBrace ≡ true
+  pub closing : Stands ts (formals_place m + formals_size m.formals) terminals.RightParenthesis
+  pub brace : Stands ts (formals_place m + formals_size m.formals + 1) terminals.LeftBrace
   pub locals : InRow (IsLocal ts) local_size (locals_place m) m.locals
   pub body : AreStmts ts (body_place m) m.body
-  pub return_word : has ts (return_place m) terminals.Return ≡ true
+  pub return_word : Stands ts (return_place m) terminals.Return
   pub return_mark : m.return_mark ≡ return_place m
-  pub returned : IsExp ts 5 (return_place m + 1) m.returned
-  pub semicolon : has ts (return_place m + 1 + size m.returned) terminals.Semicolon ≡ true
-  pub end_brace : has ts (return_place m + 1 + size m.returned + 1) terminals.RightBrace ≡ true
+  pub returned : IsExp ts any_tier (return_place m + 1) m.returned
+  pub semicolon : Stands ts (return_place m + 1 + size m.returned) terminals.Semicolon
+  pub end_brace : Stands ts (return_place m + 1 + size m.returned + 1) terminals.RightBrace
 
 -- `public static void main (` stands at the front
 abbrev pub main_head : List Token → Bool
-main_head ts = has ts 0 terminals.Public && has ts 1 terminals.Static && has ts 2 terminals.Void && says ts 3 (codes "main") && has ts 4 terminals.LeftParenthesis
+main_head ts =
+    has ts 0 terminals.Public && has ts 1 terminals.Static && has ts 2 terminals.Void
+        && says ts 3 (codes "main") && has ts 4 terminals.LeftParenthesis
 
 -- and then `String [ ] id ) {`
 abbrev pub main_parameter : List Token → Bool
-main_parameter ts = says ts 5 (codes "String") && has ts 6 terminals.LeftBracket && has ts 7 terminals.RightBracket && is_some (name_at ts 8) && has ts 9 terminals.RightParenthesis && has ts 10 terminals.LeftBrace
+main_parameter ts =
+    says ts 5 (codes "String") && has ts 6 terminals.LeftBracket && has ts 7 terminals.RightBracket
+        && is_some (name_at ts 8) && has ts 9 terminals.RightParenthesis
+        && has ts 10 terminals.LeftBrace
 
 -- ---- classes
 
@@ -107,7 +117,9 @@ abbrev pub field_size : Field → ℕ
 field_size f = type_size f.ty + 1 + 1
 
 abbrev pub IsField : List Token → ℕ → Field → Type 0
-IsField ts i f = IsType ts i f.ty × (name_at ts (i + type_size f.ty) ≡ Some f.name) × (has ts (i + (type_size f.ty + 1)) terminals.Semicolon ≡ true)
+IsField ts i f =
+    IsType ts i f.ty × (name_at ts (i + type_size f.ty) ≡ Some f.name)
+        × Stands ts (i + (type_size f.ty + 1)) terminals.Semicolon
 
 -- a method that begins at a place
 abbrev pub IsMethodAt : List Token → ℕ → Method → Type 0
@@ -120,7 +132,7 @@ superclass_size (Some name) = 2
 
 abbrev pub IsSuperclass : List Token → ℕ → Option Name → Type 0
 IsSuperclass ts i None = Unit {0}
-IsSuperclass ts i (Some name) = (has ts i terminals.Extends ≡ true) × (name_at ts (i + 1) ≡ Some name)
+IsSuperclass ts i (Some name) = Stands ts i terminals.Extends × (name_at ts (i + 1) ≡ Some name)
 
 -- how many tokens stand before the fields
 abbrev pub head_size : Class → ℕ
@@ -130,27 +142,30 @@ abbrev pub class_size : Class → ℕ
 class_size c = head_size c + row_size field_size c.fields + row_size method_size c.methods + 1
 
 pub record IsClass (ts : List Token) (i : ℕ) (c : Class) : Type 0 where
-  pub class_word : has ts i terminals.Class ≡ true
+  pub class_word : Stands ts i terminals.Class
   pub name : name_at ts (i + 1) ≡ Some c.name
   pub superclass : IsSuperclass ts (i + 2) c.superclass
-  pub brace : has ts (i + (2 + superclass_size c.superclass)) terminals.LeftBrace ≡ true
+  pub brace : Stands ts (i + (2 + superclass_size c.superclass)) terminals.LeftBrace
   pub fields : InRow (IsField ts) field_size (i + head_size c) c.fields
-  pub methods : InRow (IsMethodAt ts) method_size (i + head_size c + row_size field_size c.fields) c.methods
-  pub end_brace : has ts (i + head_size c + row_size field_size c.fields + row_size method_size c.methods) terminals.RightBrace ≡ true
+  pub methods : InRow (IsMethodAt ts) method_size (i + head_size c + row_size field_size c.fields)
+      c.methods
+  pub end_brace : Stands ts
+      (i + head_size c + row_size field_size c.fields + row_size method_size c.methods)
+      terminals.RightBrace
 
 abbrev pub class_height : Class → ℕ
 class_height c = row_height method_height c.methods
 
 -- the main class, whose `main` begins at place 3; the statement is numbered from there
 pub record IsMain (ts : List Token) (m : Main) : Type 0 where
-  pub class_word : has ts 0 terminals.Class ≡ true
+  pub class_word : Stands ts 0 terminals.Class
   pub name : name_at ts 1 ≡ Some m.name
-  pub brace : has ts 2 terminals.LeftBrace ≡ true
+  pub brace : Stands ts 2 terminals.LeftBrace
   pub head : main_head (drop 3 ts) ≡ true
   pub parameter : main_parameter (drop 3 ts) ≡ true
   pub statement : IsStmt (drop 3 ts) 11 m.statement
-  pub end_brace : has (drop 3 ts) (11 + stmt_size m.statement) terminals.RightBrace ≡ true
-  pub end_class : has (drop 3 ts) (11 + stmt_size m.statement + 1) terminals.RightBrace ≡ true
+  pub end_brace : Stands (drop 3 ts) (11 + stmt_size m.statement) terminals.RightBrace
+  pub end_class : Stands (drop 3 ts) (11 + stmt_size m.statement + 1) terminals.RightBrace
 
 abbrev pub main_size : Main → ℕ
 main_size m = 3 + (11 + stmt_size m.statement + 2)
@@ -175,10 +190,10 @@ file_size f = main_part_size f.main + row_size class_size f.classes
 abbrev pub file_height : File → ℕ
 file_height f = max (main_part_height f.main) (row_height class_height f.classes)
 
--- The tokens are those of the file, in which no phrase has a level over 500. A statement in a body and the returned
--- expression have level 1, a part of a phrase one more than the phrase.
+-- The tokens are those of the file, in which no phrase has a level over `most_levels`. A statement in a body and the
+-- returned expression have level 1, a part of a phrase one more than the phrase.
 pub record Derives (ts : List Token) (f : File) : Type 0 where
   pub main : IsMainPart ts f.main
   pub classes : InRow (IsClass ts) class_size (main_part_size f.main) f.classes
   pub whole : file_size f ≡ length ts
-  pub low : file_height f ≤ 500
+  pub low : file_height f ≤ most_levels

@@ -10,7 +10,7 @@ use Rattle.mj_tree.specs.declared.tree.Operator.TheVariants.{And, Less, Plus, Mi
 use Rattle.mj_parser.specs.Tokens.{kind_at, has, says, name_at}
 use Rattle.mj_tree.specs.Trees.{Expression, Binary, Index, Length, Call, Literal, Boolean, Named, This, NewArray, NewObject, Not, Parenthesized}
 use Rattle.mj_tree.specs.Views.{expressions_of}
-use Rattle.mj_parser.specs.Expressions.{tier_of, height, is_new_array}
+use Rattle.mj_parser.specs.Expressions.{any_tier, unary_tier, tier_of, height, is_new_array}
 use Rattle.mj_parser.specs.Steps.{◌>>=◌, when, listed_at}
 
 -- an expression, and the place after it
@@ -27,7 +27,7 @@ closed ts mark make x = when (has ts x.1 mark) (Some (make x.0, x.1 + 1))
 unfoldable pub new_at : TierParser → List Token → ℕ → Found
 new_at part ts i =
     if has ts (i + 1) terminals.Int
-    then when (has ts (i + 2) terminals.LeftBracket) (part 5 (i + 3) >>= closed ts terminals.RightBracket (NewArray i))
+    then when (has ts (i + 2) terminals.LeftBracket) (part any_tier (i + 3) >>= closed ts terminals.RightBracket (NewArray i))
     else (name_at ts (i + 1) >>= λ name. when (has ts (i + 2) terminals.LeftParenthesis && has ts (i + 3) terminals.RightParenthesis) (Some (NewObject i name, i + 4)))
 
 unfoldable pub terminal_at : TierParser → List Token → ℕ → Terminal → Found
@@ -35,7 +35,7 @@ terminal_at part ts i terminals.True = Some (Boolean i true, i + 1)
 terminal_at part ts i terminals.False = Some (Boolean i false, i + 1)
 terminal_at part ts i terminals.This = Some (This i, i + 1)
 terminal_at part ts i terminals.New = new_at part ts i
-terminal_at part ts i terminals.LeftParenthesis = part 5 (i + 1) >>= closed ts terminals.RightParenthesis (Parenthesized i)
+terminal_at part ts i terminals.LeftParenthesis = part any_tier (i + 1) >>= closed ts terminals.RightParenthesis (Parenthesized i)
 terminal_at part ts i _ = None
 
 abbrev pub prim_of : TierParser → List Token → ℕ → Option Kind → Found
@@ -49,12 +49,12 @@ prim_at part ts i = prim_of part ts i (kind_at ts i)
 
 -- an index behind a tree, and a member
 unfoldable pub index_at : TierParser → List Token → Expression → ℕ → Found
-index_at part ts left j = part 5 (j + 1) >>= closed ts terminals.RightBracket (Index j left)
+index_at part ts left j = part any_tier (j + 1) >>= closed ts terminals.RightBracket (Index j left)
 
 unfoldable pub member_at : TierParser → List Token → Expression → ℕ → Found
 member_at part ts left mark = name_at ts mark >>= λ name.
     if has ts (mark + 1) terminals.LeftParenthesis
-    then (listed_at (part 5) ts (mark + 2) >>= λ x. Some (Call mark left name (expressions_of x.0), x.1))
+    then (listed_at (part any_tier) ts (mark + 2) >>= λ x. Some (Call mark left name (expressions_of x.0), x.1))
     else when (says ts mark (codes "length")) (Some (Length mark left, mark + 1))
 
 abbrev pub takes_index : List Token → Expression → ℕ → Bool
@@ -100,7 +100,7 @@ binary_from (suc gas) part ts room d left j =
 
 unfoldable pub tier_at : TierParser → List Token → ℕ → ℕ → ℕ → Found
 tier_at part ts room zero i = post_at part ts room i
-tier_at part ts room (suc zero) i = if has ts i terminals.Not then (part 1 (i + 1) >>= λ x. Some (Not i x.0, x.1)) else post_at part ts room i
+tier_at part ts room (suc zero) i = if has ts i terminals.Not then (part unary_tier (i + 1) >>= λ x. Some (Not i x.0, x.1)) else post_at part ts room i
 tier_at part ts room (suc (suc d)) i = tier_at part ts room (suc d) i >>= λ x. binary_from (suc (length ts)) part ts room (suc d) x.0 x.1
 
 -- an expression of a tier, of no more than so many levels

@@ -5,11 +5,20 @@ use Rattle.mj_lexer.specs.declared.token.Terminal.{Terminal}
 use Rattle.mj_lexer.specs.declared.token.Terminal.TheVariants as terminals
 use Rattle.mj_tree.specs.declared.tree.Operator.{Operator}
 use Rattle.mj_tree.specs.declared.tree.Operator.TheVariants.{And, Less, Plus, Minus, Times}
-use Rattle.mj_parser.specs.Tokens.{has, says, name_at, value_at}
+use Rattle.mj_parser.specs.Tokens.{has, Stands, says, name_at, value_at}
 use Rattle.mj_tree.specs.Trees.{Expression, Expressions, Binary, Index, Length, Call, Literal, Boolean, Named, This, NewArray, NewObject, Not, Parenthesized, none, more}
 
--- An operand on the right of an operator binds tighter than it, by this number: 0 is a primary with what follows
--- it, 1 is a unary.
+-- The tiers of expressions: a primary with what follows it, a unary, and any expression.
+abbrev pub primary_tier : ℕ
+primary_tier = 0
+
+abbrev pub unary_tier : ℕ
+unary_tier = 1
+
+abbrev pub any_tier : ℕ
+any_tier = 5
+
+-- An operand on the right of an operator binds tighter than it: it is of this tier.
 abbrev pub tier_of : Operator → ℕ
 tier_of And = 4
 tier_of Less = 3
@@ -77,28 +86,49 @@ abbrev pub is_new_array : Expression → Bool
 is_new_array (NewArray mark len) = true
 is_new_array _ = false
 
--- From place i on, the tokens are those of the tree, in which no operator binds looser than tier d. Tier 5 is any
--- expression.
+-- From place i on, the tokens are those of the tree, in which no operator binds looser than tier d.
 abbrev mutual
   pub IsExp : List Token → ℕ → ℕ → Expression → Type 0
-  IsExp ts d i (Binary operator mark left right) = (tier_of operator < d) × IsExp ts (suc (tier_of operator)) i left × (mark ≡ i + size left) × (has ts mark (terminal_of operator) ≡ true) × IsExp ts (tier_of operator) (mark + 1) right
-  IsExp ts d i (Index mark array index) = IsExp ts 0 i array × (is_new_array array ≡ false) × (mark ≡ i + size array) × (has ts mark terminals.LeftBracket ≡ true) × IsExp ts 5 (mark + 1) index × (has ts (mark + 1 + size index) terminals.RightBracket ≡ true)
-  IsExp ts d i (Length mark array) = IsExp ts 0 i array × (mark ≡ i + size array + 1) × (has ts (i + size array) terminals.Dot ≡ true) × (says ts mark (codes "length") ≡ true)
-  IsExp ts d i (Call mark receiver method arguments) = IsExp ts 0 i receiver × (mark ≡ i + size receiver + 1) × (has ts (i + size receiver) terminals.Dot ≡ true) × (name_at ts mark ≡ Some method) × (has ts (mark + 1) terminals.LeftParenthesis ≡ true)
-      × AreArguments ts (mark + 2) arguments × (has ts (mark + 2 + sizes arguments) terminals.RightParenthesis ≡ true)
+  IsExp ts d i (Binary operator mark left right) =
+      (tier_of operator < d) × IsExp ts (suc (tier_of operator)) i left × (mark ≡ i + size left)
+          × Stands ts mark (terminal_of operator) × IsExp ts (tier_of operator) (mark + 1) right
+  IsExp ts d i (Index mark array index) =
+      IsExp ts primary_tier i array × (is_new_array array ≡ false) × (mark ≡ i + size array)
+          × Stands ts mark terminals.LeftBracket × IsExp ts any_tier (mark + 1) index
+          × Stands ts (mark + 1 + size index) terminals.RightBracket
+  IsExp ts d i (Length mark array) =
+      IsExp ts primary_tier i array × (mark ≡ i + size array + 1)
+          × Stands ts (i + size array) terminals.Dot × (says ts mark (codes "length") ≡ true)
+  IsExp ts d i (Call mark receiver method arguments) =
+      IsExp ts primary_tier i receiver × (mark ≡ i + size receiver + 1)
+          × Stands ts (i + size receiver) terminals.Dot × (name_at ts mark ≡ Some method)
+          × Stands ts (mark + 1) terminals.LeftParenthesis × AreArguments ts (mark + 2) arguments
+          × Stands ts (mark + 2 + sizes arguments) terminals.RightParenthesis
   IsExp ts d i (Literal mark value) = (mark ≡ i) × (value_at ts i ≡ Some value)
-  IsExp ts d i (Boolean mark value) = (mark ≡ i) × (has ts i (terminal_of_bool value) ≡ true)
+  IsExp ts d i (Boolean mark value) = (mark ≡ i) × Stands ts i (terminal_of_bool value)
   IsExp ts d i (Named mark name) = (mark ≡ i) × (name_at ts i ≡ Some name)
-  IsExp ts d i (This mark) = (mark ≡ i) × (has ts i terminals.This ≡ true)
-  IsExp ts d i (NewArray mark len) = (mark ≡ i) × (has ts i terminals.New ≡ true) × (has ts (i + 1) terminals.Int ≡ true) × (has ts (i + 2) terminals.LeftBracket ≡ true) × IsExp ts 5 (i + 3) len × (has ts (i + 3 + size len) terminals.RightBracket ≡ true)
-  IsExp ts d i (NewObject mark class) = (mark ≡ i) × (has ts i terminals.New ≡ true) × (name_at ts (i + 1) ≡ Some class) × (has ts (i + 2) terminals.LeftParenthesis ≡ true) × (has ts (i + 3) terminals.RightParenthesis ≡ true)
-  IsExp ts d i (Not mark operand) = (0 < d) × (mark ≡ i) × (has ts i terminals.Not ≡ true) × IsExp ts 1 (i + 1) operand
-  IsExp ts d i (Parenthesized mark inner) = (mark ≡ i) × (has ts i terminals.LeftParenthesis ≡ true) × IsExp ts 5 (i + 1) inner × (has ts (i + 1 + size inner) terminals.RightParenthesis ≡ true)
+  IsExp ts d i (This mark) = (mark ≡ i) × Stands ts i terminals.This
+  IsExp ts d i (NewArray mark len) =
+      (mark ≡ i) × Stands ts i terminals.New × Stands ts (i + 1) terminals.Int
+          × Stands ts (i + 2) terminals.LeftBracket × IsExp ts any_tier (i + 3) len
+          × Stands ts (i + 3 + size len) terminals.RightBracket
+  IsExp ts d i (NewObject mark class) =
+      (mark ≡ i) × Stands ts i terminals.New × (name_at ts (i + 1) ≡ Some class)
+          × Stands ts (i + 2) terminals.LeftParenthesis
+          × Stands ts (i + 3) terminals.RightParenthesis
+  IsExp ts d i (Not mark operand) =
+      (0 < d) × (mark ≡ i) × Stands ts i terminals.Not × IsExp ts unary_tier (i + 1) operand
+  IsExp ts d i (Parenthesized mark inner) =
+      (mark ≡ i) × Stands ts i terminals.LeftParenthesis × IsExp ts any_tier (i + 1) inner
+          × Stands ts (i + 1 + size inner) terminals.RightParenthesis
 
   pub AreArguments : List Token → ℕ → Expressions → Type 0
   AreArguments ts i none = Unit {0}
-  AreArguments ts i (more first others) = IsExp ts 5 i first × AreMore ts (i + size first) others
+  AreArguments ts i (more first others) =
+      IsExp ts any_tier i first × AreMore ts (i + size first) others
 
   pub AreMore : List Token → ℕ → Expressions → Type 0
   AreMore ts i none = Unit {0}
-  AreMore ts i (more first others) = (has ts i terminals.Comma ≡ true) × IsExp ts 5 (i + 1) first × AreMore ts (i + 1 + size first) others
+  AreMore ts i (more first others) =
+      Stands ts i terminals.Comma × IsExp ts any_tier (i + 1) first
+          × AreMore ts (i + 1 + size first) others

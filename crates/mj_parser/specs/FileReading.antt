@@ -10,6 +10,8 @@ use Rattle.mj_tree.specs.declared.tree.Variable.{Variable}
 use Rattle.mj_parser.specs.Tokens.{has, name_at}
 use Rattle.mj_tree.specs.Trees.{Name, Statement, Method, Main, Class, File}
 use Rattle.mj_tree.specs.Views.{statements_of}
+use Rattle.mj_tree.specs.Limits.{most_levels}
+use Rattle.mj_parser.specs.Expressions.{any_tier}
 use Rattle.mj_parser.specs.Declarations.{main_head, main_parameter}
 use Rattle.mj_parser.specs.Steps.{◌>>=◌, when, PartParser, items_from, listed_at}
 use Rattle.mj_parser.specs.ExpressionReading.{exp_at}
@@ -41,7 +43,9 @@ begins_type ts i = has ts i terminals.Int || has ts i terminals.Boolean || is_so
 
 -- A local begins here, and no statement: two names in a row, `int` or `boolean`.
 abbrev pub begins_local : List Token → ℕ → Bool
-begins_local ts i = has ts i terminals.Int || has ts i terminals.Boolean || (is_some (name_at ts i) && is_some (name_at ts (i + 1)))
+begins_local ts i =
+    has ts i terminals.Int || has ts i terminals.Boolean
+        || (is_some (name_at ts i) && is_some (name_at ts (i + 1)))
 
 -- ---- methods, whose tokens are numbered from `public`
 
@@ -62,13 +66,14 @@ abbrev pub not_return : List Token → ℕ → Bool
 not_return ts i = not (has ts i terminals.Return)
 
 -- `return Exp ; }` behind the statements
-unfoldable pub method_of : List Token → Signature → List Variable → List Statement × ℕ → Option (Method × ℕ)
-method_of ts s locals body = exp_at 500 ts 5 (body.1 + 1) >>= λ e. when (has ts e.1 terminals.Semicolon && has ts (e.1 + 1) terminals.RightBrace)
+unfoldable pub method_of : List Token → Signature → List Variable → List Statement × ℕ
+    → Option (Method × ℕ)
+method_of ts s locals body = exp_at most_levels ts any_tier (body.1 + 1) >>= λ e. when (has ts e.1 terminals.Semicolon && has ts (e.1 + 1) terminals.RightBrace)
     (Some (record { name = s.name; returns = s.returns; formals = s.formals; locals = locals; body = statements_of body.0; returned = e.0; return_mark = body.1 }, e.1 + 2))
 
 unfoldable pub method_at : List Token → Option (Method × ℕ)
 method_at ts = signature_at ts >>= λ s. items_from (suc (length ts)) (local_at ts) (begins_local ts) s.1 >>= λ locals.
-    items_from (suc (length ts)) (stmt_at 500 ts) (not_return ts) locals.1 >>= λ body. method_of ts s.0 locals.0 body
+    items_from (suc (length ts)) (stmt_at most_levels ts) (not_return ts) locals.1 >>= λ body. method_of ts s.0 locals.0 body
 
 -- ---- classes
 
@@ -91,11 +96,12 @@ class_at ts i = when (has ts i terminals.Class) (name_at ts (i + 1) >>= λ name.
 
 -- The first class is the main class: `public static` stands at its front.
 abbrev pub begins_main : List Token → Bool
-begins_main ts = has ts 2 terminals.LeftBrace && has ts 3 terminals.Public && has ts 4 terminals.Static
+begins_main ts =
+    has ts 2 terminals.LeftBrace && has ts 3 terminals.Public && has ts 4 terminals.Static
 
 -- `main` from its `public` on, with the brace that closes the class
 unfoldable pub main_method_at : List Token → Option (Statement × ℕ)
-main_method_at ts = when (main_head ts && main_parameter ts) (stmt_at 500 ts 11 >>= λ s. when (has ts s.1 terminals.RightBrace && has ts (s.1 + 1) terminals.RightBrace) (Some (s.0, s.1 + 2)))
+main_method_at ts = when (main_head ts && main_parameter ts) (stmt_at most_levels ts 11 >>= λ s. when (has ts s.1 terminals.RightBrace && has ts (s.1 + 1) terminals.RightBrace) (Some (s.0, s.1 + 2)))
 
 -- a main class from its `main` on
 unfoldable pub main_from : List Token → Option (Statement × ℕ)

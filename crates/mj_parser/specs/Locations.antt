@@ -28,7 +28,8 @@ class_start ts class = slice_get (all_of ts terminals.Class 0 (length ts)) class
 
 -- the next word `class`, or the end
 abbrev pub class_end : List Token → ℕ → ℕ
-class_end ts start = unwrap_or (slice_get (all_of ts terminals.Class (start + 1) (length ts)) 0) (length ts)
+class_end ts start =
+    unwrap_or (slice_get (all_of ts terminals.Class (start + 1) (length ts)) 0) (length ts)
 
 -- where a terminal stands in the class that begins at a place
 abbrev pub all_in_class : List Token → Terminal → ℕ → List ℕ
@@ -52,7 +53,8 @@ method_name ts start =
     if has ts (start + 1) terminals.Static then start + 3 else (if has ts (start + 2) terminals.LeftBracket then start + 4 else start + 2)
 
 abbrev pub begins_method : List Token → Name → ℕ → Bool
-begins_method ts name at = has ts at terminals.Public && is_word name (name_at ts (method_name ts at))
+begins_method ts name at =
+    has ts at terminals.Public && is_word name (name_at ts (method_name ts at))
 
 -- where the first method of this name begins
 abbrev pub method_start : List Token → ℕ → Name → Option ℕ

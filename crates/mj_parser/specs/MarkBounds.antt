@@ -6,10 +6,13 @@ use Rattle.mj_parser.specs.Declarations.{type_size}
 
 abbrev mutual
   pub ExpMarksBelow : ℕ → Expression → Type 0
-  ExpMarksBelow n (Binary operator mark left right) = (mark < n) × ExpMarksBelow n left × ExpMarksBelow n right
-  ExpMarksBelow n (Index mark array index) = (mark < n) × ExpMarksBelow n array × ExpMarksBelow n index
+  ExpMarksBelow n (Binary operator mark left right) =
+      (mark < n) × ExpMarksBelow n left × ExpMarksBelow n right
+  ExpMarksBelow n (Index mark array index) =
+      (mark < n) × ExpMarksBelow n array × ExpMarksBelow n index
   ExpMarksBelow n (Length mark array) = (mark < n) × ExpMarksBelow n array
-  ExpMarksBelow n (Call mark receiver method arguments) = (mark < n) × ExpMarksBelow n receiver × ExpsMarksBelow n arguments
+  ExpMarksBelow n (Call mark receiver method arguments) =
+      (mark < n) × ExpMarksBelow n receiver × ExpsMarksBelow n arguments
   ExpMarksBelow n (Literal mark value) = mark < n
   ExpMarksBelow n (Boolean mark value) = mark < n
   ExpMarksBelow n (Named mark name) = mark < n
@@ -26,11 +29,16 @@ abbrev mutual
 abbrev mutual
   pub StmtMarksBelow : ℕ → Statement → Type 0
   StmtMarksBelow n (Block mark body) = (mark < n) × StmtsMarksBelow n body
-  StmtMarksBelow n (If mark condition then_branch else_branch) = (mark < n) × ExpMarksBelow n condition × StmtMarksBelow n then_branch × StmtMarksBelow n else_branch
-  StmtMarksBelow n (While mark condition body) = (mark < n) × ExpMarksBelow n condition × StmtMarksBelow n body
+  StmtMarksBelow n (If mark condition then_branch else_branch) =
+      (mark < n) × ExpMarksBelow n condition × StmtMarksBelow n then_branch
+          × StmtMarksBelow n else_branch
+  StmtMarksBelow n (While mark condition body) =
+      (mark < n) × ExpMarksBelow n condition × StmtMarksBelow n body
   StmtMarksBelow n (Print mark value) = (mark < n) × ExpMarksBelow n value
-  StmtMarksBelow n (Assign mark name name_mark value) = (mark < n) × (name_mark < n) × ExpMarksBelow n value
-  StmtMarksBelow n (Store mark name name_mark index value) = (mark < n) × (name_mark < n) × ExpMarksBelow n index × ExpMarksBelow n value
+  StmtMarksBelow n (Assign mark name name_mark value) =
+      (mark < n) × (name_mark < n) × ExpMarksBelow n value
+  StmtMarksBelow n (Store mark name name_mark index value) =
+      (mark < n) × (name_mark < n) × ExpMarksBelow n index × ExpMarksBelow n value
 
   pub StmtsMarksBelow : ℕ → Statements → Type 0
   StmtsMarksBelow n done = Unit {0}

@@ -5,6 +5,7 @@ use Rattle.mj_lexer.specs.declared.token.Terminal.TheVariants as terminals
 use Rattle.mj_parser.specs.Tokens.{has, name_at}
 use Rattle.mj_tree.specs.Trees.{Name, Expression, Statement, Block, If, While, Print, Assign, Store}
 use Rattle.mj_tree.specs.Views.{statements_of}
+use Rattle.mj_parser.specs.Expressions.{any_tier}
 use Rattle.mj_parser.specs.Statements.{opens_print}
 use Rattle.mj_parser.specs.Steps.{◌>>=◌, when, PartParser, items_from}
 use Rattle.mj_parser.specs.ExpressionReading.{exp_at}
@@ -20,10 +21,12 @@ block_at part ts i = items_from (suc (length ts)) part (not_brace ts) (i + 1) >>
 unfoldable pub condition_at : PartParser Expression → List Token → ℕ → Option (Expression × ℕ)
 condition_at exp ts i = when (has ts i terminals.LeftParenthesis) (exp (i + 1) >>= λ c. when (has ts c.1 terminals.RightParenthesis) (Some (c.0, c.1 + 1)))
 
-unfoldable pub if_at : PartParser Expression → PartParser Statement → List Token → ℕ → Option (Statement × ℕ)
+unfoldable pub if_at : PartParser Expression → PartParser Statement → List Token → ℕ
+    → Option (Statement × ℕ)
 if_at exp part ts i = condition_at exp ts (i + 1) >>= λ c. part c.1 >>= λ then_branch. when (has ts then_branch.1 terminals.Else) (part (then_branch.1 + 1) >>= λ else_branch. Some (If i c.0 then_branch.0 else_branch.0, else_branch.1))
 
-unfoldable pub while_at : PartParser Expression → PartParser Statement → List Token → ℕ → Option (Statement × ℕ)
+unfoldable pub while_at : PartParser Expression → PartParser Statement → List Token → ℕ
+    → Option (Statement × ℕ)
 while_at exp part ts i = condition_at exp ts (i + 1) >>= λ c. part c.1 >>= λ body. Some (While i c.0 body.0, body.1)
 
 unfoldable pub print_at : PartParser Expression → List Token → ℕ → Option (Statement × ℕ)
@@ -42,7 +45,8 @@ named_at exp ts i = name_at ts i >>= λ name.
     if has ts (i + 1) terminals.Assign then assign_at exp ts name i else (
     if has ts (i + 1) terminals.LeftBracket then store_at exp ts name i else print_at exp ts i)
 
-unfoldable pub stmt_of : PartParser Expression → PartParser Statement → List Token → ℕ → Option (Statement × ℕ)
+unfoldable pub stmt_of : PartParser Expression → PartParser Statement → List Token → ℕ
+    → Option (Statement × ℕ)
 stmt_of exp part ts i =
     if has ts i terminals.LeftBrace then block_at part ts i else (
     if has ts i terminals.If then if_at exp part ts i else (
@@ -51,4 +55,4 @@ stmt_of exp part ts i =
 -- a statement of no more than so many levels
 unfoldable pub stmt_at : ℕ → List Token → PartParser Statement
 stmt_at zero ts i = None
-stmt_at (suc room) ts i = stmt_of (exp_at room ts 5) (stmt_at room ts) ts i
+stmt_at (suc room) ts i = stmt_of (exp_at room ts any_tier) (stmt_at room ts) ts i

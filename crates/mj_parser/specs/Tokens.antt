@@ -1,5 +1,5 @@
 -- Tokens by their places.
-use Rattle.std.specs.Prelude.{ℕ, Bool, false, ◌==◌, List, Option, Some, None, slice_get}
+use Rattle.std.specs.Prelude.{◌≡◌, ℕ, Bool, true, false, ◌==◌, List, Option, Some, None, slice_get}
 use Rattle.std.specs.Str.{bytes_eq}
 use Rattle.mj_lexer.specs.declared.token.Token.{Token}
 use Rattle.mj_lexer.specs.declared.token.Kind.{Kind}
@@ -8,6 +8,7 @@ use Rattle.mj_lexer.specs.declared.token.Terminal.{Terminal}
 use Rattle.mj_lexer.specs.declared.token.Terminal.TheVariants.{LeftBrace, RightBrace, LeftParenthesis, RightParenthesis, LeftBracket, RightBracket, Semicolon, Comma, Dot, Assign, And, Less, Plus, Minus, Times, Not, Class, Public, Static, Void, Extends, Return, Int, Boolean, If, Else, While, True, False, This, New}
 use Rattle.mj_tree.specs.Trees.{Name}
 
+-- the numbers by which terminals are compared
 abbrev pub terminal_number : Terminal → ℕ
 terminal_number LeftBrace = 0
 terminal_number RightBrace = 1
@@ -57,9 +58,13 @@ is_terminal terminal (Some (kinds.Identifier name)) = false
 is_terminal terminal (Some (kinds.Literal value)) = false
 is_terminal terminal (Some (kinds.Terminal other)) = same_terminal terminal other
 
--- this symbol or reserved word stands at a place
+-- whether this symbol or reserved word stands at a place
 unfoldable pub has : List Token → ℕ → Terminal → Bool
 has ts i terminal = is_terminal terminal (kind_at ts i)
+
+-- this symbol or reserved word stands at a place: the token there is this terminal (`StandsLaw`)
+abbrev pub Stands : List Token → ℕ → Terminal → Type 0
+Stands ts i terminal = has ts i terminal ≡ true
 
 abbrev pub name_of : Option Kind → Option Name
 name_of None = None

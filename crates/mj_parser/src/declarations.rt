@@ -1,16 +1,17 @@
 //! Reading types, variables and methods.
 ghost use Rattle.std.specs.Prelude.{◌≡◌, ℕ, ◌+◌, ◌<◌, ◌≤◌, suc, length, map, IfOk, IsTrue};
 ghost use Rattle.mj_tree.specs.Views.{stmt_view, method_view};
+ghost use Rattle.mj_tree.specs.Limits.{most_levels};
 ghost use Rattle.mj_parser.specs.Steps.{Finds, items_from, listed_at};
 ghost use Rattle.mj_parser.specs.StatementReading.{stmt_at};
 ghost use Rattle.mj_parser.specs.FileReading.{type_at, variable_at, local_at, begins_local, signature_view, signature_at, not_return, method_at};
 
-use crate::expressions::read;
+use crate::expressions::{ANY_TIER, read};
 use crate::fault::ParseFault;
 use crate::statements::statement;
 use crate::tokens::{Parsed, expect, expect_name, has, name};
-use mj_tree::{MethodTree, Stmt, Ty, Variable};
 use mj_lexer::{Name, Terminal, Token};
+use mj_tree::{MOST_LEVELS, MethodTree, Stmt, Ty, Variable};
 use std::alloc::Global;
 
 /// A declared type.
@@ -93,7 +94,8 @@ fn begins_local(tokens: &[Token], at: usize) -> bool
 /// Formals between commas, up to the parenthesis that closes them.
 fn formals(alloc: Global, tokens: &[Token], at: usize) -> Result<Parsed<Vec<Variable>>, ParseFault>
     requires { at ≤ length tokens.now }
-    ensures exact { Finds (λ x. (x.tree.items, x.after)) result (listed_at (variable_at tokens.now) tokens.now at) }
+    ensures exact { Finds (λ x. (x.tree.items, x.after)) result
+        (listed_at (variable_at tokens.now) tokens.now at) }
     ensures within { IfOk result (λ x. (at < x.after) × (x.after ≤ length tokens.now)) }
 {
     let mut formals = Vec::new(alloc);
@@ -121,7 +123,9 @@ fn formals(alloc: Global, tokens: &[Token], at: usize) -> Result<Parsed<Vec<Vari
 /// The locals of a body.
 fn locals(alloc: Global, tokens: &[Token], at: usize) -> Result<Parsed<Vec<Variable>>, ParseFault>
     requires { at ≤ length tokens.now }
-    ensures exact { Finds (λ x. (x.tree.items, x.after)) result (items_from (suc (length tokens.now)) (local_at tokens.now) (begins_local tokens.now) at) }
+    ensures exact { Finds (λ x. (x.tree.items, x.after)) result
+        (items_from (suc (length tokens.now)) (local_at tokens.now) (begins_local tokens.now)
+        at) }
     ensures within { IfOk result (λ x. (at ≤ x.after) × (x.after ≤ length tokens.now)) }
 {
     let mut items = Vec::new(alloc);
@@ -137,13 +141,15 @@ fn locals(alloc: Global, tokens: &[Token], at: usize) -> Result<Parsed<Vec<Varia
 /// Statements up to `return`.
 fn body(alloc: Global, tokens: &[Token], at: usize) -> Result<Parsed<Vec<Stmt>>, ParseFault>
     requires { at ≤ length tokens.now }
-    ensures exact { Finds (λ x. (map stmt_view x.tree.items, x.after)) result (items_from (suc (length tokens.now)) (stmt_at 500 tokens.now) (not_return tokens.now) at) }
+    ensures exact { Finds (λ x. (map stmt_view x.tree.items, x.after)) result
+        (items_from (suc (length tokens.now)) (stmt_at most_levels tokens.now)
+        (not_return tokens.now) at) }
     ensures within { IfOk result (λ x. (at ≤ x.after) × (x.after < length tokens.now)) }
 {
     let mut items = Vec::new(alloc);
     let mut after = at;
     'items: while !has(tokens, after, Terminal::Return) {
-        let next = statement(alloc, tokens, after, 500)?;
+        let next = statement(alloc, tokens, after, MOST_LEVELS)?;
         items.push(next.tree)?;
         after = next.after;
     }
@@ -188,7 +194,7 @@ pub fn method(alloc: Global, tokens: &[Token]) -> Result<Parsed<MethodTree>, Par
     let signature = read_signature(alloc, tokens)?;
     let locals = locals(alloc, tokens, signature.after)?;
     let body = body(alloc, tokens, locals.after)?;
-    let returned = read(alloc, tokens, body.after + 1, 500, 5)?;
+    let returned = read(alloc, tokens, body.after + 1, MOST_LEVELS, ANY_TIER)?;
     let after = expect(tokens, returned.after, Terminal::Semicolon)?;
     let after = expect(tokens, after, Terminal::RightBrace)?;
     Ok(Parsed {

@@ -1,16 +1,20 @@
 //! Reading an expression from left to right.
 ghost use Rattle.std.specs.Prelude.{◌≡◌, ℕ, ◌+◌, ◌^◌, ◌<◌, ◌≤◌, length, map, IfOk, IsSome, IsTrue};
 ghost use Rattle.mj_tree.specs.Views.{exp_view, exps_view};
-ghost use Rattle.mj_parser.specs.Expressions.{height, heights, is_new_array, tier_of};
+ghost use Rattle.mj_tree.specs.Limits.{most_levels};
+ghost use Rattle.mj_parser.specs.Expressions.{any_tier, height, heights, is_new_array, tier_of};
 ghost use Rattle.mj_parser.specs.Steps.{Finds, listed_at};
 ghost use Rattle.mj_parser.specs.ExpressionReading.{new_at, prim_at, takes_index, index_at, member_at, post_from, post_at, operator_here, operator_at, binary_from, tier_at, exp_at};
 
 use crate::fault::ParseFault;
 use crate::nodes;
 use crate::tokens::{expect, expect_name, has, kind, says};
-use mj_tree::{Exp, Operator};
 use mj_lexer::{Kind, Terminal, Token};
+use mj_tree::{Exp, Operator};
 use std::alloc::Global;
+
+/// The tier of any expression.
+pub const ANY_TIER: usize = 5;
 
 /// An expression, the place after it, and how many levels it has.
 #[derive(Debug, Drop)]
@@ -75,8 +79,8 @@ pub fn read(
     room: usize,
     tier: usize,
 ) -> Result<Measured, ParseFault>
-    requires tiers { tier ≤ 5 }
-    requires deep { room ≤ 500 }
+    requires tiers { tier ≤ any_tier }
+    requires deep { room ≤ most_levels }
     requires within { at ≤ length tokens.now }
     ensures exact { Finds (λ x. (exp_view x.exp, x.after)) result (exp_at room tokens.now tier at) }
     ensures within { IfOk result (λ x. (at < x.after) × (x.after ≤ length tokens.now)) }
@@ -100,10 +104,11 @@ fn tiered(
     room: usize,
     tier: usize,
 ) -> Result<Measured, ParseFault>
-    requires tiers { tier ≤ 5 }
-    requires deep { room ≤ 500 }
+    requires tiers { tier ≤ any_tier }
+    requires deep { room ≤ most_levels }
     requires within { at ≤ length tokens.now }
-    ensures exact { Finds (λ x. (exp_view x.exp, x.after)) result (tier_at (exp_at room tokens.now) tokens.now room tier at) }
+    ensures exact { Finds (λ x. (exp_view x.exp, x.after)) result
+        (tier_at (exp_at room tokens.now) tokens.now room tier at) }
     ensures within { IfOk result (λ x. (at < x.after) × (x.after ≤ length tokens.now)) }
     ensures height { IfOk result (λ x. x.height ≡ height (exp_view x.exp)) }
     ensures low { IfOk result (λ x. x.height ≤ room + 1) }
@@ -141,11 +146,14 @@ fn chain(
     tier: usize,
 ) -> Result<Measured, ParseFault>
     requires tiers { tier ≤ 4 }
-    requires deep { room ≤ 500 }
+    requires deep { room ≤ most_levels }
     requires within { first.after ≤ length tokens.now }
     requires height { first.height ≡ height (exp_view first.exp) }
     requires low { first.height ≤ room + 1 }
-    ensures exact { (gas : ℕ) → length tokens.now < gas + first.after → Finds (λ x. (exp_view x.exp, x.after)) result (binary_from gas (exp_at room tokens.now) tokens.now room tier (exp_view first.exp) first.after) }
+    ensures exact { (gas : ℕ) → length tokens.now < gas + first.after
+        → Finds (λ x. (exp_view x.exp, x.after)) result
+        (binary_from gas (exp_at room tokens.now) tokens.now room tier
+        (exp_view first.exp) first.after) }
     ensures within { IfOk result (λ x. (first.after ≤ x.after) × (x.after ≤ length tokens.now)) }
     ensures height { IfOk result (λ x. x.height ≡ height (exp_view x.exp)) }
     ensures low { IfOk result (λ x. x.height ≤ room + 1) }
@@ -170,9 +178,10 @@ fn chain(
 #[tactic(auto, unfolding(crate::specs::ExpressionReading::post_at))]
 #[inline(never)]
 fn post(alloc: Global, tokens: &[Token], at: usize, room: usize) -> Result<Measured, ParseFault>
-    requires deep { room ≤ 500 }
+    requires deep { room ≤ most_levels }
     requires within { at ≤ length tokens.now }
-    ensures exact { Finds (λ x. (exp_view x.exp, x.after)) result (post_at (exp_at room tokens.now) tokens.now room at) }
+    ensures exact { Finds (λ x. (exp_view x.exp, x.after)) result
+        (post_at (exp_at room tokens.now) tokens.now room at) }
     ensures within { IfOk result (λ x. (at < x.after) × (x.after ≤ length tokens.now)) }
     ensures height { IfOk result (λ x. x.height ≡ height (exp_view x.exp)) }
     ensures low { IfOk result (λ x. x.height ≤ room + 1) }
@@ -190,11 +199,14 @@ fn followed(
     first: Measured,
     room: usize,
 ) -> Result<Measured, ParseFault>
-    requires deep { room ≤ 500 }
+    requires deep { room ≤ most_levels }
     requires within { first.after ≤ length tokens.now }
     requires height { first.height ≡ height (exp_view first.exp) }
     requires low { first.height ≤ room + 1 }
-    ensures exact { (gas : ℕ) → length tokens.now < gas + first.after → Finds (λ x. (exp_view x.exp, x.after)) result (post_from gas (exp_at room tokens.now) tokens.now room (exp_view first.exp) first.after) }
+    ensures exact { (gas : ℕ) → length tokens.now < gas + first.after
+        → Finds (λ x. (exp_view x.exp, x.after)) result
+        (post_from gas (exp_at room tokens.now) tokens.now room (exp_view first.exp)
+        first.after) }
     ensures within { IfOk result (λ x. (first.after ≤ x.after) × (x.after ≤ length tokens.now)) }
     ensures height { IfOk result (λ x. x.height ≡ height (exp_view x.exp)) }
     ensures low { IfOk result (λ x. x.height ≤ room + 1) }
@@ -240,17 +252,18 @@ fn index(
     left: Measured,
     room: usize,
 ) -> Result<Measured, ParseFault>
-    requires deep { room ≤ 500 }
+    requires deep { room ≤ most_levels }
     requires within { left.after < length tokens.now }
     requires height { left.height ≡ height (exp_view left.exp) }
     requires low { left.height ≤ room }
-    ensures exact { Finds (λ x. (exp_view x.exp, x.after)) result (index_at (exp_at room tokens.now) tokens.now (exp_view left.exp) left.after) }
+    ensures exact { Finds (λ x. (exp_view x.exp, x.after)) result
+        (index_at (exp_at room tokens.now) tokens.now (exp_view left.exp) left.after) }
     ensures within { IfOk result (λ x. (left.after < x.after) × (x.after ≤ length tokens.now)) }
     ensures height { IfOk result (λ x. x.height ≡ height (exp_view x.exp)) }
     ensures low { IfOk result (λ x. x.height ≤ room + 1) }
 {
     let mark = left.after;
-    let index = read(alloc, tokens, mark + 1, room, 5)?;
+    let index = read(alloc, tokens, mark + 1, room, ANY_TIER)?;
     let after = expect(tokens, index.after, Terminal::RightBracket)?;
     Ok(Measured {
         exp: nodes::index(alloc, mark, left.exp, index.exp)?,
@@ -268,11 +281,12 @@ fn member(
     left: Measured,
     room: usize,
 ) -> Result<Measured, ParseFault>
-    requires deep { room ≤ 500 }
+    requires deep { room ≤ most_levels }
     requires within { left.after < length tokens.now }
     requires height { left.height ≡ height (exp_view left.exp) }
     requires low { left.height ≤ room }
-    ensures exact { Finds (λ x. (exp_view x.exp, x.after)) result (member_at (exp_at room tokens.now) tokens.now (exp_view left.exp) (left.after + 1)) }
+    ensures exact { Finds (λ x. (exp_view x.exp, x.after)) result
+        (member_at (exp_at room tokens.now) tokens.now (exp_view left.exp) (left.after + 1)) }
     ensures within { IfOk result (λ x. (left.after < x.after) × (x.after ≤ length tokens.now)) }
     ensures height { IfOk result (λ x. x.height ≡ height (exp_view x.exp)) }
     ensures low { IfOk result (λ x. x.height ≤ room + 1) }
@@ -313,9 +327,10 @@ fn arguments(
     at: usize,
     room: usize,
 ) -> Result<ArgumentList, ParseFault>
-    requires deep { room ≤ 500 }
+    requires deep { room ≤ most_levels }
     requires within { at ≤ length tokens.now }
-    ensures exact { Finds (λ x. (map exp_view x.exps.items, x.after)) result (listed_at (exp_at room tokens.now 5) tokens.now at) }
+    ensures exact { Finds (λ x. (map exp_view x.exps.items, x.after)) result
+        (listed_at (exp_at room tokens.now any_tier) tokens.now at) }
     ensures within { IfOk result (λ x. (at < x.after) × (x.after ≤ length tokens.now)) }
     ensures height { IfOk result (λ x. x.height ≡ heights (exps_view x.exps.items)) }
     ensures low { IfOk result (λ x. x.height ≤ room) }
@@ -328,12 +343,12 @@ fn arguments(
             height: 0,
         });
     }
-    let first = read(alloc, tokens, at, room, 5)?;
+    let first = read(alloc, tokens, at, room, ANY_TIER)?;
     exps.push(first.exp)?;
     let mut after = first.after;
     let mut height = first.height;
     'list: while has(tokens, after, Terminal::Comma) {
-        let next = read(alloc, tokens, after + 1, room, 5)?;
+        let next = read(alloc, tokens, after + 1, room, ANY_TIER)?;
         exps.push(next.exp)?;
         after = next.after;
         height = height.max(next.height);
@@ -350,9 +365,10 @@ fn arguments(
 #[tactic(auto, using(crate::proofs::Loops::no_room), unfolding(crate::specs::ExpressionReading::new_at))]
 #[inline(never)]
 fn made(alloc: Global, tokens: &[Token], at: usize, room: usize) -> Result<Measured, ParseFault>
-    requires deep { room ≤ 500 }
+    requires deep { room ≤ most_levels }
     requires within { at < length tokens.now }
-    ensures exact { Finds (λ x. (exp_view x.exp, x.after)) result (new_at (exp_at room tokens.now) tokens.now at) }
+    ensures exact { Finds (λ x. (exp_view x.exp, x.after)) result
+        (new_at (exp_at room tokens.now) tokens.now at) }
     ensures within { IfOk result (λ x. (at < x.after) × (x.after ≤ length tokens.now)) }
     ensures height { IfOk result (λ x. x.height ≡ height (exp_view x.exp)) }
     ensures low { IfOk result (λ x. x.height ≤ room + 1) }
@@ -362,7 +378,7 @@ fn made(alloc: Global, tokens: &[Token], at: usize, room: usize) -> Result<Measu
             return Err(ParseFault::TooDeep);
         }
         let inside = expect(tokens, at + 2, Terminal::LeftBracket)?;
-        let length = read(alloc, tokens, inside, room, 5)?;
+        let length = read(alloc, tokens, inside, room, ANY_TIER)?;
         let after = expect(tokens, length.after, Terminal::RightBracket)?;
         return Ok(Measured {
             exp: nodes::new_array(alloc, at, length.exp)?,
@@ -396,9 +412,10 @@ fn single(exp: Exp, at: usize) -> Measured
 #[tactic(auto, using(crate::proofs::Loops::no_room), unfolding(crate::specs::ExpressionReading::prim_at, crate::specs::ExpressionReading::terminal_at))]
 #[inline(never)]
 fn prim(alloc: Global, tokens: &[Token], at: usize, room: usize) -> Result<Measured, ParseFault>
-    requires deep { room ≤ 500 }
+    requires deep { room ≤ most_levels }
     requires within { at ≤ length tokens.now }
-    ensures exact { Finds (λ x. (exp_view x.exp, x.after)) result (prim_at (exp_at room tokens.now) tokens.now at) }
+    ensures exact { Finds (λ x. (exp_view x.exp, x.after)) result
+        (prim_at (exp_at room tokens.now) tokens.now at) }
     ensures within { IfOk result (λ x. (at < x.after) × (x.after ≤ length tokens.now)) }
     ensures height { IfOk result (λ x. x.height ≡ height (exp_view x.exp)) }
     ensures low { IfOk result (λ x. x.height ≤ room + 1) }
@@ -413,7 +430,7 @@ fn prim(alloc: Global, tokens: &[Token], at: usize, room: usize) -> Result<Measu
             Terminal::New => made(alloc, tokens, at, room),
             Terminal::LeftParenthesis if room == 0 => Err(ParseFault::TooDeep),
             Terminal::LeftParenthesis => {
-                let inner = read(alloc, tokens, at + 1, room, 5)?;
+                let inner = read(alloc, tokens, at + 1, room, ANY_TIER)?;
                 let after = expect(tokens, inner.after, Terminal::RightParenthesis)?;
                 Ok(Measured {
                     exp: nodes::parenthesized(alloc, at, inner.exp)?,

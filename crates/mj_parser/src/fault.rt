@@ -24,7 +24,8 @@ impl ParseFault {
     pub fn behind(self, start: usize) -> Self
         ensures memory { (result ≡ ParseFault.OutOfMemory) ↔ (self ≡ ParseFault.OutOfMemory) }
         ensures deep { (result ≡ ParseFault.TooDeep) ↔ (self ≡ ParseFault.TooDeep) }
-        ensures moved { (at : ℕ) → self ≡ ParseFault.NotAFile at → at + start < 2 ^ 64 → result ≡ ParseFault.NotAFile (at + start) }
+        ensures moved { (at : ℕ) → self ≡ ParseFault.NotAFile at → at + start < 2 ^ 64
+            → result ≡ ParseFault.NotAFile (at + start) }
     {
         match self {
             ParseFault::NotAFile(at) => ParseFault::NotAFile(at.saturating_add(start)),

@@ -10,8 +10,8 @@ use crate::declarations::{local, method};
 use crate::fault::ParseFault;
 use crate::statements::statement;
 use crate::tokens::{Parsed, expect, expect_name, expect_word, has, name};
-use mj_tree::{ClassTree, Field, FileTree, MainTree, MethodTree, Stmt};
 use mj_lexer::{Name, Terminal, Token};
+use mj_tree::{ClassTree, Field, FileTree, MOST_LEVELS, MainTree, MethodTree, Stmt};
 use std::alloc::Global;
 
 #[tactic(auto, unfolding(crate::specs::FileReading::field_at))]
@@ -42,7 +42,8 @@ fn begins_type(tokens: &[Token], at: usize) -> bool
 /// The fields of a class.
 fn fields(alloc: Global, tokens: &[Token], at: usize) -> Result<Parsed<Vec<Field>>, ParseFault>
     requires { at ≤ length tokens.now }
-    ensures exact { Finds (λ x. (x.tree.items, x.after)) result (items_from (suc (length tokens.now)) (field_at tokens.now) (begins_type tokens.now) at) }
+    ensures exact { Finds (λ x. (x.tree.items, x.after)) result
+        (items_from (suc (length tokens.now)) (field_at tokens.now) (begins_type tokens.now) at) }
     ensures within { IfOk result (λ x. (at ≤ x.after) × (x.after ≤ length tokens.now)) }
 {
     let mut items = Vec::new(alloc);
@@ -77,7 +78,9 @@ fn methods(
     at: usize,
 ) -> Result<Parsed<Vec<MethodTree>>, ParseFault>
     requires { at ≤ length tokens.now }
-    ensures exact { Finds (λ x. (map method_view x.tree.items, x.after)) result (items_from (suc (length tokens.now)) (method_from tokens.now) (at_public tokens.now) at) }
+    ensures exact { Finds (λ x. (map method_view x.tree.items, x.after)) result
+        (items_from (suc (length tokens.now)) (method_from tokens.now) (at_public tokens.now)
+        at) }
     ensures within { IfOk result (λ x. (at ≤ x.after) × (x.after ≤ length tokens.now)) }
 {
     let mut items = Vec::new(alloc);
@@ -141,7 +144,8 @@ fn class(alloc: Global, tokens: &[Token], at: usize) -> Result<Parsed<ClassTree>
 /// The classes up to the end.
 fn classes(alloc: Global, tokens: &[Token], at: usize) -> Result<Parsed<Vec<ClassTree>>, ParseFault>
     requires { at ≤ length tokens.now }
-    ensures exact { Finds (λ x. (map class_view x.tree.items, x.after)) result (items_from (suc (length tokens.now)) (class_at tokens.now) (before_end tokens.now) at) }
+    ensures exact { Finds (λ x. (map class_view x.tree.items, x.after)) result
+        (items_from (suc (length tokens.now)) (class_at tokens.now) (before_end tokens.now) at) }
     ensures within { IfOk result (λ x. (at ≤ x.after) × (x.after ≡ length tokens.now)) }
 {
     let mut items = Vec::new(alloc);
@@ -156,7 +160,8 @@ fn classes(alloc: Global, tokens: &[Token], at: usize) -> Result<Parsed<Vec<Clas
 
 /// The place after `public static void main (`.
 fn expect_main_head(tokens: &[Token]) -> Result<usize, ParseFault>
-    ensures found { IfOk result (λ after. (main_head tokens.now ≡ true) × (after ≡ 5) × (after ≤ length tokens.now)) }
+    ensures found { IfOk result (λ after.
+        (main_head tokens.now ≡ true) × (after ≡ 5) × (after ≤ length tokens.now)) }
     ensures fault { IfErr result (λ e. (main_head tokens.now ≡ false) × (e ≢ OutOfMemory)) }
 {
     let after = expect(tokens, 0, Terminal::Public)?;
@@ -168,7 +173,8 @@ fn expect_main_head(tokens: &[Token]) -> Result<usize, ParseFault>
 
 /// The place after `String [ ] id ) {`.
 fn expect_main_parameter(tokens: &[Token]) -> Result<usize, ParseFault>
-    ensures found { IfOk result (λ after. (main_parameter tokens.now ≡ true) × (after ≡ 11) × (after ≤ length tokens.now)) }
+    ensures found { IfOk result (λ after.
+        (main_parameter tokens.now ≡ true) × (after ≡ 11) × (after ≤ length tokens.now)) }
     ensures fault { IfErr result (λ e. (main_parameter tokens.now ≡ false) × (e ≢ OutOfMemory)) }
 {
     let after = expect_word(tokens, 5, b"String".as_slice())?;
@@ -187,7 +193,7 @@ fn main_method(alloc: Global, tokens: &[Token]) -> Result<Parsed<Stmt>, ParseFau
 {
     expect_main_head(tokens)?;
     let inside = expect_main_parameter(tokens)?;
-    let statement = statement(alloc, tokens, inside, 500)?;
+    let statement = statement(alloc, tokens, inside, MOST_LEVELS)?;
     let after = expect(tokens, statement.after, Terminal::RightBrace)?;
     let after = expect(tokens, after, Terminal::RightBrace)?;
     Ok(Parsed {
@@ -240,7 +246,8 @@ fn begins_main(tokens: &[Token]) -> bool
 
 #[tactic(auto, unfolding(crate::specs::FileReading::main_part_at))]
 fn main_part(alloc: Global, tokens: &[Token]) -> Result<Parsed<Option<MainTree>>, ParseFault>
-    ensures exact { Finds (λ x. (option_map main_view x.tree, x.after)) result (main_part_at tokens.now) }
+    ensures exact { Finds (λ x. (option_map main_view x.tree, x.after)) result
+        (main_part_at tokens.now) }
     ensures within { IfOk result (λ x. x.after ≤ length tokens.now) }
 {
     if !begins_main(tokens) {

@@ -1,9 +1,10 @@
 //! Laws of the grammar.
-ghost use Rattle.mj_parser.specs.Laws.{GrammarLaws, MarkLaws};
+ghost use Rattle.mj_parser.specs.Laws.{GrammarLaws, StandsLaw, MarkLaws};
 
-/// A list of tokens is a file exactly where reading it finds that file.
+/// A list of tokens is a file exactly where reading it finds that file; what stands at a place is the token there.
 pub fn grammar_laws()
-    ensures { GrammarLaws }
+    ensures grammar { GrammarLaws }
+    ensures stands { StandsLaw }
 {}
 
 /// Every mark of a file's tree is less than the number of its tokens.

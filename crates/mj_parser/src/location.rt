@@ -2,9 +2,9 @@
 ghost use Rattle.std.specs.Prelude.{◌≡◌, ◌<◌, ◌≤◌, ◌+◌, length, IfSome, slice_get};
 ghost use Rattle.mj_parser.specs.Locations.{all_of, existing, class_start, class_end, class_name, field_name, method_name, method_start, name_of_method, token_of};
 
-use mj_tree::Place;
 use crate::tokens::{has, name};
 use mj_lexer::{Name, Terminal, Token};
+use mj_tree::Place;
 
 /// The place of a terminal, the one with this number among those from `start` to before `end`.
 #[tactic(auto, using(crate::proofs::Locations::none_left, crate::proofs::Locations::here, crate::proofs::Locations::one_less, crate::proofs::Locations::passes))]

@@ -3,8 +3,8 @@ ghost use Rattle.std.specs.Prelude.{◌≡◌, IfOk};
 ghost use Rattle.mj_tree.specs.Trees as trees;
 ghost use Rattle.mj_tree.specs.Views.{exp_view, exps_view, stmt_view, stmts_view};
 
-use mj_tree::{Exp, Operator, Stmt};
 use mj_lexer::Name;
+use mj_tree::{Exp, Operator, Stmt};
 use std::alloc::{AllocError, Global};
 
 pub fn binary(
@@ -14,7 +14,8 @@ pub fn binary(
     left: Exp,
     right: Exp,
 ) -> Result<Exp, AllocError>
-    ensures { IfOk result (λ e. exp_view e ≡ trees.Binary operator mark (exp_view left) (exp_view right)) }
+    ensures { IfOk result (λ e.
+        exp_view e ≡ trees.Binary operator mark (exp_view left) (exp_view right)) }
 {
     Ok(Exp::Binary {
         operator,
@@ -50,7 +51,8 @@ pub fn call(
     method: &Name,
     arguments: Vec<Exp>,
 ) -> Result<Exp, AllocError>
-    ensures { IfOk result (λ e. exp_view e ≡ trees.Call mark (exp_view receiver) method.now (exps_view arguments.items)) }
+    ensures { IfOk result (λ e.
+        exp_view e ≡ trees.Call mark (exp_view receiver) method.now (exps_view arguments.items)) }
 {
     Ok(Exp::Call {
         mark,
@@ -136,7 +138,10 @@ pub fn choice(
     then_branch: Stmt,
     else_branch: Stmt,
 ) -> Result<Stmt, AllocError>
-    ensures { IfOk result (λ s. stmt_view s ≡ trees.If mark (exp_view condition) (stmt_view then_branch) (stmt_view else_branch)) }
+    ensures { IfOk result (λ s.
+        stmt_view s
+        ≡ trees.If mark (exp_view condition) (stmt_view then_branch)
+        (stmt_view else_branch)) }
 {
     Ok(Stmt::If {
         mark,
@@ -152,7 +157,8 @@ pub fn repetition(
     condition: Exp,
     body: Stmt,
 ) -> Result<Stmt, AllocError>
-    ensures { IfOk result (λ s. stmt_view s ≡ trees.While mark (exp_view condition) (stmt_view body)) }
+    ensures { IfOk result (λ s.
+        stmt_view s ≡ trees.While mark (exp_view condition) (stmt_view body)) }
 {
     Ok(Stmt::While {
         mark,
@@ -174,7 +180,8 @@ pub fn assign(
     name_mark: usize,
     value: Exp,
 ) -> Result<Stmt, AllocError>
-    ensures { IfOk result (λ s. stmt_view s ≡ trees.Assign mark name.now name_mark (exp_view value)) }
+    ensures { IfOk result (λ s.
+        stmt_view s ≡ trees.Assign mark name.now name_mark (exp_view value)) }
 {
     Ok(Stmt::Assign {
         mark,
@@ -192,7 +199,8 @@ pub fn store(
     index: Exp,
     value: Exp,
 ) -> Result<Stmt, AllocError>
-    ensures { IfOk result (λ s. stmt_view s ≡ trees.Store mark name.now name_mark (exp_view index) (exp_view value)) }
+    ensures { IfOk result (λ s.
+        stmt_view s ≡ trees.Store mark name.now name_mark (exp_view index) (exp_view value)) }
 {
     Ok(Stmt::Store {
         mark,

@@ -7,14 +7,15 @@ ghost use Rattle.mj_parser.specs.declared.fault.ParseFault.TheVariants.{OutOfMem
 
 use crate::fault::ParseFault;
 use crate::files::file;
-use mj_tree::FileTree;
 use mj_lexer::Token;
+use mj_tree::FileTree;
 use std::alloc::Global;
 
 /// The file that the tokens are.
 pub fn parse(alloc: Global, tokens: &[Token]) -> Result<FileTree, ParseFault>
     ensures found { IfOk result (λ tree. Derives tokens.now (file_view tree)) }
-    ensures only { (other : File) → Derives tokens.now other → MatchResult result (λ tree. file_view tree ≡ other) (λ fault. fault ≡ OutOfMemory) }
+    ensures only { (other : File) → Derives tokens.now other
+        → MatchResult result (λ tree. file_view tree ≡ other) (λ fault. fault ≡ OutOfMemory) }
 {
     file(alloc, tokens)
 }

@@ -2,6 +2,8 @@
 ghost use Rattle.std.specs.Prelude.{◌≡◌, ℕ, ◌+◌, ◌^◌, ◌<◌, ◌≤◌, ◌||◌, suc, length, map, not, true, false, Some, None, ◌≢◌, IfOk, IfErr, IsTrue};
 ghost use Rattle.mj_parser.specs.Tokens.{has, name_at};
 ghost use Rattle.mj_tree.specs.Views.{exp_view, stmt_view};
+ghost use Rattle.mj_tree.specs.Limits.{most_levels};
+ghost use Rattle.mj_parser.specs.Expressions.{any_tier};
 ghost use Rattle.mj_parser.specs.Statements.{opens_print};
 ghost use Rattle.mj_parser.specs.Steps.{Finds, items_from};
 ghost use Rattle.mj_parser.specs.ExpressionReading.{exp_at};
@@ -9,12 +11,12 @@ ghost use Rattle.mj_parser.specs.StatementReading.{not_brace, block_at, conditio
 ghost use Rattle.mj_parser.specs.declared.fault.ParseFault.{ParseFault};
 ghost use Rattle.mj_parser.specs.declared.fault.ParseFault.TheVariants.{NotAFile, OutOfMemory};
 
-use crate::expressions::{Measured, read};
+use crate::expressions::{ANY_TIER, Measured, read};
 use crate::fault::ParseFault;
 use crate::nodes;
 use crate::tokens::{Parsed, expect, expect_name, expect_word, has, name, says};
-use mj_tree::Stmt;
 use mj_lexer::{Name, Terminal, Token};
+use mj_tree::Stmt;
 use std::alloc::Global;
 
 /// An expression between `if` or `while` and the statement.
@@ -25,13 +27,14 @@ fn condition(
     at: usize,
     room: usize,
 ) -> Result<Measured, ParseFault>
-    requires deep { room ≤ 500 }
+    requires deep { room ≤ most_levels }
     requires within { at ≤ length tokens.now }
-    ensures exact { Finds (λ x. (exp_view x.exp, x.after)) result (condition_at (exp_at room tokens.now 5) tokens.now at) }
+    ensures exact { Finds (λ x. (exp_view x.exp, x.after)) result
+        (condition_at (exp_at room tokens.now any_tier) tokens.now at) }
     ensures within { IfOk result (λ x. (at < x.after) × (x.after ≤ length tokens.now)) }
 {
     let inside = expect(tokens, at, Terminal::LeftParenthesis)?;
-    let exp = read(alloc, tokens, inside, room, 5)?;
+    let exp = read(alloc, tokens, inside, room, ANY_TIER)?;
     let after = expect(tokens, exp.after, Terminal::RightParenthesis)?;
     Ok(Measured { after, ..exp })
 }
@@ -40,7 +43,8 @@ fn condition(
 /// stands behind it.
 fn print_opening(tokens: &[Token], at: usize) -> Result<usize, ParseFault>
     requires { at < length tokens.now }
-    ensures found { IfOk result (λ after. (opens_print tokens.now at ≡ true) × (after ≡ at + 6) × (after ≤ length tokens.now)) }
+    ensures found { IfOk result (λ after.
+        (opens_print tokens.now at ≡ true) × (after ≡ at + 6) × (after ≤ length tokens.now)) }
     ensures fault { IfErr result (λ e. (opens_print tokens.now at ≡ false) × (e ≢ OutOfMemory)) }
 {
     if !says(tokens, at, b"System".as_slice()) {
@@ -60,13 +64,14 @@ fn print(
     at: usize,
     room: usize,
 ) -> Result<Parsed<Stmt>, ParseFault>
-    requires deep { room ≤ 500 }
+    requires deep { room ≤ most_levels }
     requires within { at < length tokens.now }
-    ensures exact { Finds (λ x. (stmt_view x.tree, x.after)) result (print_at (exp_at room tokens.now 5) tokens.now at) }
+    ensures exact { Finds (λ x. (stmt_view x.tree, x.after)) result
+        (print_at (exp_at room tokens.now any_tier) tokens.now at) }
     ensures within { IfOk result (λ x. (at < x.after) × (x.after ≤ length tokens.now)) }
 {
     let inside = print_opening(tokens, at)?;
-    let value = read(alloc, tokens, inside, room, 5)?;
+    let value = read(alloc, tokens, inside, room, ANY_TIER)?;
     let after = expect(tokens, value.after, Terminal::RightParenthesis)?;
     let after = expect(tokens, after, Terminal::Semicolon)?;
     Ok(Parsed {
@@ -83,12 +88,13 @@ fn assign(
     at: usize,
     room: usize,
 ) -> Result<Parsed<Stmt>, ParseFault>
-    requires deep { room ≤ 500 }
+    requires deep { room ≤ most_levels }
     requires within { at + 1 < length tokens.now }
-    ensures exact { Finds (λ x. (stmt_view x.tree, x.after)) result (assign_at (exp_at room tokens.now 5) tokens.now name.now at) }
+    ensures exact { Finds (λ x. (stmt_view x.tree, x.after)) result
+        (assign_at (exp_at room tokens.now any_tier) tokens.now name.now at) }
     ensures within { IfOk result (λ x. (at < x.after) × (x.after ≤ length tokens.now)) }
 {
-    let value = read(alloc, tokens, at + 2, room, 5)?;
+    let value = read(alloc, tokens, at + 2, room, ANY_TIER)?;
     let after = expect(tokens, value.after, Terminal::Semicolon)?;
     Ok(Parsed {
         tree: nodes::assign(alloc, at + 1, name, at, value.exp)?,
@@ -104,15 +110,16 @@ fn store(
     at: usize,
     room: usize,
 ) -> Result<Parsed<Stmt>, ParseFault>
-    requires deep { room ≤ 500 }
+    requires deep { room ≤ most_levels }
     requires within { at + 1 < length tokens.now }
-    ensures exact { Finds (λ x. (stmt_view x.tree, x.after)) result (store_at (exp_at room tokens.now 5) tokens.now name.now at) }
+    ensures exact { Finds (λ x. (stmt_view x.tree, x.after)) result
+        (store_at (exp_at room tokens.now any_tier) tokens.now name.now at) }
     ensures within { IfOk result (λ x. (at < x.after) × (x.after ≤ length tokens.now)) }
 {
-    let index = read(alloc, tokens, at + 2, room, 5)?;
+    let index = read(alloc, tokens, at + 2, room, ANY_TIER)?;
     let mark = expect(tokens, index.after, Terminal::RightBracket)?;
     let inside = expect(tokens, mark, Terminal::Assign)?;
-    let value = read(alloc, tokens, inside, room, 5)?;
+    let value = read(alloc, tokens, inside, room, ANY_TIER)?;
     let after = expect(tokens, value.after, Terminal::Semicolon)?;
     Ok(Parsed {
         tree: nodes::store(alloc, mark, name, at, index.exp, value.exp)?,
@@ -128,8 +135,9 @@ fn named(
     at: usize,
     room: usize,
 ) -> Result<Parsed<Stmt>, ParseFault>
-    requires deep { room ≤ 500 }
-    ensures exact { Finds (λ x. (stmt_view x.tree, x.after)) result (named_at (exp_at room tokens.now 5) tokens.now at) }
+    requires deep { room ≤ most_levels }
+    ensures exact { Finds (λ x. (stmt_view x.tree, x.after)) result
+        (named_at (exp_at room tokens.now any_tier) tokens.now at) }
     ensures within { IfOk result (λ x. (at < x.after) × (x.after ≤ length tokens.now)) }
 {
     let name = expect_name(tokens, at)?;
@@ -179,9 +187,11 @@ fn braced(
     at: usize,
     room: usize,
 ) -> Result<Parsed<Vec<Stmt>>, ParseFault>
-    requires deep { room ≤ 500 }
+    requires deep { room ≤ most_levels }
     requires within { at ≤ length tokens.now }
-    ensures exact { Finds (λ x. (map stmt_view x.tree.items, x.after)) result (items_from (suc (length tokens.now)) (stmt_at room tokens.now) (not_brace tokens.now) at) }
+    ensures exact { Finds (λ x. (map stmt_view x.tree.items, x.after)) result
+        (items_from (suc (length tokens.now)) (stmt_at room tokens.now) (not_brace tokens.now)
+        at) }
     ensures within { IfOk result (λ x. (at ≤ x.after) × (x.after < length tokens.now)) }
 {
     let mut stmts = Vec::new(alloc);
@@ -203,9 +213,10 @@ fn block(
     at: usize,
     room: usize,
 ) -> Result<Parsed<Stmt>, ParseFault>
-    requires deep { room ≤ 500 }
+    requires deep { room ≤ most_levels }
     requires within { at < length tokens.now }
-    ensures exact { Finds (λ x. (stmt_view x.tree, x.after)) result (block_at (stmt_at room tokens.now) tokens.now at) }
+    ensures exact { Finds (λ x. (stmt_view x.tree, x.after)) result
+        (block_at (stmt_at room tokens.now) tokens.now at) }
     ensures within { IfOk result (λ x. (at < x.after) × (x.after ≤ length tokens.now)) }
 {
     let body = braced(alloc, tokens, at + 1, room)?;
@@ -224,9 +235,10 @@ fn choice(
     at: usize,
     room: usize,
 ) -> Result<Parsed<Stmt>, ParseFault>
-    requires deep { room ≤ 500 }
+    requires deep { room ≤ most_levels }
     requires within { at < length tokens.now }
-    ensures exact { Finds (λ x. (stmt_view x.tree, x.after)) result (if_at (exp_at room tokens.now 5) (stmt_at room tokens.now) tokens.now at) }
+    ensures exact { Finds (λ x. (stmt_view x.tree, x.after)) result
+        (if_at (exp_at room tokens.now any_tier) (stmt_at room tokens.now) tokens.now at) }
     ensures within { IfOk result (λ x. (at < x.after) × (x.after ≤ length tokens.now)) }
 {
     let condition = condition(alloc, tokens, at + 1, room)?;
@@ -248,9 +260,10 @@ fn repetition(
     at: usize,
     room: usize,
 ) -> Result<Parsed<Stmt>, ParseFault>
-    requires deep { room ≤ 500 }
+    requires deep { room ≤ most_levels }
     requires within { at < length tokens.now }
-    ensures exact { Finds (λ x. (stmt_view x.tree, x.after)) result (while_at (exp_at room tokens.now 5) (stmt_at room tokens.now) tokens.now at) }
+    ensures exact { Finds (λ x. (stmt_view x.tree, x.after)) result
+        (while_at (exp_at room tokens.now any_tier) (stmt_at room tokens.now) tokens.now at) }
     ensures within { IfOk result (λ x. (at < x.after) × (x.after ≤ length tokens.now)) }
 {
     let condition = condition(alloc, tokens, at + 1, room)?;
@@ -271,7 +284,7 @@ pub fn statement(
     at: usize,
     room: usize,
 ) -> Result<Parsed<Stmt>, ParseFault>
-    requires deep { room ≤ 500 }
+    requires deep { room ≤ most_levels }
     requires within { at ≤ length tokens.now }
     ensures exact { Finds (λ x. (stmt_view x.tree, x.after)) result (stmt_at room tokens.now at) }
     ensures within { IfOk result (λ x. (at < x.after) × (x.after ≤ length tokens.now)) }

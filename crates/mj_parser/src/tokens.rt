@@ -21,7 +21,8 @@ fn is_same(a: Terminal, b: Terminal) -> bool
 
 /// The kind of the token at a place.
 pub fn kind(tokens: &[Token], at: usize) -> Option<&Kind>
-    ensures value { MatchOption result (kind_at tokens.now at ≡ None) (λ k. kind_at tokens.now at ≡ Some k.now) }
+    ensures value { MatchOption result (kind_at tokens.now at ≡ None)
+        (λ k. kind_at tokens.now at ≡ Some k.now) }
     ensures within { IsSome result → at < length tokens.now }
 {
     match tokens.get(at) {
@@ -45,7 +46,8 @@ pub fn has(tokens: &[Token], at: usize, terminal: Terminal) -> bool
 /// The name at a place.
 #[tactic(auto, unfolding(crate::specs::Tokens::name_at))]
 pub fn name(tokens: &[Token], at: usize) -> Option<&Name>
-    ensures value { MatchOption result (name_at tokens.now at ≡ None) (λ n. name_at tokens.now at ≡ Some n.now) }
+    ensures value { MatchOption result (name_at tokens.now at ≡ None)
+        (λ n. name_at tokens.now at ≡ Some n.now) }
     ensures within { IsSome result → at < length tokens.now }
 {
     match kind(tokens, at) {
@@ -69,7 +71,8 @@ pub fn says(tokens: &[Token], at: usize, word: &[u8]) -> bool
 /// The place after a symbol or reserved word that has to stand here.
 pub fn expect(tokens: &[Token], at: usize, terminal: Terminal) -> Result<usize, ParseFault>
     requires { at < 2 ^ 63 }
-    ensures found { IfOk result (λ after. (has tokens.now at terminal ≡ true) × (after ≡ at + 1) × (after ≤ length tokens.now)) }
+    ensures found { IfOk result (λ after.
+        (has tokens.now at terminal ≡ true) × (after ≡ at + 1) × (after ≤ length tokens.now)) }
     ensures fault { IfErr result (λ e. (e ≡ NotAFile at) × (has tokens.now at terminal ≡ false)) }
 {
     if has(tokens, at, terminal) {
@@ -82,7 +85,8 @@ pub fn expect(tokens: &[Token], at: usize, terminal: Terminal) -> Result<usize, 
 /// The place after a word that has to stand here.
 pub fn expect_word(tokens: &[Token], at: usize, word: &[u8]) -> Result<usize, ParseFault>
     requires { at < 2 ^ 63 }
-    ensures found { IfOk result (λ after. (says tokens.now at word.now ≡ true) × (after ≡ at + 1) × (after ≤ length tokens.now)) }
+    ensures found { IfOk result (λ after.
+        (says tokens.now at word.now ≡ true) × (after ≡ at + 1) × (after ≤ length tokens.now)) }
     ensures fault { IfErr result (λ e. (e ≡ NotAFile at) × (says tokens.now at word.now ≡ false)) }
 {
     if says(tokens, at, word) {
@@ -94,7 +98,8 @@ pub fn expect_word(tokens: &[Token], at: usize, word: &[u8]) -> Result<usize, Pa
 
 /// The name that has to stand here.
 pub fn expect_name(tokens: &[Token], at: usize) -> Result<&Name, ParseFault>
-    ensures found { IfOk result (λ n. (name_at tokens.now at ≡ Some n.now) × (at < length tokens.now)) }
+    ensures found { IfOk result (λ n.
+        (name_at tokens.now at ≡ Some n.now) × (at < length tokens.now)) }
     ensures fault { IfErr result (λ e. (e ≡ NotAFile at) × (name_at tokens.now at ≡ None)) }
 {
     match name(tokens, at) {

@@ -65,9 +65,12 @@ impl Project {
     /// A project of these files.
     pub fn new(alloc: Global, files: Vec<(String, Vec<u8>)>) -> Result<Self, ProjectFault>
         ensures accepted { IfOk result (λ project. project ≡ sources_view files.items) }
-        ensures accepts { IsProject (sources_view files.items) → MatchResult result (λ _. Unit {0}) (λ fault. fault ≡ OutOfMemory) }
-        ensures refused { IfErr result (λ fault. fault ≢ OutOfMemory → Refuses (sources_view files.items) fault) }
-        ensures refuses { (fault : ProjectFault) → Refuses (sources_view files.items) fault → MatchResult result (λ _. ⊥) (λ e. (e ≡ fault) ⊎ (e ≡ OutOfMemory)) }
+        ensures accepts { IsProject (sources_view files.items)
+            → MatchResult result (λ _. Unit {0}) (λ fault. fault ≡ OutOfMemory) }
+        ensures refused { IfErr result (λ fault.
+            fault ≢ OutOfMemory → Refuses (sources_view files.items) fault) }
+        ensures refuses { (fault : ProjectFault) → Refuses (sources_view files.items) fault
+            → MatchResult result (λ _. ⊥) (λ e. (e ≡ fault) ⊎ (e ≡ OutOfMemory)) }
     {
         if files.is_empty() {
             return Err(ProjectFault::NoFiles);
@@ -102,7 +105,8 @@ fn bad_name(files: &[(String, Vec<u8>)]) -> Option<usize>
 
 /// The names of files.
 fn file_names(alloc: Global, files: &[(String, Vec<u8>)]) -> Result<Vec<&str>, AllocError>
-    ensures { IfOk result (λ names. map (λ name. name.now) names.items ≡ names_of (sources_view files.now)) }
+    ensures { IfOk result (λ names.
+        map (λ name. name.now) names.items ≡ names_of (sources_view files.now)) }
 {
     let mut names = Vec::new(alloc);
     for (name, _) in files {
@@ -119,7 +123,8 @@ fn first_set(flags: &[bool]) -> Option<usize>
 
 /// The first file that has the name of an earlier one.
 fn repeated_name(alloc: Global, files: &[(String, Vec<u8>)]) -> Result<Option<usize>, AllocError>
-    ensures { IfOk result (λ number. number ≡ position (λ (flag : Bool). flag) (repeats (names_of (sources_view files.now)))) }
+    ensures { IfOk result (λ number.
+        number ≡ position (λ (flag : Bool). flag) (repeats (names_of (sources_view files.now)))) }
 {
     let names = file_names(alloc, files)?;
     let flags = repeats(alloc, &names)?;

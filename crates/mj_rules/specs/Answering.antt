@@ -18,7 +18,8 @@ use Rattle.mj_rules.specs.FaultLists.{project_faults, class_faults, class_names}
 
 abbrev pub with_element : {X : Type 0} → (X → X → Ordering) → X → List X → List X
 with_element compare x [] = x ∷ []
-with_element compare x (y ∷ ys) = match_ordering (compare x y) (x ∷ y ∷ ys) (y ∷ ys) (y ∷ with_element compare x ys)
+with_element compare x (y ∷ ys) =
+    match_ordering (compare x y) (x ∷ y ∷ ys) (y ∷ ys) (y ∷ with_element compare x ys)
 
 abbrev pub set_of : {X : Type 0} → (X → X → Ordering) → List X → List X
 set_of compare [] = []
@@ -37,7 +38,11 @@ fault_order d e =
 -- ---- answers
 
 abbrev pub class_answer : List ClassDecl → ClassDecl → ClassAnswerValue
-class_answer cs k = record { name = k.name; table = table_of cs k.name; faults = set_of fault_order (class_faults cs k) }
+class_answer cs k = record {
+  name = k.name;
+  table = table_of cs k.name;
+  faults = set_of fault_order (class_faults cs k);
+}
 
 -- the first class of each name, in the order of the names
 abbrev pub first_classes : List ClassDecl → List ClassDecl
@@ -45,4 +50,7 @@ first_classes cs = filter_map (decl cs) (set_of name_order (class_names cs))
 
 -- the answer that the rules give
 unfoldable pub rules_of : List SourceFile → AnswerValue
-rules_of files = record { faults = set_of fault_order (project_faults files); classes = map (class_answer (classes_in files)) (first_classes (classes_in files)) }
+rules_of files = record {
+  faults = set_of fault_order (project_faults files);
+  classes = map (class_answer (classes_in files)) (first_classes (classes_in files));
+}

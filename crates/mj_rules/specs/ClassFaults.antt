@@ -21,13 +21,15 @@ pub record IsOverridden (cs : List ClassDecl) (c m : Name) (found : Method) : Ty
   pub farther : List Name
   pub end : EndOf
   pub is_chain : IsChain cs c (c ∷ (nearer ++ (owner ∷ farther))) end
-  pub none_nearer : (d : Name) (k : ClassDecl) → Contains nearer d → decl cs d ≡ Some k → own_method m k ≡ None
+  pub none_nearer : (d : Name) (k : ClassDecl) → Contains nearer d → decl cs d ≡ Some k
+      → own_method m k ≡ None
   pub here : (k : ClassDecl) × (decl cs owner ≡ Some k) × (own_method m k ≡ Some found)
 
 -- the method with this number, which is the first of its name in the class
 pub record IsFirstMethod (k : ClassDecl) (n : ℕ) (m : Method) : Type 0 where
   pub here : slice_get k.methods n ≡ Some m
-  pub first : (i : ℕ) (earlier : Method) → i < n → slice_get k.methods i ≡ Some earlier → earlier.name ≢ m.name
+  pub first : (i : ℕ) (earlier : Method) → i < n → slice_get k.methods i ≡ Some earlier
+      → earlier.name ≢ m.name
 
 abbrev pub main_word : Name
 main_word = codes "main"
@@ -38,17 +40,27 @@ main_of k statement = record { name = k.name; statement = statement }
 -- The class is the first one of its name.
 pub data FaultOfClass (cs : List ClassDecl) (k : ClassDecl) : Place → Code → Type 0 where
   -- the class extends an undeclared name
-  UndeclaredSuperclass : (u : Name) → k.superclass ≡ Some u → decl cs u ≡ None → FaultOfClass cs k Class E201
+  UndeclaredSuperclass : (u : Name) → k.superclass ≡ Some u → decl cs u ≡ None
+      → FaultOfClass cs k Class E201
   -- the last of its chain extends a member of the chain
-  CyclicChain : (chain : List Name) (u : Name) → IsChain cs k.name chain (Repeated u) → FaultOfClass cs k Class E202
+  CyclicChain : (chain : List Name) (u : Name) → IsChain cs k.name chain (Repeated u)
+      → FaultOfClass cs k Class E202
   -- a field of the name stands before it
-  RepeatedField : (i n : ℕ) (earlier f : Field) → i < n → slice_get k.fields i ≡ Some earlier → slice_get k.fields n ≡ Some f → earlier.name ≡ f.name → FaultOfClass cs k (FieldAt n) E203
+  RepeatedField : (i n : ℕ) (earlier f : Field) → i < n → slice_get k.fields i ≡ Some earlier
+      → slice_get k.fields n ≡ Some f → earlier.name ≡ f.name → FaultOfClass cs k (FieldAt n) E203
   -- a method of the name stands before it
-  RepeatedMethod : (i n : ℕ) (earlier m : Method) → i < n → slice_get k.methods i ≡ Some earlier → slice_get k.methods n ≡ Some m → earlier.name ≡ m.name → FaultOfClass cs k (MethodAt n) E204
+  RepeatedMethod : (i n : ℕ) (earlier m : Method) → i < n → slice_get k.methods i ≡ Some earlier
+      → slice_get k.methods n ≡ Some m → earlier.name ≡ m.name → FaultOfClass cs k (MethodAt n) E204
   -- the rest of the chain has the method with other parameter types or another return type
-  OtherSignature : (n : ℕ) (m found : Method) → IsFirstMethod k n m → IsOverridden cs k.name m.name found → sig_of found ≢ sig_of m → FaultOfClass cs k (MethodAt n) E205
+  OtherSignature : (n : ℕ) (m found : Method) → IsFirstMethod k n m
+      → IsOverridden cs k.name m.name found → sig_of found ≢ sig_of m
+      → FaultOfClass cs k (MethodAt n) E205
   -- a field's type is an undeclared class
-  UndeclaredFieldType : (n : ℕ) (f : Field) (u : Name) → slice_get k.fields n ≡ Some f → f.ty ≡ types.Class u → decl cs u ≡ None → FaultOfClass cs k (FieldAt n) E206
+  UndeclaredFieldType : (n : ℕ) (f : Field) (u : Name) → slice_get k.fields n ≡ Some f
+      → f.ty ≡ types.Class u → decl cs u ≡ None → FaultOfClass cs k (FieldAt n) E206
   -- a mistake in the first method of a name, or in main
-  InMethod : (n : ℕ) (m : Method) (x : Mistake) → IsFirstMethod k n m → MethodFault (world_of cs) k.name m x → FaultOfClass cs k (Inside m.name x.mark) x.code
-  InMain : (statement : Statement) (x : Mistake) → k.main ≡ Some statement → MainFault (world_of cs) (main_of k statement) x → FaultOfClass cs k (Inside main_word x.mark) x.code
+  InMethod : (n : ℕ) (m : Method) (x : Mistake) → IsFirstMethod k n m
+      → MethodFault (world_of cs) k.name m x → FaultOfClass cs k (Inside m.name x.mark) x.code
+  InMain : (statement : Statement) (x : Mistake) → k.main ≡ Some statement
+      → MainFault (world_of cs) (main_of k statement) x
+      → FaultOfClass cs k (Inside main_word x.mark) x.code

@@ -9,4 +9,6 @@ codes_of lines = map (λ line. line.code) lines
 
 -- the project's own faults, then those of each class
 abbrev pub answer_codes : AnswerValue → List Code
-answer_codes answer = map (λ fault. fault.code) answer.faults ++ flat_map (λ class. map (λ fault. fault.code) class.faults) answer.classes
+answer_codes answer =
+    map (λ fault. fault.code) answer.faults
+        ++ flat_map (λ class. map (λ fault. fault.code) class.faults) answer.classes

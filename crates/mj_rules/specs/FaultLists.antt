@@ -32,10 +32,12 @@ abbrev pub when_fault : Bool → Place → Code → List Diagnostic
 when_fault b place code = if b then fault place code ∷ [] else []
 
 -- what is wrong with each of a numbered list; the flag of one says that its name stands before it
-abbrev pub each_numbered : {A : Type 0} → (ℕ → Bool → A → List Diagnostic) → ℕ → List A → List Bool → List Diagnostic
+abbrev pub each_numbered : {A : Type 0} → (ℕ → Bool → A → List Diagnostic) → ℕ → List A → List Bool
+    → List Diagnostic
 each_numbered faults n [] flags = []
 each_numbered faults n (x ∷ xs) [] = []
-each_numbered faults n (x ∷ xs) (flag ∷ flags) = faults n flag x ++ each_numbered faults (n + 1) xs flags
+each_numbered faults n (x ∷ xs) (flag ∷ flags) =
+    faults n flag x ++ each_numbered faults (n + 1) xs flags
 
 -- ---- the project
 
@@ -46,11 +48,14 @@ has_main (Some tree) = is_some tree.main
 -- what is wrong with a file, where an earlier one has a main class or none has
 abbrev pub file_faults : Bool → Name → Option File → List Diagnostic
 file_faults main_before name None = fault (places.File name) E101 ∷ []
-file_faults main_before name (Some tree) = when_fault (main_before && is_some tree.main) (places.File name) E103
+file_faults main_before name (Some tree) =
+    when_fault (main_before && is_some tree.main) (places.File name) E103
 
 abbrev pub files_faults : Bool → List SourceFile → List Diagnostic
 files_faults main_before [] = []
-files_faults main_before (f ∷ fs) = file_faults main_before f.name (file_of f.bytes) ++ files_faults (main_before || has_main (file_of f.bytes)) fs
+files_faults main_before (f ∷ fs) =
+    file_faults main_before f.name (file_of f.bytes)
+        ++ files_faults (main_before || has_main (file_of f.bytes)) fs
 
 -- one of the files has a main class
 abbrev pub any_main : List SourceFile → Bool
@@ -93,7 +98,9 @@ is_undeclared cs types.Boolean = false
 is_undeclared cs types.IntArray = false
 
 abbrev pub field_faults : List ClassDecl → ℕ → Bool → Field → List Diagnostic
-field_faults cs n repeated f = when_fault repeated (places.Field n) E203 ++ when_fault (is_undeclared cs f.ty) (places.Field n) E206
+field_faults cs n repeated f =
+    when_fault repeated (places.Field n) E203
+        ++ when_fault (is_undeclared cs f.ty) (places.Field n) E206
 
 abbrev pub same_type : Ty → Ty → Bool
 same_type types.Int types.Int = true
@@ -150,10 +157,13 @@ body_faults_of cs c n repeated m = if repeated then [] else inside m.name (metho
 
 abbrev pub main_method_faults : List ClassDecl → ClassDecl → Option Statement → List Diagnostic
 main_method_faults cs k None = []
-main_method_faults cs k (Some statement) = inside main_word (main_faults (world_of cs) (main_of k statement))
+main_method_faults cs k (Some statement) =
+    inside main_word (main_faults (world_of cs) (main_of k statement))
 
 unfoldable pub body_faults : List ClassDecl → ClassDecl → List Diagnostic
-body_faults cs k = each_numbered (body_faults_of cs k.name) 0 k.methods (repeats (method_names k)) ++ main_method_faults cs k k.main
+body_faults cs k =
+    each_numbered (body_faults_of cs k.name) 0 k.methods (repeats (method_names k))
+        ++ main_method_faults cs k k.main
 
 abbrev pub class_faults : List ClassDecl → ClassDecl → List Diagnostic
 class_faults cs k = declaration_faults cs k ++ body_faults cs k

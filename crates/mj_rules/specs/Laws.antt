@@ -23,10 +23,14 @@ SentenceLaw = (bytes : List ℕ) (tree : File) → IsSentence bytes tree ↔ (fi
 
 -- the lists have just the faults of the rows
 abbrev pub ProjectFaultLaw : Type 0
-ProjectFaultLaw = (files : List SourceFile) (place : Place) (code : Code) → Contains (project_faults files) (fault place code) ↔ FaultOfProject files place code
+ProjectFaultLaw =
+    (files : List SourceFile) (place : Place) (code : Code)
+        → Contains (project_faults files) (fault place code) ↔ FaultOfProject files place code
 
 abbrev pub ClassFaultLaw : Type 0
-ClassFaultLaw = (cs : List ClassDecl) (k : ClassDecl) → decl cs k.name ≡ Some k → (place : Place) (code : Code) → Contains (class_faults cs k) (fault place code) ↔ FaultOfClass cs k place code
+ClassFaultLaw =
+    (cs : List ClassDecl) (k : ClassDecl) → decl cs k.name ≡ Some k → (place : Place) (code : Code)
+        → Contains (class_faults cs k) (fault place code) ↔ FaultOfClass cs k place code
 
 -- what the check of a body is told is what chains and members are
 abbrev pub WorldLaw : Type 0
@@ -34,8 +38,11 @@ WorldLaw = (cs : List ClassDecl) → Says cs (world_of cs)
 
 -- the computed answer is the only one that the rules give
 abbrev pub AnswerLaw : Type 0
-AnswerLaw = (files : List SourceFile) (answer : AnswerValue) → Rules files answer ↔ (answer ≡ rules_of files)
+AnswerLaw =
+    (files : List SourceFile) (answer : AnswerValue)
+        → Rules files answer ↔ (answer ≡ rules_of files)
 
 pub record BodyFaultLaws : Type 0 where
-  pub method : (w : World) (class : Name) (m : Method) (x : Mistake) → MethodFault w class m x ↔ Contains (method_faults w class m) x
+  pub method : (w : World) (class : Name) (m : Method) (x : Mistake)
+      → MethodFault w class m x ↔ Contains (method_faults w class m) x
   pub main : (w : World) (m : Main) (x : Mistake) → MainFault w m x ↔ Contains (main_faults w m) x

@@ -18,11 +18,16 @@ pub record HasMain (files : List SourceFile) (i : ℕ) (f : SourceFile) : Type 0
 
 pub data FaultOfProject (files : List SourceFile) : Place → Code → Type 0 where
   -- the file is no sentence
-  NoSentence : (f : SourceFile) → Contains files f → ((tree : File) → IsSentence f.bytes tree → ⊥) → FaultOfProject files (places.File f.name) E101
+  NoSentence : (f : SourceFile) → Contains files f → ((tree : File) → IsSentence f.bytes tree → ⊥)
+      → FaultOfProject files (places.File f.name) E101
   -- no file has a main class
-  NoMain : ((i : ℕ) (f : SourceFile) → HasMain files i f → ⊥) → FaultOfProject files places.Project E102
+  NoMain : ((i : ℕ) (f : SourceFile) → HasMain files i f → ⊥)
+      → FaultOfProject files places.Project E102
   -- a main class, and an earlier file has one
-  SecondMain : (i j : ℕ) (f g : SourceFile) → i < j → HasMain files i f → HasMain files j g → FaultOfProject files (places.File g.name) E103
+  SecondMain : (i j : ℕ) (f g : SourceFile) → i < j → HasMain files i f → HasMain files j g
+      → FaultOfProject files (places.File g.name) E103
   -- an earlier class has the name
-  RepeatedClass : (i j : ℕ) (c d : ClassDecl) (f : SourceFile) → i < j → slice_get (classes_in files) i ≡ Some c → slice_get (classes_in files) j ≡ Some d → c.name ≡ d.name
-      → slice_get files d.file ≡ Some f → FaultOfProject files (places.ClassOf f.name d.number) E104
+  RepeatedClass : (i j : ℕ) (c d : ClassDecl) (f : SourceFile) → i < j
+      → slice_get (classes_in files) i ≡ Some c → slice_get (classes_in files) j ≡ Some d
+      → c.name ≡ d.name → slice_get files d.file ≡ Some f
+      → FaultOfProject files (places.ClassOf f.name d.number) E104

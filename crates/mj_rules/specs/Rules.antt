@@ -18,7 +18,8 @@ use Rattle.mj_rules.specs.ClassFaults.{FaultOfClass}
 -- the faults, each once, in ascending order
 pub record AreTheFaults (Fault : Place → Code → Type 0) (faults : List Diagnostic) : Type 0 where
   pub ascending : IsAscending faults
-  pub exactly : (place : Place) (code : Code) → Contains faults (record { place = place; code = code }) ↔ Fault place code
+  pub exactly : (place : Place) (code : Code)
+      → Contains faults (record { place = place; code = code }) ↔ Fault place code
 
 -- the row of a field that a class has, and that of a method
 pub record IsFieldOf (cs : List ClassDecl) (c : Name) (row : FieldRow) : Type 0 where

@@ -15,11 +15,19 @@ abbrev pub field_row : Name × Field → FieldRow
 field_row found = record { name = found.1.name; owner = found.0; ty = found.1.ty }
 
 abbrev pub method_row : Name × Method → MethodRowValue
-method_row found = record { name = found.1.name; owner = found.0; formals = map (λ v. v.ty) found.1.formals; returns = found.1.returns }
+method_row found = record {
+  name = found.1.name;
+  owner = found.0;
+  formals = map (λ v. v.ty) found.1.formals;
+  returns = found.1.returns;
+}
 
 -- the table of a class that has these classes for its chain
 abbrev pub table_along : List ClassDecl → ClassTableValue
-table_along ks = record { fields = map field_row (fields_along ks); methods = map method_row (methods_along ks) }
+table_along ks = record {
+  fields = map field_row (fields_along ks);
+  methods = map method_row (methods_along ks);
+}
 
 abbrev pub table_of : List ClassDecl → Name → ClassTableValue
 table_of cs c = table_along (ancestry cs c)

@@ -22,7 +22,13 @@ world_of cs = record {
 
 -- what a world says is what chains and members are
 pub record Says (cs : List ClassDecl) (w : World) : Type 0 where
-  pub descends : (c d : Name) → (w.descends c d ≡ true) ↔ ((chain : List Name) × (end : EndOf) × IsChain cs c chain end × Contains chain d)
-  pub field : (c x : Name) (t : Ty) → (w.field c x ≡ Some t) ↔ ((owner : Name) × (f : Field) × FieldOf cs c x owner f × (f.ty ≡ t))
-  pub method : (c m : Name) (sig : Sig) → (w.method c m ≡ Some sig) ↔ ((owner : Name) × (f : Method) × MethodOf cs c m owner f × (sig_of f ≡ sig))
+  pub descends : (c d : Name)
+      → (w.descends c d ≡ true)
+            ↔ ((chain : List Name) × (end : EndOf) × IsChain cs c chain end × Contains chain d)
+  pub field : (c x : Name) (t : Ty)
+      → (w.field c x ≡ Some t)
+            ↔ ((owner : Name) × (f : Field) × FieldOf cs c x owner f × (f.ty ≡ t))
+  pub method : (c m : Name) (sig : Sig)
+      → (w.method c m ≡ Some sig)
+            ↔ ((owner : Name) × (f : Method) × MethodOf cs c m owner f × (sig_of f ≡ sig))
   pub is_declared : (c : Name) → (w.is_declared c ≡ true) ↔ ((k : ClassDecl) × (decl cs c ≡ Some k))

@@ -45,7 +45,12 @@ fn add_body(
     repeated: bool,
     method: &MethodTree,
 ) -> Result<(), AllocError>
-    ensures { OnOk result (faults.new.items ≡ faults.old.items ++ (if repeated then [] else inside (method_view method.now).name (method_faults (world_of (declared_in world.now.declarations.now)) class.now (method_view method.now)))) }
+    ensures { OnOk result
+        (faults.new.items
+        ≡ faults.old.items
+        ++ (if repeated then [] else inside (method_view method.now).name
+        (method_faults (world_of (declared_in world.now.declarations.now))
+        class.now (method_view method.now)))) }
 {
     if repeated {
         return Ok(());
@@ -62,7 +67,13 @@ fn add_bodies(
     class: &Name,
     methods: &[MethodTree],
 ) -> Result<(), AllocError>
-    ensures { OnOk result (faults.new.items ≡ faults.old.items ++ each_numbered (body_faults_of (declared_in world.now.declarations.now) class.now) 0 (map method_view methods.now) (repeats (map (λ m. m.name) (map method_view methods.now)))) }
+    ensures { OnOk result
+        (faults.new.items
+        ≡ faults.old.items
+        ++ each_numbered
+        (body_faults_of (declared_in world.now.declarations.now) class.now) 0
+        (map method_view methods.now)
+        (repeats (map (λ m. m.name) (map method_view methods.now)))) }
 {
     let repeated = repeated_methods(alloc, methods)?;
     let flags = repeated.as_slice();
@@ -79,7 +90,11 @@ fn add_main(
     world: &World,
     class: &ClassRef,
 ) -> Result<(), AllocError>
-    ensures { OnOk result (faults.new.items ≡ faults.old.items ++ main_method_faults (declared_in world.now.declarations.now) (class_ref_view class.now) (class_ref_view class.now).main) }
+    ensures { OnOk result
+        (faults.new.items
+        ≡ faults.old.items
+        ++ main_method_faults (declared_in world.now.declarations.now)
+        (class_ref_view class.now) (class_ref_view class.now).main) }
 {
     match class.tree {
         Tree::Main(main) => {
@@ -98,7 +113,10 @@ pub fn add_body_faults(
     declarations: &Declarations,
     class: &ClassRef,
 ) -> Result<(), AllocError>
-    ensures { OnOk result (faults.new.items ≡ faults.old.items ++ body_faults (declared_in declarations.now) (class_ref_view class.now)) }
+    ensures { OnOk result
+        (faults.new.items
+        ≡ faults.old.items
+        ++ body_faults (declared_in declarations.now) (class_ref_view class.now)) }
 {
     let world = World { declarations };
     add_bodies(alloc, faults, &world, class.name(), class.methods())?;

@@ -24,7 +24,8 @@ fn class_answer(
     declarations: &Declarations,
     class: &ClassRef,
 ) -> Result<ClassAnswer, AllocError>
-    requires { decl (declared_in declarations.now) (class_ref_view class.now).name ≡ Some (class_ref_view class.now) }
+    requires { decl (declared_in declarations.now) (class_ref_view class.now).name
+        ≡ Some (class_ref_view class.now) }
     ensures name { IfOk result (λ answer. answer.name ≡ (class_ref_view class.now).name) }
     ensures rules { IfOk result (IsAnswerFor (declared_in declarations.now)) }
 {
@@ -41,7 +42,10 @@ fn class_answer(
 /// The names of the declared classes, each once, in ascending order.
 fn declared_names(alloc: Global, declarations: &Declarations) -> Result<Vec<Name>, AllocError>
     ensures ascending { IfOk result (λ names. IsAscendingBy NameBefore names.items) }
-    ensures same { IfOk result (λ names. (name : List ℕ) → Contains names.items name ↔ Contains (class_names (declared_in declarations.now)) name) }
+    ensures same { IfOk result (λ names.
+        (name : List ℕ)
+        → Contains names.items name
+        ↔ Contains (class_names (declared_in declarations.now)) name) }
 {
     let mut names = Vec::new(alloc);
     for class in declarations.classes() {
@@ -52,7 +56,8 @@ fn declared_names(alloc: Global, declarations: &Declarations) -> Result<Vec<Name
 
 /// The answers for the declared classes, ascending by name.
 fn class_answers(alloc: Global, declarations: &Declarations) -> Result<Vec<ClassAnswer>, AllocError>
-    ensures { IfOk result (λ answers. AreClassAnswers (declared_in declarations.now) answers.items) }
+    ensures { IfOk result (λ answers.
+        AreClassAnswers (declared_in declarations.now) answers.items) }
 {
     let names = declared_names(alloc, declarations)?;
     let mut answers = Vec::new(alloc);

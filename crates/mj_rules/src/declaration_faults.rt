@@ -16,8 +16,8 @@ use crate::tables::method_rows;
 use mj_answer::{Code, Diagnostic, MethodRow, find_by_name};
 use mj_classes::{ClassChain, ClassRef, Declarations, End};
 use mj_lexer::Name;
-use mj_tree::{Field, MethodTree, Place, Ty, Variable};
 use mj_project::repeats;
+use mj_tree::{Field, MethodTree, Place, Ty, Variable};
 use std::alloc::{AllocError, Global};
 
 fn is_declared(declarations: &Declarations, name: &Name) -> bool
@@ -41,7 +41,11 @@ pub fn add_superclass_fault(
     declarations: &Declarations,
     class: &ClassRef,
 ) -> Result<(), AllocError>
-    ensures { OnOk result (faults.new.items ≡ faults.old.items ++ superclass_faults (declared_in declarations.now) (class_ref_view class.now).superclass) }
+    ensures { OnOk result
+        (faults.new.items
+        ≡ faults.old.items
+        ++ superclass_faults (declared_in declarations.now)
+        (class_ref_view class.now).superclass) }
 {
     if let Some(superclass) = class.superclass() {
         if !is_declared(declarations, superclass) {
@@ -56,7 +60,9 @@ pub fn add_superclass_fault(
 
 /// Adds the fault of a class whose chain runs into a cycle.
 pub fn add_chain_fault(faults: &mut Vec<Diagnostic>, end: &End) -> Result<(), AllocError>
-    ensures { OnOk result (faults.new.items ≡ faults.old.items ++ when_fault (is_cycle (end_view end.now)) places.Class E202) }
+    ensures { OnOk result
+        (faults.new.items
+        ≡ faults.old.items ++ when_fault (is_cycle (end_view end.now)) places.Class E202) }
 {
     if let End::Repeated(_) = end {
         faults.push(Diagnostic {
@@ -80,7 +86,8 @@ fn repeated_fields(alloc: Global, fields: &[Field]) -> Result<Vec<bool>, AllocEr
 
 /// For each method, whether its name stands before it.
 pub fn repeated_methods(alloc: Global, methods: &[MethodTree]) -> Result<Vec<bool>, AllocError>
-    ensures { IfOk result (λ flags. flags.items ≡ repeats (map (λ m. m.name) (map method_view methods.now))) }
+    ensures { IfOk result (λ flags.
+        flags.items ≡ repeats (map (λ m. m.name) (map method_view methods.now))) }
 {
     let mut names = Vec::new(alloc);
     for method in methods {
@@ -97,7 +104,10 @@ fn add_field(
     repeated: bool,
     field: &Field,
 ) -> Result<(), AllocError>
-    ensures { OnOk result (faults.new.items ≡ faults.old.items ++ field_faults (declared_in declarations.now) number repeated field.now) }
+    ensures { OnOk result
+        (faults.new.items
+        ≡ faults.old.items
+        ++ field_faults (declared_in declarations.now) number repeated field.now) }
 {
     if repeated {
         faults.push(Diagnostic {
@@ -121,7 +131,11 @@ pub fn add_fields(
     declarations: &Declarations,
     fields: &[Field],
 ) -> Result<(), AllocError>
-    ensures { OnOk result (faults.new.items ≡ faults.old.items ++ each_numbered (field_faults (declared_in declarations.now)) 0 fields.now (repeats (map (λ f. f.name) fields.now))) }
+    ensures { OnOk result
+        (faults.new.items
+        ≡ faults.old.items
+        ++ each_numbered (field_faults (declared_in declarations.now)) 0 fields.now
+        (repeats (map (λ f. f.name) fields.now))) }
 {
     let repeated = repeated_fields(alloc, fields)?;
     let flags = repeated.as_slice();
@@ -153,7 +167,9 @@ fn same_types(formals: &[Variable], types: &[Ty]) -> bool
 
 /// Whether a method has the parameter types and the return type of another.
 fn same_signature(method: &MethodTree, other: &MethodRow) -> bool
-    ensures { result ≡ same_signature (method_view method.now) (record { formals = other.now.formals; returns = other.now.returns }) }
+    ensures { result
+        ≡ same_signature (method_view method.now)
+        (record { formals = other.now.formals; returns = other.now.returns }) }
 {
     same_type(&method.returns, other.returns()) && same_types(&method.formals, other.formals())
 }
@@ -165,7 +181,11 @@ fn add_override(
     method: &MethodTree,
     other: Option<&MethodRow>,
 ) -> Result<(), AllocError>
-    ensures { OnOk result (faults.new.items ≡ faults.old.items ++ override_faults number (method_view method.now) (option_map row_sig (option_copied other.entry))) }
+    ensures { OnOk result
+        (faults.new.items
+        ≡ faults.old.items
+        ++ override_faults number (method_view method.now)
+        (option_map row_sig (option_copied other.entry))) }
 {
     if let Some(other) = other {
         if !same_signature(method, other) {
@@ -187,7 +207,11 @@ fn add_method(
     method: &MethodTree,
 ) -> Result<(), AllocError>
     requires { IsAscendingByName (λ row. row.name) rest.now }
-    ensures { OnOk result (faults.new.items ≡ faults.old.items ++ method_faults_of (sig_in rest.now) number repeated (method_view method.now)) }
+    ensures { OnOk result
+        (faults.new.items
+        ≡ faults.old.items
+        ++ method_faults_of (sig_in rest.now) number repeated
+        (method_view method.now)) }
 {
     if repeated {
         faults.push(Diagnostic {
@@ -208,7 +232,12 @@ pub fn add_methods(
     methods: &[MethodTree],
 ) -> Result<(), AllocError>
     requires { IsAscendingByName (λ row. row.name) rest.now }
-    ensures { OnOk result (faults.new.items ≡ faults.old.items ++ each_numbered (method_faults_of (sig_in rest.now)) 0 (map method_view methods.now) (repeats (map (λ m. m.name) (map method_view methods.now)))) }
+    ensures { OnOk result
+        (faults.new.items
+        ≡ faults.old.items
+        ++ each_numbered (method_faults_of (sig_in rest.now)) 0
+        (map method_view methods.now)
+        (repeats (map (λ m. m.name) (map method_view methods.now)))) }
 {
     let repeated = repeated_methods(alloc, methods)?;
     let flags = repeated.as_slice();
@@ -231,9 +260,13 @@ pub fn declaration_faults(
     class: &ClassRef,
     chain: &ClassChain,
 ) -> Result<Vec<Diagnostic>, AllocError>
-    requires chain { chain_of (declared_in declarations.now) (class_ref_view class.now).name ≡ Some (chain_view chain.now) }
-    requires classes { classes_view chain.now.classes.items ≡ ancestry (declared_in declarations.now) (class_ref_view class.now).name }
-    ensures { IfOk result (λ faults. faults.items ≡ declaration_faults (declared_in declarations.now) (class_ref_view class.now)) }
+    requires chain { chain_of (declared_in declarations.now) (class_ref_view class.now).name
+        ≡ Some (chain_view chain.now) }
+    requires classes { classes_view chain.now.classes.items
+        ≡ ancestry (declared_in declarations.now) (class_ref_view class.now).name }
+    ensures { IfOk result (λ faults.
+        faults.items
+        ≡ declaration_faults (declared_in declarations.now) (class_ref_view class.now)) }
 {
     let mut faults = Vec::new(alloc);
     add_superclass_fault(&mut faults, declarations, class)?;

@@ -6,8 +6,8 @@ use mj_answer::{Answer, ClassAnswer, Code, Diagnostic};
 use mj_classes::Declarations;
 use mj_lexer::{LexFault, Name, Token, lex, line_col};
 use mj_parser::{ParseFault, locate, parse};
-use mj_tree::{FileTree, Place};
 use mj_project::Project;
+use mj_tree::{FileTree, Place};
 use std::alloc::{AllocError, Global};
 use std::collections::BTreeMap;
 
@@ -177,7 +177,9 @@ fn add_project_lines<'a>(
     texts: &Texts<'a>,
     faults: &[Diagnostic],
 ) -> Result<(), AllocError>
-    ensures { OnOk result (codes_of lines.new.items ≡ codes_of lines.old.items ++ map (λ fault. fault.code) faults.now) }
+    ensures { OnOk result
+        (codes_of lines.new.items
+        ≡ codes_of lines.old.items ++ map (λ fault. fault.code) faults.now) }
 {
     for fault in faults {
         lines.push(texts.project_line(fault))?;
@@ -191,7 +193,9 @@ fn add_class_lines<'a>(
     declarations: &Declarations,
     class: &ClassAnswer,
 ) -> Result<(), AllocError>
-    ensures { OnOk result (codes_of lines.new.items ≡ codes_of lines.old.items ++ map (λ fault. fault.code) class.now.faults) }
+    ensures { OnOk result
+        (codes_of lines.new.items
+        ≡ codes_of lines.old.items ++ map (λ fault. fault.code) class.now.faults) }
 {
     for fault in class.faults() {
         lines.push(texts.class_line(declarations, class.name(), fault))?;

@@ -10,8 +10,8 @@ ghost use Rattle.mj_rules.specs.FaultLists.{has_main, any_main, file_faults, fil
 use mj_answer::{Code, Diagnostic};
 use mj_classes::ClassRef;
 use mj_lexer::Name;
-use mj_tree::{FileTree, Place};
 use mj_project::{Project, repeats};
+use mj_tree::{FileTree, Place};
 use std::alloc::{AllocError, Global};
 
 /// Adds what is wrong with a file, where an earlier one has a main class or none has.
@@ -24,7 +24,10 @@ fn add_file_fault(
 ) -> Result<(), AllocError>
     requires some { 0 < length name.now }
     requires short { length name.now ≤ 255 }
-    ensures { OnOk result (faults.new.items ≡ faults.old.items ++ file_faults main_before name.now (option_map file_view tree.now)) }
+    ensures { OnOk result
+        (faults.new.items
+        ≡ faults.old.items
+        ++ file_faults main_before name.now (option_map file_view tree.now)) }
 {
     let code = match tree {
         None => Code::E101,
@@ -55,7 +58,8 @@ pub fn add_file_faults(
     requires names { All IsFileName (names_of (sources_view files.now)) }
     requires trees { files_view trees.now ≡ trees_of (sources_view files.now) }
     ensures any { IfOk result (λ any. any ≡ any_main (sources_view files.now)) }
-    ensures faults { OnOk result (faults.new.items ≡ faults.old.items ++ files_faults false (sources_view files.now)) }
+    ensures faults { OnOk result
+        (faults.new.items ≡ faults.old.items ++ files_faults false (sources_view files.now)) }
 {
     let mut main_before = false;
     for (number, (name, _)) in files.iter().enumerate() {
@@ -76,7 +80,11 @@ fn add_repeated_class(
     repeated: bool,
 ) -> Result<(), AllocError>
     requires { All IsFileName (names_of (sources_view files.now)) }
-    ensures { OnOk result (faults.new.items ≡ faults.old.items ++ (if repeated then repeated_class (slice_get (sources_view files.now) file) number else [])) }
+    ensures { OnOk result
+        (faults.new.items
+        ≡ faults.old.items
+        ++ (if repeated then repeated_class (slice_get (sources_view files.now) file)
+        number else [])) }
 {
     if !repeated || file >= files.len() {
         return Ok(());
@@ -92,7 +100,8 @@ fn add_repeated_class(
 
 /// For each class, whether an earlier one has its name.
 fn repeated_classes(alloc: Global, classes: &[ClassRef]) -> Result<Vec<bool>, AllocError>
-    ensures { IfOk result (λ flags. flags.items ≡ repeats (class_names (classes_view classes.now))) }
+    ensures { IfOk result (λ flags.
+        flags.items ≡ repeats (class_names (classes_view classes.now))) }
 {
     let mut names = Vec::new(alloc);
     for class in classes {
@@ -109,7 +118,12 @@ pub fn add_repeated_classes(
     classes: &[ClassRef],
 ) -> Result<(), AllocError>
     requires { All IsFileName (names_of (sources_view files.now)) }
-    ensures { OnOk result (faults.new.items ≡ faults.old.items ++ each_numbered (repeated_class_faults (sources_view files.now)) 0 (classes_view classes.now) (repeats (class_names (classes_view classes.now)))) }
+    ensures { OnOk result
+        (faults.new.items
+        ≡ faults.old.items
+        ++ each_numbered (repeated_class_faults (sources_view files.now)) 0
+        (classes_view classes.now)
+        (repeats (class_names (classes_view classes.now)))) }
 {
     let repeated = repeated_classes(alloc, classes)?;
     let flags = repeated.as_slice();

@@ -8,8 +8,8 @@ ghost use Rattle.mj_rules.specs.Sentences.{file_of, trees_of};
 
 use mj_lexer::{LexFault, lex};
 use mj_parser::{ParseFault, parse};
-use mj_tree::FileTree;
 use mj_project::Project;
+use mj_tree::FileTree;
 use std::alloc::{AllocError, Global};
 
 /// A text that isn't cut into tokens is no sentence.

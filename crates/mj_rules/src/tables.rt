@@ -53,7 +53,8 @@ fn method_row(alloc: Global, member: &MethodMember) -> Result<MethodRow, AllocEr
 }
 
 fn field_rows(alloc: Global, classes: &[ClassRef]) -> Result<Vec<FieldRow>, AllocError>
-    ensures { IfOk result (λ rows. rows.items ≡ map field_row (fields_along (classes_view classes.now))) }
+    ensures { IfOk result (λ rows.
+        rows.items ≡ map field_row (fields_along (classes_view classes.now))) }
 {
     let members = field_table(alloc, classes)?;
     let mut rows = Vec::new(alloc);
@@ -65,7 +66,8 @@ fn field_rows(alloc: Global, classes: &[ClassRef]) -> Result<Vec<FieldRow>, Allo
 
 /// The methods that these classes have, the nearest of each name, ascending by name.
 pub fn method_rows(alloc: Global, classes: &[ClassRef]) -> Result<Vec<MethodRow>, AllocError>
-    ensures { IfOk result (λ rows. rows.items ≡ map method_row (methods_along (classes_view classes.now))) }
+    ensures { IfOk result (λ rows.
+        rows.items ≡ map method_row (methods_along (classes_view classes.now))) }
 {
     let members = method_table(alloc, classes)?;
     let mut rows = Vec::new(alloc);

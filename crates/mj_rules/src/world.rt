@@ -32,7 +32,8 @@ impl Signature for MethodTypes {
 
 /// Whether a class of this name is among the classes.
 fn has_class(classes: &[ClassRef], name: &Name) -> bool
-    ensures { result ≡ list_any (λ class. bytes_eq (class_ref_view class).name name.now) classes.now }
+    ensures { result
+        ≡ list_any (λ class. bytes_eq (class_ref_view class).name name.now) classes.now }
 {
     classes.iter().any(|class| class.name() == name)
 }

@@ -6,5 +6,6 @@ mod tree;
 
 pub use place::Place;
 pub use tree::{
-    ClassTree, Exp, Field, FileTree, MainTree, MethodTree, Operator, Stmt, Ty, Variable,
+    ClassTree, Exp, Field, FileTree, MOST_LEVELS, MainTree, MethodTree, Operator, Stmt, Ty,
+    Variable,
 };

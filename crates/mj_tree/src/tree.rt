@@ -2,6 +2,10 @@
 //! is 0. Contracts see a tree by its view, which leaves out where it lies in memory.
 use mj_lexer::Name;
 
+/// The most levels of a phrase: a statement in a body and the returned expression have level 1, a part of a phrase one
+/// more than the phrase.
+pub const MOST_LEVELS: usize = 500;
+
 /// A declared type.
 #[derive(Debug, Drop, PartialEq, Eq)]
 pub enum Ty {

@@ -58,8 +58,10 @@ pub trait Asking {
         class: &Name,
         ancestor: &Name,
     ) -> Result<bool, Stop<Self::Refusal>>
-        ensures ok { IfOk result (λ answer. Proceeds stands (AsksDescent class.now ancestor.now) self.old answer self.new) }
-        ensures err { IfErr result (λ e. Aborts stands halts (AsksDescent class.now ancestor.now) self.old e self.new) }
+        ensures ok { IfOk result (λ answer.
+            Proceeds stands (AsksDescent class.now ancestor.now) self.old answer self.new) }
+        ensures err { IfErr result (λ e.
+            Aborts stands halts (AsksDescent class.now ancestor.now) self.old e self.new) }
         ensures follows { follows self.old self.new };
 
     /// The type of the field that a class has by this name.
@@ -69,8 +71,10 @@ pub trait Asking {
         class: &Name,
         name: &Name,
     ) -> Result<Option<Ty>, Stop<Self::Refusal>>
-        ensures ok { IfOk result (λ answer. Proceeds stands (AsksField class.now name.now) self.old answer self.new) }
-        ensures err { IfErr result (λ e. Aborts stands halts (AsksField class.now name.now) self.old e self.new) }
+        ensures ok { IfOk result (λ answer.
+            Proceeds stands (AsksField class.now name.now) self.old answer self.new) }
+        ensures err { IfErr result (λ e.
+            Aborts stands halts (AsksField class.now name.now) self.old e self.new) }
         ensures follows { follows self.old self.new };
 
     /// The method that a class has by this name.
@@ -80,14 +84,19 @@ pub trait Asking {
         class: &Name,
         name: &Name,
     ) -> Result<Option<Self::Method>, Stop<Self::Refusal>>
-        ensures ok { IfOk result (λ answer. Proceeds stands (AsksMethod class.now name.now) self.old (option_map Self.Method.sig answer) self.new) }
-        ensures err { IfErr result (λ e. Aborts stands halts (AsksMethod class.now name.now) self.old e self.new) }
+        ensures ok { IfOk result (λ answer.
+            Proceeds stands (AsksMethod class.now name.now) self.old
+            (option_map Self.Method.sig answer) self.new) }
+        ensures err { IfErr result (λ e.
+            Aborts stands halts (AsksMethod class.now name.now) self.old e self.new) }
         ensures follows { follows self.old self.new };
 
     /// Whether the class is declared.
     fn is_declared(&mut self, alloc: Global, class: &Name) -> Result<bool, Stop<Self::Refusal>>
-        ensures ok { IfOk result (λ answer. Proceeds stands (AsksDeclared class.now) self.old answer self.new) }
-        ensures err { IfErr result (λ e. Aborts stands halts (AsksDeclared class.now) self.old e self.new) }
+        ensures ok { IfOk result (λ answer.
+            Proceeds stands (AsksDeclared class.now) self.old answer self.new) }
+        ensures err { IfErr result (λ e.
+            Aborts stands halts (AsksDeclared class.now) self.old e self.new) }
         ensures follows { follows self.old self.new };
 
     ghost reflexive: { (s : Self) → follows s s };
@@ -95,7 +104,8 @@ pub trait Asking {
     ghost transitive: { (s t u : Self) → follows s t → follows t u → follows s u };
 
     /// A check may end for want of memory wherever it stands.
-    ghost wanting: { (s : Self) (start now : Check) → stands s start now → halts s start OutOfMemory };
+    ghost wanting: { (s : Self) (start now : Check) → stands s start now
+        → halts s start OutOfMemory };
 }
 
 /// Environment that answer by themselves.
@@ -105,7 +115,8 @@ pub trait Environment {
     ghost world: { Self → World };
 
     fn descends(&self, alloc: Global, class: &Name, ancestor: &Name) -> Result<bool, AllocError>
-        ensures { IfOk result (λ answer. answer ≡ (world self.now).descends class.now ancestor.now) };
+        ensures { IfOk result (λ answer.
+            answer ≡ (world self.now).descends class.now ancestor.now) };
 
     fn field(&self, alloc: Global, class: &Name, name: &Name) -> Result<Option<Ty>, AllocError>
         ensures { IfOk result (λ answer. answer ≡ (world self.now).field class.now name.now) };
@@ -116,7 +127,8 @@ pub trait Environment {
         class: &Name,
         name: &Name,
     ) -> Result<Option<Self::Method>, AllocError>
-        ensures { IfOk result (λ answer. option_map Self.Method.sig answer ≡ (world self.now).method class.now name.now) };
+        ensures { IfOk result (λ answer.
+            option_map Self.Method.sig answer ≡ (world self.now).method class.now name.now) };
 
     fn is_declared(&self, alloc: Global, class: &Name) -> Result<bool, AllocError>
         ensures { IfOk result (λ answer. answer ≡ (world self.now).is_declared class.now) };

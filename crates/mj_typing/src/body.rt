@@ -48,8 +48,18 @@ fn check_condition<A: Asking>(
     value: &Exp,
     mistakes: &mut Vec<Mistake>,
 ) -> Result<(), Stop<A::Refusal>>
-    ensures ok { OnOk result (Proceeds A.stands (mistakes_step (phrase mark (one_part condition) (part (phrase_of scope.now (exp_view value.now)) nothing)) mistakes.old.items) asking.old mistakes.new.items asking.new) }
-    ensures err { IfErr result (λ e. Aborts A.stands A.halts (mistakes_step (phrase mark (one_part condition) (part (phrase_of scope.now (exp_view value.now)) nothing)) mistakes.old.items) asking.old e asking.new) }
+    ensures ok { OnOk result
+        (Proceeds A.stands
+        (mistakes_step
+        (phrase mark (one_part condition)
+        (part (phrase_of scope.now (exp_view value.now)) nothing))
+        mistakes.old.items) asking.old mistakes.new.items asking.new) }
+    ensures err { IfErr result (λ e.
+        Aborts A.stands A.halts
+        (mistakes_step
+        (phrase mark (one_part condition)
+        (part (phrase_of scope.now (exp_view value.now)) nothing))
+        mistakes.old.items) asking.old e asking.new) }
     ensures follows { A.follows asking.old asking.new }
 {
     match check(alloc, asking, scope, value, mistakes)? {
@@ -68,8 +78,18 @@ fn check_print<A: Asking>(
     value: &Exp,
     mistakes: &mut Vec<Mistake>,
 ) -> Result<(), Stop<A::Refusal>>
-    ensures ok { OnOk result (Proceeds A.stands (mistakes_step (phrase mark (one_part print) (part (phrase_of scope.now (exp_view value.now)) nothing)) mistakes.old.items) asking.old mistakes.new.items asking.new) }
-    ensures err { IfErr result (λ e. Aborts A.stands A.halts (mistakes_step (phrase mark (one_part print) (part (phrase_of scope.now (exp_view value.now)) nothing)) mistakes.old.items) asking.old e asking.new) }
+    ensures ok { OnOk result
+        (Proceeds A.stands
+        (mistakes_step
+        (phrase mark (one_part print)
+        (part (phrase_of scope.now (exp_view value.now)) nothing))
+        mistakes.old.items) asking.old mistakes.new.items asking.new) }
+    ensures err { IfErr result (λ e.
+        Aborts A.stands A.halts
+        (mistakes_step
+        (phrase mark (one_part print)
+        (part (phrase_of scope.now (exp_view value.now)) nothing))
+        mistakes.old.items) asking.old e asking.new) }
     ensures follows { A.follows asking.old asking.new }
 {
     match check(alloc, asking, scope, value, mistakes)? {
@@ -89,8 +109,14 @@ pub fn check_return<A: Asking>(
     value: &Exp,
     mistakes: &mut Vec<Mistake>,
 ) -> Result<(), Stop<A::Refusal>>
-    ensures ok { OnOk result (Proceeds A.stands (mistakes_step (return_phrase scope.now mark wanted.now (exp_view value.now)) mistakes.old.items) asking.old mistakes.new.items asking.new) }
-    ensures err { IfErr result (λ e. Aborts A.stands A.halts (mistakes_step (return_phrase scope.now mark wanted.now (exp_view value.now)) mistakes.old.items) asking.old e asking.new) }
+    ensures ok { OnOk result
+        (Proceeds A.stands
+        (mistakes_step (return_phrase scope.now mark wanted.now (exp_view value.now))
+        mistakes.old.items) asking.old mistakes.new.items asking.new) }
+    ensures err { IfErr result (λ e.
+        Aborts A.stands A.halts
+        (mistakes_step (return_phrase scope.now mark wanted.now (exp_view value.now))
+        mistakes.old.items) asking.old e asking.new) }
     ensures follows { A.follows asking.old asking.new }
 {
     let Some(ty) = check(alloc, asking, scope, value, mistakes)? else {
@@ -110,8 +136,21 @@ fn check_assign<A: Asking>(
     value: &Exp,
     mistakes: &mut Vec<Mistake>,
 ) -> Result<(), Stop<A::Refusal>>
-    ensures ok { OnOk result (Proceeds A.stands (mistakes_step (phrase target.entry.mark (two_parts assign) (part (name_phrase scope.now target.entry.name_mark target.entry.name.now) (part (phrase_of scope.now (exp_view value.now)) nothing))) mistakes.old.items) asking.old mistakes.new.items asking.new) }
-    ensures err { IfErr result (λ e. Aborts A.stands A.halts (mistakes_step (phrase target.entry.mark (two_parts assign) (part (name_phrase scope.now target.entry.name_mark target.entry.name.now) (part (phrase_of scope.now (exp_view value.now)) nothing))) mistakes.old.items) asking.old e asking.new) }
+    ensures ok { OnOk result
+        (Proceeds A.stands
+        (mistakes_step
+        (phrase target.entry.mark (two_parts assign)
+        (part
+        (name_phrase scope.now target.entry.name_mark target.entry.name.now)
+        (part (phrase_of scope.now (exp_view value.now)) nothing)))
+        mistakes.old.items) asking.old mistakes.new.items asking.new) }
+    ensures err { IfErr result (λ e.
+        Aborts A.stands A.halts
+        (mistakes_step
+        (phrase target.entry.mark (two_parts assign)
+        (part (name_phrase scope.now target.entry.name_mark target.entry.name.now)
+        (part (phrase_of scope.now (exp_view value.now)) nothing)))
+        mistakes.old.items) asking.old e asking.new) }
     ensures follows { A.follows asking.old asking.new }
 {
     let variable = name_type(
@@ -141,8 +180,23 @@ fn check_store<A: Asking>(
     value: &Exp,
     mistakes: &mut Vec<Mistake>,
 ) -> Result<(), Stop<A::Refusal>>
-    ensures ok { OnOk result (Proceeds A.stands (mistakes_step (phrase target.entry.mark (three_parts store) (part (name_phrase scope.now target.entry.name_mark target.entry.name.now) (part (phrase_of scope.now (exp_view index.now)) (part (phrase_of scope.now (exp_view value.now)) nothing)))) mistakes.old.items) asking.old mistakes.new.items asking.new) }
-    ensures err { IfErr result (λ e. Aborts A.stands A.halts (mistakes_step (phrase target.entry.mark (three_parts store) (part (name_phrase scope.now target.entry.name_mark target.entry.name.now) (part (phrase_of scope.now (exp_view index.now)) (part (phrase_of scope.now (exp_view value.now)) nothing)))) mistakes.old.items) asking.old e asking.new) }
+    ensures ok { OnOk result
+        (Proceeds A.stands
+        (mistakes_step
+        (phrase target.entry.mark (three_parts store)
+        (part
+        (name_phrase scope.now target.entry.name_mark target.entry.name.now)
+        (part (phrase_of scope.now (exp_view index.now))
+        (part (phrase_of scope.now (exp_view value.now)) nothing))))
+        mistakes.old.items) asking.old mistakes.new.items asking.new) }
+    ensures err { IfErr result (λ e.
+        Aborts A.stands A.halts
+        (mistakes_step
+        (phrase target.entry.mark (three_parts store)
+        (part (name_phrase scope.now target.entry.name_mark target.entry.name.now)
+        (part (phrase_of scope.now (exp_view index.now))
+        (part (phrase_of scope.now (exp_view value.now)) nothing))))
+        mistakes.old.items) asking.old e asking.new) }
     ensures follows { A.follows asking.old asking.new }
 {
     let array = name_type(
@@ -174,8 +228,14 @@ pub fn check_statement<A: Asking>(
     statement: &Stmt,
     mistakes: &mut Vec<Mistake>,
 ) -> Result<(), Stop<A::Refusal>>
-    ensures ok { OnOk result (Proceeds A.stands (statement_step scope.now (stmt_view statement.now) mistakes.old.items) asking.old mistakes.new.items asking.new) }
-    ensures err { IfErr result (λ e. Aborts A.stands A.halts (statement_step scope.now (stmt_view statement.now) mistakes.old.items) asking.old e asking.new) }
+    ensures ok { OnOk result
+        (Proceeds A.stands
+        (statement_step scope.now (stmt_view statement.now) mistakes.old.items) asking.old
+        mistakes.new.items asking.new) }
+    ensures err { IfErr result (λ e.
+        Aborts A.stands A.halts
+        (statement_step scope.now (stmt_view statement.now) mistakes.old.items) asking.old e
+        asking.new) }
     ensures follows { A.follows asking.old asking.new }
 {
     match statement {
@@ -239,8 +299,14 @@ pub fn check_statements<A: Asking>(
     statements: &Vec<Stmt>,
     mistakes: &mut Vec<Mistake>,
 ) -> Result<(), Stop<A::Refusal>>
-    ensures ok { OnOk result (Proceeds A.stands (statements_step scope.now (stmts_view statements.now.items) mistakes.old.items) asking.old mistakes.new.items asking.new) }
-    ensures err { IfErr result (λ e. Aborts A.stands A.halts (statements_step scope.now (stmts_view statements.now.items) mistakes.old.items) asking.old e asking.new) }
+    ensures ok { OnOk result
+        (Proceeds A.stands
+        (statements_step scope.now (stmts_view statements.now.items) mistakes.old.items)
+        asking.old mistakes.new.items asking.new) }
+    ensures err { IfErr result (λ e.
+        Aborts A.stands A.halts
+        (statements_step scope.now (stmts_view statements.now.items) mistakes.old.items)
+        asking.old e asking.new) }
     ensures follows { A.follows asking.old asking.new }
 {
     for statement in statements {

@@ -20,7 +20,8 @@ const RETURN_TYPE_MARK: usize = 1;
 
 /// Notes that a declared type names no class.
 fn report_undeclared(mistakes: &mut Vec<Mistake>, mark: usize) -> Result<(), AllocError>
-    ensures { OnOk result (mistakes.new.items ≡ mistakes.old.items ++ record { mark = mark; code = E206 } ∷ []) }
+    ensures { OnOk result
+        (mistakes.new.items ≡ mistakes.old.items ++ record { mark = mark; code = E206 } ∷ []) }
 {
     mistakes.push(Mistake {
         mark,
@@ -37,8 +38,12 @@ fn check_type<A: Asking>(
     ty: &Ty,
     mistakes: &mut Vec<Mistake>,
 ) -> Result<(), Stop<A::Refusal>>
-    ensures ok { OnOk result (Proceeds A.stands (type_step mark ty.now mistakes.old.items) asking.old mistakes.new.items asking.new) }
-    ensures err { IfErr result (λ e. Aborts A.stands A.halts (type_step mark ty.now mistakes.old.items) asking.old e asking.new) }
+    ensures ok { OnOk result
+        (Proceeds A.stands (type_step mark ty.now mistakes.old.items) asking.old
+        mistakes.new.items asking.new) }
+    ensures err { IfErr result (λ e.
+        Aborts A.stands A.halts (type_step mark ty.now mistakes.old.items) asking.old e
+        asking.new) }
     ensures follows { A.follows asking.old asking.new }
 {
     let Ty::Class(class) = ty else {
@@ -57,8 +62,12 @@ fn check_types<A: Asking>(
     variables: &[Variable],
     mistakes: &mut Vec<Mistake>,
 ) -> Result<(), Stop<A::Refusal>>
-    ensures ok { OnOk result (Proceeds A.stands (types_step variables.now mistakes.old.items) asking.old mistakes.new.items asking.new) }
-    ensures err { IfErr result (λ e. Aborts A.stands A.halts (types_step variables.now mistakes.old.items) asking.old e asking.new) }
+    ensures ok { OnOk result
+        (Proceeds A.stands (types_step variables.now mistakes.old.items) asking.old
+        mistakes.new.items asking.new) }
+    ensures err { IfErr result (λ e.
+        Aborts A.stands A.halts (types_step variables.now mistakes.old.items) asking.old e
+        asking.new) }
     ensures follows { A.follows asking.old asking.new }
 {
     for variable in variables {
@@ -75,8 +84,12 @@ fn check_declared<A: Asking>(
     method: &MethodTree,
     mistakes: &mut Vec<Mistake>,
 ) -> Result<(), Stop<A::Refusal>>
-    ensures ok { OnOk result (Proceeds A.stands (declared_step (method_view method.now) mistakes.old.items) asking.old mistakes.new.items asking.new) }
-    ensures err { IfErr result (λ e. Aborts A.stands A.halts (declared_step (method_view method.now) mistakes.old.items) asking.old e asking.new) }
+    ensures ok { OnOk result
+        (Proceeds A.stands (declared_step (method_view method.now) mistakes.old.items)
+        asking.old mistakes.new.items asking.new) }
+    ensures err { IfErr result (λ e.
+        Aborts A.stands A.halts (declared_step (method_view method.now) mistakes.old.items)
+        asking.old e asking.new) }
     ensures follows { A.follows asking.old asking.new }
 {
     check_type(alloc, asking, RETURN_TYPE_MARK, &method.returns, mistakes)?;
@@ -92,8 +105,12 @@ pub fn check_method<A: Asking>(
     class: &Name,
     method: &MethodTree,
 ) -> Result<Vec<Mistake>, Stop<A::Refusal>>
-    ensures ok { IfOk result (λ mistakes. Proceeds A.stands (method_step class.now (method_view method.now)) asking.old mistakes.items asking.new) }
-    ensures err { IfErr result (λ e. Aborts A.stands A.halts (method_step class.now (method_view method.now)) asking.old e asking.new) }
+    ensures ok { IfOk result (λ mistakes.
+        Proceeds A.stands (method_step class.now (method_view method.now)) asking.old
+        mistakes.items asking.new) }
+    ensures err { IfErr result (λ e.
+        Aborts A.stands A.halts (method_step class.now (method_view method.now)) asking.old e
+        asking.new) }
     ensures follows { A.follows asking.old asking.new }
 {
     let mut mistakes = Vec::new(alloc);
@@ -135,8 +152,10 @@ pub fn check_main<A: Asking>(
     asking: &mut A,
     main: &MainTree,
 ) -> Result<Vec<Mistake>, Stop<A::Refusal>>
-    ensures ok { IfOk result (λ mistakes. Proceeds A.stands (main_step (main_view main.now)) asking.old mistakes.items asking.new) }
-    ensures err { IfErr result (λ e. Aborts A.stands A.halts (main_step (main_view main.now)) asking.old e asking.new) }
+    ensures ok { IfOk result (λ mistakes.
+        Proceeds A.stands (main_step (main_view main.now)) asking.old mistakes.items asking.new) }
+    ensures err { IfErr result (λ e.
+        Aborts A.stands A.halts (main_step (main_view main.now)) asking.old e asking.new) }
     ensures follows { A.follows asking.old asking.new }
 {
     check_main_statement(alloc, asking, &main.statement)

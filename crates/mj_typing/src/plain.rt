@@ -25,7 +25,9 @@ impl<'a, D: Environment> Asking for Plain<'a, D> {
 
     type Method = D::Method;
 
-    ghost stands = { λ s start now. conclusion (D.world s.declarations.now) start ≡ conclusion (D.world s.declarations.now) now };
+    ghost stands = { λ s start now.
+        conclusion (D.world s.declarations.now) start
+        ≡ conclusion (D.world s.declarations.now) now };
 
     ghost halts = { λ s start e. Unit {0} };
 
@@ -87,7 +89,9 @@ pub fn method_mistakes<D: Environment>(
     class: &Name,
     method: &MethodTree,
 ) -> Result<Vec<Mistake>, AllocError>
-    ensures { IfOk result (λ mistakes. mistakes.items ≡ method_faults (D.world declarations.now) class.now (method_view method.now)) }
+    ensures { IfOk result (λ mistakes.
+        mistakes.items
+        ≡ method_faults (D.world declarations.now) class.now (method_view method.now)) }
 {
     unrefused(check_method(alloc, &mut Plain { declarations }, class, method))
 }
@@ -98,7 +102,8 @@ pub fn main_mistakes<D: Environment>(
     declarations: &D,
     main: &MainTree,
 ) -> Result<Vec<Mistake>, AllocError>
-    ensures { IfOk result (λ mistakes. mistakes.items ≡ main_faults (D.world declarations.now) (main_view main.now)) }
+    ensures { IfOk result (λ mistakes.
+        mistakes.items ≡ main_faults (D.world declarations.now) (main_view main.now)) }
 {
     unrefused(check_main(alloc, &mut Plain { declarations }, main))
 }

@@ -138,8 +138,10 @@ fn accepts<A: Asking>(
     ty: &Ty,
     wanted: &Ty,
 ) -> Result<bool, Stop<A::Refusal>>
-    ensures ok { IfOk result (λ b. Proceeds A.stands (and_then (accepts ty.now wanted.now)) asking.old b asking.new) }
-    ensures err { IfErr result (λ e. Aborts A.stands A.halts (and_then (accepts ty.now wanted.now)) asking.old e asking.new) }
+    ensures ok { IfOk result (λ b.
+        Proceeds A.stands (and_then (accepts ty.now wanted.now)) asking.old b asking.new) }
+    ensures err { IfErr result (λ e.
+        Aborts A.stands A.halts (and_then (accepts ty.now wanted.now)) asking.old e asking.new) }
     ensures follows { A.follows asking.old asking.new }
 {
     match (ty, wanted) {
@@ -165,8 +167,12 @@ fn accepts_all<A: Asking>(
     formals: &[Ty],
 ) -> Result<bool, Stop<A::Refusal>>
     requires { length types.now ≡ length formals.now }
-    ensures ok { IfOk result (λ b. Proceeds A.stands (and_then (accepts_all types.now formals.now)) asking.old b asking.new) }
-    ensures err { IfErr result (λ e. Aborts A.stands A.halts (and_then (accepts_all types.now formals.now)) asking.old e asking.new) }
+    ensures ok { IfOk result (λ b.
+        Proceeds A.stands (and_then (accepts_all types.now formals.now)) asking.old b
+        asking.new) }
+    ensures err { IfErr result (λ e.
+        Aborts A.stands A.halts (and_then (accepts_all types.now formals.now)) asking.old e
+        asking.new) }
     ensures follows { A.follows asking.old asking.new }
 {
     for (n, ty) in types.iter().enumerate() {
@@ -184,8 +190,12 @@ fn called<A: Asking>(
     method: &A::Method,
     types: &[Ty],
 ) -> Result<Verdict, Stop<A::Refusal>>
-    ensures ok { IfOk result (λ v. Proceeds A.stands (and_then (called (A.Method.sig method.now) types.now)) asking.old v asking.new) }
-    ensures err { IfErr result (λ e. Aborts A.stands A.halts (and_then (called (A.Method.sig method.now) types.now)) asking.old e asking.new) }
+    ensures ok { IfOk result (λ v.
+        Proceeds A.stands (and_then (called (A.Method.sig method.now) types.now)) asking.old v
+        asking.new) }
+    ensures err { IfErr result (λ e.
+        Aborts A.stands A.halts (and_then (called (A.Method.sig method.now) types.now))
+        asking.old e asking.new) }
     ensures follows { A.follows asking.old asking.new }
 {
     let formals = method.formals();
@@ -206,8 +216,12 @@ pub fn call<A: Asking>(
     receiver: &Ty,
     types: &[Ty],
 ) -> Result<Verdict, Stop<A::Refusal>>
-    ensures ok { IfOk result (λ v. Proceeds A.stands (and_then (call method.now receiver.now types.now)) asking.old v asking.new) }
-    ensures err { IfErr result (λ e. Aborts A.stands A.halts (and_then (call method.now receiver.now types.now)) asking.old e asking.new) }
+    ensures ok { IfOk result (λ v.
+        Proceeds A.stands (and_then (call method.now receiver.now types.now)) asking.old v
+        asking.new) }
+    ensures err { IfErr result (λ e.
+        Aborts A.stands A.halts (and_then (call method.now receiver.now types.now)) asking.old e
+        asking.new) }
     ensures follows { A.follows asking.old asking.new }
 {
     let Ty::Class(class) = receiver else {
@@ -226,8 +240,10 @@ pub fn named<A: Asking>(
     scope: &Scope,
     name: &Name,
 ) -> Result<Verdict, Stop<A::Refusal>>
-    ensures ok { IfOk result (λ v. Proceeds A.stands (and_then (named scope.now name.now)) asking.old v asking.new) }
-    ensures err { IfErr result (λ e. Aborts A.stands A.halts (and_then (named scope.now name.now)) asking.old e asking.new) }
+    ensures ok { IfOk result (λ v.
+        Proceeds A.stands (and_then (named scope.now name.now)) asking.old v asking.new) }
+    ensures err { IfErr result (λ e.
+        Aborts A.stands A.halts (and_then (named scope.now name.now)) asking.old e asking.new) }
     ensures follows { A.follows asking.old asking.new }
 {
     if let Some(ty) = scope.local(name) {
@@ -258,8 +274,10 @@ pub fn new_object<A: Asking>(
     asking: &mut A,
     class: &Name,
 ) -> Result<Verdict, Stop<A::Refusal>>
-    ensures ok { IfOk result (λ v. Proceeds A.stands (and_then (new_object class.now)) asking.old v asking.new) }
-    ensures err { IfErr result (λ e. Aborts A.stands A.halts (and_then (new_object class.now)) asking.old e asking.new) }
+    ensures ok { IfOk result (λ v.
+        Proceeds A.stands (and_then (new_object class.now)) asking.old v asking.new) }
+    ensures err { IfErr result (λ e.
+        Aborts A.stands A.halts (and_then (new_object class.now)) asking.old e asking.new) }
     ensures follows { A.follows asking.old asking.new }
 {
     if !asking.is_declared(alloc, class)? {
@@ -274,8 +292,11 @@ pub fn assign<A: Asking>(
     target: &Ty,
     value: &Ty,
 ) -> Result<Verdict, Stop<A::Refusal>>
-    ensures ok { IfOk result (λ v. Proceeds A.stands (and_then (assign target.now value.now)) asking.old v asking.new) }
-    ensures err { IfErr result (λ e. Aborts A.stands A.halts (and_then (assign target.now value.now)) asking.old e asking.new) }
+    ensures ok { IfOk result (λ v.
+        Proceeds A.stands (and_then (assign target.now value.now)) asking.old v asking.new) }
+    ensures err { IfErr result (λ e.
+        Aborts A.stands A.halts (and_then (assign target.now value.now)) asking.old e
+        asking.new) }
     ensures follows { A.follows asking.old asking.new }
 {
     if accepts(alloc, asking, value, target)? {
@@ -291,8 +312,11 @@ pub fn returned<A: Asking>(
     wanted: &Ty,
     value: &Ty,
 ) -> Result<Verdict, Stop<A::Refusal>>
-    ensures ok { IfOk result (λ v. Proceeds A.stands (and_then (returned wanted.now value.now)) asking.old v asking.new) }
-    ensures err { IfErr result (λ e. Aborts A.stands A.halts (and_then (returned wanted.now value.now)) asking.old e asking.new) }
+    ensures ok { IfOk result (λ v.
+        Proceeds A.stands (and_then (returned wanted.now value.now)) asking.old v asking.new) }
+    ensures err { IfErr result (λ e.
+        Aborts A.stands A.halts (and_then (returned wanted.now value.now)) asking.old e
+        asking.new) }
     ensures follows { A.follows asking.old asking.new }
 {
     if accepts(alloc, asking, value, wanted)? {

@@ -34,7 +34,8 @@ impl<'a> Model for Scope<'a> {
 
     ghost Value = { Scope };
 
-    ghost view = { λ s. record { class = option_copied s.class; variables = s.formals.now ++ s.locals.now } };
+    ghost view = { λ s.
+        record { class = option_copied s.class; variables = s.formals.now ++ s.locals.now } };
 
     ghost invariant = { λ s. Covers s.types (s.formals.now ++ s.locals.now) };
 }
@@ -60,7 +61,10 @@ impl<'a> Scope<'a> {
         mistakes: &mut Vec<Mistake>,
     ) -> Result<Self, AllocError>
         ensures value { IfOk result (λ s. s ≡ method_scope class.now (method_view method.now)) }
-        ensures repeated { OnOk result (mistakes.new.items ≡ add_repeated_each mistakes.old.items [] (variables_of (method_view method.now))) }
+        ensures repeated { OnOk result
+            (mistakes.new.items
+            ≡ add_repeated_each mistakes.old.items []
+            (variables_of (method_view method.now))) }
     {
         let mut types = BTreeMap::new(alloc);
         declare_all(alloc, &mut types, &method.formals, mistakes)?;
@@ -106,8 +110,12 @@ fn declare(
     variable: &Variable,
     mistakes: &mut Vec<Mistake>,
 ) -> Result<(), AllocError>
-    ensures types { OnOk result ((before : List Variable) → Covers types.old before → Covers types.new (before ++ variable.now ∷ [])) }
-    ensures repeated { OnOk result ((before : List Variable) → Covers types.old before → mistakes.new.items ≡ add_repeated mistakes.old.items before variable.now) }
+    ensures types { OnOk result
+        ((before : List Variable) → Covers types.old before
+        → Covers types.new (before ++ variable.now ∷ [])) }
+    ensures repeated { OnOk result
+        ((before : List Variable) → Covers types.old before
+        → mistakes.new.items ≡ add_repeated mistakes.old.items before variable.now) }
 {
     if types.contains_key(&variable.name) {
         let mark = name_mark(variable);
@@ -130,8 +138,12 @@ fn declare_all(
     variables: &[Variable],
     mistakes: &mut Vec<Mistake>,
 ) -> Result<(), AllocError>
-    ensures types { OnOk result ((before : List Variable) → Covers types.old before → Covers types.new (before ++ variables.now)) }
-    ensures repeated { OnOk result ((before : List Variable) → Covers types.old before → mistakes.new.items ≡ add_repeated_each mistakes.old.items before variables.now) }
+    ensures types { OnOk result
+        ((before : List Variable) → Covers types.old before
+        → Covers types.new (before ++ variables.now)) }
+    ensures repeated { OnOk result
+        ((before : List Variable) → Covers types.old before
+        → mistakes.new.items ≡ add_repeated_each mistakes.old.items before variables.now) }
 {
     for variable in variables {
         declare(alloc, types, variable, mistakes)?;

@@ -22,7 +22,9 @@ pub fn note<E>(
     verdict: Verdict,
 ) -> Result<Option<Ty>, Stop<E>>
     ensures err { IfErr result (λ e. e ≡ OutOfMemory) }
-    ensures ok { IfOk result (λ ty. noted mistakes.old.items mark verdict ≡ record { type = ty; mistakes = mistakes.new.items }) }
+    ensures ok { IfOk result (λ ty.
+        noted mistakes.old.items mark verdict
+        ≡ record { type = ty; mistakes = mistakes.new.items }) }
 {
     match verdict {
         Verdict::Is(ty) => Ok(Some(ty)),
@@ -44,8 +46,13 @@ pub fn name_type<A: Asking>(
     name: &Name,
     mistakes: &mut Vec<Mistake>,
 ) -> Result<Option<Ty>, Stop<A::Refusal>>
-    ensures ok { IfOk result (λ ty. Proceeds A.stands (phrase_step (name_phrase scope.now mark name.now) mistakes.old.items) asking.old (record { type = ty; mistakes = mistakes.new.items }) asking.new) }
-    ensures err { IfErr result (λ e. Aborts A.stands A.halts (phrase_step (name_phrase scope.now mark name.now) mistakes.old.items) asking.old e asking.new) }
+    ensures ok { IfOk result (λ ty.
+        Proceeds A.stands (phrase_step (name_phrase scope.now mark name.now) mistakes.old.items)
+        asking.old (record { type = ty; mistakes = mistakes.new.items }) asking.new) }
+    ensures err { IfErr result (λ e.
+        Aborts A.stands A.halts
+        (phrase_step (name_phrase scope.now mark name.now) mistakes.old.items) asking.old e
+        asking.new) }
     ensures follows { A.follows asking.old asking.new }
 {
     let verdict = rows::named(alloc, asking, scope, name)?;
@@ -63,8 +70,14 @@ pub fn check<A: Asking>(
     exp: &Exp,
     mistakes: &mut Vec<Mistake>,
 ) -> Result<Option<Ty>, Stop<A::Refusal>>
-    ensures ok { IfOk result (λ ty. Proceeds A.stands (phrase_step (phrase_of scope.now (exp_view exp.now)) mistakes.old.items) asking.old (record { type = ty; mistakes = mistakes.new.items }) asking.new) }
-    ensures err { IfErr result (λ e. Aborts A.stands A.halts (phrase_step (phrase_of scope.now (exp_view exp.now)) mistakes.old.items) asking.old e asking.new) }
+    ensures ok { IfOk result (λ ty.
+        Proceeds A.stands
+        (phrase_step (phrase_of scope.now (exp_view exp.now)) mistakes.old.items) asking.old
+        (record { type = ty; mistakes = mistakes.new.items }) asking.new) }
+    ensures err { IfErr result (λ e.
+        Aborts A.stands A.halts
+        (phrase_step (phrase_of scope.now (exp_view exp.now)) mistakes.old.items) asking.old
+        e asking.new) }
     ensures follows { A.follows asking.old asking.new }
 {
     match exp {
@@ -137,8 +150,16 @@ fn conclude_call<A: Asking>(
     types: Option<Vec<Ty>>,
     mistakes: &mut Vec<Mistake>,
 ) -> Result<Option<Ty>, Stop<A::Refusal>>
-    ensures ok { IfOk result (λ ty. Proceeds A.stands (own_step mark (some_parts (call method.now)) (record { type = and_type receiver (items_in types); mistakes = mistakes.old.items })) asking.old (record { type = ty; mistakes = mistakes.new.items }) asking.new) }
-    ensures err { IfErr result (λ e. Aborts A.stands A.halts (own_step mark (some_parts (call method.now)) (record { type = and_type receiver (items_in types); mistakes = mistakes.old.items })) asking.old e asking.new) }
+    ensures ok { IfOk result (λ ty.
+        Proceeds A.stands
+        (own_step mark (some_parts (call method.now))
+        (record { type = and_type receiver (items_in types); mistakes = mistakes.old.items }))
+        asking.old (record { type = ty; mistakes = mistakes.new.items }) asking.new) }
+    ensures err { IfErr result (λ e.
+        Aborts A.stands A.halts
+        (own_step mark (some_parts (call method.now))
+        (record { type = and_type receiver (items_in types); mistakes = mistakes.old.items }))
+        asking.old e asking.new) }
     ensures follows { A.follows asking.old asking.new }
 {
     let (Some(receiver), Some(types)) = (receiver, types) else {
@@ -169,8 +190,15 @@ fn check_all<A: Asking>(
     exps: &Vec<Exp>,
     mistakes: &mut Vec<Mistake>,
 ) -> Result<Option<Vec<Ty>>, Stop<A::Refusal>>
-    ensures ok { IfOk result (λ types. Proceeds A.stands (parts_step (phrases_of scope.now (exps_view exps.now.items)) mistakes.old.items) asking.old (record { type = items_in types; mistakes = mistakes.new.items }) asking.new) }
-    ensures err { IfErr result (λ e. Aborts A.stands A.halts (parts_step (phrases_of scope.now (exps_view exps.now.items)) mistakes.old.items) asking.old e asking.new) }
+    ensures ok { IfOk result (λ types.
+        Proceeds A.stands
+        (parts_step (phrases_of scope.now (exps_view exps.now.items)) mistakes.old.items)
+        asking.old (record { type = items_in types; mistakes = mistakes.new.items })
+        asking.new) }
+    ensures err { IfErr result (λ e.
+        Aborts A.stands A.halts
+        (parts_step (phrases_of scope.now (exps_view exps.now.items)) mistakes.old.items)
+        asking.old e asking.new) }
     ensures follows { A.follows asking.old asking.new }
 {
     let mut types = Some(Vec::new(alloc));

@@ -21,7 +21,8 @@ boolean true = 0x01 ∷ []
 
 -- a class without its bodies: main or not, superclass, fields, names of the methods
 abbrev pub header : HeaderValue → List ℕ
-header h = boolean h.is_main ++ (option name h.superclass ++ (list field h.fields ++ list name h.methods))
+header h =
+    boolean h.is_main ++ (option name h.superclass ++ (list field h.fields ++ list name h.methods))
 
 -- the types of a method: those of the formals, and the return type
 abbrev pub signature : SignatureValue → List ℕ

@@ -5,4 +5,3 @@ pub mod Reading
 pub mod Values
 pub mod Distinct
 pub mod ItemLaws
-pub mod ValueLaws

@@ -27,18 +27,29 @@ pub struct Header {
 impl Model for Header {
     ghost use Rattle.result_bytes.specs.Payloads.{HeaderValue};
     ghost use Rattle.result_bytes.specs.Storable.{HeaderFits};
-    ghost use Rattle.result_bytes.specs.Reading.{header_value};
 
     ghost Value = { HeaderValue };
 
-    ghost view = { λ h. header_value (h.is_main, (h.superclass, (h.fields.items, h.methods.items))) };
+    ghost view = { λ h.
+        record {
+          is_main = h.is_main;
+          superclass = h.superclass;
+          fields = h.fields.items;
+          methods = h.methods.items;
+        } };
 
-    ghost invariant = { λ h. HeaderFits (header_value (h.is_main, (h.superclass, (h.fields.items, h.methods.items)))) };
+    ghost invariant = { λ h.
+        HeaderFits
+        (record {
+          is_main = h.is_main;
+          superclass = h.superclass;
+          fields = h.fields.items;
+          methods = h.methods.items;
+        }) };
 }
 
 impl Header {
     ghost use Rattle.result_bytes.specs.Storable.{HeaderFits};
-    ghost use Rattle.result_bytes.specs.Reading.{header_value};
 
     /// A header of these parts.
     #[tactic(auto, using(byte_readers::specs::Laws::all_storable))]
@@ -48,7 +59,13 @@ impl Header {
         fields: Vec<Field>,
         methods: Vec<Name>,
     ) -> Self
-        ensures { result ≡ header_value (is_main, (superclass, (fields.items, methods.items))) }
+        ensures { result
+            ≡ record {
+              is_main = is_main;
+              superclass = superclass;
+              fields = fields.items;
+              methods = methods.items;
+            } }
     {
         check_perhaps_name(&superclass);
         check_list::<FieldFormat>(&fields);
@@ -101,23 +118,22 @@ pub struct Signature {
 impl Model for Signature {
     ghost use Rattle.result_bytes.specs.Payloads.{SignatureValue};
     ghost use Rattle.result_bytes.specs.Storable.{SignatureFits};
-    ghost use Rattle.result_bytes.specs.Reading.{signature_value};
 
     ghost Value = { SignatureValue };
 
-    ghost view = { λ s. signature_value (s.formals.items, s.returns) };
+    ghost view = { λ s. record { formals = s.formals.items; returns = s.returns } };
 
-    ghost invariant = { λ s. SignatureFits (signature_value (s.formals.items, s.returns)) };
+    ghost invariant = { λ s.
+        SignatureFits (record { formals = s.formals.items; returns = s.returns }) };
 }
 
 impl Signature {
     ghost use Rattle.result_bytes.specs.Storable.{SignatureFits};
-    ghost use Rattle.result_bytes.specs.Reading.{signature_value};
 
     /// A signature of these types.
     #[tactic(auto, using(byte_readers::specs::Laws::all_storable))]
     pub fn new(formals: Vec<Ty>, returns: Ty) -> Self
-        ensures { result ≡ signature_value (formals.items, returns) }
+        ensures { result ≡ record { formals = formals.items; returns = returns } }
     {
         check_list::<TypeFormat>(&formals);
         check_ty(&returns);
@@ -150,23 +166,21 @@ pub struct Supers {
 impl Model for Supers {
     ghost use Rattle.result_bytes.specs.Payloads.{ChainValue};
     ghost use Rattle.result_bytes.specs.Storable.{ChainFits};
-    ghost use Rattle.result_bytes.specs.Reading.{chain_value};
 
     ghost Value = { ChainValue };
 
-    ghost view = { λ s. chain_value (s.classes.items, s.end) };
+    ghost view = { λ s. record { classes = s.classes.items; end = s.end } };
 
-    ghost invariant = { λ s. ChainFits (chain_value (s.classes.items, s.end)) };
+    ghost invariant = { λ s. ChainFits (record { classes = s.classes.items; end = s.end }) };
 }
 
 impl Supers {
     ghost use Rattle.result_bytes.specs.Storable.{ChainFits};
-    ghost use Rattle.result_bytes.specs.Reading.{chain_value};
 
     /// A chain of these classes with this end.
     #[tactic(auto, using(byte_readers::specs::Laws::all_storable))]
     pub fn new(classes: Vec<Name>, end: ChainEnd) -> Self
-        ensures { result ≡ chain_value (classes.items, end) }
+        ensures { result ≡ record { classes = classes.items; end = end } }
     {
         check_list::<NameFormat>(&classes);
         check_end(&end);

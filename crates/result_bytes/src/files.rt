@@ -85,7 +85,8 @@ fn read_names(alloc: Global, bytes: &[u8]) -> Result<(Vec<Name>, &[u8]), ReadErr
 
 /// Reads so many names that differ.
 fn read_new_names(alloc: Global, count: u64, bytes: &[u8]) -> Result<(Vec<Name>, &[u8]), ReadError>
-    ensures { Decodes (λ x. (x.0.items, x.1.now)) result (list_from name_at is_new [] count bytes.now) }
+    ensures { Decodes (λ x. (x.0.items, x.1.now)) result
+        (list_from name_at is_new [] count bytes.now) }
 {
     let mut items = Vec::new(alloc);
     let mut rest = bytes;

@@ -19,7 +19,8 @@ pub fn decode(alloc: Global, kind: Kind, bytes: &[u8]) -> Result<Value, Refusal>
     // What is read is a value of the kind, spelled so.
     ensures found { IfOk result (λ v. IsValue v × (kind_of v ≡ kind) × (bytes.now ≡ canon v)) }
     // What is spelled so is read, unless memory runs out.
-    ensures only { (v : Value) → IsValue v → kind_of v ≡ kind → bytes.now ≡ canon v → IsUnlessMemory result (Ok v) }
+    ensures only { (v : Value) → IsValue v → kind_of v ≡ kind → bytes.now ≡ canon v
+        → IsUnlessMemory result (Ok v) }
     // Which refusal it is.
     ensures exact { IsUnlessMemory result (decoded kind bytes.now) }
 {

@@ -28,16 +28,6 @@ fn names(alloc: Global, texts: &[&str]) -> Result<Vec<Name>, AllocError> {
     Ok(list)
 }
 
-fn type_of(alloc: Global, text: &str) -> Result<Ty, AllocError> {
-    let ty = match text {
-        "int" => Ty::Int,
-        "boolean" => Ty::Boolean,
-        "int[]" => Ty::IntArray,
-        class => Ty::Class(name(alloc, class)?),
-    };
-    Ok(ty)
-}
-
 fn place(alloc: Global, kind: char, text: &str, number: usize) -> Result<Place, AllocError> {
     let place = match kind {
         'p' => Place::Project,
@@ -60,195 +50,224 @@ fn faults(alloc: Global, rows: &[Fault]) -> Result<Vec<Diagnostic>, AllocError> 
     Ok(list)
 }
 
-/// Fields of these names and types.
-fn fields(alloc: Global, owner: &str, rows: &[(&str, &str)]) -> Result<Vec<FieldRow>, AllocError> {
-    let mut list = Vec::new(alloc);
-    for (text, ty) in rows {
-        let name_of_field = name(alloc, text)?;
-        let owner = name(alloc, owner)?;
-        let ty = type_of(alloc, ty)?;
-        list.push(FieldRow {
-            name: name_of_field,
-            owner,
-            ty,
-        })?;
-    }
-    Ok(list)
-}
+/// Faults in any order, some of them twice, and the text of their set.
+const FAULTS: &[(&[Fault], &str)] = &[
+    (
+        &[
+            ('k', "b.java", 12, Code::E104),
+            ('l', "b.java", 0, Code::E103),
+            ('k', "b.java", 1, Code::E104),
+            ('l', "M.java", 0, Code::E101),
+            ('p', "", 0, Code::E102),
+            ('k', "b.java", 1, Code::E104),
+        ],
+        "E102 project\nE101 file M.java\nE103 file b.java\nE104 file b.java class 1\nE104 file b.java class 12\n",
+    ),
+    (
+        &[
+            ('i', "main", 23, Code::E303),
+            ('m', "", 0, Code::E205),
+            ('i', "f", 30, Code::E301),
+            ('f', "", 10, Code::E203),
+            ('f', "", 2, Code::E206),
+            ('f', "", 2, Code::E203),
+            ('i', "main", 19, Code::E304),
+            ('f', "", 2, Code::E206),
+            ('c', "", 0, Code::E202),
+        ],
+        "E202 class\nE203 field 2\nE206 field 2\nE203 field 10\nE205 method 0\nE301 in f at 30\nE304 in main at 19\nE303 in main at 23\n",
+    ),
+];
 
-fn types(alloc: Global, texts: &[&str]) -> Result<Vec<Ty>, AllocError> {
-    let mut list = Vec::new(alloc);
-    for text in texts {
-        list.push(type_of(alloc, text)?)?;
-    }
-    Ok(list)
-}
-
-/// A list of one method, which returns an int.
-fn one_method(
-    alloc: Global,
-    owner: &str,
-    text: &str,
-    formals: &[&str],
-) -> Result<Vec<MethodRow>, AllocError> {
-    let name_of_method = name(alloc, text)?;
-    let owner = name(alloc, owner)?;
-    let formals = types(alloc, formals)?;
-    let mut list = Vec::new(alloc);
-    list.push(MethodRow::new(name_of_method, owner, formals, Ty::Int))?;
-    Ok(list)
-}
-
-/// The answer for this class alone.
-fn one_class(
-    alloc: Global,
-    text: &str,
-    table: ClassTable,
-    rows: &[Fault],
-) -> Result<Answer, AllocError> {
-    let name_of_class = name(alloc, text)?;
+/// An answer of these faults alone.
+fn answer_of(alloc: Global, rows: &[Fault]) -> Result<Answer, AllocError> {
     let faults = faults(alloc, rows)?;
-    let mut classes = Vec::new(alloc);
-    classes.push(ClassAnswer::new(name_of_class, table, faults))?;
-    Ok(Answer::new(Vec::new(alloc), classes))
+    Ok(Answer::new(fault_set(faults), Vec::new(alloc)))
 }
 
-/// The answer for a class B that has each kind of row.
-fn class_b(alloc: Global) -> Result<Answer, AllocError> {
-    let fields = fields(alloc, "B", &[("a", "A"), ("x", "boolean")])?;
-    let methods = one_method(alloc, "B", "f", &["int[]", "A", "boolean"])?;
-    let rows = [
-        ('c', "", 0, Code::E202),
-        ('f', "", 0, Code::E206),
-        ('m', "", 10, Code::E205),
-        ('i', "f", 8, Code::E305),
-    ];
-    one_class(alloc, "B", ClassTable::new(fields, methods), &rows)
+/// Whether this is the text of the answer.
+fn is_text(alloc: Global, answer: &Answer, want: &str) -> Result<bool, AllocError> {
+    Ok(render(alloc, answer)?.as_str() == want)
+}
+
+/// Whether this is the text of the faults as a set.
+fn is_set(alloc: Global, rows: &[Fault], want: &str) -> Result<bool, AllocError> {
+    let answer = answer_of(alloc, rows)?;
+    is_text(alloc, &answer, want)
 }
 
 #[test]
-fn classes_are_printed(rt: HostRuntime) -> Result<(), Fail> {
-    let alloc = rt.alloc();
-    let text = render(alloc, &class_b(alloc)?)?;
-    let want =
-        "class B\n  field a: A from B\n  field x: boolean from B\n  method f(int[], A, boolean): int from B\n  E202 class\n  E206 field 0\n  E205 method 10\n  E305 in f at 8\n";
-    assert_eq!(rt; text.as_str(), want);
-    Ok(())
-}
-
-#[test]
-fn plain_methods_are_printed(rt: HostRuntime) -> Result<(), Fail> {
-    let alloc = rt.alloc();
-    let methods = one_method(alloc, "A", "length", &[])?;
-    let table = ClassTable::new(Vec::new(alloc), methods);
-    let text = render(alloc, &one_class(alloc, "A1", table, &[])?)?;
-    assert_eq!(rt; text.as_str(), "class A1\n  method length(): int from A\n");
-    Ok(())
-}
-
-#[test]
-fn project_faults_are_printed(rt: HostRuntime) -> Result<(), Fail> {
-    let alloc = rt.alloc();
-    let rows = [
-        ('k', "b.java", 12, Code::E104),
-        ('l', "b.java", 0, Code::E103),
-        ('k', "b.java", 1, Code::E104),
-        ('l', "M.java", 0, Code::E101),
-        ('p', "", 0, Code::E102),
-        ('k', "b.java", 1, Code::E104),
-    ];
-    let answer = Answer::new(fault_set(faults(alloc, &rows)?), Vec::new(alloc));
-    let text = render(alloc, &answer)?;
-    let want =
-        "E102 project\nE101 file M.java\nE103 file b.java\nE104 file b.java class 1\nE104 file b.java class 12\n";
-    assert_eq!(rt; text.as_str(), want);
-    Ok(())
-}
-
-#[test]
-fn class_faults_are_sets(rt: HostRuntime) -> Result<(), Fail> {
+fn faults_are_sets(rt: HostRuntime) -> Result<(), Fail> {
     strict_total_orders();
     one_list();
-    let alloc = rt.alloc();
-    let rows = [
-        ('i', "main", 23, Code::E303),
-        ('m', "", 0, Code::E205),
-        ('i', "f", 30, Code::E301),
-        ('f', "", 10, Code::E203),
-        ('f', "", 2, Code::E206),
-        ('f', "", 2, Code::E203),
-        ('i', "main", 19, Code::E304),
-        ('f', "", 2, Code::E206),
-        ('c', "", 0, Code::E202),
-    ];
-    let answer = Answer::new(fault_set(faults(alloc, &rows)?), Vec::new(alloc));
-    let text = render(alloc, &answer)?;
-    let want =
-        "E202 class\nE203 field 2\nE206 field 2\nE203 field 10\nE205 method 0\nE301 in f at 30\nE304 in main at 19\nE303 in main at 23\n";
-    assert_eq!(rt; text.as_str(), want);
-    let numbers = ascending(Vec::from_array(alloc, [3, 1, 3, 2])?);
+    for (rows, want) in FAULTS {
+        assert!(rt; is_set(rt.alloc(), rows, want)?, "{want}");
+    }
+    Ok(())
+}
+
+#[test]
+fn numbers_ascend(rt: HostRuntime) -> Result<(), Fail> {
+    let numbers = ascending(Vec::from_array(rt.alloc(), [3, 1, 3, 2])?);
     assert_eq!(rt; numbers.as_slice(), [1, 2, 3].as_slice());
     Ok(())
 }
 
-#[test]
-fn codes_have_numbers(rt: HostRuntime) {
-    code_numbers();
-    let known = (0..1000u16).filter_map(Code::from_number).count();
-    assert_eq!(rt; known, 30);
-    let rows = [
-        (Code::E101, 101),
-        (Code::E207, 207),
-        (Code::E301, 301),
-        (Code::E319, 319),
-    ];
-    for (code, number) in rows {
-        assert_eq!(rt; code.number(), number);
-        assert!(rt; Code::from_number(number) == Some(code));
-    }
-    assert!(rt; Code::E104 < Code::E201);
+/// The field `boolean x` of class B.
+fn field_x(alloc: Global) -> Result<FieldRow, AllocError> {
+    Ok(FieldRow {
+        name: name(alloc, "x")?,
+        owner: name(alloc, "B")?,
+        ty: Ty::Boolean,
+    })
+}
+
+/// The types `int[]`, `A` and `boolean`.
+fn formals(alloc: Global) -> Result<Vec<Ty>, AllocError> {
+    let mut list = Vec::new(alloc);
+    list.push(Ty::IntArray)?;
+    list.push(Ty::Class(name(alloc, "A")?))?;
+    list.push(Ty::Boolean)?;
+    Ok(list)
+}
+
+/// The method `int f(int[], A, boolean)` of class B.
+fn method_f(alloc: Global) -> Result<MethodRow, AllocError> {
+    let formals = formals(alloc)?;
+    let owner = name(alloc, "B")?;
+    Ok(MethodRow::new(name(alloc, "f")?, owner, formals, Ty::Int))
+}
+
+/// A list of one item.
+fn alone<T: Drop>(alloc: Global, item: T) -> Result<Vec<T>, AllocError> {
+    let mut list = Vec::new(alloc);
+    list.push(item)?;
+    Ok(list)
+}
+
+/// The members of class B.
+fn table_of_b(alloc: Global) -> Result<ClassTable, AllocError> {
+    let fields = alone(alloc, field_x(alloc)?)?;
+    let methods = alone(alloc, method_f(alloc)?)?;
+    Ok(ClassTable::new(fields, methods))
+}
+
+/// The faults of class B, one of each kind.
+const FAULTS_OF_B: &[Fault] = &[
+    ('c', "", 0, Code::E202),
+    ('f', "", 0, Code::E206),
+    ('m', "", 10, Code::E205),
+    ('i', "f", 8, Code::E305),
+];
+
+/// Class B, which has each kind of row.
+fn class_b(alloc: Global) -> Result<ClassAnswer, AllocError> {
+    let table = table_of_b(alloc)?;
+    let faults = faults(alloc, FAULTS_OF_B)?;
+    Ok(ClassAnswer::new(name(alloc, "B")?, table, faults))
+}
+
+/// The answer of class B alone.
+fn answer_of_b(alloc: Global) -> Result<Answer, AllocError> {
+    let classes = alone(alloc, class_b(alloc)?)?;
+    Ok(Answer::new(Vec::new(alloc), classes))
 }
 
 #[test]
-fn rows_are_found(rt: HostRuntime) -> Result<(), Fail> {
-    let alloc = rt.alloc();
-    let list = name_set(names(alloc, &["f", "b", "a1", "b", "a"])?);
-    let rows = [
-        ("a", Some(0)),
-        ("a1", Some(1)),
-        ("b", Some(2)),
-        ("f", Some(3)),
-        ("B", None),
-        ("c", None),
-        ("g", None),
-    ];
-    for (text, want) in rows {
-        let sought = name(alloc, text)?;
-        assert_eq!(rt; position_by_name(list.as_slice(), &sought), want);
-        assert_eq!(rt;
-            find_by_name(list.as_slice(), &sought).is_some(),
-            want.is_some()
-        );
-    }
+fn classes_are_printed(rt: HostRuntime) -> Result<(), Fail> {
+    let answer = answer_of_b(rt.alloc())?;
+    let want =
+        "class B\n  field x: boolean from B\n  method f(int[], A, boolean): int from B\n  E202 class\n  E206 field 0\n  E205 method 10\n  E305 in f at 8\n";
+    assert!(rt; is_text(rt.alloc(), &answer, want)?);
     Ok(())
+}
+
+/// Whether it is the field of class B.
+fn is_field_x(row: &FieldRow) -> bool {
+    Named::name(row).as_str() == "x" && row.owner.as_str() == "B" && row.ty == Ty::Boolean
+}
+
+/// Whether it is the method of class B.
+fn is_method_f(row: &MethodRow) -> bool {
+    row.name().as_str() == "f"
+        && Named::name(row).as_str() == "f"
+        && row.owner().as_str() == "B"
+        && row.formals().len() == 3
+        && *row.returns() == Ty::Int
+}
+
+/// Whether it has the members of class B.
+fn is_table_of_b(table: &ClassTable) -> bool {
+    table.fields().first().is_some_and(is_field_x)
+        && table.methods().first().is_some_and(is_method_f)
+}
+
+/// Whether it has the parts of class B.
+fn is_class_b(class: &ClassAnswer) -> bool {
+    class.name().as_str() == "B"
+        && Named::name(class).as_str() == "B"
+        && class.faults().len() == 4
+        && is_table_of_b(class.table())
 }
 
 #[test]
 fn parts_are_lent(rt: HostRuntime) -> Result<(), Fail> {
-    let alloc = rt.alloc();
-    let answer = class_b(alloc)?;
+    let answer = answer_of_b(rt.alloc())?;
     assert!(rt; answer.faults().is_empty());
-    let class = answer.classes().first().ok_or("class B")?;
-    assert_eq!(rt; class.name().as_str(), "B");
-    assert_eq!(rt; Named::name(class).as_str(), "B");
-    assert_eq!(rt; class.faults().len(), 4);
-    let field = class.table().fields().first().ok_or("field a")?;
-    assert_eq!(rt; Named::name(field).as_str(), "a");
-    let method = class.table().methods().first().ok_or("method f")?;
-    assert_eq!(rt; method.name().as_str(), "f");
-    assert_eq!(rt; Named::name(method).as_str(), "f");
-    assert_eq!(rt; method.owner().as_str(), "B");
-    assert_eq!(rt; method.formals().len(), 3);
-    assert!(rt; *method.returns() == Ty::Int);
+    assert!(rt; answer.classes().first().is_some_and(is_class_b));
+    Ok(())
+}
+
+/// Codes with their numbers.
+const CODES: &[(Code, u16)] = &[
+    (Code::E101, 101),
+    (Code::E207, 207),
+    (Code::E301, 301),
+    (Code::E319, 319),
+];
+
+#[test]
+fn codes_have_numbers(rt: HostRuntime) {
+    code_numbers();
+    for (code, number) in CODES {
+        let is_both_ways = code.number() == *number && Code::from_number(*number) == Some(*code);
+        assert!(rt; is_both_ways, "{number}");
+    }
+}
+
+#[test]
+fn codes_are_thirty(rt: HostRuntime) {
+    assert_eq!(rt; (0..1000u16).filter_map(Code::from_number).count(), 30);
+    assert!(rt; Code::E104 < Code::E201);
+}
+
+/// Names in any order, one of them twice.
+const NAMES: &[&str] = &["f", "b", "a1", "b", "a"];
+
+/// Names, and where each stands in the set of the names.
+const SOUGHT: &[(&str, Option<usize>)] = &[
+    ("a", Some(0)),
+    ("a1", Some(1)),
+    ("b", Some(2)),
+    ("f", Some(3)),
+    ("B", None),
+    ("c", None),
+    ("g", None),
+];
+
+/// Whether the name stands just there in the set of the names.
+fn is_found(alloc: Global, text: &str, want: Option<usize>) -> Result<bool, AllocError> {
+    let list = name_set(names(alloc, NAMES)?);
+    let sought = name(alloc, text)?;
+    let position = position_by_name(list.as_slice(), &sought);
+    let found = find_by_name(list.as_slice(), &sought);
+    Ok(position == want && found.is_some() == want.is_some())
+}
+
+#[test]
+fn rows_are_found(rt: HostRuntime) -> Result<(), Fail> {
+    for (text, want) in SOUGHT {
+        assert!(rt; is_found(rt.alloc(), text, *want)?, "{text}");
+    }
     Ok(())
 }

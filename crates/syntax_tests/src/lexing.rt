@@ -95,25 +95,6 @@ fn limits(rt: HostRuntime) -> Result<(), Fail> {
 }
 
 #[test]
-fn longest_name(rt: HostRuntime) -> Result<(), Fail> {
-    let tokens = lex(rt.alloc(), &vec![in rt.alloc(); b'a'; 255]?)?;
-    assert_eq!(rt; tokens.len(), 1);
-    assert_eq!(rt; tokens[0].end, 255);
-    Ok(())
-}
-
-// A whole file of comments, each inside the one before.
-#[test]
-fn nested_comments(rt: HostRuntime) -> Result<(), Fail> {
-    let alloc = rt.alloc();
-    let mut text = "/*".repeat(alloc, 262144)?;
-    text.push_str("*/".repeat(alloc, 262144)?.as_str())?;
-    assert_eq!(rt; text.len(), 1048576);
-    assert!(rt; lex(alloc, text.as_bytes())?.is_empty());
-    Ok(())
-}
-
-#[test]
 fn lines_and_columns(rt: HostRuntime) {
     let rows = [
         ("class {", 6, (1, 7)),

@@ -19,7 +19,8 @@ use Rattle.tree_bytes.specs.declared.tag.OnePart.TheVariants as ones
 use Rattle.tree_bytes.specs.Tags.{exp_byte, exp_tag_of}
 use Rattle.tree_bytes.specs.TagLaws.{exp_byte_is, exp_tag_back}
 use Rattle.tree_bytes.specs.Spelling.{node, exp, exps, count_exps}
-use Rattle.tree_bytes.specs.Storable.{greatest_literal, ExpFits, ExpsFit}
+use Rattle.tree_bytes.specs.Storable.{ExpFits, ExpsFit}
+use Rattle.mj_lexer.specs.Bytes.{greatest_literal}
 use Rattle.tree_bytes.specs.Reading.{literal_at, exps_at, exp_body_at, exp_tagged, exp_at}
 
 -- ---- lists of expressions

@@ -6,7 +6,8 @@ use Rattle.byte_readers.specs.Reading.{any}
 use Rattle.byte_readers.specs.Lawful.{IsBytes, Takes, Lawful}
 use Rattle.byte_readers.specs.Laws.{IsBytes-rest, takes_behind, made_takes, made_again, lawful_name, lawful_four, lawful_pair, lawful_option, lawful_list, lawful_made, lawful_where, any_admits}
 use Rattle.tree_bytes.specs.Spelling.{exp, stmt, stmts, count_stmts, method, tagged_method, main, class, file}
-use Rattle.tree_bytes.specs.Storable.{most_levels, TopStmtFits, TopStmtsFit, TopExpFits, MethodFits, MainFits, ClassFits, FileFits}
+use Rattle.mj_tree.specs.Limits.{most_levels}
+use Rattle.tree_bytes.specs.Storable.{TopStmtFits, TopStmtsFit, TopExpFits, MethodFits, MainFits, ClassFits, FileFits}
 use Rattle.tree_bytes.specs.Reading.{top_stmt_at, top_stmts_at, top_exp_at, method_of, method_at, tagged_method_at, main_of, main_at, class_of, class_at, file_of, file_at}
 use Rattle.tree_bytes.specs.Bodies.{BodyValue, OfMain, OfMethod, body, BodyFits, body_at}
 use Rattle.tree_bytes.specs.TypeLaws.{lawful_ty, lawful_field, lawful_variable}

@@ -18,7 +18,8 @@ use Rattle.tree_bytes.specs.declared.tag.OnePart.TheVariants as ones
 use Rattle.tree_bytes.specs.declared.tag.StmtTag.{StmtTag}
 use Rattle.tree_bytes.specs.declared.tag.StmtTag.TheVariants as statements
 use Rattle.tree_bytes.specs.Tags.{exp_tag_of, stmt_tag_of}
-use Rattle.tree_bytes.specs.Storable.{greatest_literal, most_levels}
+use Rattle.mj_tree.specs.Limits.{most_levels}
+use Rattle.mj_lexer.specs.Bytes.{greatest_literal}
 
 unfoldable pub ty_at : Decoder Ty
 ty_at [] = Err Short

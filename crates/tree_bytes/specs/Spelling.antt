@@ -38,10 +38,13 @@ node tag mark parts = tag ∷ (four mark ++ parts)
 
 abbrev mutual
   pub exp : Expression → List ℕ
-  exp (trees.Binary operator mark left right) = node (operator_byte operator) mark (exp left ++ exp right)
+  exp (trees.Binary operator mark left right) =
+      node (operator_byte operator) mark (exp left ++ exp right)
   exp (trees.Index mark array index) = node 0x05 mark (exp array ++ exp index)
   exp (trees.Length mark array) = node 0x06 mark (exp array)
-  exp (trees.Call mark receiver method arguments) = node 0x07 mark (exp receiver ++ (name method ++ (eight (count_exps arguments) ++ exps arguments)))
+  exp (trees.Call mark receiver method arguments) =
+      node 0x07 mark
+          (exp receiver ++ (name method ++ (eight (count_exps arguments) ++ exps arguments)))
   exp (trees.Literal mark value) = node 0x08 mark (four value)
   exp (trees.Boolean mark value) = node (boolean_byte value) mark []
   exp (trees.Named mark n) = node 0x0b mark (name n)
@@ -58,11 +61,14 @@ abbrev mutual
 abbrev mutual
   pub stmt : Statement → List ℕ
   stmt (trees.Block mark body) = node 0x00 mark (eight (count_stmts body) ++ stmts body)
-  stmt (trees.If mark condition then_branch else_branch) = node 0x01 mark (exp condition ++ (stmt then_branch ++ stmt else_branch))
+  stmt (trees.If mark condition then_branch else_branch) =
+      node 0x01 mark (exp condition ++ (stmt then_branch ++ stmt else_branch))
   stmt (trees.While mark condition body) = node 0x02 mark (exp condition ++ stmt body)
   stmt (trees.Print mark value) = node 0x03 mark (exp value)
-  stmt (trees.Assign mark n name_mark value) = node 0x04 mark (name n ++ (four name_mark ++ exp value))
-  stmt (trees.Store mark n name_mark index value) = node 0x05 mark (name n ++ (four name_mark ++ (exp index ++ exp value)))
+  stmt (trees.Assign mark n name_mark value) =
+      node 0x04 mark (name n ++ (four name_mark ++ exp value))
+  stmt (trees.Store mark n name_mark index value) =
+      node 0x05 mark (name n ++ (four name_mark ++ (exp index ++ exp value)))
 
   pub stmts : Statements → List ℕ
   stmts done = []
@@ -84,7 +90,9 @@ main m = name m.name ++ stmt m.statement
 
 -- a class: its name, superclass, fields and methods
 unfoldable pub class : trees.Class → List ℕ
-class c = name c.name ++ (option name c.superclass ++ (list field c.fields ++ list tagged_method c.methods))
+class c =
+    name c.name
+        ++ (option name c.superclass ++ (list field c.fields ++ list tagged_method c.methods))
 
 -- a file: its main class, if it has one, and its classes
 unfoldable pub file : File → List ℕ

@@ -7,16 +7,10 @@ use Rattle.mj_tree.specs.declared.tree.Field.{Field}
 use Rattle.mj_tree.specs.declared.tree.Variable.{Variable}
 use Rattle.mj_tree.specs.Trees.{Expression, Expressions, none, more, Statement, Statements, done, next, Method, Main, File}
 use Rattle.mj_tree.specs.Trees as trees
+use Rattle.mj_tree.specs.Limits.{most_levels}
+use Rattle.mj_lexer.specs.Bytes.{greatest_literal}
 use Rattle.byte_readers.specs.Names.{IsName}
 use Rattle.tree_bytes.specs.Spelling.{count_exps, count_stmts}
-
--- the value of a literal that stands for all greater ones
-abbrev pub greatest_literal : ℕ
-greatest_literal = 2147483648
-
--- the levels that a phrase may have
-abbrev pub most_levels : ℕ
-most_levels = 500
 
 abbrev pub TyFits : Ty → Type 0
 TyFits Int = Unit {0}
@@ -37,10 +31,15 @@ abbrev mutual
   -- with no more than so many levels
   pub ExpFits : ℕ → Expression → Type 0
   ExpFits zero e = ⊥
-  ExpFits (suc room) (trees.Binary operator mark left right) = IsMark mark × (ExpFits room left × ExpFits room right)
-  ExpFits (suc room) (trees.Index mark array index) = IsMark mark × (ExpFits room array × ExpFits room index)
+  ExpFits (suc room) (trees.Binary operator mark left right) =
+      IsMark mark × (ExpFits room left × ExpFits room right)
+  ExpFits (suc room) (trees.Index mark array index) =
+      IsMark mark × (ExpFits room array × ExpFits room index)
   ExpFits (suc room) (trees.Length mark array) = IsMark mark × ExpFits room array
-  ExpFits (suc room) (trees.Call mark receiver method arguments) = IsMark mark × (ExpFits room receiver × (IsName method × ((count_exps arguments < 2 ^ 64) × ExpsFit room arguments)))
+  ExpFits (suc room) (trees.Call mark receiver method arguments) =
+      IsMark mark
+          × (ExpFits room receiver
+                 × (IsName method × ((count_exps arguments < 2 ^ 64) × ExpsFit room arguments)))
   ExpFits (suc room) (trees.Literal mark value) = IsMark mark × (value ≤ greatest_literal)
   ExpFits (suc room) (trees.Boolean mark value) = IsMark mark
   ExpFits (suc room) (trees.Named mark n) = IsMark mark × IsName n
@@ -58,12 +57,18 @@ abbrev mutual
   -- with no more than so many levels
   pub StmtFits : ℕ → Statement → Type 0
   StmtFits zero s = ⊥
-  StmtFits (suc room) (trees.Block mark body) = IsMark mark × ((count_stmts body < 2 ^ 64) × StmtsFit room body)
-  StmtFits (suc room) (trees.If mark condition then_branch else_branch) = IsMark mark × (ExpFits room condition × (StmtFits room then_branch × StmtFits room else_branch))
-  StmtFits (suc room) (trees.While mark condition body) = IsMark mark × (ExpFits room condition × StmtFits room body)
+  StmtFits (suc room) (trees.Block mark body) =
+      IsMark mark × ((count_stmts body < 2 ^ 64) × StmtsFit room body)
+  StmtFits (suc room) (trees.If mark condition then_branch else_branch) =
+      IsMark mark
+          × (ExpFits room condition × (StmtFits room then_branch × StmtFits room else_branch))
+  StmtFits (suc room) (trees.While mark condition body) =
+      IsMark mark × (ExpFits room condition × StmtFits room body)
   StmtFits (suc room) (trees.Print mark value) = IsMark mark × ExpFits room value
-  StmtFits (suc room) (trees.Assign mark n name_mark value) = IsMark mark × (IsName n × (IsMark name_mark × ExpFits room value))
-  StmtFits (suc room) (trees.Store mark n name_mark index value) = IsMark mark × (IsName n × (IsMark name_mark × (ExpFits room index × ExpFits room value)))
+  StmtFits (suc room) (trees.Assign mark n name_mark value) =
+      IsMark mark × (IsName n × (IsMark name_mark × ExpFits room value))
+  StmtFits (suc room) (trees.Store mark n name_mark index value) =
+      IsMark mark × (IsName n × (IsMark name_mark × (ExpFits room index × ExpFits room value)))
 
   pub StmtsFit : ℕ → Statements → Type 0
   StmtsFit room done = Unit {0}

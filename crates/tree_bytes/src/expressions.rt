@@ -7,11 +7,8 @@ ghost use Rattle.tree_bytes.specs.Reading.{literal_at, two_of, one_of, exp_at, e
 
 use crate::tag::{ExpTag, OnePart, TwoParts, exp_tag_of};
 use byte_readers::{ReadError, read_byte, read_eight, read_four, read_name, refused};
-use mj_tree::Exp;
+use mj_tree::{Exp, MOST_LEVELS};
 use std::alloc::Global;
-
-/// The levels that a phrase may have.
-pub const MOST_LEVELS: usize = 500;
 
 /// Reads an expression of level 1.
 #[tactic(auto, unfolding(crate::specs::Reading::top_exp_at))]
@@ -48,7 +45,8 @@ fn read_exp_body(
     bytes: &[u8],
     room: usize,
 ) -> Result<(Exp, &[u8]), ReadError>
-    ensures { Decodes (λ x. (exp_view x.0, x.1.now)) result (exp_body_at (exp_at room) tag mark bytes.now) }
+    ensures { Decodes (λ x. (exp_view x.0, x.1.now)) result
+        (exp_body_at (exp_at room) tag mark bytes.now) }
 {
     match tag {
         ExpTag::Two(two) => read_two_parts(alloc, two, mark, bytes, room),
@@ -80,7 +78,8 @@ fn read_two_parts(
     bytes: &[u8],
     room: usize,
 ) -> Result<(Exp, &[u8]), ReadError>
-    ensures { Decodes (λ x. (exp_view x.0, x.1.now)) result (exp_body_at (exp_at room) (ExpTag.Two two) mark bytes.now) }
+    ensures { Decodes (λ x. (exp_view x.0, x.1.now)) result
+        (exp_body_at (exp_at room) (ExpTag.Two two) mark bytes.now) }
 {
     let (first, rest) = read_boxed(alloc, bytes, room)?;
     let (second, rest) = read_boxed(alloc, rest, room)?;
@@ -96,7 +95,8 @@ fn read_one_part(
     bytes: &[u8],
     room: usize,
 ) -> Result<(Exp, &[u8]), ReadError>
-    ensures { Decodes (λ x. (exp_view x.0, x.1.now)) result (exp_body_at (exp_at room) (ExpTag.One one) mark bytes.now) }
+    ensures { Decodes (λ x. (exp_view x.0, x.1.now)) result
+        (exp_body_at (exp_at room) (ExpTag.One one) mark bytes.now) }
 {
     let (part, rest) = read_boxed(alloc, bytes, room)?;
     Ok((of_one(one, mark, part), rest))
@@ -110,7 +110,8 @@ fn read_call(
     bytes: &[u8],
     room: usize,
 ) -> Result<(Exp, &[u8]), ReadError>
-    ensures { Decodes (λ x. (exp_view x.0, x.1.now)) result (exp_body_at (exp_at room) ExpTag.Call mark bytes.now) }
+    ensures { Decodes (λ x. (exp_view x.0, x.1.now)) result
+        (exp_body_at (exp_at room) ExpTag.Call mark bytes.now) }
 {
     let (receiver, rest) = read_boxed(alloc, bytes, room)?;
     let (method, rest) = read_name(alloc, rest)?;
@@ -130,7 +131,8 @@ fn read_call(
 #[tactic(auto, unfolding(byte_readers::specs::Reading::list_at))]
 #[inline(never)]
 fn read_exps(alloc: Global, bytes: &[u8], room: usize) -> Result<(Vec<Exp>, &[u8]), ReadError>
-    ensures { Decodes (λ x. (exps_view x.0.items, x.1.now)) result (exps_at (exp_at room) bytes.now) }
+    ensures { Decodes (λ x. (exps_view x.0.items, x.1.now)) result
+        (exps_at (exp_at room) bytes.now) }
 {
     let (count, rest) = read_eight(bytes)?;
     read_all_exps(alloc, count, rest, room)
@@ -144,7 +146,8 @@ fn read_all_exps(
     bytes: &[u8],
     room: usize,
 ) -> Result<(Vec<Exp>, &[u8]), ReadError>
-    ensures { Decodes (λ x. (map exp_view x.0.items, x.1.now)) result (list_from (exp_at room) any [] count bytes.now) }
+    ensures { Decodes (λ x. (map exp_view x.0.items, x.1.now)) result
+        (list_from (exp_at room) any [] count bytes.now) }
 {
     let mut items = Vec::new(alloc);
     let mut rest = bytes;
@@ -190,7 +193,8 @@ fn of_one(one: OnePart, mark: usize, part: Box<Exp>) -> Exp
 
 #[tactic(auto, unfolding(crate::specs::Reading::literal_at))]
 fn read_literal(mark: usize, bytes: &[u8]) -> Result<(Exp, &[u8]), ReadError>
-    ensures { Decodes (λ x. (exp_view x.0, x.1.now)) result (made_at (Literal mark) literal_at bytes.now) }
+    ensures { Decodes (λ x. (exp_view x.0, x.1.now)) result
+        (made_at (Literal mark) literal_at bytes.now) }
 {
     let (value, rest) = read_four(bytes)?;
     if value > 2147483648 {
@@ -200,14 +204,16 @@ fn read_literal(mark: usize, bytes: &[u8]) -> Result<(Exp, &[u8]), ReadError>
 }
 
 fn read_variable(alloc: Global, mark: usize, bytes: &[u8]) -> Result<(Exp, &[u8]), ReadError>
-    ensures { Decodes (λ x. (exp_view x.0, x.1.now)) result (made_at (Named mark) name_at bytes.now) }
+    ensures { Decodes (λ x. (exp_view x.0, x.1.now)) result
+        (made_at (Named mark) name_at bytes.now) }
 {
     let (name, rest) = read_name(alloc, bytes)?;
     Ok((Exp::Variable { mark, name }, rest))
 }
 
 fn read_new_object(alloc: Global, mark: usize, bytes: &[u8]) -> Result<(Exp, &[u8]), ReadError>
-    ensures { Decodes (λ x. (exp_view x.0, x.1.now)) result (made_at (NewObject mark) name_at bytes.now) }
+    ensures { Decodes (λ x. (exp_view x.0, x.1.now)) result
+        (made_at (NewObject mark) name_at bytes.now) }
 {
     let (class, rest) = read_name(alloc, bytes)?;
     Ok((Exp::NewObject { mark, class }, rest))

@@ -24,7 +24,8 @@ fn read_main(alloc: Global, bytes: &[u8]) -> Result<(MainTree, &[u8]), ReadError
 
 #[tactic(auto, unfolding(byte_readers::specs::Reading::option_at))]
 fn read_perhaps_main(alloc: Global, bytes: &[u8]) -> Result<(Option<MainTree>, &[u8]), ReadError>
-    ensures { Decodes (λ x. (option_map main_view x.0, x.1.now)) result (option_at main_at bytes.now) }
+    ensures { Decodes (λ x. (option_map main_view x.0, x.1.now)) result
+        (option_at main_at bytes.now) }
 {
     match bytes {
         [] => Err(ReadError::Breach(Breach::Short)),
@@ -58,7 +59,8 @@ fn read_class(alloc: Global, bytes: &[u8]) -> Result<(ClassTree, &[u8]), ReadErr
 
 #[tactic(auto, unfolding(byte_readers::specs::Reading::list_at))]
 fn read_classes(alloc: Global, bytes: &[u8]) -> Result<(Vec<ClassTree>, &[u8]), ReadError>
-    ensures { Decodes (λ x. (map class_view x.0.items, x.1.now)) result (list_at class_at any bytes.now) }
+    ensures { Decodes (λ x. (map class_view x.0.items, x.1.now)) result
+        (list_at class_at any bytes.now) }
 {
     let (count, rest) = read_eight(bytes)?;
     read_all_classes(alloc, count, rest)
@@ -69,7 +71,8 @@ fn read_all_classes(
     count: u64,
     bytes: &[u8],
 ) -> Result<(Vec<ClassTree>, &[u8]), ReadError>
-    ensures { Decodes (λ x. (map class_view x.0.items, x.1.now)) result (list_from class_at any [] count bytes.now) }
+    ensures { Decodes (λ x. (map class_view x.0.items, x.1.now)) result
+        (list_from class_at any [] count bytes.now) }
 {
     let mut items = Vec::new(alloc);
     let mut rest = bytes;

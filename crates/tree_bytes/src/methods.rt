@@ -53,7 +53,8 @@ fn read_tagged_method(alloc: Global, bytes: &[u8]) -> Result<(MethodTree, &[u8])
 /// Reads the methods of a class.
 #[tactic(auto, unfolding(byte_readers::specs::Reading::list_at))]
 pub fn read_methods(alloc: Global, bytes: &[u8]) -> Result<(Vec<MethodTree>, &[u8]), ReadError>
-    ensures { Decodes (λ x. (map method_view x.0.items, x.1.now)) result (list_at tagged_method_at any bytes.now) }
+    ensures { Decodes (λ x. (map method_view x.0.items, x.1.now)) result
+        (list_at tagged_method_at any bytes.now) }
 {
     let (count, rest) = read_eight(bytes)?;
     read_all_methods(alloc, count, rest)
@@ -64,7 +65,8 @@ fn read_all_methods(
     count: u64,
     bytes: &[u8],
 ) -> Result<(Vec<MethodTree>, &[u8]), ReadError>
-    ensures { Decodes (λ x. (map method_view x.0.items, x.1.now)) result (list_from tagged_method_at any [] count bytes.now) }
+    ensures { Decodes (λ x. (map method_view x.0.items, x.1.now)) result
+        (list_from tagged_method_at any [] count bytes.now) }
 {
     let mut items = Vec::new(alloc);
     let mut rest = bytes;

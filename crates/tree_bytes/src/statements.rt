@@ -4,10 +4,10 @@ ghost use Rattle.mj_tree.specs.Views.{stmt_view, stmts_view};
 ghost use Rattle.byte_readers.specs.Reading.{Decodes, list_from, any};
 ghost use Rattle.tree_bytes.specs.Reading.{exp_at, stmt_at, stmt_body_at, stmts_at, top_stmt_at, top_stmts_at};
 
-use crate::expressions::{MOST_LEVELS, read_exp};
+use crate::expressions::read_exp;
 use crate::tag::{StmtTag, stmt_tag_of};
 use byte_readers::{ReadError, read_byte, read_eight, read_four, read_name, refused};
-use mj_tree::Stmt;
+use mj_tree::{MOST_LEVELS, Stmt};
 use std::alloc::Global;
 
 /// Reads a statement of level 1.
@@ -53,7 +53,8 @@ fn read_stmt_body(
     bytes: &[u8],
     room: usize,
 ) -> Result<(Stmt, &[u8]), ReadError>
-    ensures { Decodes (λ x. (stmt_view x.0, x.1.now)) result (stmt_body_at (exp_at room) (stmt_at room) tag mark bytes.now) }
+    ensures { Decodes (λ x. (stmt_view x.0, x.1.now)) result
+        (stmt_body_at (exp_at room) (stmt_at room) tag mark bytes.now) }
 {
     match tag {
         StmtTag::Block => read_block(alloc, mark, bytes, room),
@@ -73,7 +74,8 @@ fn read_block(
     bytes: &[u8],
     room: usize,
 ) -> Result<(Stmt, &[u8]), ReadError>
-    ensures { Decodes (λ x. (stmt_view x.0, x.1.now)) result (stmt_body_at (exp_at room) (stmt_at room) StmtTag.Block mark bytes.now) }
+    ensures { Decodes (λ x. (stmt_view x.0, x.1.now)) result
+        (stmt_body_at (exp_at room) (stmt_at room) StmtTag.Block mark bytes.now) }
 {
     let (body, rest) = read_stmts(alloc, bytes, room)?;
     Ok((Stmt::Block { mark, body }, rest))
@@ -83,7 +85,8 @@ fn read_block(
 #[tactic(auto, unfolding(byte_readers::specs::Reading::list_at))]
 #[inline(never)]
 fn read_stmts(alloc: Global, bytes: &[u8], room: usize) -> Result<(Vec<Stmt>, &[u8]), ReadError>
-    ensures { Decodes (λ x. (stmts_view x.0.items, x.1.now)) result (stmts_at (stmt_at room) bytes.now) }
+    ensures { Decodes (λ x. (stmts_view x.0.items, x.1.now)) result
+        (stmts_at (stmt_at room) bytes.now) }
 {
     let (count, rest) = read_eight(bytes)?;
     read_all_stmts(alloc, count, rest, room)
@@ -97,7 +100,8 @@ fn read_all_stmts(
     bytes: &[u8],
     room: usize,
 ) -> Result<(Vec<Stmt>, &[u8]), ReadError>
-    ensures { Decodes (λ x. (map stmt_view x.0.items, x.1.now)) result (list_from (stmt_at room) any [] count bytes.now) }
+    ensures { Decodes (λ x. (map stmt_view x.0.items, x.1.now)) result
+        (list_from (stmt_at room) any [] count bytes.now) }
 {
     let mut items = Vec::new(alloc);
     let mut rest = bytes;
@@ -117,7 +121,8 @@ fn read_if(
     bytes: &[u8],
     room: usize,
 ) -> Result<(Stmt, &[u8]), ReadError>
-    ensures { Decodes (λ x. (stmt_view x.0, x.1.now)) result (stmt_body_at (exp_at room) (stmt_at room) StmtTag.If mark bytes.now) }
+    ensures { Decodes (λ x. (stmt_view x.0, x.1.now)) result
+        (stmt_body_at (exp_at room) (stmt_at room) StmtTag.If mark bytes.now) }
 {
     let (condition, rest) = read_exp(alloc, bytes, room)?;
     let (then_branch, rest) = read_boxed(alloc, rest, room)?;
@@ -141,7 +146,8 @@ fn read_while(
     bytes: &[u8],
     room: usize,
 ) -> Result<(Stmt, &[u8]), ReadError>
-    ensures { Decodes (λ x. (stmt_view x.0, x.1.now)) result (stmt_body_at (exp_at room) (stmt_at room) StmtTag.While mark bytes.now) }
+    ensures { Decodes (λ x. (stmt_view x.0, x.1.now)) result
+        (stmt_body_at (exp_at room) (stmt_at room) StmtTag.While mark bytes.now) }
 {
     let (condition, rest) = read_exp(alloc, bytes, room)?;
     let (body, rest) = read_boxed(alloc, rest, room)?;
@@ -171,7 +177,8 @@ fn read_print(
     bytes: &[u8],
     room: usize,
 ) -> Result<(Stmt, &[u8]), ReadError>
-    ensures { Decodes (λ x. (stmt_view x.0, x.1.now)) result (stmt_body_at (exp_at room) (stmt_at room) StmtTag.Print mark bytes.now) }
+    ensures { Decodes (λ x. (stmt_view x.0, x.1.now)) result
+        (stmt_body_at (exp_at room) (stmt_at room) StmtTag.Print mark bytes.now) }
 {
     let (value, rest) = read_exp(alloc, bytes, room)?;
     Ok((Stmt::Print { mark, value }, rest))
@@ -184,7 +191,8 @@ fn read_assign(
     bytes: &[u8],
     room: usize,
 ) -> Result<(Stmt, &[u8]), ReadError>
-    ensures { Decodes (λ x. (stmt_view x.0, x.1.now)) result (stmt_body_at (exp_at room) (stmt_at room) StmtTag.Assign mark bytes.now) }
+    ensures { Decodes (λ x. (stmt_view x.0, x.1.now)) result
+        (stmt_body_at (exp_at room) (stmt_at room) StmtTag.Assign mark bytes.now) }
 {
     let (name, rest) = read_name(alloc, bytes)?;
     let (name_mark, rest) = read_four(rest)?;
@@ -207,7 +215,8 @@ fn read_store(
     bytes: &[u8],
     room: usize,
 ) -> Result<(Stmt, &[u8]), ReadError>
-    ensures { Decodes (λ x. (stmt_view x.0, x.1.now)) result (stmt_body_at (exp_at room) (stmt_at room) StmtTag.Store mark bytes.now) }
+    ensures { Decodes (λ x. (stmt_view x.0, x.1.now)) result
+        (stmt_body_at (exp_at room) (stmt_at room) StmtTag.Store mark bytes.now) }
 {
     let (name, rest) = read_name(alloc, bytes)?;
     let (name_mark, rest) = read_four(rest)?;

@@ -77,7 +77,10 @@ fn put_two_parts(
     first: &Exp,
     second: &Exp,
 ) -> Result<(), AllocError>
-    ensures { OnOk result (out.new.items ≡ out.old.items ++ node tag mark (exp (exp_view first.now) ++ exp (exp_view second.now))) }
+    ensures { OnOk result
+        (out.new.items
+        ≡ out.old.items
+        ++ node tag mark (exp (exp_view first.now) ++ exp (exp_view second.now))) }
 {
     put_node(out, tag, mark)?;
     put_exp(out, first)?;
@@ -86,7 +89,8 @@ fn put_two_parts(
 
 #[cycle(put_expressions)]
 fn put_one_part(out: &mut Vec<u8>, tag: u8, mark: usize, part: &Exp) -> Result<(), AllocError>
-    ensures { OnOk result (out.new.items ≡ out.old.items ++ node tag mark (exp (exp_view part.now))) }
+    ensures { OnOk result
+        (out.new.items ≡ out.old.items ++ node tag mark (exp (exp_view part.now))) }
 {
     put_node(out, tag, mark)?;
     put_exp(out, part)
@@ -100,7 +104,12 @@ fn put_call(
     method: &Name,
     arguments: &[Exp],
 ) -> Result<(), AllocError>
-    ensures { OnOk result (out.new.items ≡ out.old.items ++ exp (Call mark (exp_view receiver.now) method.now (exps_view arguments.now))) }
+    ensures { OnOk result
+        (out.new.items
+        ≡ out.old.items
+        ++ exp
+        (Call mark (exp_view receiver.now) method.now
+        (exps_view arguments.now))) }
 {
     put_node(out, 0x07, mark)?;
     put_exp(out, receiver)?;
@@ -111,7 +120,10 @@ fn put_call(
 /// Writes the number of arguments, and the arguments.
 #[cycle(put_expressions)]
 fn put_arguments(out: &mut Vec<u8>, es: &[Exp]) -> Result<(), AllocError>
-    ensures { OnOk result (out.new.items ≡ out.old.items ++ (eight (count_exps (exps_view es.now)) ++ exps (exps_view es.now))) }
+    ensures { OnOk result
+        (out.new.items
+        ≡ out.old.items
+        ++ (eight (count_exps (exps_view es.now)) ++ exps (exps_view es.now))) }
 {
     put_eight(out, es.len())?;
     put_exps(out, es)
@@ -186,7 +198,12 @@ fn put_if(
     then_branch: &Stmt,
     else_branch: &Stmt,
 ) -> Result<(), AllocError>
-    ensures { OnOk result (out.new.items ≡ out.old.items ++ stmt (If mark (exp_view condition.now) (stmt_view then_branch.now) (stmt_view else_branch.now))) }
+    ensures { OnOk result
+        (out.new.items
+        ≡ out.old.items
+        ++ stmt
+        (If mark (exp_view condition.now) (stmt_view then_branch.now)
+        (stmt_view else_branch.now))) }
 {
     put_one_part(out, 0x01, mark, condition)?;
     put_stmt(out, then_branch)?;
@@ -195,7 +212,9 @@ fn put_if(
 
 #[cycle(put_statements)]
 fn put_while(out: &mut Vec<u8>, mark: usize, condition: &Exp, body: &Stmt) -> Result<(), AllocError>
-    ensures { OnOk result (out.new.items ≡ out.old.items ++ stmt (While mark (exp_view condition.now) (stmt_view body.now))) }
+    ensures { OnOk result
+        (out.new.items
+        ≡ out.old.items ++ stmt (While mark (exp_view condition.now) (stmt_view body.now))) }
 {
     put_one_part(out, 0x02, mark, condition)?;
     put_stmt(out, body)
@@ -208,7 +227,9 @@ fn put_assign(
     name_mark: usize,
     value: &Exp,
 ) -> Result<(), AllocError>
-    ensures { OnOk result (out.new.items ≡ out.old.items ++ stmt (Assign mark variable.now name_mark (exp_view value.now))) }
+    ensures { OnOk result
+        (out.new.items
+        ≡ out.old.items ++ stmt (Assign mark variable.now name_mark (exp_view value.now))) }
 {
     put_named(out, 0x04, mark, variable)?;
     put_four(out, name_mark)?;
@@ -223,7 +244,12 @@ fn put_store(
     index: &Exp,
     value: &Exp,
 ) -> Result<(), AllocError>
-    ensures { OnOk result (out.new.items ≡ out.old.items ++ stmt (Store mark variable.now name_mark (exp_view index.now) (exp_view value.now))) }
+    ensures { OnOk result
+        (out.new.items
+        ≡ out.old.items
+        ++ stmt
+        (Store mark variable.now name_mark (exp_view index.now)
+        (exp_view value.now))) }
 {
     put_named(out, 0x05, mark, variable)?;
     put_four(out, name_mark)?;
@@ -244,7 +270,10 @@ fn put_stmts(out: &mut Vec<u8>, ss: &[Stmt]) -> Result<(), AllocError>
 /// Writes the number of statements, and the statements.
 #[cycle(put_statements)]
 fn put_body(out: &mut Vec<u8>, ss: &[Stmt]) -> Result<(), AllocError>
-    ensures { OnOk result (out.new.items ≡ out.old.items ++ (eight (count_stmts (stmts_view ss.now)) ++ stmts (stmts_view ss.now))) }
+    ensures { OnOk result
+        (out.new.items
+        ≡ out.old.items
+        ++ (eight (count_stmts (stmts_view ss.now)) ++ stmts (stmts_view ss.now))) }
 {
     put_eight(out, ss.len())?;
     put_stmts(out, ss)
@@ -272,7 +301,8 @@ pub fn put_method(out: &mut Vec<u8>, m: &MethodTree) -> Result<(), AllocError>
 }
 
 fn put_methods(out: &mut Vec<u8>, ms: &[MethodTree]) -> Result<(), AllocError>
-    ensures { OnOk result (out.new.items ≡ out.old.items ++ list tagged_method (map method_view ms.now)) }
+    ensures { OnOk result
+        (out.new.items ≡ out.old.items ++ list tagged_method (map method_view ms.now)) }
 {
     put_eight(out, ms.len())?;
     for m in ms {
@@ -283,7 +313,8 @@ fn put_methods(out: &mut Vec<u8>, ms: &[MethodTree]) -> Result<(), AllocError>
 }
 
 fn put_main(out: &mut Vec<u8>, m: &Option<MainTree>) -> Result<(), AllocError>
-    ensures { OnOk result (out.new.items ≡ out.old.items ++ option main (option_map main_view m.now)) }
+    ensures { OnOk result
+        (out.new.items ≡ out.old.items ++ option main (option_map main_view m.now)) }
 {
     match m {
         None => out.push(0x00)?,

@@ -1,4 +1,4 @@
-use Rattle.result_bytes.specs.ValueLaws.{one_value}
+use Rattle.result_bytes.proofs.ValueLaws.{one_value}
 use Rattle.result_bytes.proofs.laws.one_spelling.Goals as goal
 
 pub returns : goal.returns

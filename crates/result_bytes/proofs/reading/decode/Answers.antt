@@ -6,7 +6,7 @@ use Rattle.result_bytes.specs.declared.refusal.Refusal.{Refusal}
 use Rattle.result_bytes.specs.declared.refusal.Refusal.TheVariants.{Short, Trailing, NotCanonical, WrongKind, OutOfMemory}
 use Rattle.result_bytes.specs.declared.value.Value.{Value}
 use Rattle.result_bytes.specs.Values.{IsValue, canon, kind_of, decoded, IsUnlessMemory}
-use Rattle.result_bytes.specs.ValueLaws.{decoded_takes, decoded_at}
+use Rattle.result_bytes.proofs.ValueLaws.{decoded_takes, decoded_at}
 use Rattle.result_bytes.proofs.reading.decode.Goals as goal
 
 found_in : (kind : Kind) (bytes : List ℕ) (r : Result Value Refusal) → IsBytes bytes → IsUnlessMemory r (decoded kind bytes) → IfOk r (λ v. IsValue v × (kind_of v ≡ kind) × (bytes ≡ canon v))

@@ -1,0 +1,1 @@
+class A { int[] length; public int length() { return length.length; } }

@@ -1,0 +1,1 @@
+class M { public static void main(String[] a) { System.out.println(1); } } class A { int x; boolean x; int y; public int g() { return 1; } public boolean f() { return true; } } class B extends A { boolean x; public A f() { return this; } public int f() { return 1; } }

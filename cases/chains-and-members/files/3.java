@@ -1,0 +1,1 @@
+class A extends B { int z; } class C extends D { int k; } class D extends C { int n; } class E extends C { } class F extends F { } class G extends Missing { int x; }

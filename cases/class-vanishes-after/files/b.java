@@ -1,0 +1,1 @@
+class M { public static void main(String[] a) { System.out.println(1); } } class B { A a; public int f() { a = new A(); return 0; } }

@@ -1,0 +1,3 @@
+class B extends C { }
+class C extends B { int k; }
+  class D extends B { }

@@ -1,0 +1,5 @@
+
+
+class B { }
+class A { Y y; }
+class C { Y y; }

@@ -1,0 +1,1 @@
+/* a /* b */ c */class M { public static void main(String[] a) { System.out.println(1); } }

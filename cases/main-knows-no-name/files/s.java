@@ -1,0 +1,1 @@
+class A { int x; public boolean f(int n, A a) { return true; } } class B extends A { }

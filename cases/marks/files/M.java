@@ -1,0 +1,1 @@
+class M { public static void main(String[] a) { System.out.println(!2147483648); } } class A { public int f(int[] x, X y) { Z z; z = x[0]; return x; } public int g(int[] x) { boolean z; z = x[0]; w = 1; return z; } }

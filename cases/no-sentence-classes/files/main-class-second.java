@@ -1,0 +1,1 @@
+class A { } class M { public static void main

@@ -1,0 +1,1 @@
+class A { public int f() { x.y(1); return 1; } }

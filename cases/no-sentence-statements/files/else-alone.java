@@ -1,0 +1,1 @@
+class A { public int f() { else return 1; } }

@@ -1,0 +1,1 @@
+class A { public int f() { if (true) x = 1; return 1; } }

@@ -1,0 +1,1 @@
+class A { public int f() { x[] = 1; return 1; } }

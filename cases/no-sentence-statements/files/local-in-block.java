@@ -1,0 +1,1 @@
+class A { public int f() { { int x; } return 1; } }

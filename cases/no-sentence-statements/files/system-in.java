@@ -1,0 +1,1 @@
+class A { public int f() { System.in return 1; } }

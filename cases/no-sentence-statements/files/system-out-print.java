@@ -1,0 +1,1 @@
+class A { public int f() { System.out.print(1); return 1; } }

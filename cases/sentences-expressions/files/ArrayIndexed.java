@@ -1,0 +1,1 @@
+class ArrayIndexed { public int f() { System.out.println((new int[3])[0]); return 1; } }

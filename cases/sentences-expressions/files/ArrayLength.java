@@ -1,0 +1,1 @@
+class ArrayLength { public int f() { System.out.println(new int[3].length); return 1; } }

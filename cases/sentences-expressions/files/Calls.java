@@ -1,0 +1,1 @@
+class Calls { public int f() { System.out.println(new A().f(this, false)[1]); return 1; } }

@@ -1,0 +1,1 @@
+class Length { public int f() { System.out.println(a.length); return 1; } }

@@ -1,0 +1,1 @@
+class LengthCalls { public int f() { System.out.println(a.length() + a.length(1, 2)); return 1; } }

@@ -1,0 +1,1 @@
+class Operators { public int f() { System.out.println(a && 2 < 3 + 4 - 5 * !!true); return 1; } }

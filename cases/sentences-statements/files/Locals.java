@@ -1,0 +1,1 @@
+class Locals { public int f() { int x; x y; System z; boolean b; int[] w; return 1; } }

@@ -1,0 +1,1 @@
+class Nested { public int f() { if (true) x = 1; else while (true) { } return 1; } }

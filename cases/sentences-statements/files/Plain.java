@@ -1,0 +1,1 @@
+class Plain { public int f() { x = 1; x[1] = 2; System = 3; { x = 1; { } } System.out.println(1); return 1; } }

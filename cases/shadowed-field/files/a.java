@@ -1,0 +1,1 @@
+class A { int x; } class B extends A { boolean x; }
