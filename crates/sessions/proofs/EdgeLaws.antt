@@ -1,12 +1,13 @@
 -- Edges that are looked at one after the other.
-use Rattle.std.proofs.Common.{◌≡◌, ◌≢◌, ◌↔◌, ℕ, zero, suc, ◌<◌, ◌+◌, ◌≤◌, ◌⊎◌, inl, inr, Bool, true, false, cond, List, [], ◌∷◌, ◌++◌, length, map, get_or, set, refl, sym, ap, subst, ◌∙◌, arith}
+use Rattle.std.proofs.Common.{◌≡◌, ◌≢◌, ◌↔◌, ℕ, zero, suc, ◌<◌, ◌+◌, ◌≤◌, ◌⊎◌, inl, inr, Bool, true, false, cond, List, [], ◌∷◌, ◌++◌, length, map, take, get_or, set, refl, sym, ap, subst, ◌∙◌, arith}
 use Rattle.std.specs.Prelude.{IsTrue, ◌==◌}
 use Rattle.std.specs.List.{AllByRecursion}
-use Rattle.std.proofs.lemmas.List.{get_or-set_same, get_or-set_other, length-set}
-use Rattle.std.proofs.lemmas.Bool.{cases_eq, eqb-false, ne_eqb}
+use Rattle.std.proofs.lemmas.List.{get_or-set_same, get_or-set_other, length-set, map-set, length_push, map_push, take_more}
+use Rattle.std.proofs.lemmas.Bool.{cases_eq, ne_eqb, eq-eqb}
 use Rattle.item_ids.specs.declared.key.Key.{Key}
 use Rattle.sessions.specs.Sessions.{RecordValue, IsEdge, AreDistinct}
 use Rattle.sessions.specs.Edges.{seen_in, IsNewEdge, AreEdges, IsNoneOf, Tells}
+use Rattle.sessions.specs.Refusals.{IsFirstBadEdge}
 use Rattle.sessions.proofs.Lists.{all_push, all_front, all_last, distinct_push, distinct_last}
 
 -- ---- what was seen
@@ -65,3 +66,54 @@ pub turns_set : (n : ℕ) (last : List ℕ) (e : ℕ) → AllByRecursion (λ at.
 turns_set n [] e h = tt
 turns_set n (at ∷ last) zero h = (omega arith, h.1)
 turns_set n (at ∷ last) (suc e) h = (h.0, turns_set n last e h.1)
+
+-- one more record, which wasn't seen
+pub unseen_push : (old new : List ℕ) → new ≡ old ++ 0 ∷ [] → AllByRecursion (λ at. at ≤ length old) old → AllByRecursion (λ b. b ≡ false) (seen_in (length new) new)
+unseen_push old new is h =
+    let len : length (old ++ 0 ∷ []) ≡ length old + 1 = length_push old 0 in
+    let first : seen_in (length old + 1) (old ++ 0 ∷ []) ≡ seen_in (length old + 1) old ++ (0 == length old + 1) ∷ [] = map_push (λ at. at == length old + 1) old 0 in
+    let none : (0 == length old + 1) ≡ false = ne_eqb 0 (length old + 1) (λ e. absurd (omega (arith, e))) in
+    let all : AllByRecursion (λ b. b ≡ false) (seen_in (length old + 1) old ++ (0 == length old + 1) ∷ []) = all_push (λ b. b ≡ false) (seen_in (length old + 1) old) (0 == length old + 1) (seen_next (length old) old h) none in
+    subst (λ (xs : List ℕ). AllByRecursion (λ b. b ≡ false) (seen_in (length xs) xs)) (sym is) (subst (λ (n : ℕ). AllByRecursion (λ b. b ≡ false) (seen_in n (old ++ 0 ∷ []))) (sym len) (subst (AllByRecursion (λ b. b ≡ false)) (sym first) all))
+
+-- an index that is seen
+pub seen_set : (old new : List ℕ) (e : ℕ) → new ≡ set old e (length old) → seen_in (length new) new ≡ set (seen_in (length old) old) e true
+seen_set old new e is =
+    subst (λ (xs : List ℕ). seen_in (length xs) xs ≡ set (seen_in (length old) old) e true) (sym is)
+    (ap (λ (n : ℕ). seen_in n (set old e (length old))) (length-set old e (length old)) ∙ map-set (λ at. at == length old) old e (length old) ∙ ap (λ (b : Bool). set (seen_in (length old) old) e b) (eq-eqb (length old) (length old) refl))
+
+pub turns_after : (old new : List ℕ) (e : ℕ) → new ≡ set old e (length old) → AllByRecursion (λ at. at ≤ length old) old → AllByRecursion (λ at. at ≤ length new) new
+turns_after old new e is h =
+    subst (λ (xs : List ℕ). AllByRecursion (λ at. at ≤ length xs) xs) (sym is) (subst (λ (n : ℕ). AllByRecursion (λ at. at ≤ n) (set old e (length old))) (sym (length-set old e (length old))) (turns_set (length old) old e h))
+
+pub turns_push : (old new : List ℕ) → new ≡ old ++ 0 ∷ [] → AllByRecursion (λ at. at ≤ length old) old → AllByRecursion (λ at. at ≤ length new) new
+turns_push old new is h =
+    let len : length (old ++ 0 ∷ []) ≡ length old + 1 = length_push old 0 in
+    subst (λ (xs : List ℕ). AllByRecursion (λ at. at ≤ length xs) xs) (sym is) (subst (λ (n : ℕ). AllByRecursion (λ at. at ≤ n) (old ++ 0 ∷ [])) (sym len) (all_push (λ at. at ≤ length old + 1) old 0 (turns_more (length old) (length old + 1) old (omega arith) h) (omega arith)))
+
+-- ---- one edge after the other
+
+pub record SoFar (seen : List Bool) (front : List RecordValue) (key : Key) (edges : List ℕ) : Type 0 where
+  pub same : length seen ≡ length front
+  pub tells : Tells seen edges
+  pub are : AreEdges front key edges
+
+pub so_far_more : (seen new : List Bool) (front : List RecordValue) (key : Key) (edges : List ℕ) (e : ℕ) → SoFar seen front key edges → IsNewEdge seen front key e → new ≡ set seen e true → SoFar new front key (edges ++ e ∷ [])
+so_far_more seen new front key edges e h is_new is =
+    let lt : e < length seen = omega (arith, h.same, is_new.0.0) in
+    subst (λ (xs : List Bool). SoFar xs front key (edges ++ e ∷ [])) (sym is) (record {
+      same = length-set seen e true ∙ h.same;
+      tells = tells_more seen edges e h.tells lt;
+      are = edges_more front key seen edges e h.tells h.same h.are is_new;
+    })
+
+pub so_far_next : (seen new : List Bool) (front : List RecordValue) (key : Key) (edges : List ℕ) (j e : ℕ) → j < length edges → e ≡ get_or edges j 0 → SoFar seen front key (take j edges) → IsNewEdge seen front key e → new ≡ set seen e true → SoFar new front key (take (j + 1) edges)
+so_far_next seen new front key edges j e lt item h is_new is =
+    subst (SoFar new front key) (sym (take_more edges j 0 lt ∙ ap (λ (n : ℕ). take j edges ++ n ∷ []) (sym item))) (so_far_more seen new front key (take j edges) e h is_new is)
+
+pub bad_here : (seen : List Bool) (front : List RecordValue) (key : Key) (edges : List ℕ) (j e : ℕ) → j < length edges → e ≡ get_or edges j 0 → SoFar seen front key (take j edges) → ¬ IsNewEdge seen front key e → IsFirstBadEdge front key edges j
+bad_here seen front key edges j e lt item h not_new = record {
+  inside = lt;
+  before = h.are;
+  bad = λ are. not_new (edge_is_new front key seen (take j edges) e h.tells h.same (subst (AreEdges front key) (take_more edges j 0 lt ∙ ap (λ (n : ℕ). take j edges ++ n ∷ []) (sym item)) are));
+}

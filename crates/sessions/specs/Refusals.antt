@@ -1,5 +1,5 @@
 -- Which fault a number and records have.
-use Rattle.std.specs.Prelude.{◌≡◌, ℕ, suc, ◌<◌, ◌≤◌, List, length, take, slice_index_or}
+use Rattle.std.specs.Prelude.{◌≡◌, ℕ, ◌+◌, ◌<◌, ◌≤◌, List, length, take, slice_index_or}
 use Rattle.item_ids.specs.declared.key.Key.{Key}
 use Rattle.sessions.specs.declared.fault.SessionFault.{SessionFault}
 use Rattle.sessions.specs.declared.fault.SessionFault.TheVariants.{Number, KeyOrder, InputKind, BadEdge, Result, OutOfMemory}
@@ -10,7 +10,7 @@ use Rattle.sessions.specs.Edges.{AreEdges}
 pub record IsFirstBadEdge (front : List RecordValue) (key : Key) (edges : List ℕ) (j : ℕ) : Type 0 where
   pub inside : j < length edges
   pub before : AreEdges front key (take j edges)
-  pub bad : ¬ AreEdges front key (take (suc j) edges)
+  pub bad : ¬ AreEdges front key (take (j + 1) edges)
 
 -- the first fault of a record behind those in front of it
 abbrev pub RefusesRecord : List RecordValue → RecordValue → SessionFault → Type 0

@@ -1,6 +1,8 @@
 //! What records keep behind those in front of them.
 ghost use Rattle.std.specs.Prelude.{◌≡◌, ◌<◌, ◌↔◌, false, length, take, IsTrue, OnOk, IfErr, MatchOption, slice_index_or};
 ghost use Rattle.std.specs.List.{AllByRecursion};
+ghost use Rattle.std.specs.declared.cmp.Ordering.TheVariants.{Less};
+ghost use Rattle.item_ids.specs.Keys.{key_cmp};
 ghost use Rattle.sessions.specs.Keys.{HasNames};
 ghost use Rattle.sessions.specs.Marks.{is_input, is_input_mark};
 ghost use Rattle.sessions.specs.Sessions.{AreRecords, FitsBehind, IsAbove, IsOfKind, IsRecord};
@@ -22,8 +24,8 @@ pub(crate) fn check_records(alloc: Global, records: &[Record]) -> Result<(), Ses
     ensures refused { IfErr result (λ fault. IsUnlessMemory fault (RefusesRecords records.now fault)) }
 {
     let mut seen = SeenEdges::new(alloc);
-    for (i, record) in records.iter().enumerate() {
-        check_record(&mut seen, &records[..i], record)?;
+    for (i, item) in records.iter().enumerate() {
+        check_record(&mut seen, &records[..i], item)?;
         if seen.next().is_err() {
             return Err(SessionFault::OutOfMemory);
         }
@@ -32,27 +34,27 @@ pub(crate) fn check_records(alloc: Global, records: &[Record]) -> Result<(), Ses
 }
 
 /// The record fits behind those in front of it, or its first fault.
-fn check_record(seen: &mut SeenEdges, front: &[Record], record: &Record) -> Result<(), SessionFault>
+fn check_record(seen: &mut SeenEdges, front: &[Record], item: &Record) -> Result<(), SessionFault>
     requires front { AreRecords front.now }
     requires length { length seen.old ≡ length front.now }
     requires unseen { AllByRecursion (λ b. b ≡ false) seen.old }
-    ensures fits { OnOk result (FitsBehind front.now record.now) }
-    ensures refused { IfErr result (RefusesRecord front.now record.now) }
+    ensures fits { OnOk result (FitsBehind front.now item.now) }
+    ensures refused { IfErr result (RefusesRecord front.now item.now) }
     ensures length { length seen.new ≡ length seen.old }
 {
-    if !is_above(front, record.key()) {
+    if !is_above(front, item.key()) {
         return Err(SessionFault::KeyOrder(front.len()));
     }
-    if !is_marked(record.mark(), record.key().kind()) {
+    if !is_marked(item.mark(), item.key().kind()) {
         return Err(SessionFault::InputKind(front.len()));
     }
-    if let Some(j) = first_bad_edge(seen, front, record.key(), record.edges()) {
+    if let Some(j) = first_bad_edge(seen, front, item.key(), item.edges()) {
         return Err(SessionFault::BadEdge(front.len(), j));
     }
-    if !is_of_kind(record) {
+    if !is_of_kind(item) {
         return Err(SessionFault::Result(front.len()));
     }
-    check_kept(record);
+    check_kept(item);
     Ok(())
 }
 
@@ -63,8 +65,15 @@ pub fn is_above(front: &[Record], key: &Key) -> bool
 {
     match front.last() {
         None => true,
-        Some(last) => last.key() < key,
+        Some(last) => is_less(last.key(), key),
     }
+}
+
+/// Whether a key comes before another one.
+fn is_less(key: &Key, other: &Key) -> bool
+    ensures { IsTrue result ↔ (key_cmp key.now other.now ≡ Less) }
+{
+    key.cmp(other).is_lt()
 }
 
 /// Whether a key of this kind may be marked so.
@@ -88,7 +97,8 @@ fn first_bad_edge(
     ensures length { length seen.new ≡ length seen.old }
 {
     for (j, edge) in edges.iter().enumerate() {
-        if !seen.admit(front, key, *edge) {
+        let admitted = seen.admit(front, key, *edge);
+        if !admitted {
             return Some(j);
         }
     }
@@ -96,20 +106,20 @@ fn first_bad_edge(
 }
 
 /// Whether the result is of the key's kind.
-fn is_of_kind(record: &Record) -> bool
-    ensures { IsTrue result ↔ IsOfKind record.now }
+fn is_of_kind(item: &Record) -> bool
+    ensures { IsTrue result ↔ IsOfKind item.now }
 {
-    record.sealed().value().kind() == record.key().kind()
+    item.sealed().value().kind() == item.key().kind()
 }
 
 /// A record keeps in its type what its spelling demands.
-pub fn check_kept(record: &Record)
-    ensures { IsRecord record.now }
+pub fn check_kept(item: &Record)
+    ensures { IsRecord item.now }
 {
-    check_key(record.key());
-    is_value(record.sealed().value());
-    let _size = record.sealed().bytes().len();
-    let _few = record.edges().len();
+    check_key(item.key());
+    is_value(item.sealed().value());
+    let _size = item.sealed().bytes().len();
+    let _few = item.edges().len();
 }
 
 /// A key keeps in its type that its names are names.

@@ -1,7 +1,7 @@
 //! Which records are edges.
 ghost use Rattle.std.specs.Prelude.{◌≡◌, ◌+◌, ◌<◌, ◌↔◌, [], false, true, length, OnOk, IsTrue, if◌then◌else◌, slice_set};
 ghost use Rattle.std.specs.List.{AllByRecursion};
-ghost use Rattle.sessions.specs.Sessions.{rank as rank_of_key, key_at};
+ghost use Rattle.sessions.specs.Sessions.{rank as rank_of_key, key_at, IsEdge};
 ghost use Rattle.sessions.specs.Edges.{IsNewEdge};
 
 use crate::record::Record;
@@ -53,16 +53,31 @@ impl SeenEdges {
         ensures admitted { IsTrue result ↔ IsNewEdge self.old front.now key.now edge }
         ensures seen { self.new ≡ (if result then slice_set self.old edge true else self.old) }
     {
-        if edge >= front.len() || !is_below(front, edge, key) {
+        if !is_edge(front, edge, key) {
             return false;
         }
-        let now = self.last.len();
-        if self.last[edge] == now {
+        if self.last[edge] == self.last.len() {
             return false;
         }
-        self.last[edge] = now;
+        see(&mut self.last, edge);
         true
     }
+}
+
+/// Writes at an index how many items there are.
+fn see(last: &mut Vec<usize>, index: usize)
+    requires { index < length last.old.items }
+    ensures { last.new.items ≡ slice_set last.old.items index (length last.old.items) }
+{
+    let now = last.len();
+    last[index] = now;
+}
+
+/// Whether an edge of a key is the index of a record in front whose key has a lower rank.
+fn is_edge(front: &[Record], edge: usize, key: &Key) -> bool
+    ensures { IsTrue result ↔ IsEdge front.now key.now edge }
+{
+    edge < front.len() && is_below(front, edge, key)
 }
 
 /// Whether the key of the record at an index has a lower rank than a key.
