@@ -1,5 +1,5 @@
 -- Reading a session's file from left to right.
-use Rattle.std.specs.Prelude.{◌≡◌, ℕ, zero, suc, ◌+◌, Bool, true, false, not, ◌&&◌, List, [], ◌∷◌, ◌++◌, length, take, drop, find, Option, Some, None, Result, Ok, Err, nat_lt, nat_le, ◌==◌, if◌then◌else◌}
+use Rattle.std.specs.Prelude.{◌≡◌, ◌⊎◌, ℕ, zero, suc, ◌+◌, Bool, true, false, not, ◌&&◌, List, [], ◌∷◌, ◌++◌, length, take, drop, find, Option, Some, None, Result, Ok, Err, nat_lt, nat_le, ◌==◌, if◌then◌else◌}
 use Rattle.std.specs.Str.{bytes_eq, is_utf8}
 use Rattle.std.specs.List.{list_any, list_all}
 use Rattle.std.specs.Ordering.{is_lt}
@@ -17,7 +17,7 @@ use Rattle.result_bytes.specs.declared.value.Value.{Value}
 use Rattle.result_bytes.specs.declared.refusal.Refusal.{Refusal}
 use Rattle.result_bytes.specs.Values.{decoded}
 use Rattle.session_file.specs.declared.fault.FileFault.{FileFault}
-use Rattle.session_file.specs.declared.fault.FileFault.TheVariants as faults
+use Rattle.session_file.specs.declared.fault.FileFault.TheVariants.{OutOfMemory}
 use Rattle.fingerprint.specs.Prints.{print_of}
 use Rattle.sessions.specs.declared.mark.Mark.{Mark}
 use Rattle.sessions.specs.declared.mark.Mark.TheVariants.{Input, Executed, Green}
@@ -33,8 +33,7 @@ bytes_at n bytes = if nat_lt (length bytes) n then Err Short else Ok (take n byt
 
 -- What a function returned, seen by view, is what reading gives, unless memory ran out. Which fault it is isn't told.
 abbrev pub Refuses : {Y : Type 0} → FileFault → Result Y Breach → Type 0
-Refuses faults.OutOfMemory read = Unit {0}
-Refuses fault read = (breach : Breach) × (read ≡ Err breach)
+Refuses fault read = (fault ≡ OutOfMemory) ⊎ ((breach : Breach) × (read ≡ Err breach))
 
 abbrev pub Reads : {X Y : Type 0} → (X → Y) → Result X FileFault → Result Y Breach → Type 0
 Reads view (Ok x) read = read ≡ Ok (view x)

@@ -17,7 +17,7 @@ all_false [] e h = refl
 all_false (b ∷ bs) zero h = h.0
 all_false (b ∷ bs) (suc e) h = all_false bs e h.1
 
-false_true : {A : Type 0} (b : Bool) → b ≡ false → b ≡ true → A
+pub false_true : {A : Type 0} (b : Bool) → b ≡ false → b ≡ true → A
 false_true b f t = absurd cc
 
 pub tells_none : (seen : List Bool) → AllByRecursion (λ b. b ≡ false) seen → Tells seen []

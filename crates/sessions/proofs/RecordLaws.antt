@@ -1,14 +1,18 @@
 -- Records behind one another.
-use Rattle.std.proofs.Common.{◌≡◌, true, ℕ, zero, suc, ◌<◌, ◌+◌, ◌-◌, ◌≤◌, List, [], ◌∷◌, ◌++◌, length, take, get_or, Option, Some, None, refl, sym, ap, subst, ◌∙◌, arith}
+use Rattle.std.proofs.Common.{◌≡◌, true, ℕ, zero, suc, ◌<◌, ◌+◌, ◌-◌, ◌≤◌, List, [], ◌∷◌, ◌++◌, length, take, get_or, Option, Some, None, ◌⊎◌, inl, inr, refl, sym, ap, subst, ◌∙◌, arith}
 use Rattle.std.specs.Prelude.{slice_get}
 use Rattle.std.specs.List.{AllByRecursion}
 use Rattle.std.specs.declared.cmp.Ordering.{Ordering}
 use Rattle.std.specs.declared.cmp.Ordering.TheVariants.{Less, Equal, Greater}
 use Rattle.std.specs.Ordering.{is_lt}
-use Rattle.std.proofs.lemmas.List.{take_more, take_all, take-take, get_or-take, length-take, nil_from_length}
+use Rattle.std.proofs.lemmas.List.{take_more, take_all, take-take, get_or-take, length-take, nil_from_length, get_or_read}
+use Rattle.std.proofs.lemmas.Bool.{cases_eq}
 use Rattle.item_ids.specs.declared.key.Key.{Key}
 use Rattle.item_ids.specs.Keys.{key_cmp, key_total}
+use Rattle.sessions.specs.declared.fault.SessionFault.{SessionFault}
+use Rattle.sessions.specs.declared.fault.SessionFault.TheVariants.{Number, KeyOrder, InputKind, BadEdge, Result, OutOfMemory}
 use Rattle.sessions.specs.Sessions.{RecordValue, IsAbove, FitsBehind, AreRecords}
+use Rattle.sessions.specs.Refusals.{RefusesRecords, IsRefused, IsUnlessMemory}
 use Rattle.sessions.proofs.Lists.{all_push, all_last, all_for}
 
 -- the first records, each of which fits
@@ -54,3 +58,25 @@ less_of_test Greater e = absurd cc
 
 pub test_of_less : (o : Ordering) → o ≡ Less → is_lt o ≡ true
 test_of_less o e = ap is_lt e
+
+-- one more record that fits
+pub fits_more : (records : List RecordValue) (i : ℕ) (x : RecordValue) → i < length records → x ≡ get_or records i x → ((k : ℕ) (r : RecordValue) → k < i → FitsBehind (take k records) (get_or records k r)) → FitsBehind (take i records) x
+    → (k : ℕ) (r : RecordValue) → k < i + 1 → FitsBehind (take k records) (get_or records k r)
+fits_more records i x lt is so_far here k r lt_k =
+    elim (cases_eq k i) [
+      | inl same ↦ subst (λ (n : ℕ). FitsBehind (take n records) (get_or records n r)) (sym same) (subst (FitsBehind (take i records)) (get_or_read records i x lt is r) here)
+      | inr other ↦ so_far k r (omega (arith, lt_k, other))
+    ]
+
+some_record : (records : List RecordValue) (i : ℕ) → i < length records → RecordValue
+some_record [] i lt = absurd (omega arith)
+some_record (r ∷ records) i lt = r
+
+-- the fault of the records is that of the session
+pub refused_of : (number : ℕ) (records : List RecordValue) (fault : SessionFault) → number ≤ 9999 → IsUnlessMemory fault (RefusesRecords records fault) → IsRefused number records fault
+refused_of number records Number le h = absurd (h.refused (some_record records h.index h.inside))
+refused_of number records (KeyOrder i) le h = (le, h)
+refused_of number records (InputKind i) le h = (le, h)
+refused_of number records (BadEdge i j) le h = (le, h)
+refused_of number records (Result i) le h = (le, h)
+refused_of number records OutOfMemory le h = le

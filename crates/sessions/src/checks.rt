@@ -26,8 +26,9 @@ pub(crate) fn check_records(alloc: Global, records: &[Record]) -> Result<(), Ses
     let mut seen = SeenEdges::new(alloc);
     for (i, item) in records.iter().enumerate() {
         check_record(&mut seen, &records[..i], item)?;
-        if seen.next().is_err() {
-            return Err(SessionFault::OutOfMemory);
+        match seen.next() {
+            Ok(()) => {}
+            Err(_) => return Err(SessionFault::OutOfMemory),
         }
     }
     Ok(())

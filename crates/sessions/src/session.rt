@@ -52,8 +52,10 @@ impl Session {
         if number > Session::MOST {
             return Err(SessionFault::Number);
         }
-        check_records(alloc, &records)?;
-        Ok(Session::of(number, link, records))
+        match check_records(alloc, &records) {
+            Ok(()) => Ok(Session::of(number, link, records)),
+            Err(fault) => Err(fault),
+        }
     }
 
     /// The session of this number, link and records, which are known to make one.
