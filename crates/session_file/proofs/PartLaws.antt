@@ -253,7 +253,7 @@ front_again p rest h =
     let class = class_text p.0 in
     let member = member_text p.0 in
     let grouped : ((name class ++ name member) ++ mark_number p.1 ∷ []) ++ rest ≡ name class ++ (name member ++ (mark_number p.1 ∷ rest)) =
-        append_assoc (name class ++ name member) (mark_number p.1 ∷ []) rest ∙ append_assoc (name class) (name member) (mark_number p.1 ∷ rest) in
+    append_assoc (name class ++ name member) (mark_number p.1 ∷ []) rest ∙ append_assoc (name class) (name member) (mark_number p.1 ∷ rest) in
     rw (grouped, lawful_text.again class (name member ++ (mark_number p.1 ∷ rest)) (name_short (class_of p.0) h.class), lawful_text.again member (mark_number p.1 ∷ rest) (name_short (member_of p.0) h.member), parts_again p h) refl
 
 pub lawful_front : Lawful front_at front_bytes (λ p. HasNames p.0)

@@ -12,7 +12,7 @@ use Rattle.item_ids.specs.Kinds.{number_of}
 use Rattle.item_ids.specs.Keys.{kind_of, key_cmp}
 use Rattle.byte_readers.specs.declared.breach.Breach.TheVariants.{Short}
 use Rattle.byte_readers.specs.declared.breach.Breach.{Breach}
-use Rattle.byte_readers.specs.Reading.{◌>>=◌, Decoder, refused, byte_at, two_at, four_at, eight_at, list_at}
+use Rattle.byte_readers.specs.Reading.{◌>>=◌, Decoder, refused, byte_at, four_at, eight_at, list_at}
 use Rattle.result_bytes.specs.declared.value.Value.{Value}
 use Rattle.result_bytes.specs.declared.refusal.Refusal.{Refusal}
 use Rattle.result_bytes.specs.Values.{decoded}
@@ -23,7 +23,7 @@ use Rattle.sessions.specs.declared.mark.Mark.{Mark}
 use Rattle.sessions.specs.declared.mark.Mark.TheVariants.{Input, Executed, Green}
 use Rattle.sessions.specs.Marks.{is_input, is_input_mark}
 use Rattle.sessions.specs.Sessions.{RecordValue, SessionValue, rank, key_at as key_of_record}
-use Rattle.sessions.specs.Spelling.{magic}
+use Rattle.sessions.specs.Spelling.{start}
 
 -- so many bytes
 unfoldable pub bytes_at : ℕ → Decoder (List ℕ)
@@ -166,12 +166,11 @@ records_from front (suc n) bytes = do
 -- the number, the link and the number of records
 unfoldable pub head_at : Decoder (ℕ × (List ℕ × ℕ))
 head_at bytes = do
-  start ← bytes_at 4 bytes
-  version ← two_at start.1
-  number ← four_at version.1
+  begin ← bytes_at 6 bytes
+  number ← four_at begin.1
   link ← bytes_at 32 number.1
   count ← eight_at link.1
-  if bytes_eq start.0 magic && (version.0 == 1 && nat_le number.0 9999) then Ok ((number.0, (link.0, count.0)), count.1) else refused bytes
+  if bytes_eq begin.0 start && nat_le number.0 9999 then Ok ((number.0, (link.0, count.0)), count.1) else refused bytes
 
 unfoldable pub body_at : Decoder SessionValue
 body_at bytes = do

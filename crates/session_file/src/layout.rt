@@ -1,10 +1,11 @@
 //! A session's bytes, part by part.
-ghost use Rattle.std.specs.Prelude.{◌≤◌, length};
+ghost use Rattle.std.specs.Prelude.{◌≡◌, ◌∷◌, ◌++◌, ◌≤◌, length, List, ℕ};
 ghost use Rattle.std.specs.List.{flat_map};
-ghost use Rattle.std.specs.Arc.{arc_value};
-ghost use Rattle.byte_readers.specs.Spelling.{eight, list, name};
-ghost use Rattle.item_ids.specs.Kinds.{text_of};
 ghost use Rattle.std.specs.Option.{option_copied};
+ghost use Rattle.byte_readers.specs.Spelling.{four, eight, list, name};
+ghost use Rattle.item_ids.specs.Kinds.{text_of};
+ghost use Rattle.item_ids.specs.Keys.{class_text, member_text};
+ghost use Rattle.sessions.specs.Marks.{number_of as mark_number};
 ghost use Rattle.sessions.specs.Spelling.{key_bytes, result_bytes, record_bytes, head_bytes, body_bytes};
 ghost use Rattle.session_file.specs.Puts.{Puts};
 
@@ -14,11 +15,10 @@ use item_ids::Key;
 use mj_lexer::Name;
 use sessions::{Record, Session};
 
-/// `MJRG` and the version.
-const START: [u8; 6] = [0x4d, 0x4a, 0x52, 0x47, 0x00, 0x01];
+/// `MJRG`, and version 1.
+pub(crate) const START: [u8; 6] = [0x4d, 0x4a, 0x52, 0x47, 0, 1];
 
 /// All but the digest at the end.
-#[tactic(auto, unfolding(sessions::specs::Spelling::body_bytes))]
 pub(crate) fn put_body<D: Destination>(
     state: &mut D::State,
     session: &Session,
@@ -32,20 +32,37 @@ pub(crate) fn put_body<D: Destination>(
 }
 
 /// What stands before the records.
-#[tactic(auto, unfolding(sessions::specs::Spelling::head_bytes))]
 fn put_head<D: Destination>(state: &mut D::State, session: &Session) -> Result<(), D::Fault>
     ensures { Puts D.grows D.breaks state.old (head_bytes session.now) result state.new }
 {
-    if let Err(fault) = D::put(state, &START) {
-        return Err(fault);
+    match D::put(state, &START) {
+        Ok(()) => put_number_and_link::<D>(state, session),
+        Err(fault) => Err(fault),
     }
-    if let Err(fault) = D::put(state, &session.number().to_be_bytes()) {
-        return Err(fault);
+}
+
+/// The session's number, and what stands between it and the records.
+#[tactic(auto, unfolding(byte_readers::specs::Spelling::four))]
+fn put_number_and_link<D: Destination>(
+    state: &mut D::State,
+    session: &Session,
+) -> Result<(), D::Fault>
+    ensures { Puts D.grows D.breaks state.old (four session.now.number ++ (session.now.link ++ eight (length session.now.records))) result state.new }
+{
+    match D::put(state, &session.number().to_be_bytes()) {
+        Ok(()) => put_link::<D>(state, session),
+        Err(fault) => Err(fault),
     }
-    if let Err(fault) = D::put(state, session.link()) {
-        return Err(fault);
+}
+
+/// The link, and the number of the records.
+fn put_link<D: Destination>(state: &mut D::State, session: &Session) -> Result<(), D::Fault>
+    ensures { Puts D.grows D.breaks state.old (session.now.link ++ eight (length session.now.records)) result state.new }
+{
+    match D::put(state, session.link()) {
+        Ok(()) => put_number::<D>(state, session.records().len()),
+        Err(fault) => Err(fault),
     }
-    put_number::<D>(state, session.records().len())
 }
 
 /// A number of eight bytes.
@@ -61,42 +78,62 @@ fn put_records<D: Destination>(state: &mut D::State, records: &[Record]) -> Resu
     ensures { Puts D.grows D.breaks state.old (flat_map record_bytes records.now) result state.new }
 {
     for item in records {
-        if let Err(fault) = put_record::<D>(state, item) {
-            return Err(fault);
+        match put_record::<D>(state, item) {
+            Ok(()) => {}
+            Err(fault) => return Err(fault),
         }
     }
     Ok(())
 }
 
 /// A record.
-#[tactic(auto, unfolding(sessions::specs::Spelling::record_bytes))]
 fn put_record<D: Destination>(state: &mut D::State, item: &Record) -> Result<(), D::Fault>
     ensures { Puts D.grows D.breaks state.old (record_bytes item.now) result state.new }
 {
-    if let Err(fault) = put_key::<D>(state, item.key()) {
-        return Err(fault);
+    match put_key::<D>(state, item.key()) {
+        Ok(()) => put_behind_key::<D>(state, item),
+        Err(fault) => Err(fault),
     }
-    if let Err(fault) = D::put(state, &[item.mark().number()]) {
-        return Err(fault);
+}
+
+/// What stands behind the key of a record.
+fn put_behind_key<D: Destination>(state: &mut D::State, item: &Record) -> Result<(), D::Fault>
+    ensures { Puts D.grows D.breaks state.old (mark_number item.now.mark ∷ (list eight item.now.edges ++ result_bytes item.now.value)) result state.new }
+{
+    match D::put(state, &[item.mark().number()]) {
+        Ok(()) => put_behind_mark::<D>(state, item),
+        Err(fault) => Err(fault),
     }
-    if let Err(fault) = put_edges::<D>(state, item.edges()) {
-        return Err(fault);
+}
+
+/// What stands behind the mark of a record.
+fn put_behind_mark<D: Destination>(state: &mut D::State, item: &Record) -> Result<(), D::Fault>
+    ensures { Puts D.grows D.breaks state.old (list eight item.now.edges ++ result_bytes item.now.value) result state.new }
+{
+    match put_edges::<D>(state, item.edges()) {
+        Ok(()) => put_result::<D>(state, item.sealed()),
+        Err(fault) => Err(fault),
     }
-    put_result::<D>(state, item.sealed())
 }
 
 /// A key.
-#[tactic(auto, unfolding(sessions::specs::Spelling::key_bytes))]
 fn put_key<D: Destination>(state: &mut D::State, key: &Key) -> Result<(), D::Fault>
     ensures { Puts D.grows D.breaks state.old (key_bytes key.now) result state.new }
 {
-    if let Err(fault) = D::put(state, &[key.kind().number()]) {
-        return Err(fault);
+    match D::put(state, &[key.kind().number()]) {
+        Ok(()) => put_names::<D>(state, key),
+        Err(fault) => Err(fault),
     }
-    if let Err(fault) = put_name::<D>(state, key.class()) {
-        return Err(fault);
+}
+
+/// The names of a key.
+fn put_names<D: Destination>(state: &mut D::State, key: &Key) -> Result<(), D::Fault>
+    ensures { Puts D.grows D.breaks state.old (name (class_text key.now) ++ name (member_text key.now)) result state.new }
+{
+    match put_name::<D>(state, key.class()) {
+        Ok(()) => put_name::<D>(state, key.member()),
+        Err(fault) => Err(fault),
     }
-    put_name::<D>(state, key.member())
 }
 
 /// A name, or no bytes where there is none.
@@ -135,23 +172,30 @@ fn put_each<D: Destination>(state: &mut D::State, numbers: &[usize]) -> Result<(
     ensures { Puts D.grows D.breaks state.old (flat_map eight numbers.now) result state.new }
 {
     for number in numbers {
-        if let Err(fault) = put_number::<D>(state, *number) {
-            return Err(fault);
+        match put_number::<D>(state, *number) {
+            Ok(()) => {}
+            Err(fault) => return Err(fault),
         }
     }
     Ok(())
 }
 
 /// A result: its print, the number of its bytes, and its bytes.
-#[tactic(auto, unfolding(sessions::specs::Spelling::result_bytes))]
 fn put_result<D: Destination>(state: &mut D::State, sealed: &Sealed) -> Result<(), D::Fault>
     ensures { Puts D.grows D.breaks state.old (result_bytes sealed.now) result state.new }
 {
-    if let Err(fault) = D::put(state, &sealed.print().0) {
-        return Err(fault);
+    match D::put(state, &sealed.print().0) {
+        Ok(()) => put_bytes::<D>(state, sealed.bytes()),
+        Err(fault) => Err(fault),
     }
-    if let Err(fault) = put_number::<D>(state, sealed.bytes().len()) {
-        return Err(fault);
+}
+
+/// The number of bytes, and the bytes.
+fn put_bytes<D: Destination>(state: &mut D::State, bytes: &[u8]) -> Result<(), D::Fault>
+    ensures { Puts D.grows D.breaks state.old (eight (length bytes.now) ++ bytes.now) result state.new }
+{
+    match put_number::<D>(state, bytes.len()) {
+        Ok(()) => D::put(state, bytes),
+        Err(fault) => Err(fault),
     }
-    D::put(state, sealed.bytes())
 }

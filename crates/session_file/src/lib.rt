@@ -3,14 +3,14 @@
 
 mod destination;
 mod device;
-mod hashing;
 mod fault;
+mod hashing;
 mod layout;
 mod memory;
 mod writing;
 
 pub use device::{DeviceFault, Feed, Sink};
-pub use hashing::digest;
 pub use fault::FileFault;
+pub use hashing::digest;
 pub use memory::{MemoryFeed, MemorySink};
 pub use writing::write;

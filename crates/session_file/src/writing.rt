@@ -6,8 +6,8 @@ ghost use Rattle.session_file.specs.Puts.{Puts};
 
 use crate::destination::Destination;
 use crate::device::{DeviceFault, Sink};
-use crate::hashing::body_digest;
 use crate::fault::FileFault;
+use crate::hashing::body_digest;
 use crate::layout::put_body;
 use sessions::Session;
 use std::marker::PhantomData;

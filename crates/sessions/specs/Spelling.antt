@@ -4,16 +4,16 @@ use Rattle.sha2.specs.Sha256.{sha256}
 use Rattle.item_ids.specs.declared.key.Key.{Key}
 use Rattle.item_ids.specs.Kinds.{number_of}
 use Rattle.item_ids.specs.Keys.{kind_of, class_text, member_text}
-use Rattle.byte_readers.specs.Spelling.{two, four, eight, name, list}
+use Rattle.byte_readers.specs.Spelling.{four, eight, name, list}
 use Rattle.result_bytes.specs.declared.value.Value.{Value}
 use Rattle.result_bytes.specs.Values.{canon}
 use Rattle.fingerprint.specs.Prints.{print_of}
 use Rattle.sessions.specs.Marks.{number_of as mark_number}
 use Rattle.sessions.specs.Sessions.{RecordValue, SessionValue}
 
--- `MJRG`
-abbrev pub magic : List ℕ
-magic = 0x4d ∷ 0x4a ∷ 0x52 ∷ 0x47 ∷ []
+-- `MJRG`, and version 1
+abbrev pub start : List ℕ
+start = 0x4d ∷ 0x4a ∷ 0x52 ∷ 0x47 ∷ 0 ∷ 1 ∷ []
 
 -- the number of the kind, and the names, of which one that is missing has no bytes
 unfoldable pub key_bytes : Key → List ℕ
@@ -26,9 +26,9 @@ result_bytes v = print_of v ++ (eight (length (canon v)) ++ canon v)
 unfoldable pub record_bytes : RecordValue → List ℕ
 record_bytes r = key_bytes r.key ++ (mark_number r.mark ∷ (list eight r.edges ++ result_bytes r.value))
 
--- what stands before the records: version 1, the session's number, its link, and the number of the records
+-- what stands before the records: the session's number, its link, and the number of the records
 unfoldable pub head_bytes : SessionValue → List ℕ
-head_bytes s = magic ++ (two 1 ++ (four s.number ++ (s.link ++ eight (length s.records))))
+head_bytes s = start ++ (four s.number ++ (s.link ++ eight (length s.records)))
 
 -- all but the digest at the end
 unfoldable pub body_bytes : SessionValue → List ℕ
