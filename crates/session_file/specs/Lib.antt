@@ -1,4 +1,3 @@
 pub mod Devices
 pub mod DeviceLaws
 pub mod Puts
-pub mod Reading
