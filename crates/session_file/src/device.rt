@@ -9,7 +9,7 @@ pub struct DeviceFault;
 /// What takes bytes in order.
 pub trait Sink {
     /// All bytes that it took, where it tells them.
-    ghost bytes: { Self → Option (List ℕ) };
+    ghost told: { Self → Option (List ℕ) };
 
     /// How often it failed.
     ghost failures: { Self → ℕ };
@@ -18,10 +18,10 @@ pub trait Sink {
     fn put(&mut self, bytes: &[u8]) -> Result<usize, DeviceFault>
         ensures within { IfOk result (λ n. n ≤ length bytes.now) }
         ensures some { IfOk result (λ n. 0 < length bytes.now → 0 < n) }
-        ensures taken { IfOk result (λ n. HasTaken (bytes self.old) (take n bytes.now) (bytes self.new)) }
+        ensures taken { IfOk result (λ n. HasTaken (told self.old) (take n bytes.now) (told self.new)) }
         ensures quiet { OnOk result (failures self.new ≡ failures self.old) }
         ensures asked { OnErr result (0 < length bytes.now) }
-        ensures none { OnErr result (bytes self.new ≡ bytes self.old) }
+        ensures none { OnErr result (told self.new ≡ told self.old) }
         ensures failed { OnErr result (HasFailed (failures self.old) (failures self.new)) };
 
     /// How often it failed, up to `u64::MAX`.

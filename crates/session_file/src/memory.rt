@@ -28,7 +28,7 @@ impl MemorySink {
 impl Sink for MemorySink {
     ghost use Rattle.std.specs.Prelude.{Some};
 
-    ghost bytes = { λ s. Some s.bytes.items };
+    ghost told = { λ s. Some s.bytes.items };
 
     ghost failures = { λ s. s.failures };
 

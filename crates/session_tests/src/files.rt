@@ -58,7 +58,7 @@ struct Slow {
 impl Sink for Slow {
     ghost use Rattle.std.specs.Prelude.{None};
 
-    ghost bytes = { λ s. None };
+    ghost told = { λ s. None };
 
     ghost failures = { λ s. s.failures };
 
