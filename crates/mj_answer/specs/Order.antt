@@ -41,15 +41,18 @@ number_in p = 0
 
 -- by name, then by number
 abbrev pub ContentsBefore : Place → Place → Type 0
-ContentsBefore p q = NameBefore (name_in p) (name_in q) ⊎ ((name_in p ≡ name_in q) × (number_in p < number_in q))
+ContentsBefore p q =
+    NameBefore (name_in p) (name_in q) ⊎ ((name_in p ≡ name_in q) × (number_in p < number_in q))
 
 -- by kind, then by contents
 abbrev pub PlaceBefore : Place → Place → Type 0
-PlaceBefore p q = (place_order p < place_order q) ⊎ ((place_order p ≡ place_order q) × ContentsBefore p q)
+PlaceBefore p q =
+    (place_order p < place_order q) ⊎ ((place_order p ≡ place_order q) × ContentsBefore p q)
 
 -- by place, then by code
 abbrev pub Before : Diagnostic → Diagnostic → Type 0
-Before d e = PlaceBefore d.place e.place ⊎ ((d.place ≡ e.place) × (code_number d.code < code_number e.code))
+Before d e =
+    PlaceBefore d.place e.place ⊎ ((d.place ≡ e.place) × (code_number d.code < code_number e.code))
 
 -- each comes before all that stand behind it
 abbrev pub IsAscendingBy : {X : Type 0} → (X → X → Type 0) → List X → Type 0
@@ -64,7 +67,9 @@ abbrev pub IsAscendingByName : {X : Type 0} → (X → List ℕ) → List X → 
 IsAscendingByName name_of xs = IsAscendingBy (λ x y. NameBefore (name_of x) (name_of y)) xs
 
 abbrev pub IsTableInOrder : ClassTableValue → Type 0
-IsTableInOrder table = IsAscendingByName (λ row. row.name) table.fields × IsAscendingByName (λ row. row.name) table.methods
+IsTableInOrder table =
+    IsAscendingByName (λ row. row.name) table.fields
+        × IsAscendingByName (λ row. row.name) table.methods
 
 abbrev pub IsClassInOrder : ClassAnswerValue → Type 0
 IsClassInOrder class = IsTableInOrder class.table × IsAscending class.faults
@@ -82,7 +87,9 @@ pub record IsStrictTotalOrder {X : Type 0} (B : X → X → Type 0) : Type 0 whe
 
 -- one list only has given elements in ascending order
 abbrev pub OneList : (X : Type 0) → (X → X → Type 0) → Type 0
-OneList X B = (xs ys : List X) → IsAscendingBy B xs → IsAscendingBy B ys → ((x : X) → Contains xs x ↔ Contains ys x) → xs ≡ ys
+OneList X B =
+    (xs ys : List X) → IsAscendingBy B xs → IsAscendingBy B ys
+        → ((x : X) → Contains xs x ↔ Contains ys x) → xs ≡ ys
 
 abbrev pub OneListByName : (X : Type 0) → (X → List ℕ) → Type 0
 OneListByName X name_of = OneList X (λ x y. NameBefore (name_of x) (name_of y))

@@ -21,13 +21,15 @@ put_first token (Err fault) = Err fault
 abbrev pub lexing_at : ℕ → Front → (ℕ → Lexing) → Lexing
 lexing_at at Nothing behind = Ok []
 lexing_at at (Blank n) behind = behind n
-lexing_at at (Word kind n) behind = put_first (record { kind = kind; start = at; end = at + n }) (behind n)
+lexing_at at (Word kind n) behind =
+    put_first (record { kind = kind; start = at; end = at + n }) (behind n)
 lexing_at at (Wrong problem) behind = Err (fault_at problem at)
 
 -- what the text from a place on gives, in so many pieces at most
 unfoldable pub lexing_from : ℕ → ℕ → List ℕ → Lexing
 lexing_from zero at text = Ok []
-lexing_from (suc pieces) at text = lexing_at at (front_of text) (λ n. lexing_from pieces (at + n) (drop n text))
+lexing_from (suc pieces) at text =
+    lexing_at at (front_of text) (λ n. lexing_from pieces (at + n) (drop n text))
 
 -- a text has no more pieces than bytes
 unfoldable pub lexing_of : List ℕ → Lexing

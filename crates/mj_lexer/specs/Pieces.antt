@@ -30,7 +30,8 @@ pub data IsBlank : List ℕ → Type 0 where
 
 -- a word that isn't reserved, a number, or what a symbol or a reserved word is written as
 abbrev pub IsToken : List ℕ → Kind → Type 0
-IsToken bytes (Identifier name) = IsTrue (is_word bytes) × (name ≡ bytes) × ((terminal : Terminal) → text_of terminal ≢ bytes)
+IsToken bytes (Identifier name) =
+    IsTrue (is_word bytes) × (name ≡ bytes) × ((terminal : Terminal) → text_of terminal ≢ bytes)
 IsToken bytes (Literal value) = IsTrue (is_number bytes) × (value ≡ literal_value bytes)
 IsToken bytes (kinds.Terminal terminal) = bytes ≡ text_of terminal
 
@@ -59,6 +60,8 @@ abbrev pub Stands : List ℕ → Front → Type 0
 Stands text Nothing = text ≡ []
 Stands text (Blank n) = IsLongest text n × IsBlank (take n text)
 Stands text (Word kind n) = IsLongest text n × IsToken (take n text) kind × IsShort kind
-Stands text (Wrong problems.Name) = (n : ℕ) × IsLongest text n × IsToken (take n text) (Identifier (take n text)) × (most_name_bytes < n)
+Stands text (Wrong problems.Name) =
+    (n : ℕ) × IsLongest text n × IsToken (take n text) (Identifier (take n text))
+        × (most_name_bytes < n)
 Stands text (Wrong problems.Comment) = OpensComment text × HasNoPiece text
 Stands text (Wrong problems.Byte) = (text ≢ []) × (OpensComment text → ⊥) × HasNoPiece text

@@ -19,7 +19,8 @@ abbrev pub exp_layer : exp.Exp-F Expression → Expression
 exp_layer (exp.Binary operator mark left right) = trees.Binary operator mark left.value right.value
 exp_layer (exp.Index mark array index) = trees.Index mark array.value index.value
 exp_layer (exp.Length mark array) = trees.Length mark array.value
-exp_layer (exp.Call mark receiver method arguments) = trees.Call mark receiver.value method (expressions_of arguments.items)
+exp_layer (exp.Call mark receiver method arguments) =
+    trees.Call mark receiver.value method (expressions_of arguments.items)
 exp_layer (exp.Literal mark value) = trees.Literal mark value
 exp_layer (exp.Boolean mark value) = trees.Boolean mark value
 exp_layer (exp.Variable mark name) = trees.Named mark name
@@ -41,11 +42,14 @@ statements_of (s ∷ ss) = next s (statements_of ss)
 
 abbrev pub stmt_layer : stmt.Stmt-F Statement → Statement
 stmt_layer (stmt.Block mark body) = trees.Block mark (statements_of body.items)
-stmt_layer (stmt.If mark condition then_branch else_branch) = trees.If mark (exp_view condition) then_branch.value else_branch.value
+stmt_layer (stmt.If mark condition then_branch else_branch) =
+    trees.If mark (exp_view condition) then_branch.value else_branch.value
 stmt_layer (stmt.While mark condition body) = trees.While mark (exp_view condition) body.value
 stmt_layer (stmt.Print mark value) = trees.Print mark (exp_view value)
-stmt_layer (stmt.Assign mark name name_mark value) = trees.Assign mark name name_mark (exp_view value)
-stmt_layer (stmt.Store mark name name_mark index value) = trees.Store mark name name_mark (exp_view index) (exp_view value)
+stmt_layer (stmt.Assign mark name name_mark value) =
+    trees.Assign mark name name_mark (exp_view value)
+stmt_layer (stmt.Store mark name name_mark index value) =
+    trees.Store mark name name_mark (exp_view index) (exp_view value)
 
 abbrev pub stmt_view : Stmt → Statement
 stmt_view s = fold-Stmt Statement stmt_layer s
@@ -68,7 +72,15 @@ abbrev pub main_view : MainTree → Main
 main_view m = record { name = m.name; statement = stmt_view m.statement }
 
 abbrev pub class_view : ClassTree → Class
-class_view c = record { name = c.name; superclass = c.superclass; fields = c.fields.items; methods = map method_view c.methods.items }
+class_view c = record {
+  name = c.name;
+  superclass = c.superclass;
+  fields = c.fields.items;
+  methods = map method_view c.methods.items;
+}
 
 abbrev pub file_view : FileTree → File
-file_view f = record { main = option_map main_view f.main; classes = map class_view f.classes.items }
+file_view f = record {
+  main = option_map main_view f.main;
+  classes = map class_view f.classes.items;
+}

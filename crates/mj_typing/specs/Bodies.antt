@@ -40,9 +40,13 @@ has_name (v ∷ vs) x = if is_same v.name x then true else has_name vs x
 
 -- each mistake in a method of the class
 pub data MethodFault (w : World) (class : Name) (m : Method) : Mistake → Type 0 where
-  UndeclaredReturn : (c : Name) → m.returns ≡ ty.Class c → w.is_declared c ≡ false → MethodFault w class m (record { mark = return_type_mark; code = E206 })
-  UndeclaredVariable : (v : Variable) (c : Name) → Contains (variables_of m) v → v.ty ≡ ty.Class c → w.is_declared c ≡ false → MethodFault w class m (record { mark = v.mark; code = E206 })
-  RepeatedVariable : (before : List Variable) (u v : Variable) (after : List Variable) → variables_of m ≡ before ++ v ∷ after → Contains before u → u.name ≡ v.name → MethodFault w class m (record { mark = name_mark v; code = E207 })
+  UndeclaredReturn : (c : Name) → m.returns ≡ ty.Class c → w.is_declared c ≡ false
+      → MethodFault w class m (record { mark = return_type_mark; code = E206 })
+  UndeclaredVariable : (v : Variable) (c : Name) → Contains (variables_of m) v → v.ty ≡ ty.Class c
+      → w.is_declared c ≡ false → MethodFault w class m (record { mark = v.mark; code = E206 })
+  RepeatedVariable : (before : List Variable) (u v : Variable) (after : List Variable)
+      → variables_of m ≡ before ++ v ∷ after → Contains before u → u.name ≡ v.name
+      → MethodFault w class m (record { mark = name_mark v; code = E207 })
   IllPhrase : (x : Mistake) → FaultInSome w (method_phrases class m) x → MethodFault w class m x
 
 -- each mistake in main
@@ -60,7 +64,8 @@ add_undeclared w mistakes mark ty.IntArray = mistakes
 
 abbrev pub add_undeclared_each : World → List Mistake → List Variable → List Mistake
 add_undeclared_each w mistakes [] = mistakes
-add_undeclared_each w mistakes (v ∷ vs) = add_undeclared_each w (add_undeclared w mistakes v.mark v.ty) vs
+add_undeclared_each w mistakes (v ∷ vs) =
+    add_undeclared_each w (add_undeclared w mistakes v.mark v.ty) vs
 
 -- that a variable's name stands before it
 abbrev pub add_repeated : List Mistake → List Variable → Variable → List Mistake
@@ -68,7 +73,8 @@ add_repeated mistakes before v = if has_name before v.name then mistakes ++ reco
 
 abbrev pub add_repeated_each : List Mistake → List Variable → List Variable → List Mistake
 add_repeated_each mistakes before [] = mistakes
-add_repeated_each mistakes before (v ∷ vs) = add_repeated_each (add_repeated mistakes before v) (before ++ v ∷ []) vs
+add_repeated_each mistakes before (v ∷ vs) =
+    add_repeated_each (add_repeated mistakes before v) (before ++ v ∷ []) vs
 
 abbrev pub method_faults : World → Name → Method → List Mistake
 method_faults w class m =
@@ -99,20 +105,31 @@ mistakes_step p mistakes next = phrase_step p mistakes (λ found. next found.mis
 -- the phrases of a statement in their order
 unfoldable mutual
   pub statement_step : Scope → Statement → List Mistake → (List Mistake → Check) → Check
-  statement_step s (Block mark body) mistakes next = mistakes_step (own_phrase s (Block mark body)) mistakes (λ more. statements_step s body more next)
-  statement_step s (If mark e a b) mistakes next = mistakes_step (own_phrase s (If mark e a b)) mistakes (λ more. statement_step s a more (λ others. statement_step s b others next))
-  statement_step s (While mark e a) mistakes next = mistakes_step (own_phrase s (While mark e a)) mistakes (λ more. statement_step s a more next)
-  statement_step s (Print mark e) mistakes next = mistakes_step (own_phrase s (Print mark e)) mistakes next
-  statement_step s (Assign mark x x_mark e) mistakes next = mistakes_step (own_phrase s (Assign mark x x_mark e)) mistakes next
-  statement_step s (Store mark x x_mark i e) mistakes next = mistakes_step (own_phrase s (Store mark x x_mark i e)) mistakes next
+  statement_step s (Block mark body) mistakes next =
+      mistakes_step (own_phrase s (Block mark body)) mistakes
+          (λ more. statements_step s body more next)
+  statement_step s (If mark e a b) mistakes next =
+      mistakes_step (own_phrase s (If mark e a b)) mistakes
+          (λ more. statement_step s a more (λ others. statement_step s b others next))
+  statement_step s (While mark e a) mistakes next =
+      mistakes_step (own_phrase s (While mark e a)) mistakes (λ more. statement_step s a more next)
+  statement_step s (Print mark e) mistakes next =
+      mistakes_step (own_phrase s (Print mark e)) mistakes next
+  statement_step s (Assign mark x x_mark e) mistakes next =
+      mistakes_step (own_phrase s (Assign mark x x_mark e)) mistakes next
+  statement_step s (Store mark x x_mark i e) mistakes next =
+      mistakes_step (own_phrase s (Store mark x x_mark i e)) mistakes next
 
   pub statements_step : Scope → Statements → List Mistake → (List Mistake → Check) → Check
   statements_step s done mistakes next = next mistakes
-  statements_step s (trees.next a ss) mistakes next = statement_step s a mistakes (λ more. statements_step s ss more next)
+  statements_step s (trees.next a ss) mistakes next =
+      statement_step s a mistakes (λ more. statements_step s ss more next)
 
 -- the types of the return, of the formals and of the locals
 unfoldable pub declared_step : Method → List Mistake → (List Mistake → Check) → Check
-declared_step m mistakes next = type_step return_type_mark m.returns mistakes (λ a. types_step m.formals a (λ b. types_step m.locals b next))
+declared_step m mistakes next =
+    type_step return_type_mark m.returns mistakes
+        (λ a. types_step m.formals a (λ b. types_step m.locals b next))
 
 -- a method of the class: the declared types, the statements, the return
 unfoldable pub method_step : Name → Method → (List Mistake → Check) → Check

@@ -11,7 +11,8 @@ use Rattle.mj_typing.specs.Table.{Scope, method_scope, main_scope}
 
 -- the first type is accepted by the second: they are equal, or the second class stands in the chain of the first
 abbrev pub Accepted : World → Ty → Ty → Type 0
-Accepted w t u = (t ≡ u) ⊎ ((c d : Name) × (t ≡ ty.Class c) × (u ≡ ty.Class d) × (w.descends c d ≡ true))
+Accepted w t u =
+    (t ≡ u) ⊎ ((c d : Name) × (t ≡ ty.Class c) × (u ≡ ty.Class d) × (w.descends c d ≡ true))
 
 -- the first formal or local of the name has this type
 abbrev pub IsLocal : List Variable → Name → Ty → Type 0
@@ -24,7 +25,9 @@ IsNoLocal (v ∷ vs) x = (v.name ≢ x) × IsNoLocal vs x
 
 -- the name is a formal or a local of this type, or else a field of it that the class has; nothing in main
 abbrev pub IsVariable : World → Scope → Name → Ty → Type 0
-IsVariable w s x t = IsLocal s.variables x t ⊎ (IsNoLocal s.variables x × ((c : Name) × (s.class ≡ Some c) × (w.field c x ≡ Some t)))
+IsVariable w s x t =
+    IsLocal s.variables x t
+        ⊎ (IsNoLocal s.variables x × ((c : Name) × (s.class ≡ Some c) × (w.field c x ≡ Some t)))
 
 abbrev pub operand_type : Operator → Ty
 operand_type And = ty.Boolean
@@ -48,10 +51,15 @@ abbrev mutual
   HasTypeByCases w s (This mark) t = (c : Name) × (s.class ≡ Some c) × (t ≡ ty.Class c)
   HasTypeByCases w s (Parenthesized mark e) t = HasTypeByCases w s e t
   HasTypeByCases w s (Not mark e) t = HasTypeByCases w s e ty.Boolean × (t ≡ ty.Boolean)
-  HasTypeByCases w s (Binary o mark l r) t = HasTypeByCases w s l (operand_type o) × HasTypeByCases w s r (operand_type o) × (t ≡ result_type o)
-  HasTypeByCases w s (Index mark a i) t = HasTypeByCases w s a ty.IntArray × HasTypeByCases w s i ty.Int × (t ≡ ty.Int)
+  HasTypeByCases w s (Binary o mark l r) t =
+      HasTypeByCases w s l (operand_type o) × HasTypeByCases w s r (operand_type o)
+          × (t ≡ result_type o)
+  HasTypeByCases w s (Index mark a i) t =
+      HasTypeByCases w s a ty.IntArray × HasTypeByCases w s i ty.Int × (t ≡ ty.Int)
   HasTypeByCases w s (Length mark a) t = HasTypeByCases w s a ty.IntArray × (t ≡ ty.Int)
-  HasTypeByCases w s (Call mark e m es) t = (c : Name) × (sig : Sig) × HasTypeByCases w s e (ty.Class c) × (w.method c m ≡ Some sig) × AcceptedBy w s es sig.formals × (t ≡ sig.returns)
+  HasTypeByCases w s (Call mark e m es) t =
+      (c : Name) × (sig : Sig) × HasTypeByCases w s e (ty.Class c) × (w.method c m ≡ Some sig)
+          × AcceptedBy w s es sig.formals × (t ≡ sig.returns)
   HasTypeByCases w s (NewArray mark e) t = HasTypeByCases w s e ty.Int × (t ≡ ty.IntArray)
   HasTypeByCases w s (NewObject mark c) t = (w.is_declared c ≡ true) × (t ≡ ty.Class c)
 
@@ -60,16 +68,20 @@ abbrev mutual
   AcceptedBy w s none [] = Unit {0}
   AcceptedBy w s none (u ∷ us) = ⊥
   AcceptedBy w s (more e es) [] = ⊥
-  AcceptedBy w s (more e es) (u ∷ us) = ((t : Ty) × HasTypeByCases w s e t × Accepted w t u) × AcceptedBy w s es us
+  AcceptedBy w s (more e es) (u ∷ us) =
+      ((t : Ty) × HasTypeByCases w s e t × Accepted w t u) × AcceptedBy w s es us
 
 abbrev mutual
   pub WellByCases : World → Scope → Statement → Type 0
   WellByCases w s (Block mark ss) = AllWellByCases w s ss
-  WellByCases w s (If mark e a b) = HasTypeByCases w s e ty.Boolean × WellByCases w s a × WellByCases w s b
+  WellByCases w s (If mark e a b) =
+      HasTypeByCases w s e ty.Boolean × WellByCases w s a × WellByCases w s b
   WellByCases w s (While mark e a) = HasTypeByCases w s e ty.Boolean × WellByCases w s a
   WellByCases w s (Print mark e) = HasTypeByCases w s e ty.Int
-  WellByCases w s (Assign mark x x_mark e) = (t u : Ty) × IsVariable w s x u × HasTypeByCases w s e t × Accepted w t u
-  WellByCases w s (Store mark x x_mark i e) = IsVariable w s x ty.IntArray × HasTypeByCases w s i ty.Int × HasTypeByCases w s e ty.Int
+  WellByCases w s (Assign mark x x_mark e) =
+      (t u : Ty) × IsVariable w s x u × HasTypeByCases w s e t × Accepted w t u
+  WellByCases w s (Store mark x x_mark i e) =
+      IsVariable w s x ty.IntArray × HasTypeByCases w s i ty.Int × HasTypeByCases w s e ty.Int
 
   pub AllWellByCases : World → Scope → Statements → Type 0
   AllWellByCases w s done = Unit {0}

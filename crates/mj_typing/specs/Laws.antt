@@ -15,13 +15,16 @@ use Rattle.mj_typing.specs.Cases.{HasTypeByCases, MethodIsWell, MainIsWell}
 pub record TypingLaws : Type 0 where
   pub types : (w : World) (p : Phrase) (t : Ty) → (type_of w p ≡ Some t) ↔ HasType w p t
   pub unique : (w : World) (p : Phrase) (t u : Ty) → HasType w p t → HasType w p u → t ≡ u
-  pub faults : (w : World) (ps : List Phrase) (m : Mistake) → Contains (add_each w [] ps) m ↔ FaultInSome w ps m
+  pub faults : (w : World) (ps : List Phrase) (m : Mistake)
+      → Contains (add_each w [] ps) m ↔ FaultInSome w ps m
 
 -- the lists are the mistakes, and the checks that ask conclude with them
 pub record BodyLaws : Type 0 where
-  pub method : (w : World) (class : Name) (m : Method) (x : Mistake) → Contains (method_faults w class m) x ↔ MethodFault w class m x
+  pub method : (w : World) (class : Name) (m : Method) (x : Mistake)
+      → Contains (method_faults w class m) x ↔ MethodFault w class m x
   pub main : (w : World) (m : Main) (x : Mistake) → Contains (main_faults w m) x ↔ MainFault w m x
-  pub method_checked : (w : World) (class : Name) (m : Method) → conclusion w (method_check class m) ≡ method_faults w class m
+  pub method_checked : (w : World) (class : Name) (m : Method)
+      → conclusion w (method_check class m) ≡ method_faults w class m
   pub main_checked : (w : World) (m : Main) → conclusion w (main_check m) ≡ main_faults w m
 
 abbrev pub count : Phrases → ℕ
@@ -44,7 +47,9 @@ IsOfStatement Silent = ⊥
 -- on types as many as the parts the phrase, and each in it, has a type or a code
 abbrev mutual
   pub Decides : World → Phrase → Type 0
-  Decides w (phrase mark row parts) = ((ts : List Ty) → length ts ≡ count parts → IsOfExpression (conclusion w (row ts))) × DecideAll w parts
+  Decides w (phrase mark row parts) =
+      ((ts : List Ty) → length ts ≡ count parts → IsOfExpression (conclusion w (row ts)))
+          × DecideAll w parts
 
   pub DecideAll : World → Phrases → Type 0
   DecideAll w nothing = Unit {0}
@@ -52,7 +57,9 @@ abbrev mutual
 
 -- the same for a statement, which is well or has a code
 abbrev pub DecidesStatement : World → Phrase → Type 0
-DecidesStatement w (phrase mark row parts) = ((ts : List Ty) → length ts ≡ count parts → IsOfStatement (conclusion w (row ts))) × DecideAll w parts
+DecidesStatement w (phrase mark row parts) =
+    ((ts : List Ty) → length ts ≡ count parts → IsOfStatement (conclusion w (row ts)))
+        × DecideAll w parts
 
 abbrev pub AllDecide : World → List Phrase → Type 0
 AllDecide w [] = Unit {0}
@@ -66,6 +73,8 @@ pub record RowLaws : Type 0 where
 
 -- the table is the judgement by cases, and a body without mistakes is one that is well
 pub record CaseLaws : Type 0 where
-  pub expression : (w : World) (s : Scope) (e : Expression) (t : Ty) → HasType w (phrase_of s e) t ↔ HasTypeByCases w s e t
-  pub method : (w : World) (class : Name) (m : Method) → ((x : Mistake) → FaultInSome w (method_phrases class m) x → ⊥) ↔ MethodIsWell w class m
+  pub expression : (w : World) (s : Scope) (e : Expression) (t : Ty)
+      → HasType w (phrase_of s e) t ↔ HasTypeByCases w s e t
+  pub method : (w : World) (class : Name) (m : Method)
+      → ((x : Mistake) → FaultInSome w (method_phrases class m) x → ⊥) ↔ MethodIsWell w class m
   pub main : (w : World) (m : Main) → ((x : Mistake) → MainFault w m x → ⊥) ↔ MainIsWell w m

@@ -46,7 +46,8 @@ mutual
 -- all parts have types and all demands hold
 abbrev mutual
   pub HasType : World → Phrase → Ty → Type 0
-  HasType w (phrase mark row parts) t = (ts : List Ty) × AllTyped w parts ts × (conclusion w (row ts) ≡ Is t)
+  HasType w (phrase mark row parts) t =
+      (ts : List Ty) × AllTyped w parts ts × (conclusion w (row ts) ≡ Is t)
 
   pub AllTyped : World → Phrases → List Ty → Type 0
   AllTyped w nothing [] = Unit {0}
@@ -56,16 +57,20 @@ abbrev mutual
 
 -- the same for a phrase that is a statement
 abbrev pub Well : World → Phrase → Type 0
-Well w (phrase mark row parts) = (ts : List Ty) × AllTyped w parts ts × (conclusion w (row ts) ≡ Fine)
+Well w (phrase mark row parts) =
+    (ts : List Ty) × AllTyped w parts ts × (conclusion w (row ts) ≡ Fine)
 
 -- all parts have types, and the first demand that fails has this code
 abbrev pub PhraseFault : World → Phrase → Mistake → Type 0
-PhraseFault w (phrase mark row parts) m = (m.mark ≡ mark) × ((ts : List Ty) × AllTyped w parts ts × (conclusion w (row ts) ≡ Wrong m.code))
+PhraseFault w (phrase mark row parts) m =
+    (m.mark ≡ mark)
+        × ((ts : List Ty) × AllTyped w parts ts × (conclusion w (row ts) ≡ Wrong m.code))
 
 -- the phrase is at fault, or one in it
 abbrev mutual
   pub FaultIn : World → Phrase → Mistake → Type 0
-  FaultIn w (phrase mark row parts) m = FaultInAny w parts m ⊎ PhraseFault w (phrase mark row parts) m
+  FaultIn w (phrase mark row parts) m =
+      FaultInAny w parts m ⊎ PhraseFault w (phrase mark row parts) m
 
   pub FaultInAny : World → Phrases → Mistake → Type 0
   FaultInAny w nothing m = ⊥
@@ -115,7 +120,8 @@ add_own mistakes mark Silent = mistakes
 -- behind these mistakes those in a phrase, its parts' first
 abbrev mutual
   pub add_faults : World → List Mistake → Phrase → List Mistake
-  add_faults w mistakes (phrase mark row parts) = add_own (add_all w mistakes parts) mark (verdict_by w row (types_of w parts))
+  add_faults w mistakes (phrase mark row parts) =
+      add_own (add_all w mistakes parts) mark (verdict_by w row (types_of w parts))
 
   pub add_all : World → List Mistake → Phrases → List Mistake
   add_all w mistakes nothing = mistakes
@@ -135,7 +141,10 @@ pub record Found (T : Type 0) : Type 0 where
 
 -- notes what is wrong, and gives the type
 abbrev pub noted : List Mistake → ℕ → Verdict → Found Ty
-noted mistakes mark verdict = record { type = type_by verdict; mistakes = add_own mistakes mark verdict }
+noted mistakes mark verdict = record {
+  type = type_by verdict;
+  mistakes = add_own mistakes mark verdict;
+}
 
 -- where all parts have types the phrase's demands are asked in their order
 abbrev pub own_step : ℕ → (List Ty → Inquiry Verdict) → Found (List Ty) → (Found Ty → Check) → Check
@@ -148,7 +157,8 @@ own_step mark row found next = of_types found.type
 -- the parts in their order, then the phrase
 unfoldable mutual
   pub phrase_step : Phrase → List Mistake → (Found Ty → Check) → Check
-  phrase_step (phrase mark row parts) mistakes next = parts_step parts mistakes (λ found. own_step mark row found next)
+  phrase_step (phrase mark row parts) mistakes next =
+      parts_step parts mistakes (λ found. own_step mark row found next)
 
   pub parts_step : Phrases → List Mistake → (Found (List Ty) → Check) → Check
   parts_step nothing mistakes next = next (record { type = Some []; mistakes = mistakes })

@@ -80,10 +80,13 @@ array_length a = demand (is_int_array a) E309 (is ty.Int)
 
 -- as many arguments as formals, each accepted
 unfoldable pub called : Sig → List Ty → Inquiry Verdict
-called s ts = demand (nat_eq (length ts) (length s.formals)) E312 (demand_asked (accepts_all ts s.formals) E313 (is s.returns))
+called s ts =
+    demand (nat_eq (length ts) (length s.formals)) E312
+        (demand_asked (accepts_all ts s.formals) E313 (is s.returns))
 
 unfoldable pub call : Name → Ty → List Ty → Inquiry Verdict
-call m a ts = given (class_in a) E310 (λ c. AsksMethod c m (λ method. given method E311 (λ s. called s ts)))
+call m a ts =
+    given (class_in a) E310 (λ c. AsksMethod c m (λ method. given method E311 (λ s. called s ts)))
 
 unfoldable pub new_array : Ty → Inquiry Verdict
 new_array a = demand (is_int a) E314 (is ty.IntArray)
@@ -139,12 +142,16 @@ abbrev mutual
   phrase_of s (Boolean mark value) = phrase mark (no_parts (is ty.Boolean)) nothing
   phrase_of s (Named mark x) = name_phrase s mark x
   phrase_of s (This mark) = phrase mark (no_parts (this s)) nothing
-  phrase_of s (Parenthesized mark e) = phrase mark (one_part parenthesized) (part (phrase_of s e) nothing)
+  phrase_of s (Parenthesized mark e) =
+      phrase mark (one_part parenthesized) (part (phrase_of s e) nothing)
   phrase_of s (Not mark e) = phrase mark (one_part negation) (part (phrase_of s e) nothing)
-  phrase_of s (Binary o mark l r) = phrase mark (two_parts (binary o)) (part (phrase_of s l) (part (phrase_of s r) nothing))
-  phrase_of s (Index mark a i) = phrase mark (two_parts index) (part (phrase_of s a) (part (phrase_of s i) nothing))
+  phrase_of s (Binary o mark l r) =
+      phrase mark (two_parts (binary o)) (part (phrase_of s l) (part (phrase_of s r) nothing))
+  phrase_of s (Index mark a i) =
+      phrase mark (two_parts index) (part (phrase_of s a) (part (phrase_of s i) nothing))
   phrase_of s (Length mark a) = phrase mark (one_part array_length) (part (phrase_of s a) nothing)
-  phrase_of s (Call mark e m es) = phrase mark (some_parts (call m)) (part (phrase_of s e) (phrases_of s es))
+  phrase_of s (Call mark e m es) =
+      phrase mark (some_parts (call m)) (part (phrase_of s e) (phrases_of s es))
   phrase_of s (NewArray mark e) = phrase mark (one_part new_array) (part (phrase_of s e) nothing)
   phrase_of s (NewObject mark c) = phrase mark (no_parts (new_object c)) nothing
 
@@ -158,18 +165,23 @@ own_phrase s (Block mark ss) = phrase mark (no_parts fine) nothing
 own_phrase s (If mark e a b) = phrase mark (one_part condition) (part (phrase_of s e) nothing)
 own_phrase s (While mark e a) = phrase mark (one_part condition) (part (phrase_of s e) nothing)
 own_phrase s (Print mark e) = phrase mark (one_part print) (part (phrase_of s e) nothing)
-own_phrase s (Assign mark x x_mark e) = phrase mark (two_parts assign) (part (name_phrase s x_mark x) (part (phrase_of s e) nothing))
-own_phrase s (Store mark x x_mark i e) = phrase mark (three_parts store) (part (name_phrase s x_mark x) (part (phrase_of s i) (part (phrase_of s e) nothing)))
+own_phrase s (Assign mark x x_mark e) =
+    phrase mark (two_parts assign) (part (name_phrase s x_mark x) (part (phrase_of s e) nothing))
+own_phrase s (Store mark x x_mark i e) =
+    phrase mark (three_parts store)
+        (part (name_phrase s x_mark x) (part (phrase_of s i) (part (phrase_of s e) nothing)))
 
 -- the return of a method
 abbrev pub return_phrase : Scope → ℕ → Ty → Expression → Phrase
-return_phrase s mark wanted e = phrase mark (one_part (returned wanted)) (part (phrase_of s e) nothing)
+return_phrase s mark wanted e =
+    phrase mark (one_part (returned wanted)) (part (phrase_of s e) nothing)
 
 -- the statements inside a statement are phrases of their own, in the order of the text
 abbrev mutual
   pub statement_phrases : Scope → Statement → List Phrase
   statement_phrases s (Block mark ss) = own_phrase s (Block mark ss) ∷ statements_phrases s ss
-  statement_phrases s (If mark e a b) = own_phrase s (If mark e a b) ∷ (statement_phrases s a ++ statement_phrases s b)
+  statement_phrases s (If mark e a b) =
+      own_phrase s (If mark e a b) ∷ (statement_phrases s a ++ statement_phrases s b)
   statement_phrases s (While mark e a) = own_phrase s (While mark e a) ∷ statement_phrases s a
   statement_phrases s (Print mark e) = own_phrase s (Print mark e) ∷ []
   statement_phrases s (Assign mark x x_mark e) = own_phrase s (Assign mark x x_mark e) ∷ []
@@ -184,7 +196,9 @@ method_scope class m = record { class = Some class; variables = m.formals ++ m.l
 
 -- the phrases of a method of the class, and those of main
 abbrev pub method_phrases : Name → Method → List Phrase
-method_phrases class m = statements_phrases (method_scope class m) m.body ++ return_phrase (method_scope class m) m.return_mark m.returns m.returned ∷ []
+method_phrases class m =
+    statements_phrases (method_scope class m) m.body
+        ++ return_phrase (method_scope class m) m.return_mark m.returns m.returned ∷ []
 
 abbrev pub main_phrases : Main → List Phrase
 main_phrases m = statement_phrases main_scope m.statement
