@@ -40,4 +40,4 @@ pub each_breaks : {S A : Type 0} {grows breaks : S → List ℕ → S → Type 0
     → grows s (flat_map spell (take i items)) t → breaks t (spell x) u → breaks s (flat_map spell items) u
 each_breaks {S} {A} {grows} {breaks} law spell s t u items i x lt is p q =
     subst (λ (bytes : List ℕ). breaks s bytes u) (sym (flat_map_split spell items i x lt is))
-        (law.breaks_early s u (flat_map spell (take i items) ++ spell x) (flat_map spell (drop (i + 1) items)) (law.breaks_on s t u (flat_map spell (take i items)) (spell x) p q))
+    (law.breaks_early s u (flat_map spell (take i items) ++ spell x) (flat_map spell (drop (i + 1) items)) (law.breaks_on s t u (flat_map spell (take i items)) (spell x) p q))
