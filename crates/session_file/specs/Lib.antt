@@ -1,0 +1,4 @@
+pub mod Devices
+pub mod DeviceLaws
+pub mod Puts
+pub mod Reading

@@ -1,0 +1,6 @@
+pub mod Marks
+pub mod Keys
+pub mod Sessions
+pub mod Edges
+pub mod Refusals
+pub mod Spelling

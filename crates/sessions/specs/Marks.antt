@@ -1,0 +1,22 @@
+-- Marks: their numbers, and which kinds are inputs.
+use Rattle.std.specs.Prelude.{ℕ, Bool, true, false}
+use Rattle.item_ids.specs.declared.kind.Kind.{Kind}
+use Rattle.item_ids.specs.declared.kind.Kind.TheVariants.{Files, Source}
+use Rattle.sessions.specs.declared.mark.Mark.{Mark}
+use Rattle.sessions.specs.declared.mark.Mark.TheVariants.{Input, Executed, Green}
+
+abbrev pub number_of : Mark → ℕ
+number_of Input = 0
+number_of Executed = 1
+number_of Green = 2
+
+-- whether keys of the kind are inputs, which no query computes
+abbrev pub is_input : Kind → Bool
+is_input Files = true
+is_input Source = true
+is_input _ = false
+
+-- whether a key that became done so is an input
+abbrev pub is_input_mark : Mark → Bool
+is_input_mark Input = true
+is_input_mark _ = false

@@ -1,0 +1,108 @@
+-- What a session is, and what it tells of each key.
+use Rattle.std.specs.Prelude.{◌≡◌, ◌≢◌, ℕ, ◌<◌, ◌≤◌, ◌^◌, List, [], ◌∷◌, map, length, take, find, slice_index_or, Option, Some, None}
+use Rattle.std.specs.List.{AllByRecursion}
+use Rattle.std.specs.Ordering.{is_eq}
+use Rattle.std.specs.declared.cmp.Ordering.TheVariants.{Less}
+use Rattle.item_ids.specs.declared.key.Key.{Key}
+use Rattle.item_ids.specs.declared.key.Key.TheVariants.{Files}
+use Rattle.item_ids.specs.Kinds.{rank_of}
+use Rattle.item_ids.specs.Keys.{kind_of, key_cmp}
+use Rattle.result_bytes.specs.declared.value.Value.{Value}
+use Rattle.result_bytes.specs.Values.{IsValue, canon, kind_of as kind_of_value}
+use Rattle.sessions.specs.declared.mark.Mark.{Mark}
+use Rattle.sessions.specs.Marks.{is_input, is_input_mark}
+use Rattle.sessions.specs.Keys.{HasNames}
+
+-- a key, how it became done, the indices of the records of the keys that it read, in order, and its result
+pub record RecordValue : Type 0 where
+  pub key : Key
+  pub mark : Mark
+  pub edges : List ℕ
+  pub value : Value
+
+-- the number in its chain, the SHA-256 of the file before it, and the records
+pub record SessionValue : Type 0 where
+  pub number : ℕ
+  pub link : List ℕ
+  pub records : List RecordValue
+
+abbrev pub rank : Key → ℕ
+rank key = rank_of (kind_of key)
+
+-- the key of the record at an index
+abbrev pub key_at : List RecordValue → ℕ → Key
+key_at records i = slice_index_or (map (λ r. r.key) records) i Files
+
+-- ---- what every session keeps
+
+-- the key is greater than those of the records in front
+abbrev pub IsAbove : List RecordValue → Key → Type 0
+IsAbove front key = AllByRecursion (λ r. key_cmp r.key key ≡ Less) front
+
+-- the mark is Input just where the key is one of an input
+abbrev pub IsMarked : RecordValue → Type 0
+IsMarked r = is_input_mark r.mark ≡ is_input (kind_of r.key)
+
+-- e is the index of a record in front, whose key has a lower rank
+abbrev pub IsEdge : List RecordValue → Key → ℕ → Type 0
+IsEdge front key e = (e < length front) × (rank (key_at front e) < rank key)
+
+-- no number is there twice
+abbrev pub AreDistinct : List ℕ → Type 0
+AreDistinct [] = Unit {0}
+AreDistinct (n ∷ ns) = AllByRecursion (λ m. m ≢ n) ns × AreDistinct ns
+
+-- the result is of the key's kind
+abbrev pub IsOfKind : RecordValue → Type 0
+IsOfKind r = kind_of_value r.value ≡ kind_of r.key
+
+-- what a record keeps by its type alone
+pub record IsRecord (r : RecordValue) : Type 0 where
+  pub names : HasNames r.key
+  pub value : IsValue r.value
+  pub size : length (canon r.value) < 2 ^ 64
+  pub few : length r.edges < 2 ^ 64
+
+-- what a record keeps behind those in front of it
+pub record FitsBehind (front : List RecordValue) (r : RecordValue) : Type 0 where
+  pub above : IsAbove front r.key
+  pub marked : IsMarked r
+  pub edges : AllByRecursion (IsEdge front r.key) r.edges
+  pub once : AreDistinct r.edges
+  pub kind : IsOfKind r
+  pub kept : IsRecord r
+
+-- each record fits behind those in front of it
+abbrev pub AreRecords : List RecordValue → Type 0
+AreRecords records = (i : ℕ) (r : RecordValue) → i < length records → FitsBehind (take i records) (slice_index_or records i r)
+
+pub record IsSession (s : SessionValue) : Type 0 where
+  pub number : s.number ≤ 9999
+  pub link : length s.link ≡ 32
+  pub few : length s.records < 2 ^ 64
+  pub records : AreRecords s.records
+
+-- ---- what a session tells, with keys for edges
+
+-- a key, how it became done, the keys that it read, in order, and its result
+pub record Entry : Type 0 where
+  pub key : Key
+  pub mark : Mark
+  pub reads : List Key
+  pub value : Value
+
+-- what a record tells among these
+abbrev pub entry_of : List RecordValue → RecordValue → Entry
+entry_of records r = record { key = r.key; mark = r.mark; reads = map (key_at records) r.edges; value = r.value }
+
+abbrev pub entries : SessionValue → List Entry
+entries s = map (entry_of s.records) s.records
+
+-- what a session tells of a key, where it has a record of it
+abbrev pub entry_at : SessionValue → Key → Option Entry
+entry_at s key = find (λ e. is_eq (key_cmp e.key key)) (entries s)
+
+-- what a session before, where there is one, tells of a key
+abbrev pub past_entry : Option SessionValue → Key → Option Entry
+past_entry None key = None
+past_entry (Some s) key = entry_at s key

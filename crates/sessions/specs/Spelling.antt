@@ -1,0 +1,43 @@
+-- The bytes of a session's file. Numbers are big endian.
+use Rattle.std.specs.Prelude.{ℕ, List, [], ◌∷◌, ◌++◌, length, flat_map}
+use Rattle.sha2.specs.Sha256.{sha256}
+use Rattle.item_ids.specs.declared.key.Key.{Key}
+use Rattle.item_ids.specs.Kinds.{number_of}
+use Rattle.item_ids.specs.Keys.{kind_of, class_text, member_text}
+use Rattle.byte_readers.specs.Spelling.{four, eight, name, list}
+use Rattle.result_bytes.specs.declared.value.Value.{Value}
+use Rattle.result_bytes.specs.Values.{canon}
+use Rattle.fingerprint.specs.Prints.{print_of}
+use Rattle.sessions.specs.Marks.{number_of as mark_number}
+use Rattle.sessions.specs.Sessions.{RecordValue, SessionValue}
+
+-- `MJRG`, and version 1
+abbrev pub start : List ℕ
+start = 0x4d ∷ 0x4a ∷ 0x52 ∷ 0x47 ∷ 0 ∷ 1 ∷ []
+
+-- the number of the kind, and the names, of which one that is missing has no bytes
+unfoldable pub key_bytes : Key → List ℕ
+key_bytes key = number_of (kind_of key) ∷ (name (class_text key) ++ name (member_text key))
+
+-- the print of a result, the number of its bytes, and its bytes
+unfoldable pub result_bytes : Value → List ℕ
+result_bytes v = print_of v ++ (eight (length (canon v)) ++ canon v)
+
+unfoldable pub record_bytes : RecordValue → List ℕ
+record_bytes r = key_bytes r.key ++ (mark_number r.mark ∷ (list eight r.edges ++ result_bytes r.value))
+
+-- what stands before the records: the session's number, its link, and the number of the records
+unfoldable pub head_bytes : SessionValue → List ℕ
+head_bytes s = start ++ (four s.number ++ (s.link ++ eight (length s.records)))
+
+-- all but the digest at the end
+unfoldable pub body_bytes : SessionValue → List ℕ
+body_bytes s = head_bytes s ++ flat_map record_bytes s.records
+
+-- the file: the body, and its SHA-256
+unfoldable pub file_of : SessionValue → List ℕ
+file_of s = body_bytes s ++ sha256 (body_bytes s)
+
+-- the SHA-256 of the file, which is the link of the session behind it
+unfoldable pub digest_of : SessionValue → List ℕ
+digest_of s = sha256 (file_of s)

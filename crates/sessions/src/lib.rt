@@ -1,0 +1,16 @@
+//! Sessions: what a session keeps of each key, in order of the keys.
+#![tactic(auto)]
+
+mod checks;
+mod fault;
+mod mark;
+mod record;
+mod seen;
+mod session;
+
+pub use checks::{check_kept, check_key, is_above, is_marked};
+pub use fault::SessionFault;
+pub use mark::Mark;
+pub use record::Record;
+pub use seen::SeenEdges;
+pub use session::Session;

@@ -1,0 +1,40 @@
+//! How keys became done.
+ghost use Rattle.std.specs.Prelude.{◌≡◌, ◌<◌, ◌↔◌, IsSome, IfSome};
+ghost use Rattle.sessions.specs.Marks.{number_of};
+
+/// How a key became done.
+#[derive(Clone, Copy, Debug, PartialEq, Eq)]
+pub enum Mark {
+    /// It is an input.
+    Input,
+    /// It was run.
+    Executed,
+    /// Its result is that of the session before, and so is all that it read.
+    Green,
+}
+
+impl Mark {
+    /// The mark's number, by which it is written in files.
+    pub fn number(self) -> u8
+        ensures { result ≡ number_of self }
+    {
+        match self {
+            Mark::Input => 0,
+            Mark::Executed => 1,
+            Mark::Green => 2,
+        }
+    }
+
+    /// The mark that has this number.
+    pub fn from_number(number: u8) -> Option<Mark>
+        ensures found { IfSome result (λ mark. number_of mark ≡ number) }
+        ensures known { IsSome result ↔ (number < 3) }
+    {
+        match number {
+            0 => Some(Mark::Input),
+            1 => Some(Mark::Executed),
+            2 => Some(Mark::Green),
+            _ => None,
+        }
+    }
+}

@@ -1,0 +1,96 @@
+//! Sessions.
+ghost use Rattle.std.specs.Prelude.{◌≡◌, ◌≤◌, IfOk, IfErr};
+ghost use Rattle.sessions.specs.Sessions.{AreRecords, IsSession};
+ghost use Rattle.sessions.specs.Refusals.{IsRefused};
+
+use crate::checks::check_records;
+use crate::fault::SessionFault;
+use crate::record::Record;
+use std::alloc::Global;
+use std::marker::Model;
+
+/// A session: its number in its chain, the SHA-256 of the file of the session before it (zeros where there is none),
+/// and its records.
+#[derive(Drop)]
+pub struct Session {
+    number: u32,
+    link: [u8; 32],
+    records: Vec<Record>,
+}
+
+impl Model for Session {
+    ghost use Rattle.sessions.specs.Sessions.{SessionValue, IsSession};
+    ghost use Rattle.result_bytes.specs.contracts.value.Value as value_contracts;
+    ghost use Rattle.std.specs.Coded.{codes};
+
+    ghost Value = { SessionValue };
+
+    ghost coded = { Prim.hlevel (codes, value_contracts.the_row.coded) };
+
+    ghost view = { λ s. record { number = s.number; link = s.link; records = s.records.items } };
+
+    ghost invariant = { λ s. IsSession (record { number = s.number; link = s.link; records = s.records.items }) };
+}
+
+impl Session {
+    /// The greatest number of a session.
+    pub const MOST: u32 = 9999;
+
+    /// The session of this number, link and records, or their first fault.
+    pub fn new(
+        alloc: Global,
+        number: u32,
+        link: [u8; 32],
+        records: Vec<Record>,
+    ) -> Result<Session, SessionFault>
+        // It keeps just what was handed in.
+        ensures made { IfOk result (λ s. s ≡ record { number = number; link = link; records = records.items }) }
+        ensures session { IfOk result IsSession }
+        // Which fault it is.
+        ensures refused { IfErr result (IsRefused number records.items) }
+    {
+        if number > Session::MOST {
+            return Err(SessionFault::Number);
+        }
+        match check_records(alloc, &records) {
+            Ok(()) => Ok(Session::of(number, link, records)),
+            Err(fault) => Err(fault),
+        }
+    }
+
+    /// The session of this number, link and records, which are known to make one.
+    pub fn of(number: u32, link: [u8; 32], records: Vec<Record>) -> Session
+        requires number { number ≤ 9999 }
+        requires records { AreRecords records.items }
+        ensures { result ≡ record { number = number; link = link; records = records.items } }
+    {
+        let _few = records.len();
+        Session {
+            number,
+            link,
+            records,
+        }
+    }
+
+    /// The number in its chain, from 0.
+    pub fn number(&self) -> u32
+        ensures { result ≡ self.now.number }
+    {
+        self.number
+    }
+
+    /// The SHA-256 of the file of the session before it.
+    pub fn link(&self) -> &[u8; 32]
+        ensures { result.now ≡ self.now.link }
+    {
+        &self.link
+    }
+
+    /// The records, in order of their keys.
+    pub fn records(&self) -> &[Record]
+        ensures value { result.now ≡ self.now.records }
+        ensures session { IsSession self.now }
+    {
+        self.records.as_slice()
+    }
+}
