@@ -1,4 +1,0 @@
-pub mod Devices
-pub mod DeviceLaws
-pub mod Puts
-pub mod Reading
