@@ -1,0 +1,6 @@
+pub mod KeyRules
+pub mod Keeping
+pub mod Orders
+pub mod NextRules
+pub mod OneNext
+pub mod SessionRules

@@ -1,0 +1,273 @@
+-- A sound state that closes is the next session.
+use Rattle.std.proofs.Common.{◌≡◌, ℕ, suc, zero, ◌+◌, ◌<◌, ◌≤◌, List, [], ◌∷◌, ◌++◌, map, take, length, refl, sym, ap, ◌∙◌, subst, true, false, Option, Some, None, option_map, arith, append-nil, length-append}
+use Rattle.std.proofs.lemmas.List.Elements.{Contains-append_right, Contains-append_left, All-contains, All-from_recursion}
+use Rattle.std.proofs.lemmas.List.{take-map}
+use Rattle.std.proofs.lemmas.Option.{none-some, same_Some}
+use Rattle.std.proofs.lemmas.Slice.Eq.{bytes_eq-Decides}
+use Rattle.std.specs.Prelude.{if◌then◌else◌, Contains, slice_index_or, bytes_eq}
+use Rattle.std.specs.List.{AllByRecursion}
+use Rattle.item_ids.specs.declared.key.Key.{Key}
+use Rattle.result_bytes.specs.declared.value.Value.{Value}
+use Rattle.fingerprint.specs.Prints.{print_of}
+use Rattle.mj_project.specs.Projects.{IsProject}
+use Rattle.recorder.specs.Projects.{Project}
+use Rattle.recorder.specs.Backed.{Meaning, ReadLists, Told, rank, keys, IsOfKind, AreLower, Alike, RunnerLaws, Gives, GivesEach, BeginsWith, Backed}
+use Rattle.recorder.specs.Runs.{Ran, IsOutcome}
+use Rattle.sessions.specs.declared.mark.Mark.{Mark}
+use Rattle.sessions.specs.declared.mark.Mark.TheVariants.{Input, Green, Executed}
+use Rattle.sessions.specs.Sessions.{Entry}
+use Rattle.graph_rules.specs.Keys.{input_of}
+use Rattle.graph_rules.specs.Pasts.{Past, IsGraph, print_in}
+use Rattle.graph_rules.specs.Steps.{Status, Unknown, Claimed, Running, Done, State, IsDoneWith, EdgeState, Open, Unchanged, Changed, edge_at, edge_of, Walk, AllUnchanged, walk, past_walk, MayRun, AreHeld}
+use Rattle.graph_rules.specs.Sound.{IsGreen, IsExecuted, IsSoundAt, IsSound}
+use Rattle.graph_rules.specs.Graphs.{IsRoot, IsReached, AreClosed, edge}
+use Rattle.graph_rules.specs.Graphs.IsReached.{root as starts}
+use Rattle.graph_rules.specs.Next.{AreMeant, AreApart, IsReadIn, IsUnchanged, HasMark, IsNextEntry, AreNext}
+use Rattle.graph_rules.specs.Next.{read as read_in}
+use Rattle.graph_rules.specs.Next.IsReadIn.{root as rooted}
+use Rattle.graph_rules.proofs.KeyRules.{input_rank, input_means}
+use Rattle.graph_rules.proofs.Keeping.{all_unchanged, unchanged_all}
+
+-- ---- lists
+
+all_last : {X : Type 0} (P : X → Type 0) (xs : List X) (x : X) → AllByRecursion P xs → P x → AllByRecursion P (xs ++ x ∷ [])
+all_last P [] x a p = (p, tt)
+all_last P (y ∷ xs) x a p = (a.0, all_last P xs x a.1 p)
+
+last_cons : {X : Type 0} (xs : List X) (x : X) (ys : List X) → (xs ++ x ∷ []) ++ ys ≡ xs ++ x ∷ ys
+last_cons [] x ys = refl
+last_cons {X} (y ∷ xs) x ys = ap (λ (zs : List X). y ∷ zs) (last_cons xs x ys)
+
+has_mid : (xs : List Key) (e : Key) (ys : List Key) → Contains (xs ++ e ∷ ys) e
+has_mid xs e ys = let lt : 0 < length (e ∷ ys) = omega arith in Contains-append_right xs (e ∷ ys) e (0, lt, refl)
+
+pub all_at : {X : Type 0} (P : X → Type 0) (xs : List X) → AllByRecursion P xs → (x : X) → Contains xs x → P x
+all_at P xs a x has = All-contains P xs x (All-from_recursion P xs a) has
+
+pub all_from : {X : Type 0} (P : X → Type 0) (xs : List X) → ((x : X) → Contains xs x → P x) → AllByRecursion P xs
+all_from P [] h = tt
+all_from P (x ∷ xs) h =
+    let l : 0 < length (x ∷ xs) = omega arith in
+    (h x (0, l, refl), all_from P xs (λ e has. let l : suc has.0 < length (x ∷ xs) = let b = has.1 in omega arith in h e (suc has.0, l, has.2)))
+
+take_front : (pre : List Key) (rest : List Key) → take (length pre) (pre ++ rest) ≡ pre
+take_front [] rest = refl
+take_front (x ∷ pre) rest = ap (λ (zs : List Key). x ∷ zs) (take_front pre rest)
+
+take_next : (pre : List Key) (e : Key) (rest : List Key) → take (suc (length pre)) (pre ++ e ∷ rest) ≡ pre ++ e ∷ []
+take_next [] e rest = refl
+take_next (x ∷ pre) e rest = ap (λ (zs : List Key). x ∷ zs) (take_next pre e rest)
+
+from_take_at : (n : ℕ) (xs : List Key) (e : Key) (k : ℕ) → k < length (take n xs) → slice_index_or (take n xs) k e ≡ e → Contains xs e
+from_take_at zero xs e k lt is = absurd (omega arith)
+from_take_at (suc n) [] e k lt is = absurd (omega arith)
+from_take_at (suc n) (x ∷ xs) e zero lt is = let l : 0 < length (x ∷ xs) = omega arith in (0, l, is)
+from_take_at (suc n) (x ∷ xs) e (suc k) lt is =
+    let h = from_take_at n xs e k (omega arith) is in
+    let l : suc h.0 < length (x ∷ xs) = let b = h.1 in omega arith in (suc h.0, l, h.2)
+
+from_take : (n : ℕ) (xs : List Key) (e : Key) → Contains (take n xs) e → Contains xs e
+from_take n xs e has = from_take_at n xs e has.0 has.1 has.2
+
+-- a list of which one element more is the list itself
+whole_take : (xs ys : List Key) → take (suc (length xs)) ys ≡ xs → ys ≡ xs
+whole_take [] [] e = refl
+whole_take [] (y ∷ ys) e = absurd (cc)
+whole_take (x ∷ xs) [] e = e
+whole_take (x ∷ xs) (y ∷ ys) e =
+    let h : y ≡ x = cc in
+    let t : take (suc (length xs)) ys ≡ xs = cc in
+    ap (λ (z : Key). z ∷ ys) h ∙ ap (λ (zs : List Key). x ∷ zs) (whole_take xs ys t)
+
+take_whole : (xs : List Key) → take (suc (length xs)) xs ≡ xs
+take_whole [] = refl
+take_whole (x ∷ xs) = ap (λ (zs : List Key). x ∷ zs) (take_whole xs)
+
+-- Edges in order: where each next one is among the reads as soon as those before it are good, and is good where it is
+-- among the reads, all are good.
+settle : (Good : Key → Type 0) (all : List Key) (Reads : Key → Type 0)
+    → ((pre : List Key) (e : Key) (rest : List Key) → all ≡ pre ++ e ∷ rest → AllByRecursion Good pre → Reads e)
+    → ((e : Key) → Contains all e → Reads e → Good e)
+    → (pre rest : List Key) → all ≡ pre ++ rest → AllByRecursion Good pre → AllByRecursion Good all
+settle Good all Reads next good pre [] is before = rw (is, append-nil) before
+settle Good all Reads next good pre (e ∷ rest) is before =
+    let here : Good e = good e (rw is (has_mid pre e rest)) (next pre e rest is before) in
+    settle Good all Reads next good (pre ++ e ∷ []) rest (is ∙ sym (last_cons pre e rest)) (all_last Good pre e before here)
+
+-- ---- edges
+
+-- an unchanged edge to a key that is done so has this print in the past
+unchanged_print : (pr : Option (List ℕ)) (v : Value) (es : List Key) (m : Mark) → edge_at pr (Done v es m) ≡ Unchanged → pr ≡ Some (print_of v)
+unchanged_print None v es m e = absurd (cc)
+unchanged_print (Some pr) v es m e =
+    (elim (bytes_eq pr (print_of v)) as (λ b. bytes_eq pr (print_of v) ≡ b → (if b then Unchanged else Changed) ≡ Unchanged → Some pr ≡ Some (print_of v)) [
+      | true ↦ λ t _. ap Some ((bytes_eq-Decides pr (print_of v)).0 t)
+      | false ↦ λ t f. absurd (cc)
+    ]) refl e
+
+unchanged_by : (pr : Option (List ℕ)) (y : Status) (v : Value) (es : List Key) (m : Mark) → pr ≡ Some (print_of v) → y ≡ Done v es m → edge_at pr y ≡ Unchanged
+unchanged_by pr y v es m p yd =
+    let t : bytes_eq (print_of v) (print_of v) ≡ true = (bytes_eq-Decides (print_of v) (print_of v)).1 refl in
+    rw (p, yd, t) refl
+
+not_needed : (o : Option Entry) (r : Entry) (past : Past) (s : State) → o ≡ Some r → walk past s r.reads ≡ AllUnchanged → MayRun (option_map (λ x. walk past s x.reads) o) → ⊥
+not_needed o r past s is all m = let f = rw (is, all) at m in f
+
+print_some : (past : Past) (e : Key) (x : Entry) → past e ≡ Some x → print_in past e ≡ Some (print_of x.value)
+print_some past e x is = ap (option_map (λ r. print_of r.value)) is
+
+-- what a key that is done stands for in the project
+abbrev pub Means : Meaning → ReadLists → Project → State → Key → Type 0
+Means mean reads p s q = (m : Mark) × (s.at q ≡ Done (mean p q) (reads p q) m)
+
+module _ (mean : Meaning) (reads : ReadLists) (laws : RunnerLaws mean reads) (past : Past) (p old : Project) (s : State)
+    (project : IsProject p) (old_project : IsProject old) (graph : IsGraph past)
+    (sound : IsSound mean reads past p s) (meant : AreMeant mean reads past old) (apart : AreApart mean reads past p)
+    (done : (q : Key) → IsReached p s q → (v : Value) × (es : List Key) × (m : Mark) × (s.at q ≡ Done v es m)) where
+  gives_each : (told : List Told) → AreHeld s told → AllByRecursion (λ e. (u : Value) → IsDoneWith u (s.at e) → mean p e ≡ u) (keys told) → GivesEach (mean p) told
+  gives_each [] h a = tt
+  gives_each (r ∷ rs) h a = (a.0 r.value h.0, gives_each rs h.1 a.1)
+
+  gives_front : (told : List Told) (i : ℕ) → AreHeld s told → AllByRecursion (λ e. (u : Value) → IsDoneWith u (s.at e) → mean p e ≡ u) (take i (keys told)) → GivesEach (mean p) (take i told)
+  gives_front told zero h a = tt
+  gives_front [] (suc i) h a = tt
+  gives_front (r ∷ rs) (suc i) h a = (a.0 r.value h.0, gives_front rs i h.1 a.1)
+
+  keys_length : (told : List Told) → length (keys told) ≡ length told
+  keys_length [] = refl
+  keys_length (r ∷ rs) = ap suc (keys_length rs)
+
+  -- an executed key
+  executed : (q : Key) (v : Value) (es : List Key) → IsExecuted mean reads past s q v es
+      → ((e : Key) → Contains es e → Contains (reads p q) e → Means mean reads p s e) → (reads p q ≡ es) × (mean p q ≡ v)
+  executed q v es ex ih =
+      let G : Key → Type 0 = λ e. (u : Value) → IsDoneWith u (s.at e) → mean p e ≡ u in
+      let next : (pre : List Key) (e : Key) (rest : List Key) → es ≡ pre ++ e ∷ rest → AllByRecursion G pre → Contains (reads p q) e
+      = λ pre e rest here before.
+      let lt : length pre < length ex.told = omega (arith, ap length here, ap length ex.edges, keys_length ex.told, length-append pre (e ∷ rest)) in
+      let g = gives_front ex.told (length pre) ex.held (rw (ex.edges, here, take_front pre (e ∷ rest)) before) in
+      let b = ex.outcome.backed.asked (length pre) lt p (record { project = project; each = g }) in
+      let t : keys (take (suc (length pre)) ex.told) ≡ pre ++ e ∷ [] = sym (take-map (λ (t : Told). t.key) (suc (length pre)) ex.told) ∙ ap (take (suc (length pre))) (ex.edges ∙ here) ∙ take_next pre e rest in
+      subst (λ (xs : List Key). Contains xs e) b.1 (Contains-append_left (keys (take (suc (length pre)) ex.told)) b.0 e (rw t (has_mid pre e []))) in
+      let good : (e : Key) → Contains es e → Contains (reads p q) e → G e
+      = λ e has inn u d. let m = ih e has inn in subst (λ (y : Status). IsDoneWith u y) m.1 d in
+      let all = settle G es (λ e. Contains (reads p q) e) next good [] es refl tt in
+      let g : Gives mean p ex.told = record { project = project; each = gives_each ex.told ex.held (rw (← ex.edges) at all) } in
+      (ex.outcome.backed.whole p g ∙ ex.edges, ex.outcome.backed.means p g)
+
+  -- a green key
+  green : (q : Key) (v : Value) (es : List Key) → 0 < rank q → IsGreen past s q v es → IsReadIn reads p q
+      → ((e : Key) → Contains es e → Contains (reads p q) e → Means mean reads p s e) → (reads p q ≡ es) × (mean p q ≡ v)
+  green q v es nin gr inP ih =
+      let r = meant q gr.had gr.past_has in
+      let eq : es ≡ reads old q = sym gr.edges ∙ r.1 in
+      let G : Key → Type 0 = λ e. mean old e ≡ mean p e in
+      let unchanged = all_unchanged past s es gr.unchanged in
+      let good : (e : Key) → Contains (reads old q) e → Contains (reads p q) e → G e
+      = λ e has inn.
+      let hase : Contains es e = rw eq has in
+      let m = ih e hase inn in
+      let x = graph.closed q gr.had e gr.past_has (rw gr.edges hase) in
+      let u : edge_of past s e ≡ Unchanged = all_at (λ k. edge_of past s k ≡ Unchanged) es unchanged e hase in
+      let pr = unchanged_print (print_in past e) (mean p e) (reads p e) m.0 (ap (edge_at (print_in past e)) (sym m.1) ∙ u) in
+      let same : print_of x.0.value ≡ print_of (mean p e) = same_Some _ _ (sym (print_some past e x.0 x.1) ∙ pr) in
+      sym (meant e x.0 x.1).0 ∙ apart e e x.0 (read_in q e inP inn) x.1 same in
+      let next : (pre : List Key) (e : Key) (rest : List Key) → reads old q ≡ pre ++ e ∷ rest → AllByRecursion G pre → Contains (reads p q) e
+      = λ pre e rest here before.
+      let n = laws.next old p q (length pre) old_project project (rw (here, take_front pre (e ∷ rest)) before) in
+      from_take (suc (length pre)) (reads p q) e (rw (← n, here, take_next pre e rest) (has_mid pre e [])) in
+      let all = settle G (reads old q) (λ e. Contains (reads p q) e) next good [] (reads old q) refl tt in
+      let n = laws.next old p q (length (reads old q)) old_project project (subst (AllByRecursion G) (sym (take_length (reads old q))) all) in
+      let reads_same : reads p q ≡ reads old q = whole_take (reads old q) (reads p q) (sym n ∙ take_whole (reads old q)) in
+      (reads_same ∙ sym eq, sym (laws.same old p q old_project project nin all) ∙ (sym r.0 ∙ gr.value))
+    where
+      take_length : (xs : List Key) → take (length xs) xs ≡ xs
+      take_length [] = refl
+      take_length (x ∷ xs) = ap (λ (zs : List Key). x ∷ zs) (take_length xs)
+
+  means_at : (q : Key) (v : Value) (es : List Key) (m : Mark) → s.at q ≡ Done v es m → IsSoundAt mean reads past p s q (Done v es m) → IsReadIn reads p q
+      → ((e : Key) → Contains es e → Contains (reads p q) e → Means mean reads p s e) → Means mean reads p s q
+  means_at q v es Input is so inP ih =
+      let v_is = sym (input_means mean reads laws p project q v so.0) in
+      let es_is : es ≡ reads p q = so.1 ∙ sym (laws.no_reads p q project (input_rank p q v so.0)) in
+      (Input, is ∙ ap (λ (x : Value). Done x es Input) v_is ∙ ap (λ (x : List Key). Done (mean p q) x Input) es_is)
+  means_at q v es Green is so inP ih = let e = green q v es so.0 so.1 inP ih in (Green, is ∙ ap (λ (x : Value). Done x es Green) (sym e.1) ∙ ap (λ (x : List Key). Done (mean p q) x Green) (sym e.0))
+  means_at q v es Executed is so inP ih = let e = executed q v es so.1 ih in (Executed, is ∙ ap (λ (x : Value). Done x es Executed) (sym e.1) ∙ ap (λ (x : List Key). Done (mean p q) x Executed) (sym e.0))
+
+  -- by rank: each key that is reached, and read in the project, has its meaning
+  pub means : (n : ℕ) (q : Key) → rank q < n → IsReached p s q → IsReadIn reads p q → Means mean reads p s q
+  means zero q lt reached inP = absurd (omega arith)
+  means (suc n) q lt reached inP =
+      let d = done q reached in
+      let so : IsSoundAt mean reads past p s q (Done d.0 d.1 d.2) = subst (λ (y : Status). IsSoundAt mean reads past p s q y) d.3 (sound q) in
+      means_at q d.0 d.1 d.2 d.3 so inP
+      (λ e has inn. let low = all_at (λ k. rank k < rank q) (reads p q) (laws.lower p q project) e inn in means n e (omega arith) (edge q d.0 d.1 d.2 e reached d.3 has) (read_in q e inP inn))
+
+  means_of : (q : Key) → IsReached p s q → IsReadIn reads p q → Means mean reads p s q
+  means_of q reached inP = means (suc (rank q)) q (omega arith) reached inP
+
+  pub read_of : (q : Key) → IsReached p s q → IsReadIn reads p q
+  read_of q (starts _ r) = rooted q r
+  read_of _ (edge q v es m e reached is has) =
+      let inP = read_of q reached in
+      let me = means_of q reached inP in
+      let same : es ≡ reads p q = let b = sym is ∙ me.1 in cc in
+      read_in q e inP (subst (λ (xs : List Key). Contains xs e) same has)
+
+  pub reached_of : (q : Key) → IsReadIn reads p q → IsReached p s q
+  reached_of q (rooted _ r) = starts q r
+  reached_of _ (read_in q e inP has) =
+      let reached = reached_of q inP in
+      let me = means_of q reached inP in
+      edge q (mean p q) (reads p q) me.0 e reached me.1 has
+
+  mark_of : (q : Key) (v : Value) (es : List Key) (m : Mark) → s.at q ≡ Done v es m → IsSoundAt mean reads past p s q (Done v es m) → IsReadIn reads p q → HasMark mean reads past p q m
+  mark_of q v es Input is so inP = input_rank p q v so.0
+  mark_of q v es Green is so inP =
+      let me = means_of q (reached_of q inP) inP in
+      let same : es ≡ reads p q = let b = sym is ∙ me.1 in cc in
+      let gr = so.1 in (
+        so.0,
+        record {
+          had = gr.had;
+          past_has = gr.past_has;
+          same = λ e has.
+              let hase : Contains es e = subst (λ (xs : List Key). Contains xs e) gr.edges has in
+              let ine = read_in q e inP (subst (λ (xs : List Key). Contains xs e) same hase) in
+              let m = means_of e (reached_of e ine) ine in
+              let u : edge_of past s e ≡ Unchanged = all_at (λ k. edge_of past s k ≡ Unchanged) es (all_unchanged past s es gr.unchanged) e hase in
+              (ine, unchanged_print (print_in past e) (mean p e) (reads p e) m.0 (ap (edge_at (print_in past e)) (sym m.1) ∙ u));
+        },
+      )
+  mark_of q v es Executed is so inP = (
+    so.0,
+    (λ gr.
+        let each : AllByRecursion (λ e. edge_of past s e ≡ Unchanged) gr.had.reads = all_from (λ e. edge_of past s e ≡ Unchanged) gr.had.reads (λ e has.
+        let h = gr.same e has in
+        let m = means_of e (reached_of e h.0) h.0 in
+        unchanged_by (print_in past e) (s.at e) (mean p e) (reads p e) m.0 h.1 m.1) in
+        not_needed (past q) gr.had past s gr.past_has (unchanged_all past s gr.had.reads each) so.1.needed),
+  )
+
+-- what a sound state closes with
+pub closed_next : (mean : Meaning) (reads : ReadLists) → RunnerLaws mean reads → (past : Past) (p old : Project) (s : State) (entries : List Entry) → IsProject p → IsProject old → IsGraph past
+    → IsSound mean reads past p s → AreClosed p s entries → AreMeant mean reads past old → AreApart mean reads past p → AreNext mean reads past p entries
+closed_next mean reads laws past p old s entries project old_project graph sound closed meant apart =
+    let done : (q : Key) → IsReached p s q → (v : Value) × (es : List Key) × (m : Mark) × (s.at q ≡ Done v es m)
+    = λ q reached. let a = closed.all q reached in (a.0.value, a.0.reads, a.0.mark, ap s.at (sym a.2) ∙ (closed.each a.0 a.1).1) in
+    record {
+      ascending = closed.ascending;
+      each = λ r has.
+          let c = closed.each r has in
+          let inP = read_of mean reads laws past p old s project old_project graph sound meant apart done r.key c.0 in
+          let me = means mean reads laws past p old s project old_project graph sound meant apart done (suc (rank r.key)) r.key (omega arith) c.0 inP in
+          let both : Done r.value r.reads r.mark ≡ Done (mean p r.key) (reads p r.key) me.0 = sym c.1 ∙ me.1 in
+          record {
+            reached = inP;
+            value = cc;
+            edges = cc;
+            mark = mark_of mean reads laws past p old s project old_project graph sound meant apart done r.key r.value r.reads r.mark c.1
+                (subst (λ (y : Status). IsSoundAt mean reads past p s r.key y) c.1 (sound r.key)) inP;
+          };
+      all = λ q inP. closed.all q (reached_of mean reads laws past p old s project old_project graph sound meant apart done q inP);
+    }

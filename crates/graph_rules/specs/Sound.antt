@@ -1,0 +1,57 @@
+-- What holds of every key in each state that a legal history reaches.
+use Rattle.std.specs.Prelude.{◌≡◌, ℕ, ◌<◌, List, [], ◌∷◌, Option, Some}
+use Rattle.std.specs.List.{AllByRecursion}
+use Rattle.item_ids.specs.declared.key.Key.{Key}
+use Rattle.result_bytes.specs.declared.value.Value.{Value}
+use Rattle.recorder.specs.Projects.{Project}
+use Rattle.recorder.specs.Backed.{Meaning, ReadLists, Told, rank, keys, AreLower, IsOfKind}
+use Rattle.recorder.specs.Runs.{Ran, IsOutcome}
+use Rattle.sessions.specs.declared.mark.Mark.TheVariants.{Input, Green, Executed}
+use Rattle.sessions.specs.Sessions.{Entry}
+use Rattle.graph_rules.specs.Keys.{input_of}
+use Rattle.graph_rules.specs.Pasts.{Past}
+use Rattle.graph_rules.specs.Steps.{Status, Unknown, Claimed, Running, Done, State, Event, Claim, MarkGreen, Begin, Finish, Fail, AllUnchanged, walk, past_walk, MayRun, AreHeld, IsDone}
+
+-- an outcome that ends a run follows from its reads
+abbrev pub IsBacked : Meaning → ReadLists → Event → Type 0
+IsBacked mean reads (Finish w o) = IsOutcome mean reads o
+IsBacked mean reads _ = Unit {0}
+
+abbrev pub AreBacked : Meaning → ReadLists → List Event → Type 0
+AreBacked mean reads history = AllByRecursion (λ e. IsBacked mean reads e) history
+
+-- a green key has the past's value and edges, and each of these edges is unchanged
+pub record IsGreen (past : Past) (s : State) (q : Key) (v : Value) (es : List Key) : Type 0 where
+  pub had : Entry
+  pub past_has : past q ≡ Some had
+  pub value : had.value ≡ v
+  pub edges : had.reads ≡ es
+  pub unchanged : walk past s es ≡ AllUnchanged
+
+-- An executed key had to run, and its value follows from answers that are the values of its edges.
+pub record IsExecuted (mean : Meaning) (reads : ReadLists) (past : Past) (s : State) (q : Key) (v : Value) (es : List Key) : Type 0 where
+  pub told : List Told
+  pub outcome : IsOutcome mean reads (record { key = q; told = told; value = v })
+  pub edges : keys told ≡ es
+  pub held : AreHeld s told
+  pub needed : MayRun (past_walk past s q)
+
+-- what each status says of a key
+abbrev pub IsSoundAt : Meaning → ReadLists → Past → Project → State → Key → Status → Type 0
+IsSoundAt mean reads past p s q Unknown = 0 < rank q
+IsSoundAt mean reads past p s q (Claimed w) = 0 < rank q
+IsSoundAt mean reads past p s q (Running w) = (0 < rank q) × MayRun (past_walk past s q)
+IsSoundAt mean reads past p s q (Done v es Input) = (input_of p q ≡ Some v) × (es ≡ [])
+IsSoundAt mean reads past p s q (Done v es Green) = (0 < rank q) × IsGreen past s q v es
+IsSoundAt mean reads past p s q (Done v es Executed) = (0 < rank q) × IsExecuted mean reads past s q v es
+
+abbrev pub IsSound : Meaning → ReadLists → Past → Project → State → Type 0
+IsSound mean reads past p s = (q : Key) → IsSoundAt mean reads past p s q (s.at q)
+
+-- a done key's value is of its kind, and its edges are done and of lower rank
+abbrev pub IsInOrderAt : State → Key → Status → Type 0
+IsInOrderAt s q (Done v es m) = IsOfKind q v × AreLower q es × AllByRecursion (λ e. IsDone (s.at e)) es
+IsInOrderAt s q _ = Unit {0}
+
+abbrev pub IsInOrder : State → Type 0
+IsInOrder s = (q : Key) → IsInOrderAt s q (s.at q)

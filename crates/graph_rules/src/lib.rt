@@ -1,0 +1,9 @@
+//! The rules by which the keys of a session become done, and what holds of every session that keeps to them.
+#![tactic(auto)]
+
+mod laws;
+
+pub use laws::{
+    closed_is_next, histories_are_orderly, histories_are_sound, inputs_apart, keys_apart, one_next,
+    sessions_are_graphs, sound_is_in_order,
+};

@@ -1,0 +1,4 @@
+pub mod NodeRules
+pub mod StepRules
+pub mod EventRules
+pub mod InputRules

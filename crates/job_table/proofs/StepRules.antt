@@ -1,0 +1,195 @@
+-- What a change of the nodes is in the state, and what each call says of the table.
+use Rattle.std.proofs.Common.{◌≡◌, ℕ, suc, zero, ◌+◌, ◌<◌, List, [], ◌∷◌, ◌++◌, map, refl, sym, ap, ◌∙◌, subst, Bool, true, false, Option, Some, None, option_map}
+use Rattle.std.specs.Prelude.{if◌then◌else◌}
+use Rattle.std.specs.List.{AllByRecursion}
+use Rattle.std.proofs.lemmas.Option.{none-some}
+use Rattle.item_ids.specs.declared.key.Key.{Key}
+use Rattle.result_bytes.specs.declared.value.Value.{Value}
+use Rattle.mj_project.specs.Projects.{IsProject}
+use Rattle.recorder.specs.Projects.{Project}
+use Rattle.recorder.specs.Backed.{Meaning, ReadLists, Told, rank, keys}
+use Rattle.recorder.specs.Runs.{Ran}
+use Rattle.sessions.specs.Sessions.{Entry}
+use Rattle.sessions.specs.declared.mark.Mark.TheVariants.{Input, Green, Executed}
+use Rattle.graph_rules.specs.Keys.{same_key, input_of}
+use Rattle.graph_rules.specs.Pasts.{Past, print_in}
+use Rattle.graph_rules.specs.Steps.{Status, Unknown, Claimed, Running, Done, State, Event, Claim, MarkGreen, Begin, Finish, Fail, at_opening, opening, with_status, IsDone, IsNotDone, IsDoneWith, IsHeldBy, IsBelow, MayStep, MayRun, Walk, AllUnchanged, walk_on, walk, past_walk, edge_at, AreHeld, green, after, after_all, AreSteps, Legal, replayed}
+use Rattle.graph_rules.specs.Sound.{IsBacked, AreBacked}
+use Rattle.graph_rules.proofs.KeyRules.{same_refl, same_is}
+use Rattle.graph_rules.proofs.Orders.{after_all_append, steps_append}
+use Rattle.job_table.specs.declared.nodes.Node.{Node}
+use Rattle.job_table.specs.Nodes.{status_of, status_in, status_at, unless_input, held, has_key, AreApart, IsFirst, AllAbove}
+use Rattle.job_table.specs.Kept.{IsKept}
+use Rattle.job_table.proofs.NodeRules.{above_held, held_above, first_known, unknown_absent, apart_last, status_last}
+
+-- ---- opening
+
+opened : (o : Option Value) → unless_input o Unknown ≡ at_opening o
+opened (Some v) = refl
+opened None = refl
+
+pub kept_opening : (past : Past) (p : Project) → IsProject p → IsKept past p [] false []
+kept_opening past p project = record {
+  project = project;
+  legal = tt;
+  status = λ q. opened (input_of p q);
+  failed_is = refl;
+  apart = tt;
+  inner = λ q v is. refl;
+}
+
+-- ---- steps
+
+-- one more outcome that follows from its reads
+pub backed_last : (mean : Meaning) (reads : ReadLists) (h : List Event) (e : Event) → AreBacked mean reads h → IsBacked mean reads e → AreBacked mean reads (h ++ e ∷ [])
+backed_last mean reads [] e all one = (one, tt)
+backed_last mean reads (x ∷ h) e all one = (all.0, backed_last mean reads h e all.1 one)
+
+pub replayed_last : (past : Past) (p : Project) (h : List Event) (e : Event) → replayed past p (h ++ e ∷ []) ≡ after past (replayed past p h) e
+replayed_last past p h e = after_all_append past (opening p) h (e ∷ [])
+
+legal_last : (past : Past) (p : Project) (h : List Event) (e : Event) → Legal past p h → MayStep past (replayed past p h) e → Legal past p (h ++ e ∷ [])
+legal_last past p h e legal may = steps_append past (opening p) h (e ∷ []) legal (may, tt)
+
+-- how a key stands after one is written, in a table and in a state
+put_at : (p : Project) (x y : Status) (q k : Key) → input_of p q ≡ None
+    → unless_input (input_of p k) (if same_key q k then x else y) ≡ (if same_key q k then x else unless_input (input_of p k) y)
+put_at p x y q k none =
+    (elim (same_key q k) as (λ b. same_key q k ≡ b → unless_input (input_of p k) (if b then x else y) ≡ (if b then x else unless_input (input_of p k) y)) [
+      | true ↦ λ is. ap (λ o. unless_input o x) (subst (λ (v : Key). input_of p v ≡ None) (same_is q k is) none)
+      | false ↦ λ is. refl
+    ]) refl
+
+put_inner : (p : Project) (x y : Status) (q k : Key) (v : Value) → input_of p q ≡ None → input_of p k ≡ Some v → y ≡ Unknown → (if same_key q k then x else y) ≡ Unknown
+put_inner p x y q k v none some unknown =
+    (elim (same_key q k) as (λ b. same_key q k ≡ b → (if b then x else y) ≡ Unknown) [
+      | true ↦ λ is. absurd (none-some v (sym (subst (λ (u : Key). input_of p u ≡ None) (same_is q k is) none) ∙ some))
+      | false ↦ λ is. unknown
+    ]) refl
+
+-- a table in which one key stands otherwise, and its event
+pub kept_step : (past : Past) (p : Project) (ns ms : List Node) (b : Bool) (h : List Event) (e : Event) (q : Key) (x : Status)
+    → IsKept past p ns b h → MayStep past (replayed past p h) e → ((s : State) → after past s e ≡ with_status s q x) → input_of p q ≡ None → AreApart ms
+    → ((k : Key) → status_in ms k ≡ (if same_key q k then x else status_in ns k))
+    → IsKept past p ms b (h ++ e ∷ [])
+kept_step past p ns ms b h e q x kept may is none apart put =
+    let last : replayed past p (h ++ e ∷ []) ≡ with_status (replayed past p h) q x = replayed_last past p h e ∙ is (replayed past p h) in
+    record {
+      project = kept.project;
+      legal = legal_last past p h e kept.legal may;
+      status = λ k.
+          ap (unless_input (input_of p k)) (put k)
+          ∙ (put_at p x (status_in ns k) q k none
+          ∙ (ap (λ (y : Status). if same_key q k then x else y) (kept.status k)
+          ∙ ap (λ (s : State). s.at k) (sym last)));
+      failed_is = kept.failed_is ∙ ap (λ (s : State). s.failed) (sym last);
+      apart = apart;
+      inner = λ k v some. put k ∙ put_inner p x (status_in ns k) q k v none some (kept.inner k v some);
+    }
+
+-- a table in which a worker failed
+pub kept_fail : (past : Past) (p : Project) (ns : List Node) (h : List Event) (w : ℕ) → IsKept past p ns false h → IsKept past p ns true (h ++ Fail w ∷ [])
+kept_fail past p ns h w kept =
+    let last : replayed past p (h ++ Fail w ∷ []) ≡ after past (replayed past p h) (Fail w) = replayed_last past p h (Fail w) in
+    record {
+      project = kept.project;
+      legal = legal_last past p h (Fail w) kept.legal (sym kept.failed_is);
+      status = λ k. kept.status k ∙ ap (λ (s : State). s.at k) (sym last);
+      failed_is = ap (λ (s : State). s.failed) (sym last);
+      apart = kept.apart;
+      inner = kept.inner;
+    }
+
+held_in_at : (w : ℕ) (o : Option Value) (x : Status) → IsHeldBy w (unless_input o x) → IsHeldBy w x
+held_in_at w (Some v) x h = elim h [ ]
+held_in_at w None x h = h
+
+held_out_at : (w : ℕ) (o : Option Value) (x : Status) → ((v : Value) → o ≡ Some v → x ≡ Unknown) → IsHeldBy w x → IsHeldBy w (unless_input o x)
+held_out_at w (Some v) x inner h = let f = rw (inner v refl) at h in f
+held_out_at w None x inner h = h
+
+not_done_at : (o : Option Value) (x : Status) → IsNotDone (unless_input o x) → unless_input o x ≡ x
+not_done_at (Some v) x h = elim h [ ]
+not_done_at None x h = refl
+
+none_at : (o : Option Value) (x : Status) → ((v : Value) → o ≡ Some v → x ≡ Unknown) → (x ≡ Unknown → ⊥) → o ≡ None
+none_at (Some v) x inner known = absurd (known (inner v refl))
+none_at None x inner known = refl
+
+walk_same : (past : Past) (s t : State) → ((k : Key) → s.at k ≡ t.at k) → (es : List Key) → walk past s es ≡ walk past t es
+walk_same past s t e [] = refl
+walk_same past s t e (q ∷ es) =
+    ap (λ (x : Status). walk_on (edge_at (print_in past q) x) (walk past s es)) (e q)
+    ∙ ap (λ (w : Walk). walk_on (edge_at (print_in past q) (t.at q)) w) (walk_same past s t e es)
+
+past_walk_at : (past : Past) (s t : State) → ((k : Key) → s.at k ≡ t.at k) → (o : Option Entry)
+    → option_map (λ r. walk past s r.reads) o ≡ option_map (λ r. walk past t r.reads) o
+past_walk_at past s t e None = refl
+past_walk_at past s t e (Some r) = ap Some (walk_same past s t e r.reads)
+
+pub past_walk_same : (past : Past) (s t : State) → ((k : Key) → s.at k ≡ t.at k) → (q : Key) → past_walk past s q ≡ past_walk past t q
+past_walk_same past s t e q = past_walk_at past s t e (past q)
+
+held_same : (s t : State) → ((k : Key) → s.at k ≡ t.at k) → (rs : List Told) → AreHeld s rs → AreHeld t rs
+held_same s t e [] h = tt
+held_same s t e (r ∷ rs) h = (subst (λ (x : Status). IsDoneWith r.value x) (e r.key) h.0, held_same s t e rs h.1)
+
+input_unknown : (o : Option Value) → at_opening o ≡ Unknown → o ≡ None
+input_unknown (Some v) e = absurd cc
+input_unknown None e = refl
+
+unknown_none : (o : Option Value) (x : Status) → unless_input o x ≡ Unknown → o ≡ None
+unknown_none (Some v) x e = absurd cc
+unknown_none None x e = refl
+
+module _ (past : Past) (p : Project) (ns : List Node) (b : Bool) (h : List Event) (kept : IsKept past p ns b h) where
+  pub is_not_done : (q : Key) → IsNotDone (status_at p ns q) → IsNotDone ((replayed past p h).at q)
+  is_not_done q nd = subst (λ (x : Status). IsNotDone x) (kept.status q) nd
+
+  pub is_done : (q : Key) (v : Value) → IsDoneWith v (status_at p ns q) → IsDoneWith v ((replayed past p h).at q)
+  is_done q v d = subst (λ (x : Status). IsDoneWith v x) (kept.status q) d
+
+  pub is_below : (w : ℕ) (q : Key) → AllAbove w (rank q) ns → IsBelow (replayed past p h) w q
+  is_below w q all = λ k held. above_held ns w (rank q) k all (held_in_at w (input_of p k) (status_in ns k) (subst (λ (x : Status). IsHeldBy w x) (sym (kept.status k)) held))
+
+  pub is_not_below : (w : ℕ) (q : Key) → (AllAbove w (rank q) ns → ⊥) → IsBelow (replayed past p h) w q → ⊥
+  is_not_below w q none below = none (held_above ns w (rank q) kept.apart (λ k held. below k (subst (λ (x : Status). IsHeldBy w x) (kept.status k) (held_out_at w (input_of p k) (status_in ns k) (kept.inner k) held))))
+
+  pub is_unknown : (q : Key) → IsNotDone (status_at p ns q) → status_in ns q ≡ Unknown → (replayed past p h).at q ≡ Unknown
+  is_unknown q nd u = sym (kept.status q) ∙ (not_done_at (input_of p q) (status_in ns q) nd ∙ u)
+
+  pub is_known : (q : Key) (i : ℕ) → IsNotDone (status_at p ns q) → IsFirst ns q i → (replayed past p h).at q ≡ Unknown → ⊥
+  is_known q i nd first unknown = first_known ns q i first (sym (not_done_at (input_of p q) (status_in ns q) nd) ∙ (kept.status q ∙ unknown))
+
+  -- a claim
+  pub kept_claim : (w : ℕ) (q : Key) (n : Node) → n.key ≡ q → status_of n.standing ≡ Claimed w → b ≡ false → IsNotDone (status_at p ns q) → status_in ns q ≡ Unknown → AllAbove w (rank q) ns
+      → IsKept past p (ns ++ n ∷ []) b (h ++ Claim w q ∷ [])
+  kept_claim w q n here stands nf nd u all =
+      let at : (replayed past p h).at q ≡ Unknown = is_unknown q nd u in
+      let absent : has_key q ns ≡ false = unknown_absent ns q u in
+      kept_step past p ns (ns ++ n ∷ []) b h (Claim w q) q (Claimed w) kept (sym kept.failed_is ∙ nf, at, is_below w q all) (λ s. refl)
+      (unknown_none (input_of p q) (status_in ns q) (kept.status q ∙ at))
+      (apart_last ns n kept.apart (subst (λ (k : Key). has_key k ns ≡ false) (sym here) absent))
+      (λ k. status_last ns n q k (Claimed w) here stands absent)
+
+  pub is_standing : (q : Key) (x : Status) → status_in ns q ≡ x → (x ≡ Unknown → ⊥) → (input_of p q ≡ None) × ((replayed past p h).at q ≡ x)
+  is_standing q x is known =
+      let none : input_of p q ≡ None = none_at (input_of p q) (status_in ns q) (kept.inner q) (λ u. known (sym is ∙ u)) in
+      (none, sym (kept.status q) ∙ (ap (λ o. unless_input o (status_in ns q)) none ∙ is))
+
+  pub are_held : (c : Bool) (rs : List Told) → AreHeld (held p ns c) rs → AreHeld (replayed past p h) rs
+  are_held c rs all = held_same (held p ns c) (replayed past p h) kept.status rs all
+
+  pub is_walk : (c : Bool) (es : List Key) → walk past (held p ns c) es ≡ walk past (replayed past p h) es
+  is_walk c es = walk_same past (held p ns c) (replayed past p h) kept.status es
+
+  -- a key that stands otherwise
+  pub kept_put : (ms : List Node) (e : Event) (q : Key) (x : Status) → MayStep past (replayed past p h) e → ((s : State) → after past s e ≡ with_status s q x)
+      → input_of p q ≡ None → (AreApart ns → AreApart ms) → ((k : Key) → status_in ms k ≡ (if same_key q k then x else status_in ns k)) → IsKept past p ms b (h ++ e ∷ [])
+  kept_put ms e q x may is none apart put = kept_step past p ns ms b h e q x kept may is none (apart kept.apart) put
+
+-- a state just after a key was written tells it
+pub at_written : (past : Past) (p : Project) (h : List Event) (e : Event) (q : Key) (x : Status)
+    → after past (replayed past p h) e ≡ with_status (replayed past p h) q x → (replayed past p (h ++ e ∷ [])).at q ≡ x
+at_written past p h e q x is =
+    ap (λ (s : State). s.at q) (replayed_last past p h e ∙ is) ∙ ap (λ b. if b then x else (replayed past p h).at q) (same_refl q)

@@ -1,0 +1,79 @@
+use Rattle.std.proofs.Common.{◌≡◌, ◌<◌, [], ◌∷◌, ◌++◌, map, true, false, arith, sym, ◌∙◌, refl}
+use Rattle.std.specs.Prelude.{IsTrue}
+use Rattle.graph_rules.specs.Steps.{Claim}
+use Rattle.job_table.specs.Kept.{event_of}
+use Rattle.job_table.proofs.StepRules.{kept_claim, is_not_done, is_done, is_below, is_not_below, is_unknown, is_known, backed_last}
+use Rattle.job_table.proofs.table.Table.ask.Given.{Over}
+use Rattle.job_table.proofs.table.Table.ask.Goals as goal
+
+not_true : IsTrue false → ⊥
+not_true e = cc
+
+pub returns-then-not-is_below : goal.returns-then-not-is_below
+returns-then-not-is_below g c =
+    let kept = c.self.invariant.0 in
+    rw (← c.self.view_is) (
+      (sym kept.failed_is ∙ c.if-self.false, is_not_done _ _ _ _ _ kept c.args.key.now c.in_default.ensures.none),
+      is_not_below _ _ _ _ _ kept c.args.w c.args.key.now (λ all. let e = c.if-not-is_below.ensures.1 all in absurd (not_true e)),
+      refl,
+    )
+
+pub returns-in-Some-find : goal.returns-in-Some-find
+returns-in-Some-find g c =
+    let kept = c.self.invariant.0 in
+    rw (← c.self.view_is) (
+      (sym kept.failed_is ∙ c.if-self.false, is_not_done _ _ _ _ _ kept c.args.key.now c.in_default.ensures.none),
+      is_below _ _ _ _ _ kept c.args.w c.args.key.now (c.if-not-is_below.ensures.0 refl),
+      is_known _ _ _ _ _ kept c.args.key.now _ c.in_default.ensures.none c.in-Some-find.ensures.some,
+      refl,
+    )
+
+pub returns-in_default-room_for_claim : goal.returns-in_default-room_for_claim
+returns-in_default-room_for_claim g c =
+    let kept = c.self.invariant.0 in
+    let nd = c.in_default.ensures.none in
+    let u = c.in_default-find.ensures.none in
+    rw (← c.self.view_is) (
+      sym kept.failed_is ∙ c.if-self.false,
+      (λ _. (
+        sym kept.failed_is ∙ c.if-self.false,
+        is_unknown _ _ _ _ _ kept c.args.key.now nd u,
+        is_below _ _ _ _ _ kept c.args.w c.args.key.now (c.if-not-is_below.ensures.0 refl),
+      )),
+      rw c.room_for_claim.ensures.history.0 refl,
+    )
+
+-- the history after the claim
+events_after : (g : Over) (c : goal.After-note g) → map event_of c.note.new.history.items ≡ map event_of c.self.inside.history.items ++ Claim c.args.w c.args.key.now ∷ []
+events_after g c =
+    let k = c.in-Some-room_for_claim.ensures.keys in
+    rw (c.note.ensures.events, c.room_for_claim.ensures.history.0, k.1) refl
+
+pub invariant_of-self-2 : goal.invariant_of-self-2
+invariant_of-self-2 g c =
+    let i = c.self.inside in
+    let kept = c.self.invariant.0 in
+    let nd = c.in_default.ensures.none in
+    let u = c.in_default-find.ensures.none in
+    let r = c.in-Some-room_for_claim.ensures in
+    let items = rw c.room_for_claim.ensures.nodes.0 at c.push_reserved.ensures.items in
+    let note = c.note.ensures in
+    rw (items, events_after g c) (
+      kept_claim _ _ _ _ _ kept c.args.w c.args.key.now _ r.keys.0 refl c.if-self.false nd u (c.if-not-is_below.ensures.0 refl),
+      backed_last g.R.Runner.mean g.R.Runner.reads (map event_of i.history.items) (Claim c.args.w c.args.key.now) c.self.invariant.1 tt,
+      (λ _. omega (arith, note.len, note.capacity, r.room.1, c.room_for_claim.ensures.history.1)),
+    )
+
+pub returns : goal.returns
+returns g c =
+    let kept = c.self.invariant.0 in
+    let nd = c.in_default.ensures.none in
+    let u = c.in_default-find.ensures.none in
+    rw (← c.self.view_is) (
+      (
+        sym kept.failed_is ∙ c.if-self.false,
+        is_unknown _ _ _ _ _ kept c.args.key.now nd u,
+        is_below _ _ _ _ _ kept c.args.w c.args.key.now (c.if-not-is_below.ensures.0 refl),
+      ),
+      rw (events_after g c) refl,
+    )

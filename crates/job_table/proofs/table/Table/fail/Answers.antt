@@ -1,0 +1,19 @@
+use Rattle.std.proofs.Common.{◌≡◌, ◌<◌, [], ◌∷◌, ◌++◌, map, true, false, arith, sym, ◌∙◌}
+use Rattle.sessions.specs.Sessions.{past_entry}
+use Rattle.graph_rules.specs.Steps.{Fail}
+use Rattle.job_table.specs.Tables.{session_in}
+use Rattle.job_table.specs.Kept.{event_of, IsKept}
+use Rattle.job_table.proofs.StepRules.{kept_fail, backed_last}
+use Rattle.job_table.proofs.table.Table.fail.Goals as goal
+
+pub invariant_of-self : goal.invariant_of-self
+invariant_of-self g c =
+    let i = c.self.inside in
+    let kept = c.self.invariant.0 in
+    let no_fail : IsKept (past_entry (session_in i.past)) _ i.nodes.items false (map event_of i.history.items) = rw c.if-self.false at kept in
+    let h = c.note.ensures.events in
+    rw h (
+      kept_fail (past_entry (session_in i.past)) _ i.nodes.items (map event_of i.history.items) c.args.w no_fail,
+      backed_last g.R.Runner.mean g.R.Runner.reads (map event_of i.history.items) (Fail c.args.w) c.self.invariant.1 tt,
+      (λ e. absurd (cc)),
+    )

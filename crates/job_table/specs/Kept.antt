@@ -1,0 +1,31 @@
+-- What a table keeps.
+use Rattle.std.specs.Prelude.{◌≡◌, ℕ, Bool, List, Option, Some}
+use Rattle.std.specs.Arc.{arc_value}
+use Rattle.item_ids.specs.declared.key.Key.{Key}
+use Rattle.result_bytes.specs.declared.value.Value.{Value}
+use Rattle.mj_project.specs.Projects.{IsProject}
+use Rattle.recorder.specs.Projects.{Project}
+use Rattle.graph_rules.specs.Keys.{input_of}
+use Rattle.graph_rules.specs.Pasts.{Past}
+use Rattle.graph_rules.specs.Steps.{Status, Unknown, Event, Claim, MarkGreen, Begin, Finish, Fail, Legal, replayed}
+use Rattle.job_table.specs.declared.nodes.Node.{Node}
+use Rattle.job_table.specs.Nodes.{status_at, status_in, AreApart}
+use Rattle.job_table.specs.declared.event.Event.{Event as Stored}
+use Rattle.job_table.specs.declared.event.Event.TheVariants as stored
+
+-- the event that is stored so
+abbrev pub event_of : {R : Type 0} → Stored R → Event
+event_of (stored.Claim w q) = Claim w q
+event_of (stored.Mark w q) = MarkGreen w q
+event_of (stored.Begin w q) = Begin w q
+event_of (stored.Finish w o) = Finish w (arc_value o)
+event_of (stored.Fail w) = Fail w
+
+-- The history is legal, and inputs and nodes stand as it leads to. No key has two nodes, and no input has one.
+pub record IsKept (past : Past) (p : Project) (ns : List Node) (failed : Bool) (history : List Event) : Type 0 where
+  pub project : IsProject p
+  pub legal : Legal past p history
+  pub status : (q : Key) → status_at p ns q ≡ (replayed past p history).at q
+  pub failed_is : failed ≡ (replayed past p history).failed
+  pub apart : AreApart ns
+  pub inner : (q : Key) (v : Value) → input_of p q ≡ Some v → status_in ns q ≡ Unknown

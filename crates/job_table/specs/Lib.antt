@@ -1,0 +1,5 @@
+pub mod Tables
+pub mod Inputs
+pub mod Nodes
+pub mod Kept
+pub mod Answers

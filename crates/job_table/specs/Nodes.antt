@@ -1,0 +1,58 @@
+-- How keys stand in a list of nodes.
+use Rattle.std.specs.Prelude.{◌≡◌, ℕ, ◌+◌, ◌<◌, Bool, true, false, List, [], ◌∷◌, Option, Some, None, if◌then◌else◌}
+use Rattle.std.proofs.Common.{zero, suc}
+use Rattle.std.specs.Arc.{arc_value}
+use Rattle.item_ids.specs.declared.key.Key.{Key}
+use Rattle.result_bytes.specs.declared.value.Value.{Value}
+use Rattle.recorder.specs.Projects.{Project}
+use Rattle.recorder.specs.Backed.{rank}
+use Rattle.sessions.specs.declared.mark.Mark.TheVariants.{Input}
+use Rattle.graph_rules.specs.Keys.{same_key, input_of}
+use Rattle.graph_rules.specs.Steps.{Status, Unknown, Claimed, Running, Done, State, IsHeldBy, IsDone, Walk, AllUnchanged, OpenAt, ChangedAt, EdgeState, Open, Unchanged, Changed}
+use Rattle.job_table.specs.declared.nodes.Standing.{Standing}
+use Rattle.job_table.specs.declared.nodes.Standing.TheVariants as standing
+use Rattle.job_table.specs.declared.nodes.Node.{Node}
+
+abbrev pub status_of : Standing → Status
+status_of (standing.Claimed w) = Claimed w
+status_of (standing.Running w) = Running w
+status_of (standing.Done v es m) = Done (arc_value v) es.items m
+
+-- how the key stands in a list of nodes
+abbrev pub status_in : List Node → Key → Status
+status_in [] q = Unknown
+status_in (n ∷ ns) q = if same_key n.key q then status_of n.standing else status_in ns q
+
+-- whether the list has the key
+abbrev pub has_key : Key → List Node → Bool
+has_key q [] = false
+has_key q (n ∷ ns) = if same_key n.key q then true else has_key q ns
+
+-- no key stands twice
+abbrev pub AreApart : List Node → Type 0
+AreApart [] = Unit {0}
+AreApart (n ∷ ns) = (has_key n.key ns ≡ false) × AreApart ns
+
+-- the first node of the key is at this place
+abbrev pub IsFirst : List Node → Key → ℕ → Type 0
+IsFirst [] q i = ⊥
+IsFirst (n ∷ ns) q zero = same_key n.key q ≡ true
+IsFirst (n ∷ ns) q (suc i) = (same_key n.key q ≡ false) × IsFirst ns q i
+
+-- whatever w has claimed or runs is above the rank
+abbrev pub AllAbove : ℕ → ℕ → List Node → Type 0
+AllAbove w r [] = Unit {0}
+AllAbove w r (n ∷ ns) = (IsHeldBy w (status_of n.standing) → r < rank n.key) × AllAbove w r ns
+
+-- an input is done, another key stands so
+abbrev pub unless_input : Option Value → Status → Status
+unless_input (Some v) x = Done v [] Input
+unless_input None x = x
+
+-- how the key stands, inputs included
+abbrev pub status_at : Project → List Node → Key → Status
+status_at p ns q = unless_input (input_of p q) (status_in ns q)
+
+-- the state that a project and nodes stand for
+abbrev pub held : Project → List Node → Bool → State
+held p ns failed = record { at = status_at p ns; failed = failed }

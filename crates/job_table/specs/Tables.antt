@@ -1,0 +1,39 @@
+-- What callers see of a table: the past and the project that it was opened with, and its events.
+use Rattle.std.specs.Prelude.{◌≡◌, ℕ, ◌≤◌, List, [], ◌∷◌, ◌++◌, Option, Some, None}
+use Rattle.std.specs.Arc.{arc_value}
+use Rattle.std.specs.declared.alloc.Global.{Global}
+use Rattle.std.specs.declared.sync.Arc.{Arc}
+use Rattle.recorder.specs.Projects.{Project}
+use Rattle.sessions.specs.Sessions.{SessionValue, past_entry}
+use Rattle.graph_rules.specs.Pasts.{Past}
+use Rattle.graph_rules.specs.Steps.{State, Event, MayStep, Legal, replayed}
+
+pub record TableValue : Type 0 where
+  pub past : Option SessionValue
+  pub project : Project
+  pub history : List Event
+
+-- the session behind an owner
+abbrev pub session_in : Option (Arc SessionValue Global) → Option SessionValue
+session_in None = None
+session_in (Some s) = Some (arc_value s)
+
+abbrev pub past_of : TableValue → Past
+past_of t = past_entry t.past
+
+-- the state that its history leads to
+abbrev pub state_of : TableValue → State
+state_of t = replayed (past_of t) t.project t.history
+
+-- the event is a step in its state
+abbrev pub IsStep : TableValue → Event → Type 0
+IsStep t e = MayStep (past_of t) (state_of t) e
+
+-- the table with one more event
+abbrev pub adds : TableValue → Event → TableValue
+adds t e = record { past = t.past; project = t.project; history = t.history ++ e ∷ [] }
+
+-- no session can follow
+abbrev pub IsFull : Option SessionValue → Type 0
+IsFull None = ⊥
+IsFull (Some s) = 9999 ≤ s.number

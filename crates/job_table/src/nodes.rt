@@ -1,0 +1,88 @@
+//! How each key stands that was asked for, as a plain list.
+ghost use Rattle.std.specs.Prelude.{◌≡◌, ◌↔◌, ◌<◌, IsTrue, IfSome, IfNone, vec_len};
+ghost use Rattle.std.specs.Arc.{arc_value};
+ghost use Rattle.recorder.specs.Backed.{rank};
+ghost use Rattle.graph_rules.specs.Keys.{same_key};
+ghost use Rattle.graph_rules.specs.Steps.{Unknown, IsHeldBy, IsDoneWith, IsNotDone};
+ghost use Rattle.job_table.specs.Nodes.{status_of, status_in, status_at, IsFirst, AllAbove};
+
+use crate::inputs::Inputs;
+use fingerprint::Sealed;
+use item_ids::{Key, rank};
+use sessions::Mark;
+use std::sync::Arc;
+
+/// How a key stands that was asked for.
+#[derive(Drop)]
+pub enum Standing {
+    Claimed(u32),
+    Running(u32),
+    Done(Arc<Sealed>, Vec<Key>, Mark),
+}
+
+/// A key that was asked for.
+#[derive(Drop)]
+pub struct Node {
+    pub key: Key,
+    pub standing: Standing,
+}
+
+#[tactic(auto, unfolding(graph_rules::specs::Keys::same_key))]
+fn is_same(a: &Key, b: &Key) -> bool
+    ensures { result ≡ same_key a.now b.now }
+{
+    *a == *b
+}
+
+/// Where the key stands.
+pub fn find(nodes: &Vec<Node>, key: &Key) -> Option<usize>
+    ensures none { IfNone result (status_in nodes.now.items key.now ≡ Unknown) }
+    ensures some { IfSome result (λ i. IsFirst nodes.now.items key.now i) }
+    ensures within { IfSome result (λ i. i < vec_len nodes.now) }
+{
+    for (i, node) in nodes.iter().enumerate() {
+        if is_same(&node.key, key) {
+            return Some(i);
+        }
+    }
+    None
+}
+
+/// Whether the key's rank is below the ranks of all that the worker has claimed or runs.
+pub fn is_below(nodes: &Vec<Node>, w: u32, key: &Key) -> bool
+    ensures { IsTrue result ↔ AllAbove w (rank key.now) nodes.now.items }
+{
+    let wanted = rank(key.kind());
+    for node in nodes.iter() {
+        if is_held_by(node, w) && rank(node.key.kind()) <= wanted {
+            return false;
+        }
+    }
+    true
+}
+
+fn is_held_by(node: &Node, w: u32) -> bool
+    ensures { IsTrue result ↔ IsHeldBy w (status_of node.now.standing) }
+{
+    match &node.standing {
+        Standing::Claimed(by) => *by == w,
+        Standing::Running(by) => *by == w,
+        Standing::Done(_, _, _) => false,
+    }
+}
+
+/// The result of a key that is done.
+pub fn result_of<'a>(inputs: &'a Inputs, nodes: &'a Vec<Node>, key: &Key) -> Option<&'a Arc<Sealed>>
+    ensures none { IfNone result (IsNotDone (status_at inputs.now nodes.now.items key.now)) }
+    ensures some { IfSome result (λ a. IsDoneWith (arc_value a.now) (status_at inputs.now nodes.now.items key.now)) }
+{
+    if let Some(sealed) = inputs.get(key) {
+        return Some(sealed);
+    }
+    let at = find(nodes, key)?;
+    match &nodes[at].standing {
+        Standing::Done(sealed, _, _) => Some(sealed),
+        Standing::Claimed(_) => None,
+        Standing::Running(_) => None,
+    }
+}

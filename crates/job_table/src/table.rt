@@ -1,0 +1,158 @@
+//! Tables.
+ghost use Rattle.std.specs.Prelude.{◌≡◌, ◌↔◌, map, length, IfOk, IsTrue};
+ghost use Rattle.job_table.specs.Tables.{session_in, IsFull};
+ghost use Rattle.job_table.specs.Kept.{event_of};
+
+use crate::event::Event;
+use crate::fault::{Asked, OpenFault, TableFault};
+use crate::inputs::Inputs;
+use crate::nodes::{Node, Standing, find, is_below, result_of};
+use crate::room::{note, room_for_claim, room_for_opening};
+use item_ids::Key;
+use mj_project::Project;
+use recorder::Runner;
+use sessions::Session;
+use std::alloc::{AllocError, Global};
+use std::marker::Model;
+use std::sync::Arc;
+
+/// The table of one session over a past and a project, and the events that led to its state. Each call is stated on
+/// the table before and after it; a call that is refused leaves it as it was.
+#[derive(Drop)]
+pub struct Table<R: Runner> {
+    alloc: Global,
+    past: Option<Arc<Session>>,
+    inputs: Inputs,
+    nodes: Vec<Node>,
+    history: Vec<Event<R>>,
+    failed: bool,
+}
+
+impl<R: Runner> Model for Table<R> {
+    ghost use Rattle.std.specs.Prelude.{◌≡◌, ◌<◌, false, map, vec_len, vec_capacity};
+    ghost use Rattle.std.specs.Coded.{codes};
+    ghost use Rattle.result_bytes.specs.contracts.value.Value as value_contracts;
+    ghost use Rattle.sessions.specs.Sessions.{past_entry};
+    ghost use Rattle.graph_rules.specs.Sound.{AreBacked};
+    ghost use Rattle.job_table.specs.Tables.{TableValue, session_in};
+    ghost use Rattle.job_table.specs.Kept.{event_of, IsKept};
+
+    ghost Value = { TableValue };
+
+    ghost coded = { Prim.hlevel (codes, value_contracts.the_row.coded) };
+
+    ghost view = { λ t. record { past = session_in t.past; project = t.inputs; history = map event_of t.history.items } };
+
+    ghost invariant = { λ t. IsKept (past_entry (session_in t.past)) t.inputs t.nodes.items t.failed (map event_of t.history.items) × AreBacked R.mean R.reads (map event_of t.history.items) × (t.failed ≡ false → vec_len t.history < vec_capacity t.history) };
+}
+
+impl<R: Runner> Table<R> {
+    ghost use Rattle.graph_rules.specs.Steps.{Legal};
+    ghost use Rattle.graph_rules.specs.Sound.{AreBacked};
+    ghost use Rattle.mj_project.specs.Projects.{IsProject};
+    ghost use Rattle.job_table.specs.Tables.{past_of};
+    ghost use Rattle.job_table.specs.Answers.{OpenGives, AskGives, FailGives};
+
+    /// Opens the table of a session of the project, over the session before it.
+    pub fn open(
+        alloc: Global,
+        past: Option<Arc<Session>>,
+        project: &Project,
+    ) -> Result<Self, OpenFault>
+        ensures { OpenGives (session_in past) project.now result }
+    {
+        if is_full(&past) {
+            return Err(OpenFault::ChainFull);
+        }
+        let Some((inputs, history)) = room_for_opening(alloc, project) else {
+            return Err(OpenFault::OutOfMemory);
+        };
+        Ok(Table {
+            alloc,
+            past,
+            inputs,
+            nodes: Vec::new(alloc),
+            history,
+            failed: false,
+        })
+    }
+
+    /// Asks for a key, by a worker that claims it where nobody has.
+    pub fn ask(&mut self, w: u32, key: &Key) -> Result<Asked, TableFault>
+        ensures { AskGives self.old w key.now result self.new }
+    {
+        if self.failed {
+            return Ok(Asked::Stopped);
+        }
+        if let Some(sealed) = result_of(&self.inputs, &self.nodes, key) {
+            return match Arc::try_clone(sealed) {
+                Ok(sealed) => Ok(Asked::Done(sealed)),
+                Err(_) => Err(TableFault::OutOfMemory),
+            };
+        }
+        if !is_below(&self.nodes, w, key) {
+            return Err(TableFault::OutOfRank);
+        }
+        if let Some(_) = find(&self.nodes, key) {
+            return Ok(Asked::Busy);
+        }
+        let Some((own, noted)) = room_for_claim(self.alloc, &mut self.nodes, &mut self.history, key)
+        else {
+            return Err(TableFault::OutOfMemory);
+        };
+        self.nodes.push_reserved(Node {
+            key: own,
+            standing: Standing::Claimed(w),
+        });
+        note(&mut self.history, Event::Claim(w, noted));
+        Ok(Asked::Yours)
+    }
+
+    /// Notes that the worker gives up. This takes no memory.
+    pub fn fail(&mut self, w: u32) -> Result<(), TableFault>
+        ensures { FailGives self.old w result self.new }
+    {
+        if self.failed {
+            return Err(TableFault::Failed);
+        }
+        note(&mut self.history, Event::Fail(w));
+        self.failed = true;
+        Ok(())
+    }
+
+    /// The session before, as it was handed in.
+    pub fn past(&self) -> Result<Option<Arc<Session>>, AllocError>
+        ensures { IfOk result (λ past. session_in past ≡ self.now.past) }
+    {
+        match &self.past {
+            Some(past) => Ok(Some(Arc::try_clone(past)?)),
+            None => Ok(None),
+        }
+    }
+
+    /// The events, from the first.
+    pub fn history(&self) -> &[Event<R>]
+        ensures { map event_of result.now ≡ self.now.history }
+    {
+        self.history.as_slice()
+    }
+
+    /// What the type keeps: the project is one, the history is legal, and each outcome in it follows from its reads.
+    pub fn laws(&self)
+        ensures project { IsProject self.now.project }
+        ensures legal { Legal (past_of self.now) self.now.project self.now.history }
+        ensures backed { AreBacked R.mean R.reads self.now.history }
+    {
+        let _failed = &self.failed;
+    }
+}
+
+/// Whether no session can follow.
+fn is_full(past: &Option<Arc<Session>>) -> bool
+    ensures { IsTrue result ↔ IsFull (session_in past.now) }
+{
+    match past {
+        Some(past) => past.number() >= 9999,
+        None => false,
+    }
+}
