@@ -1,0 +1,6 @@
+pub mod Items
+pub mod Meaning
+pub mod BodyReads
+pub mod Reads
+pub mod Ties
+pub mod Laws

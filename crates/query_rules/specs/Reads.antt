@@ -1,0 +1,104 @@
+-- Which keys each query reads in a project, in order.
+use Rattle.std.specs.Prelude.{List, [], ◌∷◌, ◌++◌, map, flat_map, Option, Some, None, if◌then◌else◌}
+use Rattle.item_ids.specs.declared.key.Key.{Key}
+use Rattle.item_ids.specs.declared.key.Key.TheVariants as keys
+use Rattle.mj_tree.specs.Trees.{Name, Method}
+use Rattle.mj_tree.specs.Trees as trees
+use Rattle.mj_tree.specs.declared.tree.Field.{Field}
+use Rattle.mj_answer.specs.AnswerValues.{MethodRowValue}
+use Rattle.mj_classes.specs.Declarations.{ClassDecl}
+use Rattle.mj_classes.specs.Chains.{chain_of, chain_names}
+use Rattle.mj_project.specs.Projects.{names_of}
+use Rattle.mj_rules.specs.Sentences.{classes_in}
+use Rattle.mj_rules.specs.Worlds.{world_of}
+use Rattle.mj_rules.specs.ClassFaults.{main_word}
+use Rattle.mj_rules.specs.FaultLists.{method_names}
+use Rattle.mj_rules.specs.Answering.{first_classes}
+use Rattle.mj_rules.specs.Tables.{table_of}
+use Rattle.recorder.specs.Projects.{Project}
+use Rattle.recorder.specs.Programs.{is_seen}
+use Rattle.query_rules.specs.Items.{class_at, file_of_class, body_at}
+use Rattle.query_rules.specs.BodyReads.{type_reads, body_reads}
+
+-- ---- lists of keys
+
+-- the trees of all files
+abbrev pub all_trees : Project → List Key
+all_trees p = map keys.Tree (names_of p)
+
+-- the tree of the file of a class
+abbrev pub tree_of_class : Project → Option ClassDecl → List Key
+tree_of_class p None = []
+tree_of_class p (Some k) = keys.Tree (file_of_class p k) ∷ []
+
+-- the headers of the classes of a chain; an undeclared class has none
+abbrev pub chain_headers : Project → Name → List Key
+chain_headers p c = map keys.Header (chain_names (chain_of (classes_in p) c))
+
+-- the types of a method, at its owner
+abbrev pub row_signature : MethodRowValue → Key
+row_signature row = keys.Sig row.owner row.name
+
+-- the types of all methods that a class has, by name
+abbrev pub signatures : Project → Name → List Key
+signatures p c = map row_signature (table_of (classes_in p) c).methods
+
+-- the headers of the classes that are types of fields
+abbrev pub field_headers : List Field → List Key
+field_headers fields = flat_map (λ f. type_reads f.ty) fields
+
+-- where a class has methods and its chain a second class, the members of both
+abbrev pub overriding : List Method → List Name → List Key
+overriding [] chain = []
+overriding (m ∷ ms) [] = []
+overriding (m ∷ ms) (c ∷ []) = []
+overriding (m ∷ ms) (c ∷ s ∷ farther) = keys.Members c ∷ keys.Members s ∷ []
+
+abbrev pub bodies_by : Option trees.Statement → ClassDecl → List Name
+bodies_by (Some statement) k = main_word ∷ []
+bodies_by None k = method_names k
+
+-- the names of the bodies of a class: `main` for a main class, else those of its methods
+abbrev pub bodies_of : ClassDecl → List Name
+bodies_of k = bodies_by k.main k
+
+-- the parts of the answer for a class
+abbrev pub answer_parts : ClassDecl → List Key
+answer_parts k = keys.Members k.name ∷ keys.Diags k.name ∷ []
+
+-- ---- what is read of a class that is declared
+
+abbrev pub class_check_reads : Project → Name → Option ClassDecl → List Key
+class_check_reads p c None = []
+class_check_reads p c (Some k) = keys.Supers c ∷ (field_headers k.fields ++ overriding k.methods (chain_names (chain_of (classes_in p) c)))
+
+abbrev pub diagnosis_reads : Name → Option ClassDecl → List Key
+diagnosis_reads c None = []
+diagnosis_reads c (Some k) = keys.CheckClass c ∷ map (keys.CheckBody c) (bodies_of k)
+
+-- ---- the kinds
+
+-- all reads of a key in order, repeated ones too
+unfoldable pub asked_keys : Project → Key → List Key
+asked_keys p keys.Files = []
+asked_keys p (keys.Source f) = []
+asked_keys p (keys.Tree f) = keys.Source f ∷ []
+asked_keys p keys.Index = keys.Files ∷ all_trees p
+asked_keys p (keys.Header c) = keys.Index ∷ tree_of_class p (class_at p c)
+asked_keys p (keys.Method c m) = keys.Index ∷ tree_of_class p (class_at p c)
+asked_keys p (keys.Sig c m) = keys.Method c m ∷ []
+asked_keys p (keys.Supers c) = keys.Index ∷ chain_headers p c
+asked_keys p (keys.Members c) = keys.Supers c ∷ (chain_headers p c ++ signatures p c)
+asked_keys p (keys.CheckClass c) = keys.Header c ∷ class_check_reads p c (class_at p c)
+asked_keys p (keys.CheckBody c m) = keys.Method c m ∷ body_reads (world_of (classes_in p)) c (body_at p c m)
+asked_keys p (keys.Diags c) = keys.Header c ∷ diagnosis_reads c (class_at p c)
+asked_keys p keys.Answer = keys.Files ∷ (all_trees p ++ (keys.Index ∷ flat_map answer_parts (first_classes (classes_in p))))
+
+-- each key where it stands first, but for those seen
+abbrev pub firsts : List Key → List Key → List Key
+firsts seen [] = []
+firsts seen (k ∷ ks) = if is_seen seen k then firsts seen ks else k ∷ firsts (seen ++ k ∷ []) ks
+
+-- the reads of a key: each where it stands first
+unfoldable pub reads : Project → Key → List Key
+reads p q = firsts [] (asked_keys p q)
