@@ -69,7 +69,7 @@ IsAscendingByName name_of xs = IsAscendingBy (λ x y. NameBefore (name_of x) (na
 abbrev pub IsTableInOrder : ClassTableValue → Type 0
 IsTableInOrder table =
     IsAscendingByName (λ row. row.name) table.fields
-        × IsAscendingByName (λ row. row.name) table.methods
+    × IsAscendingByName (λ row. row.name) table.methods
 
 abbrev pub IsClassInOrder : ClassAnswerValue → Type 0
 IsClassInOrder class = IsTableInOrder class.table × IsAscending class.faults
@@ -89,7 +89,7 @@ pub record IsStrictTotalOrder {X : Type 0} (B : X → X → Type 0) : Type 0 whe
 abbrev pub OneList : (X : Type 0) → (X → X → Type 0) → Type 0
 OneList X B =
     (xs ys : List X) → IsAscendingBy B xs → IsAscendingBy B ys
-        → ((x : X) → Contains xs x ↔ Contains ys x) → xs ≡ ys
+    → ((x : X) → Contains xs x ↔ Contains ys x) → xs ≡ ys
 
 abbrev pub OneListByName : (X : Type 0) → (X → List ℕ) → Type 0
 OneListByName X name_of = OneList X (λ x y. NameBefore (name_of x) (name_of y))

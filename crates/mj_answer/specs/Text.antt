@@ -47,7 +47,7 @@ types_text (ty ∷ others) = type_text ty ++ flat_map (λ other. codes ", " ++ t
 abbrev pub field_line : FieldRow → List ℕ
 field_line row =
     codes "  field " ++ row.name ++ codes ": " ++ type_text row.ty ++ codes " from " ++ row.owner
-        ++ codes "\n"
+    ++ codes "\n"
 
 --   method m(int, boolean): int from A
 abbrev pub method_line : MethodRowValue → List ℕ

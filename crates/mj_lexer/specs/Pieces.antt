@@ -62,6 +62,6 @@ Stands text (Blank n) = IsLongest text n × IsBlank (take n text)
 Stands text (Word kind n) = IsLongest text n × IsToken (take n text) kind × IsShort kind
 Stands text (Wrong problems.Name) =
     (n : ℕ) × IsLongest text n × IsToken (take n text) (Identifier (take n text))
-        × (most_name_bytes < n)
+    × (most_name_bytes < n)
 Stands text (Wrong problems.Comment) = OpensComment text × HasNoPiece text
 Stands text (Wrong problems.Byte) = (text ≢ []) × (OpensComment text → ⊥) × HasNoPiece text

@@ -26,7 +26,7 @@ IsType ts i types.Int = Stands ts i terminals.Int
 IsType ts i types.Boolean = Stands ts i terminals.Boolean
 IsType ts i types.IntArray =
     Stands ts i terminals.Int × Stands ts (i + 1) terminals.LeftBracket
-        × Stands ts (i + 2) terminals.RightBracket
+    × Stands ts (i + 2) terminals.RightBracket
 IsType ts i (types.Class name) = name_at ts i ≡ Some name
 
 -- a type and a name
@@ -102,14 +102,14 @@ pub record IsMethod (ts : List Token) (m : Method) : Type 0 where
 abbrev pub main_head : List Token → Bool
 main_head ts =
     has ts 0 terminals.Public && has ts 1 terminals.Static && has ts 2 terminals.Void
-        && says ts 3 (codes "main") && has ts 4 terminals.LeftParenthesis
+    && says ts 3 (codes "main") && has ts 4 terminals.LeftParenthesis
 
 -- and then `String [ ] id ) {`
 abbrev pub main_parameter : List Token → Bool
 main_parameter ts =
     says ts 5 (codes "String") && has ts 6 terminals.LeftBracket && has ts 7 terminals.RightBracket
-        && is_some (name_at ts 8) && has ts 9 terminals.RightParenthesis
-        && has ts 10 terminals.LeftBrace
+    && is_some (name_at ts 8) && has ts 9 terminals.RightParenthesis
+    && has ts 10 terminals.LeftBrace
 
 -- ---- classes
 
@@ -119,7 +119,7 @@ field_size f = type_size f.ty + 1 + 1
 abbrev pub IsField : List Token → ℕ → Field → Type 0
 IsField ts i f =
     IsType ts i f.ty × (name_at ts (i + type_size f.ty) ≡ Some f.name)
-        × Stands ts (i + (type_size f.ty + 1)) terminals.Semicolon
+    × Stands ts (i + (type_size f.ty + 1)) terminals.Semicolon
 
 -- a method that begins at a place
 abbrev pub IsMethodAt : List Token → ℕ → Method → Type 0

@@ -91,36 +91,36 @@ abbrev mutual
   pub IsExp : List Token → ℕ → ℕ → Expression → Type 0
   IsExp ts d i (Binary operator mark left right) =
       (tier_of operator < d) × IsExp ts (suc (tier_of operator)) i left × (mark ≡ i + size left)
-          × Stands ts mark (terminal_of operator) × IsExp ts (tier_of operator) (mark + 1) right
+      × Stands ts mark (terminal_of operator) × IsExp ts (tier_of operator) (mark + 1) right
   IsExp ts d i (Index mark array index) =
       IsExp ts primary_tier i array × (is_new_array array ≡ false) × (mark ≡ i + size array)
-          × Stands ts mark terminals.LeftBracket × IsExp ts any_tier (mark + 1) index
-          × Stands ts (mark + 1 + size index) terminals.RightBracket
+      × Stands ts mark terminals.LeftBracket × IsExp ts any_tier (mark + 1) index
+      × Stands ts (mark + 1 + size index) terminals.RightBracket
   IsExp ts d i (Length mark array) =
       IsExp ts primary_tier i array × (mark ≡ i + size array + 1)
-          × Stands ts (i + size array) terminals.Dot × (says ts mark (codes "length") ≡ true)
+      × Stands ts (i + size array) terminals.Dot × (says ts mark (codes "length") ≡ true)
   IsExp ts d i (Call mark receiver method arguments) =
       IsExp ts primary_tier i receiver × (mark ≡ i + size receiver + 1)
-          × Stands ts (i + size receiver) terminals.Dot × (name_at ts mark ≡ Some method)
-          × Stands ts (mark + 1) terminals.LeftParenthesis × AreArguments ts (mark + 2) arguments
-          × Stands ts (mark + 2 + sizes arguments) terminals.RightParenthesis
+      × Stands ts (i + size receiver) terminals.Dot × (name_at ts mark ≡ Some method)
+      × Stands ts (mark + 1) terminals.LeftParenthesis × AreArguments ts (mark + 2) arguments
+      × Stands ts (mark + 2 + sizes arguments) terminals.RightParenthesis
   IsExp ts d i (Literal mark value) = (mark ≡ i) × (value_at ts i ≡ Some value)
   IsExp ts d i (Boolean mark value) = (mark ≡ i) × Stands ts i (terminal_of_bool value)
   IsExp ts d i (Named mark name) = (mark ≡ i) × (name_at ts i ≡ Some name)
   IsExp ts d i (This mark) = (mark ≡ i) × Stands ts i terminals.This
   IsExp ts d i (NewArray mark len) =
       (mark ≡ i) × Stands ts i terminals.New × Stands ts (i + 1) terminals.Int
-          × Stands ts (i + 2) terminals.LeftBracket × IsExp ts any_tier (i + 3) len
-          × Stands ts (i + 3 + size len) terminals.RightBracket
+      × Stands ts (i + 2) terminals.LeftBracket × IsExp ts any_tier (i + 3) len
+      × Stands ts (i + 3 + size len) terminals.RightBracket
   IsExp ts d i (NewObject mark class) =
       (mark ≡ i) × Stands ts i terminals.New × (name_at ts (i + 1) ≡ Some class)
-          × Stands ts (i + 2) terminals.LeftParenthesis
-          × Stands ts (i + 3) terminals.RightParenthesis
+      × Stands ts (i + 2) terminals.LeftParenthesis
+      × Stands ts (i + 3) terminals.RightParenthesis
   IsExp ts d i (Not mark operand) =
       (0 < d) × (mark ≡ i) × Stands ts i terminals.Not × IsExp ts unary_tier (i + 1) operand
   IsExp ts d i (Parenthesized mark inner) =
       (mark ≡ i) × Stands ts i terminals.LeftParenthesis × IsExp ts any_tier (i + 1) inner
-          × Stands ts (i + 1 + size inner) terminals.RightParenthesis
+      × Stands ts (i + 1 + size inner) terminals.RightParenthesis
 
   pub AreArguments : List Token → ℕ → Expressions → Type 0
   AreArguments ts i none = Unit {0}
@@ -131,4 +131,4 @@ abbrev mutual
   AreMore ts i none = Unit {0}
   AreMore ts i (more first others) =
       Stands ts i terminals.Comma × IsExp ts any_tier (i + 1) first
-          × AreMore ts (i + 1 + size first) others
+      × AreMore ts (i + 1 + size first) others

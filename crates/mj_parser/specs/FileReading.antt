@@ -45,7 +45,7 @@ begins_type ts i = has ts i terminals.Int || has ts i terminals.Boolean || is_so
 abbrev pub begins_local : List Token → ℕ → Bool
 begins_local ts i =
     has ts i terminals.Int || has ts i terminals.Boolean
-        || (is_some (name_at ts i) && is_some (name_at ts (i + 1)))
+    || (is_some (name_at ts i) && is_some (name_at ts (i + 1)))
 
 -- ---- methods, whose tokens are numbered from `public`
 

@@ -31,7 +31,7 @@ abbrev mutual
   StmtMarksBelow n (Block mark body) = (mark < n) × StmtsMarksBelow n body
   StmtMarksBelow n (If mark condition then_branch else_branch) =
       (mark < n) × ExpMarksBelow n condition × StmtMarksBelow n then_branch
-          × StmtMarksBelow n else_branch
+      × StmtMarksBelow n else_branch
   StmtMarksBelow n (While mark condition body) =
       (mark < n) × ExpMarksBelow n condition × StmtMarksBelow n body
   StmtMarksBelow n (Print mark value) = (mark < n) × ExpMarksBelow n value

@@ -40,42 +40,42 @@ abbrev mutual
 abbrev pub opens_print : List Token → ℕ → Bool
 opens_print ts i =
     says ts i (codes "System") && has ts (i + 1) terminals.Dot && says ts (i + 2) (codes "out")
-        && has ts (i + 3) terminals.Dot && says ts (i + 4) (codes "println")
-        && has ts (i + 5) terminals.LeftParenthesis
+    && has ts (i + 3) terminals.Dot && says ts (i + 4) (codes "println")
+    && has ts (i + 5) terminals.LeftParenthesis
 
 -- From place i on, the tokens are those of the statement.
 abbrev mutual
   pub IsStmt : List Token → ℕ → Statement → Type 0
   IsStmt ts i (Block mark body) =
       (mark ≡ i) × Stands ts i terminals.LeftBrace × AreStmts ts (i + 1) body
-          × Stands ts (i + 1 + stmts_size body) terminals.RightBrace
+      × Stands ts (i + 1 + stmts_size body) terminals.RightBrace
   IsStmt ts i (If mark condition then_branch else_branch) =
       (mark ≡ i) × Stands ts i terminals.If × Stands ts (i + 1) terminals.LeftParenthesis
-          × IsExp ts any_tier (i + 2) condition
-          × Stands ts (i + 2 + size condition) terminals.RightParenthesis
-          × IsStmt ts (i + 2 + size condition + 1) then_branch
-          × Stands ts (i + 2 + size condition + 1 + stmt_size then_branch) terminals.Else
-          × IsStmt ts (i + 2 + size condition + 1 + stmt_size then_branch + 1) else_branch
+      × IsExp ts any_tier (i + 2) condition
+      × Stands ts (i + 2 + size condition) terminals.RightParenthesis
+      × IsStmt ts (i + 2 + size condition + 1) then_branch
+      × Stands ts (i + 2 + size condition + 1 + stmt_size then_branch) terminals.Else
+      × IsStmt ts (i + 2 + size condition + 1 + stmt_size then_branch + 1) else_branch
   IsStmt ts i (While mark condition body) =
       (mark ≡ i) × Stands ts i terminals.While × Stands ts (i + 1) terminals.LeftParenthesis
-          × IsExp ts any_tier (i + 2) condition
-          × Stands ts (i + 2 + size condition) terminals.RightParenthesis
-          × IsStmt ts (i + 2 + size condition + 1) body
+      × IsExp ts any_tier (i + 2) condition
+      × Stands ts (i + 2 + size condition) terminals.RightParenthesis
+      × IsStmt ts (i + 2 + size condition + 1) body
   IsStmt ts i (Print mark value) =
       (mark ≡ i) × (opens_print ts i ≡ true) × IsExp ts any_tier (i + 6) value
-          × Stands ts (i + 6 + size value) terminals.RightParenthesis
-          × Stands ts (i + 6 + size value + 1) terminals.Semicolon
+      × Stands ts (i + 6 + size value) terminals.RightParenthesis
+      × Stands ts (i + 6 + size value + 1) terminals.Semicolon
   IsStmt ts i (Assign mark name name_mark value) =
       (mark ≡ i + 1) × (name_mark ≡ i) × (name_at ts i ≡ Some name)
-          × Stands ts (i + 1) terminals.Assign × IsExp ts any_tier (i + 2) value
-          × Stands ts (i + 2 + size value) terminals.Semicolon
+      × Stands ts (i + 1) terminals.Assign × IsExp ts any_tier (i + 2) value
+      × Stands ts (i + 2 + size value) terminals.Semicolon
   IsStmt ts i (Store mark name name_mark index value) =
       (mark ≡ i + 2 + size index + 1) × (name_mark ≡ i) × (name_at ts i ≡ Some name)
-          × Stands ts (i + 1) terminals.LeftBracket × IsExp ts any_tier (i + 2) index
-          × Stands ts (i + 2 + size index) terminals.RightBracket
-          × Stands ts (i + 2 + size index + 1) terminals.Assign
-          × IsExp ts any_tier (i + 2 + size index + 2) value
-          × Stands ts (i + 2 + size index + 2 + size value) terminals.Semicolon
+      × Stands ts (i + 1) terminals.LeftBracket × IsExp ts any_tier (i + 2) index
+      × Stands ts (i + 2 + size index) terminals.RightBracket
+      × Stands ts (i + 2 + size index + 1) terminals.Assign
+      × IsExp ts any_tier (i + 2 + size index + 2) value
+      × Stands ts (i + 2 + size index + 2 + size value) terminals.Semicolon
 
   pub AreStmts : List Token → ℕ → Statements → Type 0
   AreStmts ts i done = Unit {0}

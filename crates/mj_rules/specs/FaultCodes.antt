@@ -11,4 +11,4 @@ codes_of lines = map (λ line. line.code) lines
 abbrev pub answer_codes : AnswerValue → List Code
 answer_codes answer =
     map (λ fault. fault.code) answer.faults
-        ++ flat_map (λ class. map (λ fault. fault.code) class.faults) answer.classes
+    ++ flat_map (λ class. map (λ fault. fault.code) class.faults) answer.classes

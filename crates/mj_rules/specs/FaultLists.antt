@@ -55,7 +55,7 @@ abbrev pub files_faults : Bool → List SourceFile → List Diagnostic
 files_faults main_before [] = []
 files_faults main_before (f ∷ fs) =
     file_faults main_before f.name (file_of f.bytes)
-        ++ files_faults (main_before || has_main (file_of f.bytes)) fs
+    ++ files_faults (main_before || has_main (file_of f.bytes)) fs
 
 -- one of the files has a main class
 abbrev pub any_main : List SourceFile → Bool
@@ -100,7 +100,7 @@ is_undeclared cs types.IntArray = false
 abbrev pub field_faults : List ClassDecl → ℕ → Bool → Field → List Diagnostic
 field_faults cs n repeated f =
     when_fault repeated (places.Field n) E203
-        ++ when_fault (is_undeclared cs f.ty) (places.Field n) E206
+    ++ when_fault (is_undeclared cs f.ty) (places.Field n) E206
 
 abbrev pub same_type : Ty → Ty → Bool
 same_type types.Int types.Int = true
@@ -163,7 +163,7 @@ main_method_faults cs k (Some statement) =
 unfoldable pub body_faults : List ClassDecl → ClassDecl → List Diagnostic
 body_faults cs k =
     each_numbered (body_faults_of cs k.name) 0 k.methods (repeats (method_names k))
-        ++ main_method_faults cs k k.main
+    ++ main_method_faults cs k k.main
 
 abbrev pub class_faults : List ClassDecl → ClassDecl → List Diagnostic
 class_faults cs k = declaration_faults cs k ++ body_faults cs k

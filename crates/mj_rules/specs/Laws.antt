@@ -25,12 +25,12 @@ SentenceLaw = (bytes : List ℕ) (tree : File) → IsSentence bytes tree ↔ (fi
 abbrev pub ProjectFaultLaw : Type 0
 ProjectFaultLaw =
     (files : List SourceFile) (place : Place) (code : Code)
-        → Contains (project_faults files) (fault place code) ↔ FaultOfProject files place code
+    → Contains (project_faults files) (fault place code) ↔ FaultOfProject files place code
 
 abbrev pub ClassFaultLaw : Type 0
 ClassFaultLaw =
     (cs : List ClassDecl) (k : ClassDecl) → decl cs k.name ≡ Some k → (place : Place) (code : Code)
-        → Contains (class_faults cs k) (fault place code) ↔ FaultOfClass cs k place code
+    → Contains (class_faults cs k) (fault place code) ↔ FaultOfClass cs k place code
 
 -- what the check of a body is told is what chains and members are
 abbrev pub WorldLaw : Type 0
@@ -40,7 +40,7 @@ WorldLaw = (cs : List ClassDecl) → Says cs (world_of cs)
 abbrev pub AnswerLaw : Type 0
 AnswerLaw =
     (files : List SourceFile) (answer : AnswerValue)
-        → Rules files answer ↔ (answer ≡ rules_of files)
+    → Rules files answer ↔ (answer ≡ rules_of files)
 
 pub record BodyFaultLaws : Type 0 where
   pub method : (w : World) (class : Name) (m : Method) (x : Mistake)

@@ -107,10 +107,10 @@ unfoldable mutual
   pub statement_step : Scope → Statement → List Mistake → (List Mistake → Check) → Check
   statement_step s (Block mark body) mistakes next =
       mistakes_step (own_phrase s (Block mark body)) mistakes
-          (λ more. statements_step s body more next)
+      (λ more. statements_step s body more next)
   statement_step s (If mark e a b) mistakes next =
       mistakes_step (own_phrase s (If mark e a b)) mistakes
-          (λ more. statement_step s a more (λ others. statement_step s b others next))
+      (λ more. statement_step s a more (λ others. statement_step s b others next))
   statement_step s (While mark e a) mistakes next =
       mistakes_step (own_phrase s (While mark e a)) mistakes (λ more. statement_step s a more next)
   statement_step s (Print mark e) mistakes next =
@@ -129,7 +129,7 @@ unfoldable mutual
 unfoldable pub declared_step : Method → List Mistake → (List Mistake → Check) → Check
 declared_step m mistakes next =
     type_step return_type_mark m.returns mistakes
-        (λ a. types_step m.formals a (λ b. types_step m.locals b next))
+    (λ a. types_step m.formals a (λ b. types_step m.locals b next))
 
 -- a method of the class: the declared types, the statements, the return
 unfoldable pub method_step : Name → Method → (List Mistake → Check) → Check

@@ -27,7 +27,7 @@ IsNoLocal (v ∷ vs) x = (v.name ≢ x) × IsNoLocal vs x
 abbrev pub IsVariable : World → Scope → Name → Ty → Type 0
 IsVariable w s x t =
     IsLocal s.variables x t
-        ⊎ (IsNoLocal s.variables x × ((c : Name) × (s.class ≡ Some c) × (w.field c x ≡ Some t)))
+    ⊎ (IsNoLocal s.variables x × ((c : Name) × (s.class ≡ Some c) × (w.field c x ≡ Some t)))
 
 abbrev pub operand_type : Operator → Ty
 operand_type And = ty.Boolean
@@ -53,13 +53,13 @@ abbrev mutual
   HasTypeByCases w s (Not mark e) t = HasTypeByCases w s e ty.Boolean × (t ≡ ty.Boolean)
   HasTypeByCases w s (Binary o mark l r) t =
       HasTypeByCases w s l (operand_type o) × HasTypeByCases w s r (operand_type o)
-          × (t ≡ result_type o)
+      × (t ≡ result_type o)
   HasTypeByCases w s (Index mark a i) t =
       HasTypeByCases w s a ty.IntArray × HasTypeByCases w s i ty.Int × (t ≡ ty.Int)
   HasTypeByCases w s (Length mark a) t = HasTypeByCases w s a ty.IntArray × (t ≡ ty.Int)
   HasTypeByCases w s (Call mark e m es) t =
       (c : Name) × (sig : Sig) × HasTypeByCases w s e (ty.Class c) × (w.method c m ≡ Some sig)
-          × AcceptedBy w s es sig.formals × (t ≡ sig.returns)
+      × AcceptedBy w s es sig.formals × (t ≡ sig.returns)
   HasTypeByCases w s (NewArray mark e) t = HasTypeByCases w s e ty.Int × (t ≡ ty.IntArray)
   HasTypeByCases w s (NewObject mark c) t = (w.is_declared c ≡ true) × (t ≡ ty.Class c)
 

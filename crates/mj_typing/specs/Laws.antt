@@ -49,7 +49,7 @@ abbrev mutual
   pub Decides : World → Phrase → Type 0
   Decides w (phrase mark row parts) =
       ((ts : List Ty) → length ts ≡ count parts → IsOfExpression (conclusion w (row ts)))
-          × DecideAll w parts
+      × DecideAll w parts
 
   pub DecideAll : World → Phrases → Type 0
   DecideAll w nothing = Unit {0}
@@ -59,7 +59,7 @@ abbrev mutual
 abbrev pub DecidesStatement : World → Phrase → Type 0
 DecidesStatement w (phrase mark row parts) =
     ((ts : List Ty) → length ts ≡ count parts → IsOfStatement (conclusion w (row ts)))
-        × DecideAll w parts
+    × DecideAll w parts
 
 abbrev pub AllDecide : World → List Phrase → Type 0
 AllDecide w [] = Unit {0}

@@ -64,7 +64,7 @@ Well w (phrase mark row parts) =
 abbrev pub PhraseFault : World → Phrase → Mistake → Type 0
 PhraseFault w (phrase mark row parts) m =
     (m.mark ≡ mark)
-        × ((ts : List Ty) × AllTyped w parts ts × (conclusion w (row ts) ≡ Wrong m.code))
+    × ((ts : List Ty) × AllTyped w parts ts × (conclusion w (row ts) ≡ Wrong m.code))
 
 -- the phrase is at fault, or one in it
 abbrev mutual

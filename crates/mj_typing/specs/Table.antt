@@ -82,7 +82,7 @@ array_length a = demand (is_int_array a) E309 (is ty.Int)
 unfoldable pub called : Sig → List Ty → Inquiry Verdict
 called s ts =
     demand (nat_eq (length ts) (length s.formals)) E312
-        (demand_asked (accepts_all ts s.formals) E313 (is s.returns))
+    (demand_asked (accepts_all ts s.formals) E313 (is s.returns))
 
 unfoldable pub call : Name → Ty → List Ty → Inquiry Verdict
 call m a ts =
@@ -169,7 +169,7 @@ own_phrase s (Assign mark x x_mark e) =
     phrase mark (two_parts assign) (part (name_phrase s x_mark x) (part (phrase_of s e) nothing))
 own_phrase s (Store mark x x_mark i e) =
     phrase mark (three_parts store)
-        (part (name_phrase s x_mark x) (part (phrase_of s i) (part (phrase_of s e) nothing)))
+    (part (name_phrase s x_mark x) (part (phrase_of s i) (part (phrase_of s e) nothing)))
 
 -- the return of a method
 abbrev pub return_phrase : Scope → ℕ → Ty → Expression → Phrase
@@ -198,7 +198,7 @@ method_scope class m = record { class = Some class; variables = m.formals ++ m.l
 abbrev pub method_phrases : Name → Method → List Phrase
 method_phrases class m =
     statements_phrases (method_scope class m) m.body
-        ++ return_phrase (method_scope class m) m.return_mark m.returns m.returned ∷ []
+    ++ return_phrase (method_scope class m) m.return_mark m.returns m.returned ∷ []
 
 abbrev pub main_phrases : Main → List Phrase
 main_phrases m = statement_phrases main_scope m.statement

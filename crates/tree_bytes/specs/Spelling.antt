@@ -44,7 +44,7 @@ abbrev mutual
   exp (trees.Length mark array) = node 0x06 mark (exp array)
   exp (trees.Call mark receiver method arguments) =
       node 0x07 mark
-          (exp receiver ++ (name method ++ (eight (count_exps arguments) ++ exps arguments)))
+      (exp receiver ++ (name method ++ (eight (count_exps arguments) ++ exps arguments)))
   exp (trees.Literal mark value) = node 0x08 mark (four value)
   exp (trees.Boolean mark value) = node (boolean_byte value) mark []
   exp (trees.Named mark n) = node 0x0b mark (name n)
@@ -92,7 +92,7 @@ main m = name m.name ++ stmt m.statement
 unfoldable pub class : trees.Class → List ℕ
 class c =
     name c.name
-        ++ (option name c.superclass ++ (list field c.fields ++ list tagged_method c.methods))
+    ++ (option name c.superclass ++ (list field c.fields ++ list tagged_method c.methods))
 
 -- a file: its main class, if it has one, and its classes
 unfoldable pub file : File → List ℕ

@@ -38,8 +38,8 @@ abbrev mutual
   ExpFits (suc room) (trees.Length mark array) = IsMark mark × ExpFits room array
   ExpFits (suc room) (trees.Call mark receiver method arguments) =
       IsMark mark
-          × (ExpFits room receiver
-                 × (IsName method × ((count_exps arguments < 2 ^ 64) × ExpsFit room arguments)))
+      × (ExpFits room receiver
+      × (IsName method × ((count_exps arguments < 2 ^ 64) × ExpsFit room arguments)))
   ExpFits (suc room) (trees.Literal mark value) = IsMark mark × (value ≤ greatest_literal)
   ExpFits (suc room) (trees.Boolean mark value) = IsMark mark
   ExpFits (suc room) (trees.Named mark n) = IsMark mark × IsName n
@@ -61,7 +61,7 @@ abbrev mutual
       IsMark mark × ((count_stmts body < 2 ^ 64) × StmtsFit room body)
   StmtFits (suc room) (trees.If mark condition then_branch else_branch) =
       IsMark mark
-          × (ExpFits room condition × (StmtFits room then_branch × StmtFits room else_branch))
+      × (ExpFits room condition × (StmtFits room then_branch × StmtFits room else_branch))
   StmtFits (suc room) (trees.While mark condition body) =
       IsMark mark × (ExpFits room condition × StmtFits room body)
   StmtFits (suc room) (trees.Print mark value) = IsMark mark × ExpFits room value
