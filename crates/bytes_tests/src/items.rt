@@ -97,11 +97,18 @@ fn names_that_may_be_missing(rt: HostRuntime) -> Result<(), Fail> {
     Ok(())
 }
 
+// Whether this is the name, or there is none where it is empty.
+fn is_named(name: &Option<Name>, want: &str) -> bool {
+    match name {
+        None => want.is_empty(),
+        Some(name) => name.as_str() == want,
+    }
+}
+
 // Whether there is just this name, or none where it is empty.
 fn is_option(rt: HostRuntime, bytes: &[u8], want: &str) -> bool {
     match read_option::<NameFormat>(rt.alloc(), bytes) {
-        Ok((None, rest)) => rest.is_empty() && want.is_empty(),
-        Ok((Some(name), rest)) => rest.is_empty() && name.as_str() == want,
+        Ok((name, rest)) => rest.is_empty() && is_named(&name, want),
         Err(_) => false,
     }
 }

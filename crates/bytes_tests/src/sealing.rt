@@ -25,11 +25,24 @@ fn is_header(sealed: &Sealed) -> bool {
     sealed.bytes() == BYTES && sealed.value().kind() == Kind::Header
 }
 
+fn sealed_header(rt: HostRuntime) -> Result<Sealed, Fail> {
+    Ok(seal(rt.alloc(), header(rt)?)?)
+}
+
+fn has_print(rt: HostRuntime, sealed: &Sealed) -> Result<bool, Fail> {
+    Ok(is_header(sealed) && is_text(rt, &sealed.print(), PRINT)?)
+}
+
+fn is_sealed_header(rt: HostRuntime) -> Result<bool, Fail> {
+    match sealed_header(rt) {
+        Ok(sealed) => has_print(rt, &sealed),
+        Err(fail) => Err(fail),
+    }
+}
+
 #[test]
 fn a_value_is_sealed(rt: HostRuntime) -> Result<(), Fail> {
-    let sealed = seal(rt.alloc(), header(rt)?)?;
-    assert!(rt; is_header(&sealed));
-    assert!(rt; is_text(rt, &sealed.print(), PRINT)?);
+    assert!(rt; is_sealed_header(rt)?);
     Ok(())
 }
 

@@ -235,12 +235,21 @@ fn bytes_of(rt: HostRuntime, digits: &str) -> Result<Vec<u8>, Fail> {
     )
 }
 
-// Whether the bytes spell a value that has just this spelling.
-fn is_spelling(rt: HostRuntime, kind: Kind, bytes: &[u8]) -> Result<bool, Fail> {
+fn is_encoded(rt: HostRuntime, value: &Value, want: &[u8]) -> Result<bool, Fail> {
+    Ok(encode(rt.alloc(), value)?.as_slice() == want)
+}
+
+// Whether the bytes spell a value whose spelling is this.
+fn is_spelled_as(rt: HostRuntime, kind: Kind, bytes: &[u8], want: &[u8]) -> Result<bool, Fail> {
     match decode(rt.alloc(), kind, bytes) {
-        Ok(value) => Ok(encode(rt.alloc(), &value)?.as_slice() == bytes),
+        Ok(value) => is_encoded(rt, &value, want),
         Err(_refusal) => Ok(false),
     }
+}
+
+// Whether the bytes spell a value that has just this spelling.
+fn is_spelling(rt: HostRuntime, kind: Kind, bytes: &[u8]) -> Result<bool, Fail> {
+    is_spelled_as(rt, kind, bytes, bytes)
 }
 
 fn are_spelling(rt: HostRuntime, kind: Kind, digits: &str) -> Result<bool, Fail> {
@@ -302,18 +311,10 @@ fn changed(rt: HostRuntime, bytes: &[u8], at: usize, flip: u8) -> Result<Vec<u8>
     Ok(other)
 }
 
-// Whether the bytes spell a value whose spelling is another one.
-fn is_spelled_as(rt: HostRuntime, kind: Kind, bytes: &[u8], other: &[u8]) -> Result<bool, Fail> {
-    match decode(rt.alloc(), kind, other) {
-        Ok(value) => Ok(encode(rt.alloc(), &value)?.as_slice() == bytes),
-        Err(_refusal) => Ok(false),
-    }
-}
-
 // Whether a change of this byte leaves the value as it was.
 fn is_idle(rt: HostRuntime, kind: Kind, bytes: &[u8], at: usize, flip: u8) -> Result<bool, Fail> {
     let other = changed(rt, bytes, at, flip)?;
-    is_spelled_as(rt, kind, bytes, &other)
+    is_spelled_as(rt, kind, &other, bytes)
 }
 
 // Whether each byte counts.
