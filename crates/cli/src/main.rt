@@ -16,7 +16,7 @@ use std::{env, io};
 fn main(rt: HostRuntime) -> ExitCode {
     let mut out = rt.stdout();
     let mut err = rt.stderr();
-    let status = match given(&rt) {
+    let status = match command_words(&rt) {
         Ok(list) => run(&rt, list, &mut out, &mut err),
         Err(error) => report::no_words(&error, &mut err).number(),
     };
@@ -25,7 +25,7 @@ fn main(rt: HostRuntime) -> ExitCode {
 
 // The words of the command line. They are pushed one by one, since `collect` goes on where the room
 // that it asks for first is refused.
-fn given<R: Env + AllocGlobal>(rt: &R) -> io::Result<Vec<String>> {
+fn command_words<R: Env + AllocGlobal>(rt: &R) -> io::Result<Vec<String>> {
     let mut list = Vec::new(rt.alloc());
     for word in env::args(rt)? {
         list.push(word)?;

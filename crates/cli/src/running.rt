@@ -49,7 +49,7 @@ fn report_of<R: Files + AllocGlobal>(rt: &R, list: Vec<String>) -> Result<Report
 {
     match perform(rt, list) {
         Ok(report) => Ok(report),
-        Err(failure) => explained(rt.alloc(), failure),
+        Err(failure) => failure_report(rt.alloc(), failure),
     }
 }
 
@@ -74,11 +74,11 @@ fn scratch<R: Files + AllocGlobal>(rt: &R, names: Vec<String>) -> Result<Report,
     let alloc = rt.alloc();
     let project = Project::new(alloc, read_files(rt, names)?)?;
     let answer = mj_rules::scratch(alloc, &project)?;
-    Ok(answered(alloc, &project, &answer)?)
+    Ok(answer_report(alloc, &project, &answer)?)
 }
 
 // What is written of an answer.
-fn answered(alloc: Global, project: &Project, answer: &Answer) -> Result<Report, AllocError>
+fn answer_report(alloc: Global, project: &Project, answer: &Answer) -> Result<Report, AllocError>
     ensures notes { IfOk result (λ report. AreLinesOf answer.now (string_bytes report.notes)) }
     ensures answer { IfOk result (λ report. string_bytes report.answer ≡ text_of answer.now) }
     ensures status { IfOk result (λ report.
@@ -119,7 +119,7 @@ fn read_files<R: Files + AllocGlobal>(
 }
 
 // What is written of a failure. Want of memory has no text, which would take memory.
-fn explained(alloc: Global, failure: Failure) -> Result<Report, AllocError>
+fn failure_report(alloc: Global, failure: Failure) -> Result<Report, AllocError>
     ensures status { IfOk result (λ report. report.status ≡ status_of_failure failure) }
     ensures no_answer { IfOk result (λ report.
         report.status ≡ Status.Refused → string_bytes report.answer ≡ []) }

@@ -11,8 +11,8 @@ use Rattle.result_bytes.specs.declared.value.Value.{Value}
 use Rattle.fingerprint.specs.Prints.{print_of}
 use Rattle.mj_project.specs.Projects.{IsProject}
 use Rattle.recorder.specs.Projects.{Project}
-use Rattle.recorder.specs.Backed.{Meaning, ReadLists, Told, rank, keys, IsOfKind, AreLower, Alike, RunnerLaws, Gives, GivesEach, BeginsWith, Backed}
-use Rattle.recorder.specs.Runs.{Ran, IsOutcome}
+use Rattle.recorder.specs.Backed.{Meaning, ReadLists, ReadValue, rank, keys, IsOfKind, AreLower, Alike, RunnerLaws, Gives, GivesEach, BeginsWith, Backed}
+use Rattle.recorder.specs.Runs.{OutcomeValue, IsOutcome}
 use Rattle.sessions.specs.declared.mark.Mark.{Mark}
 use Rattle.sessions.specs.declared.mark.Mark.TheVariants.{Input, Green, Executed}
 use Rattle.sessions.specs.Sessions.{Entry}
@@ -124,16 +124,16 @@ module _ (mean : Meaning) (reads : ReadLists) (laws : RunnerLaws mean reads) (pa
     (project : IsProject p) (old_project : IsProject old) (graph : IsGraph past)
     (sound : IsSound mean reads past p s) (meant : AreMeant mean reads past old) (apart : AreApart mean reads past p)
     (done : (q : Key) → IsReached p s q → (v : Value) × (es : List Key) × (m : Mark) × (s.at q ≡ Done v es m)) where
-  gives_each : (told : List Told) → AreHeld s told → AllByRecursion (λ e. (u : Value) → IsDoneWith u (s.at e) → mean p e ≡ u) (keys told) → GivesEach (mean p) told
+  gives_each : (told : List ReadValue) → AreHeld s told → AllByRecursion (λ e. (u : Value) → IsDoneWith u (s.at e) → mean p e ≡ u) (keys told) → GivesEach (mean p) told
   gives_each [] h a = tt
   gives_each (r ∷ rs) h a = (a.0 r.value h.0, gives_each rs h.1 a.1)
 
-  gives_front : (told : List Told) (i : ℕ) → AreHeld s told → AllByRecursion (λ e. (u : Value) → IsDoneWith u (s.at e) → mean p e ≡ u) (take i (keys told)) → GivesEach (mean p) (take i told)
+  gives_front : (told : List ReadValue) (i : ℕ) → AreHeld s told → AllByRecursion (λ e. (u : Value) → IsDoneWith u (s.at e) → mean p e ≡ u) (take i (keys told)) → GivesEach (mean p) (take i told)
   gives_front told zero h a = tt
   gives_front [] (suc i) h a = tt
   gives_front (r ∷ rs) (suc i) h a = (a.0 r.value h.0, gives_front rs i h.1 a.1)
 
-  keys_length : (told : List Told) → length (keys told) ≡ length told
+  keys_length : (told : List ReadValue) → length (keys told) ≡ length told
   keys_length [] = refl
   keys_length (r ∷ rs) = ap suc (keys_length rs)
 
@@ -147,7 +147,7 @@ module _ (mean : Meaning) (reads : ReadLists) (laws : RunnerLaws mean reads) (pa
       let lt : length pre < length ex.told = omega (arith, ap length here, ap length ex.edges, keys_length ex.told, length-append pre (e ∷ rest)) in
       let g = gives_front ex.told (length pre) ex.held (rw (ex.edges, here, take_front pre (e ∷ rest)) before) in
       let b = ex.outcome.backed.asked (length pre) lt p (record { project = project; each = g }) in
-      let t : keys (take (suc (length pre)) ex.told) ≡ pre ++ e ∷ [] = sym (take-map (λ (t : Told). t.key) (suc (length pre)) ex.told) ∙ ap (take (suc (length pre))) (ex.edges ∙ here) ∙ take_next pre e rest in
+      let t : keys (take (suc (length pre)) ex.told) ≡ pre ++ e ∷ [] = sym (take-map (λ (t : ReadValue). t.key) (suc (length pre)) ex.told) ∙ ap (take (suc (length pre))) (ex.edges ∙ here) ∙ take_next pre e rest in
       subst (λ (xs : List Key). Contains xs e) b.1 (Contains-append_left (keys (take (suc (length pre)) ex.told)) b.0 e (rw t (has_mid pre e []))) in
       let good : (e : Key) → Contains es e → Contains (reads p q) e → G e
       = λ e has inn u d. let m = ih e has inn in subst (λ (y : Status). IsDoneWith u y) m.1 d in

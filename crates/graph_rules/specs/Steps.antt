@@ -5,8 +5,8 @@ use Rattle.item_ids.specs.declared.key.Key.{Key}
 use Rattle.result_bytes.specs.declared.value.Value.{Value}
 use Rattle.fingerprint.specs.Prints.{print_of}
 use Rattle.recorder.specs.Projects.{Project}
-use Rattle.recorder.specs.Backed.{Told, rank, keys}
-use Rattle.recorder.specs.Runs.{Ran}
+use Rattle.recorder.specs.Backed.{ReadValue, rank, keys}
+use Rattle.recorder.specs.Runs.{OutcomeValue}
 use Rattle.sessions.specs.declared.mark.Mark.{Mark}
 use Rattle.sessions.specs.declared.mark.Mark.TheVariants.{Input, Green, Executed}
 use Rattle.sessions.specs.Sessions.{Entry}
@@ -30,7 +30,7 @@ pub data Event : Type 0 where
   Claim : ℕ → Key → Event
   MarkGreen : ℕ → Key → Event
   Begin : ℕ → Key → Event
-  Finish : ℕ → Ran → Event
+  Finish : ℕ → OutcomeValue → Event
   Fail : ℕ → Event
 
 -- an input is done, any other key unknown
@@ -121,7 +121,7 @@ MayRun (Some (ChangedAt i)) = Unit {0}
 MayRun (Some _) = ⊥
 
 -- each read is done with the same value
-abbrev pub AreHeld : State → List Told → Type 0
+abbrev pub AreHeld : State → List ReadValue → Type 0
 AreHeld s told = AllByRecursion (λ t. IsDoneWith t.value (s.at t.key)) told
 
 -- the event is a step in the state

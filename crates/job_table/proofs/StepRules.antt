@@ -7,8 +7,8 @@ use Rattle.item_ids.specs.declared.key.Key.{Key}
 use Rattle.result_bytes.specs.declared.value.Value.{Value}
 use Rattle.mj_project.specs.Projects.{IsProject}
 use Rattle.recorder.specs.Projects.{Project}
-use Rattle.recorder.specs.Backed.{Meaning, ReadLists, Told, rank, keys}
-use Rattle.recorder.specs.Runs.{Ran}
+use Rattle.recorder.specs.Backed.{Meaning, ReadLists, ReadValue, rank, keys}
+use Rattle.recorder.specs.Runs.{OutcomeValue}
 use Rattle.sessions.specs.Sessions.{Entry}
 use Rattle.sessions.specs.declared.mark.Mark.TheVariants.{Input, Green, Executed}
 use Rattle.graph_rules.specs.Keys.{same_key, input_of}
@@ -130,7 +130,7 @@ past_walk_at past s t e (Some r) = ap Some (walk_same past s t e r.reads)
 pub past_walk_same : (past : Past) (s t : State) → ((k : Key) → s.at k ≡ t.at k) → (q : Key) → past_walk past s q ≡ past_walk past t q
 past_walk_same past s t e q = past_walk_at past s t e (past q)
 
-held_same : (s t : State) → ((k : Key) → s.at k ≡ t.at k) → (rs : List Told) → AreHeld s rs → AreHeld t rs
+held_same : (s t : State) → ((k : Key) → s.at k ≡ t.at k) → (rs : List ReadValue) → AreHeld s rs → AreHeld t rs
 held_same s t e [] h = tt
 held_same s t e (r ∷ rs) h = (subst (λ (x : Status). IsDoneWith r.value x) (e r.key) h.0, held_same s t e rs h.1)
 
@@ -177,7 +177,7 @@ module _ (past : Past) (p : Project) (ns : List Node) (b : Bool) (h : List Event
       let none : input_of p q ≡ None = none_at (input_of p q) (status_in ns q) (kept.inner q) (λ u. known (sym is ∙ u)) in
       (none, sym (kept.status q) ∙ (ap (λ o. unless_input o (status_in ns q)) none ∙ is))
 
-  pub are_held : (c : Bool) (rs : List Told) → AreHeld (held p ns c) rs → AreHeld (replayed past p h) rs
+  pub are_held : (c : Bool) (rs : List ReadValue) → AreHeld (held p ns c) rs → AreHeld (replayed past p h) rs
   are_held c rs all = held_same (held p ns c) (replayed past p h) kept.status rs all
 
   pub is_walk : (c : Bool) (es : List Key) → walk past (held p ns c) es ≡ walk past (replayed past p h) es

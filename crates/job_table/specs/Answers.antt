@@ -7,8 +7,8 @@ use Rattle.std.specs.Arc.{arc_value}
 use Rattle.item_ids.specs.declared.key.Key.{Key}
 use Rattle.result_bytes.specs.declared.value.Value.{Value}
 use Rattle.recorder.specs.Projects.{Project}
-use Rattle.recorder.specs.Backed.{Told}
-use Rattle.recorder.specs.Runs.{Ran}
+use Rattle.recorder.specs.Backed.{ReadValue}
+use Rattle.recorder.specs.Runs.{OutcomeValue}
 use Rattle.sessions.specs.Sessions.{SessionValue, past_entry}
 use Rattle.graph_rules.specs.Steps.{Unknown, Claimed, Running, Event, Claim, MarkGreen, Begin, Finish, Fail, State, Walk, AllUnchanged, OpenAt, ChangedAt, IsDoneWith, IsNotDone, IsBelow, MayRun, past_walk, AreHeld, Legal, replayed, MayStep}
 use Rattle.job_table.specs.Tables.{TableValue, past_of, state_of, IsStep, adds, IsFull}

@@ -31,7 +31,7 @@ impl<'a> Declarations<'a> {
         ensures { IfOk result (λ d. declared_in d ≡ declarations (files_view files.now)) }
     {
         let classes = all_classes(alloc, files)?;
-        let by_name = indexed(alloc, &classes)?;
+        let by_name = index_by_name(alloc, &classes)?;
         Ok(Declarations { classes, by_name })
     }
 
@@ -113,7 +113,7 @@ fn add_classes<'a>(
 }
 
 /// The place of the first class of each name.
-fn indexed(alloc: Global, classes: &[ClassRef]) -> Result<BTreeMap<Name, usize>, AllocError>
+fn index_by_name(alloc: Global, classes: &[ClassRef]) -> Result<BTreeMap<Name, usize>, AllocError>
     ensures { IfOk result (λ m.
         (q : List ℕ)
         → get (slice_cmp nat_cmp) m q

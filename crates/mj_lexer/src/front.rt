@@ -156,7 +156,7 @@ fn symbol(b: u8) -> Option<Terminal>
 
 /// The reserved word that is written so.
 #[tactic(auto, unfolding(crate::specs::Words::reserved_of))]
-fn reserved(text: &[u8]) -> Option<Terminal>
+fn reserved_word(text: &[u8]) -> Option<Terminal>
     ensures { result ≡ reserved_of text.now }
 {
     if text == b"class".as_slice() {
@@ -201,7 +201,7 @@ fn word_kind(alloc: Global, text: &[u8]) -> Result<Kind, AllocError>
     requires ascii { IsAscii text.now }
     ensures { IfOk result (λ k. k ≡ kind_of_word text.now) }
 {
-    match reserved(text) {
+    match reserved_word(text) {
         Some(terminal) => Ok(Kind::Terminal(terminal)),
         None => Ok(Kind::Identifier(Name::new(alloc, as_text(text))?)),
     }

@@ -12,7 +12,7 @@ use Rattle.mj_tree.specs.declared.tree.Operator.TheVariants.{And, Less, Plus, Mi
 use Rattle.mj_parser.specs.Tokens.{same_terminal, is_terminal, name_of, value_of, kind_at, has, name_at, value_at, says}
 use Rattle.mj_tree.specs.Trees.{Expression, Expressions, Binary, Index, Length, Call, Literal, Boolean, Named, This, NewArray, NewObject, Not, Parenthesized, none, more}
 use Rattle.mj_parser.specs.Expressions.{tier_of, terminal_of, size, sizes, sizes_more, height, heights, IsExp, AreArguments, AreMore}
-use Rattle.mj_parser.specs.ExpressionReading.{Found, TierParser, operator_at, takes_index, new_at, terminal_at, prim_of, prim_at, index_at, member_at, post_at, tier_at, exp_at}
+use Rattle.mj_parser.specs.ExpressionReading.{Reading, TierParser, operator_at, takes_index, new_at, terminal_at, prim_of, prim_at, index_at, member_at, post_at, tier_at, exp_at}
 use Rattle.mj_parser.proofs.Loops.{ChainLeads, PostLeads, chain_ends, chain_goes_on, post_ends, index_goes_on, member_goes_on}
 use Rattle.mj_parser.specs.Steps.{items_from, behind_comma, at_comma, listed_at}
 use Rattle.mj_parser.proofs.Lists.{exps_list, list_exps}
@@ -177,7 +177,7 @@ module _ (part : TierParser) (ts : List Token) (room : ℕ) (reads : (d i j : �
 
   -- ---- what follows a primary
 
-  prim_then : (e : Expression) (i j : ℕ) (total : Found) → prim_at part ts i ≡ Some (e, j) → PostLeads part ts room e j total → post_at part ts room i ≡ total
+  prim_then : (e : Expression) (i j : ℕ) (total : Reading) → prim_at part ts i ≡ Some (e, j) → PostLeads part ts room e j total → post_at part ts room i ≡ total
   unfolding post_at
   prim_then e i j total p leads = rw (post_at, p) (leads (suc (length ts)) (omega arith))
 
@@ -194,7 +194,7 @@ module _ (part : TierParser) (ts : List Token) (room : ℕ) (reads : (d i j : �
   unfolding member_at
   call_again m j e name gs n p h fits close at = rw (member_at, at, n, p, args_again gs (m + 2) (m + 2 + sizes gs) h fits refl close, list_exps gs) refl
 
-  post_chain : (e : Expression) (i j : ℕ) (total : Found) → IsExp ts 0 i e → height e ≤ suc room → j ≡ i + size e → has ts j terminals.LeftParenthesis ≡ false → PostLeads part ts room e j total → post_at part ts room i ≡ total
+  post_chain : (e : Expression) (i j : ℕ) (total : Reading) → IsExp ts 0 i e → height e ≤ suc room → j ≡ i + size e → has ts j terminals.LeftParenthesis ≡ false → PostLeads part ts room e j total → post_at part ts room i ≡ total
   post_chain (Binary o m l r) i j total h fits at np leads = let lt = h.0 in absurd (omega arith)
   post_chain (Index m a x) i j total h fits at np leads =
       let w = has_within ts m terminals.LeftBracket (has_is _ _ _ h.3) in
@@ -272,11 +272,11 @@ module _ (part : TierParser) (ts : List Token) (room : ℕ) (reads : (d i j : �
 
   module _ (d : ℕ) (lower : Claim (suc d)) where
     -- what a lower tier reads is the first operand
-    lower_then : (e : Expression) (i j : ℕ) (total : Found) → IsExp ts (suc d) i e → height e ≤ suc room → j ≡ i + size e → j ≤ length ts → Stops ts (suc d) j → ChainLeads part ts room (suc d) e j total → tier_at part ts room (suc (suc d)) i ≡ total
+    lower_then : (e : Expression) (i j : ℕ) (total : Reading) → IsExp ts (suc d) i e → height e ≤ suc room → j ≡ i + size e → j ≤ length ts → Stops ts (suc d) j → ChainLeads part ts room (suc d) e j total → tier_at part ts room (suc (suc d)) i ≡ total
     unfolding tier_at
     lower_then e i j total h fits at w s leads = rw (tier_at, lower e i j h fits at w s) (leads (suc (length ts)) (omega arith))
 
-    climb : (e : Expression) (i j : ℕ) (total : Found) → IsExp ts (suc (suc d)) i e → height e ≤ suc room → j ≡ i + size e → j ≤ length ts → Stops ts (suc d) j → ChainLeads part ts room (suc d) e j total → tier_at part ts room (suc (suc d)) i ≡ total
+    climb : (e : Expression) (i j : ℕ) (total : Reading) → IsExp ts (suc (suc d)) i e → height e ≤ suc room → j ≡ i + size e → j ≤ length ts → Stops ts (suc d) j → ChainLeads part ts room (suc d) e j total → tier_at part ts room (suc (suc d)) i ≡ total
     climb (Binary o m l r) i j total h fits at w s leads =
         elim (cases_lt (tier_of o) (suc d)) [
           | inl lt ↦ lower_then (Binary o m l r) i j total (lt, h.1, h.2, h.3, h.4) fits at w s leads

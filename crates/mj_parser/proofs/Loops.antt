@@ -9,7 +9,7 @@ use Rattle.mj_parser.specs.Tokens.{has}
 use Rattle.mj_tree.specs.Trees.{Expression, Binary}
 use Rattle.mj_tree.specs.Views.{exp_view, exps_view}
 use Rattle.mj_parser.specs.Expressions.{height, heights}
-use Rattle.mj_parser.specs.ExpressionReading.{Found, TierParser, operator_at, binary_from, takes_index, post_from, index_at, member_at, exp_at}
+use Rattle.mj_parser.specs.ExpressionReading.{Reading, TierParser, operator_at, binary_from, takes_index, post_from, index_at, member_at, exp_at}
 
 -- no expression has no levels
 pub no_room : (ts : List Token) (room d i : ℕ) → room ≡ 0 → exp_at room ts d i ≡ None
@@ -18,10 +18,10 @@ no_room ts zero d i e = refl
 no_room ts (suc room) d i e = absurd (omega arith)
 
 -- With gas enough, what follows the tree is read to this end.
-abbrev pub ChainLeads : TierParser → List Token → ℕ → ℕ → Expression → ℕ → Found → Type 0
+abbrev pub ChainLeads : TierParser → List Token → ℕ → ℕ → Expression → ℕ → Reading → Type 0
 ChainLeads part ts room d left j total = (gas : ℕ) → length ts < gas + j → binary_from gas part ts room d left j ≡ total
 
-abbrev pub PostLeads : TierParser → List Token → ℕ → Expression → ℕ → Found → Type 0
+abbrev pub PostLeads : TierParser → List Token → ℕ → Expression → ℕ → Reading → Type 0
 PostLeads part ts room left j total = (gas : ℕ) → length ts < gas + j → post_from gas part ts room left j ≡ total
 
 module _ (part : TierParser) (ts : List Token) (room d : ℕ) (left : Expression) (j : ℕ) (within : j ≤ length ts) where
@@ -40,7 +40,7 @@ module _ (part : TierParser) (ts : List Token) (room d : ℕ) (left : Expression
   chain_no_part o e fits n zero enough = absurd (omega arith)
   chain_no_part o e fits n (suc gas) enough = rw (binary_from, e, le-leb _ _ fits, n) refl
 
-  pub chain_goes_on : (o : Operator) (right : Expression) (k : ℕ) (total : Found) → operator_at ts j d ≡ Some o → height left ≤ room → part d (j + 1) ≡ Some (right, k) → j < k → ChainLeads part ts room d (Binary o j left right) k total → ChainLeads part ts room d left j total
+  pub chain_goes_on : (o : Operator) (right : Expression) (k : ℕ) (total : Reading) → operator_at ts j d ≡ Some o → height left ≤ room → part d (j + 1) ≡ Some (right, k) → j < k → ChainLeads part ts room d (Binary o j left right) k total → ChainLeads part ts room d left j total
   unfolding binary_from
   chain_goes_on o right k total e fits n onward leads zero enough = absurd (omega arith)
   chain_goes_on o right k total e fits n onward leads (suc gas) enough = rw (binary_from, e, le-leb _ _ fits, n) (leads gas (omega arith))
@@ -61,7 +61,7 @@ module _ (part : TierParser) (ts : List Token) (room : ℕ) (left : Expression) 
   no_index e fits n zero enough = absurd (omega arith)
   no_index e fits n (suc gas) enough = rw (post_from, e, le-leb _ _ fits, n) refl
 
-  pub index_goes_on : (next : Expression) (k : ℕ) (total : Found) → takes_index ts left j ≡ true → height left ≤ room → index_at part ts left j ≡ Some (next, k) → j < k → PostLeads part ts room next k total → PostLeads part ts room left j total
+  pub index_goes_on : (next : Expression) (k : ℕ) (total : Reading) → takes_index ts left j ≡ true → height left ≤ room → index_at part ts left j ≡ Some (next, k) → j < k → PostLeads part ts room next k total → PostLeads part ts room left j total
   unfolding post_from
   index_goes_on next k total e fits n onward leads zero enough = absurd (omega arith)
   index_goes_on next k total e fits n onward leads (suc gas) enough = rw (post_from, e, le-leb _ _ fits, n) (leads gas (omega arith))
@@ -76,7 +76,7 @@ module _ (part : TierParser) (ts : List Token) (room : ℕ) (left : Expression) 
   no_member e f fits n zero enough = absurd (omega arith)
   no_member e f fits n (suc gas) enough = rw (post_from, e, f, le-leb _ _ fits, n) refl
 
-  pub member_goes_on : (next : Expression) (k : ℕ) (total : Found) → takes_index ts left j ≡ false → has ts j terminals.Dot ≡ true → height left ≤ room → member_at part ts left (j + 1) ≡ Some (next, k) → j < k → PostLeads part ts room next k total → PostLeads part ts room left j total
+  pub member_goes_on : (next : Expression) (k : ℕ) (total : Reading) → takes_index ts left j ≡ false → has ts j terminals.Dot ≡ true → height left ≤ room → member_at part ts left (j + 1) ≡ Some (next, k) → j < k → PostLeads part ts room next k total → PostLeads part ts room left j total
   unfolding post_from
   member_goes_on next k total e f fits n onward leads zero enough = absurd (omega arith)
   member_goes_on next k total e f fits n onward leads (suc gas) enough = rw (post_from, e, f, le-leb _ _ fits, n) (leads gas (omega arith))

@@ -9,39 +9,39 @@ ghost use Rattle.mj_parser.specs.FileReading.{type_at, variable_at, local_at, be
 use crate::expressions::{ANY_TIER, read};
 use crate::fault::ParseFault;
 use crate::statements::statement;
-use crate::tokens::{Parsed, expect, expect_name, has, name};
+use crate::tokens::{Part, expect, expect_name, has, name};
 use mj_lexer::{Name, Terminal, Token};
 use mj_tree::{MOST_LEVELS, MethodTree, Stmt, Ty, Variable};
 use std::alloc::Global;
 
 /// A declared type.
 #[tactic(auto, unfolding(crate::specs::FileReading::type_at))]
-fn declared_type(alloc: Global, tokens: &[Token], at: usize) -> Result<Parsed<Ty>, ParseFault>
+fn declared_type(alloc: Global, tokens: &[Token], at: usize) -> Result<Part<Ty>, ParseFault>
     requires { at ≤ length tokens.now }
     ensures exact { Finds (λ x. (x.tree, x.after)) result (type_at tokens.now at) }
     ensures within { IfOk result (λ x. (at < x.after) × (x.after ≤ length tokens.now)) }
 {
     if has(tokens, at, Terminal::Int) {
         if !has(tokens, at + 1, Terminal::LeftBracket) {
-            return Ok(Parsed {
+            return Ok(Part {
                 tree: Ty::Int,
                 after: at + 1,
             });
         }
         let after = expect(tokens, at + 2, Terminal::RightBracket)?;
-        return Ok(Parsed {
+        return Ok(Part {
             tree: Ty::IntArray,
             after,
         });
     }
     if has(tokens, at, Terminal::Boolean) {
-        return Ok(Parsed {
+        return Ok(Part {
             tree: Ty::Boolean,
             after: at + 1,
         });
     }
     let class = expect_name(tokens, at)?;
-    Ok(Parsed {
+    Ok(Part {
         tree: Ty::Class(class.copy(alloc)?),
         after: at + 1,
     })
@@ -49,14 +49,14 @@ fn declared_type(alloc: Global, tokens: &[Token], at: usize) -> Result<Parsed<Ty
 
 /// A type and a name.
 #[tactic(auto, unfolding(crate::specs::FileReading::variable_at))]
-fn variable(alloc: Global, tokens: &[Token], at: usize) -> Result<Parsed<Variable>, ParseFault>
+fn variable(alloc: Global, tokens: &[Token], at: usize) -> Result<Part<Variable>, ParseFault>
     requires { at ≤ length tokens.now }
     ensures exact { Finds (λ x. (x.tree, x.after)) result (variable_at tokens.now at) }
     ensures within { IfOk result (λ x. (at < x.after) × (x.after ≤ length tokens.now)) }
 {
     let ty = declared_type(alloc, tokens, at)?;
     let name = expect_name(tokens, ty.after)?;
-    Ok(Parsed {
+    Ok(Part {
         tree: Variable {
             name: name.copy(alloc)?,
             ty: ty.tree,
@@ -68,14 +68,14 @@ fn variable(alloc: Global, tokens: &[Token], at: usize) -> Result<Parsed<Variabl
 
 /// A variable and its semicolon.
 #[tactic(auto, unfolding(crate::specs::FileReading::local_at))]
-pub fn local(alloc: Global, tokens: &[Token], at: usize) -> Result<Parsed<Variable>, ParseFault>
+pub fn local(alloc: Global, tokens: &[Token], at: usize) -> Result<Part<Variable>, ParseFault>
     requires { at ≤ length tokens.now }
     ensures exact { Finds (λ x. (x.tree, x.after)) result (local_at tokens.now at) }
     ensures within { IfOk result (λ x. (at < x.after) × (x.after ≤ length tokens.now)) }
 {
     let variable = variable(alloc, tokens, at)?;
     let after = expect(tokens, variable.after, Terminal::Semicolon)?;
-    Ok(Parsed {
+    Ok(Part {
         tree: variable.tree,
         after,
     })
@@ -92,7 +92,7 @@ fn begins_local(tokens: &[Token], at: usize) -> bool
 }
 
 /// Formals between commas, up to the parenthesis that closes them.
-fn formals(alloc: Global, tokens: &[Token], at: usize) -> Result<Parsed<Vec<Variable>>, ParseFault>
+fn formals(alloc: Global, tokens: &[Token], at: usize) -> Result<Part<Vec<Variable>>, ParseFault>
     requires { at ≤ length tokens.now }
     ensures exact { Finds (λ x. (x.tree.items, x.after)) result
         (listed_at (variable_at tokens.now) tokens.now at) }
@@ -100,7 +100,7 @@ fn formals(alloc: Global, tokens: &[Token], at: usize) -> Result<Parsed<Vec<Vari
 {
     let mut formals = Vec::new(alloc);
     if has(tokens, at, Terminal::RightParenthesis) {
-        return Ok(Parsed {
+        return Ok(Part {
             tree: formals,
             after: at + 1,
         });
@@ -114,14 +114,14 @@ fn formals(alloc: Global, tokens: &[Token], at: usize) -> Result<Parsed<Vec<Vari
         after = next.after;
     }
     let after = expect(tokens, after, Terminal::RightParenthesis)?;
-    Ok(Parsed {
+    Ok(Part {
         tree: formals,
         after,
     })
 }
 
 /// The locals of a body.
-fn locals(alloc: Global, tokens: &[Token], at: usize) -> Result<Parsed<Vec<Variable>>, ParseFault>
+fn locals(alloc: Global, tokens: &[Token], at: usize) -> Result<Part<Vec<Variable>>, ParseFault>
     requires { at ≤ length tokens.now }
     ensures exact { Finds (λ x. (x.tree.items, x.after)) result
         (items_from (suc (length tokens.now)) (local_at tokens.now) (begins_local tokens.now)
@@ -135,11 +135,11 @@ fn locals(alloc: Global, tokens: &[Token], at: usize) -> Result<Parsed<Vec<Varia
         items.push(next.tree)?;
         after = next.after;
     }
-    Ok(Parsed { tree: items, after })
+    Ok(Part { tree: items, after })
 }
 
 /// Statements up to `return`.
-fn body(alloc: Global, tokens: &[Token], at: usize) -> Result<Parsed<Vec<Stmt>>, ParseFault>
+fn body(alloc: Global, tokens: &[Token], at: usize) -> Result<Part<Vec<Stmt>>, ParseFault>
     requires { at ≤ length tokens.now }
     ensures exact { Finds (λ x. (map stmt_view x.tree.items, x.after)) result
         (items_from (suc (length tokens.now)) (stmt_at most_levels tokens.now)
@@ -153,7 +153,7 @@ fn body(alloc: Global, tokens: &[Token], at: usize) -> Result<Parsed<Vec<Stmt>>,
         items.push(next.tree)?;
         after = next.after;
     }
-    Ok(Parsed { tree: items, after })
+    Ok(Part { tree: items, after })
 }
 
 /// What stands before the locals of a method.
@@ -165,7 +165,7 @@ pub struct Signature {
 }
 
 #[tactic(auto, unfolding(crate::specs::FileReading::signature_at))]
-fn read_signature(alloc: Global, tokens: &[Token]) -> Result<Parsed<Signature>, ParseFault>
+fn read_signature(alloc: Global, tokens: &[Token]) -> Result<Part<Signature>, ParseFault>
     ensures exact { Finds (λ x. (signature_view x.tree, x.after)) result (signature_at tokens.now) }
     ensures within { IfOk result (λ x. (0 < x.after) × (x.after ≤ length tokens.now)) }
 {
@@ -175,7 +175,7 @@ fn read_signature(alloc: Global, tokens: &[Token]) -> Result<Parsed<Signature>, 
     let after = expect(tokens, returns.after + 1, Terminal::LeftParenthesis)?;
     let formals = formals(alloc, tokens, after)?;
     let after = expect(tokens, formals.after, Terminal::LeftBrace)?;
-    Ok(Parsed {
+    Ok(Part {
         tree: Signature {
             name: name.copy(alloc)?,
             returns: returns.tree,
@@ -187,7 +187,7 @@ fn read_signature(alloc: Global, tokens: &[Token]) -> Result<Parsed<Signature>, 
 
 /// The method that the tokens begin with.
 #[tactic(auto, unfolding(crate::specs::FileReading::method_at, crate::specs::FileReading::method_of))]
-pub fn method(alloc: Global, tokens: &[Token]) -> Result<Parsed<MethodTree>, ParseFault>
+pub fn method(alloc: Global, tokens: &[Token]) -> Result<Part<MethodTree>, ParseFault>
     ensures exact { Finds (λ x. (method_view x.tree, x.after)) result (method_at tokens.now) }
     ensures within { IfOk result (λ x. (0 < x.after) × (x.after ≤ length tokens.now)) }
 {
@@ -197,7 +197,7 @@ pub fn method(alloc: Global, tokens: &[Token]) -> Result<Parsed<MethodTree>, Par
     let returned = read(alloc, tokens, body.after + 1, MOST_LEVELS, ANY_TIER)?;
     let after = expect(tokens, returned.after, Terminal::Semicolon)?;
     let after = expect(tokens, after, Terminal::RightBrace)?;
-    Ok(Parsed {
+    Ok(Part {
         tree: MethodTree {
             name: signature.tree.name,
             returns: signature.tree.returns,

@@ -18,7 +18,7 @@ pub const ANY_TIER: usize = 5;
 
 /// An expression, the place after it, and how many levels it has.
 #[derive(Debug, Drop)]
-pub struct Measured {
+pub struct ExpPart {
     pub exp: Exp,
     pub after: usize,
     pub height: usize,
@@ -78,7 +78,7 @@ pub fn read(
     at: usize,
     room: usize,
     tier: usize,
-) -> Result<Measured, ParseFault>
+) -> Result<ExpPart, ParseFault>
     requires tiers { tier ≤ any_tier }
     requires deep { room ≤ most_levels }
     requires within { at ≤ length tokens.now }
@@ -90,20 +90,20 @@ pub fn read(
     if room == 0 {
         return Err(ParseFault::TooDeep);
     }
-    tiered(alloc, tokens, at, room - 1, tier)
+    read_tier(alloc, tokens, at, room - 1, tier)
 }
 
 /// An expression of a tier whose parts have no more than so many levels.
 #[cycle(expressions)]
 #[tactic(auto, using(crate::proofs::Loops::no_room), unfolding(crate::specs::ExpressionReading::tier_at))]
 #[inline(never)]
-fn tiered(
+fn read_tier(
     alloc: Global,
     tokens: &[Token],
     at: usize,
     room: usize,
     tier: usize,
-) -> Result<Measured, ParseFault>
+) -> Result<ExpPart, ParseFault>
     requires tiers { tier ≤ any_tier }
     requires deep { room ≤ most_levels }
     requires within { at ≤ length tokens.now }
@@ -124,13 +124,13 @@ fn tiered(
             return Err(ParseFault::TooDeep);
         }
         let operand = read(alloc, tokens, at + 1, room, 1)?;
-        return Ok(Measured {
+        return Ok(ExpPart {
             exp: nodes::not(alloc, at, operand.exp)?,
             after: operand.after,
             height: operand.height + 1,
         });
     }
-    let left = tiered(alloc, tokens, at, room, tier - 1)?;
+    let left = read_tier(alloc, tokens, at, room, tier - 1)?;
     chain(alloc, tokens, left, room, tier - 1)
 }
 
@@ -141,10 +141,10 @@ fn tiered(
 fn chain(
     alloc: Global,
     tokens: &[Token],
-    first: Measured,
+    first: ExpPart,
     room: usize,
     tier: usize,
-) -> Result<Measured, ParseFault>
+) -> Result<ExpPart, ParseFault>
     requires tiers { tier ≤ 4 }
     requires deep { room ≤ most_levels }
     requires within { first.after ≤ length tokens.now }
@@ -165,7 +165,7 @@ fn chain(
         }
         let mark = left.after;
         let right = read(alloc, tokens, mark + 1, room, tier)?;
-        left = Measured {
+        left = ExpPart {
             exp: nodes::binary(alloc, operator, mark, left.exp, right.exp)?,
             after: right.after,
             height: left.height.max(right.height) + 1,
@@ -177,7 +177,7 @@ fn chain(
 #[cycle(expressions)]
 #[tactic(auto, unfolding(crate::specs::ExpressionReading::post_at))]
 #[inline(never)]
-fn post(alloc: Global, tokens: &[Token], at: usize, room: usize) -> Result<Measured, ParseFault>
+fn post(alloc: Global, tokens: &[Token], at: usize, room: usize) -> Result<ExpPart, ParseFault>
     requires deep { room ≤ most_levels }
     requires within { at ≤ length tokens.now }
     ensures exact { Finds (λ x. (exp_view x.exp, x.after)) result
@@ -187,18 +187,18 @@ fn post(alloc: Global, tokens: &[Token], at: usize, room: usize) -> Result<Measu
     ensures low { IfOk result (λ x. x.height ≤ room + 1) }
 {
     let first = prim(alloc, tokens, at, room)?;
-    followed(alloc, tokens, first, room)
+    read_suffixes(alloc, tokens, first, room)
 }
 
 /// The expression with the indices and members that follow it.
 #[cycle(expressions)]
 #[inline(never)]
-fn followed(
+fn read_suffixes(
     alloc: Global,
     tokens: &[Token],
-    first: Measured,
+    first: ExpPart,
     room: usize,
-) -> Result<Measured, ParseFault>
+) -> Result<ExpPart, ParseFault>
     requires deep { room ≤ most_levels }
     requires within { first.after ≤ length tokens.now }
     requires height { first.height ≡ height (exp_view first.exp) }
@@ -230,7 +230,7 @@ fn followed(
 }
 
 /// Whether an index follows the expression.
-fn takes_index(tokens: &[Token], left: &Measured) -> bool
+fn takes_index(tokens: &[Token], left: &ExpPart) -> bool
     ensures value { result ≡ takes_index tokens.now (exp_view left.now.exp) left.now.after }
     ensures within { IsTrue result → left.now.after < length tokens.now }
 {
@@ -249,9 +249,9 @@ fn is_new_array(exp: &Exp) -> bool
 fn index(
     alloc: Global,
     tokens: &[Token],
-    left: Measured,
+    left: ExpPart,
     room: usize,
-) -> Result<Measured, ParseFault>
+) -> Result<ExpPart, ParseFault>
     requires deep { room ≤ most_levels }
     requires within { left.after < length tokens.now }
     requires height { left.height ≡ height (exp_view left.exp) }
@@ -265,7 +265,7 @@ fn index(
     let mark = left.after;
     let index = read(alloc, tokens, mark + 1, room, ANY_TIER)?;
     let after = expect(tokens, index.after, Terminal::RightBracket)?;
-    Ok(Measured {
+    Ok(ExpPart {
         exp: nodes::index(alloc, mark, left.exp, index.exp)?,
         after,
         height: left.height.max(index.height) + 1,
@@ -278,9 +278,9 @@ fn index(
 fn member(
     alloc: Global,
     tokens: &[Token],
-    left: Measured,
+    left: ExpPart,
     room: usize,
-) -> Result<Measured, ParseFault>
+) -> Result<ExpPart, ParseFault>
     requires deep { room ≤ most_levels }
     requires within { left.after < length tokens.now }
     requires height { left.height ≡ height (exp_view left.exp) }
@@ -295,7 +295,7 @@ fn member(
     let name = expect_name(tokens, mark)?;
     if has(tokens, mark + 1, Terminal::LeftParenthesis) {
         let listed = arguments(alloc, tokens, mark + 2, room)?;
-        return Ok(Measured {
+        return Ok(ExpPart {
             exp: nodes::call(alloc, mark, left.exp, name, listed.exps)?,
             after: listed.after,
             height: left.height.max(listed.height) + 1,
@@ -304,7 +304,7 @@ fn member(
     if !says(tokens, mark, b"length".as_slice()) {
         return Err(ParseFault::NotAFile(mark + 1));
     }
-    Ok(Measured {
+    Ok(ExpPart {
         exp: nodes::length(alloc, mark, left.exp)?,
         after: mark + 1,
         height: left.height + 1,
@@ -364,7 +364,7 @@ fn arguments(
 #[cycle(expressions)]
 #[tactic(auto, using(crate::proofs::Loops::no_room), unfolding(crate::specs::ExpressionReading::new_at))]
 #[inline(never)]
-fn made(alloc: Global, tokens: &[Token], at: usize, room: usize) -> Result<Measured, ParseFault>
+fn read_new(alloc: Global, tokens: &[Token], at: usize, room: usize) -> Result<ExpPart, ParseFault>
     requires deep { room ≤ most_levels }
     requires within { at < length tokens.now }
     ensures exact { Finds (λ x. (exp_view x.exp, x.after)) result
@@ -380,7 +380,7 @@ fn made(alloc: Global, tokens: &[Token], at: usize, room: usize) -> Result<Measu
         let inside = expect(tokens, at + 2, Terminal::LeftBracket)?;
         let length = read(alloc, tokens, inside, room, ANY_TIER)?;
         let after = expect(tokens, length.after, Terminal::RightBracket)?;
-        return Ok(Measured {
+        return Ok(ExpPart {
             exp: nodes::new_array(alloc, at, length.exp)?,
             after,
             height: length.height + 1,
@@ -389,7 +389,7 @@ fn made(alloc: Global, tokens: &[Token], at: usize, room: usize) -> Result<Measu
     let class = expect_name(tokens, at + 1)?;
     let inside = expect(tokens, at + 2, Terminal::LeftParenthesis)?;
     let after = expect(tokens, inside, Terminal::RightParenthesis)?;
-    Ok(Measured {
+    Ok(ExpPart {
         exp: nodes::new_object(alloc, at, class)?,
         after,
         height: 1,
@@ -397,11 +397,11 @@ fn made(alloc: Global, tokens: &[Token], at: usize, room: usize) -> Result<Measu
 }
 
 /// An expression of one token.
-fn single(exp: Exp, at: usize) -> Measured
+fn single(exp: Exp, at: usize) -> ExpPart
     requires { at < 2 ^ 63 }
     ensures { result ≡ record { exp = exp; after = at + 1; height = 1 } }
 {
-    Measured {
+    ExpPart {
         exp,
         after: at + 1,
         height: 1,
@@ -411,7 +411,7 @@ fn single(exp: Exp, at: usize) -> Measured
 #[cycle(expressions)]
 #[tactic(auto, using(crate::proofs::Loops::no_room), unfolding(crate::specs::ExpressionReading::prim_at, crate::specs::ExpressionReading::terminal_at))]
 #[inline(never)]
-fn prim(alloc: Global, tokens: &[Token], at: usize, room: usize) -> Result<Measured, ParseFault>
+fn prim(alloc: Global, tokens: &[Token], at: usize, room: usize) -> Result<ExpPart, ParseFault>
     requires deep { room ≤ most_levels }
     requires within { at ≤ length tokens.now }
     ensures exact { Finds (λ x. (exp_view x.exp, x.after)) result
@@ -427,13 +427,13 @@ fn prim(alloc: Global, tokens: &[Token], at: usize, room: usize) -> Result<Measu
             Terminal::True => Ok(single(nodes::boolean(at, true), at)),
             Terminal::False => Ok(single(nodes::boolean(at, false), at)),
             Terminal::This => Ok(single(nodes::this(at), at)),
-            Terminal::New => made(alloc, tokens, at, room),
+            Terminal::New => read_new(alloc, tokens, at, room),
             Terminal::LeftParenthesis if room == 0 => Err(ParseFault::TooDeep),
             Terminal::LeftParenthesis => {
                 let inner = read(alloc, tokens, at + 1, room, ANY_TIER)?;
                 let after = expect(tokens, inner.after, Terminal::RightParenthesis)?;
-                Ok(Measured {
-                    exp: nodes::parenthesized(alloc, at, inner.exp)?,
+                Ok(ExpPart {
+                    exp: nodes::parentheses(alloc, at, inner.exp)?,
                     after,
                     height: inner.height + 1,
                 })

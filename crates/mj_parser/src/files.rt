@@ -9,19 +9,19 @@ ghost use Rattle.mj_parser.specs.declared.fault.ParseFault.TheVariants.{OutOfMem
 use crate::declarations::{local, method};
 use crate::fault::ParseFault;
 use crate::statements::statement;
-use crate::tokens::{Parsed, expect, expect_name, expect_word, has, name};
+use crate::tokens::{Part, expect, expect_name, expect_word, has, name};
 use mj_lexer::{Name, Terminal, Token};
 use mj_tree::{ClassTree, Field, FileTree, MOST_LEVELS, MainTree, MethodTree, Stmt};
 use std::alloc::Global;
 
 #[tactic(auto, unfolding(crate::specs::FileReading::field_at))]
-fn field(alloc: Global, tokens: &[Token], at: usize) -> Result<Parsed<Field>, ParseFault>
+fn field(alloc: Global, tokens: &[Token], at: usize) -> Result<Part<Field>, ParseFault>
     requires { at ≤ length tokens.now }
     ensures exact { Finds (λ x. (x.tree, x.after)) result (field_at tokens.now at) }
     ensures within { IfOk result (λ x. (at < x.after) × (x.after ≤ length tokens.now)) }
 {
     let variable = local(alloc, tokens, at)?;
-    Ok(Parsed {
+    Ok(Part {
         tree: Field {
             name: variable.tree.name,
             ty: variable.tree.ty,
@@ -40,7 +40,7 @@ fn begins_type(tokens: &[Token], at: usize) -> bool
 }
 
 /// The fields of a class.
-fn fields(alloc: Global, tokens: &[Token], at: usize) -> Result<Parsed<Vec<Field>>, ParseFault>
+fn fields(alloc: Global, tokens: &[Token], at: usize) -> Result<Part<Vec<Field>>, ParseFault>
     requires { at ≤ length tokens.now }
     ensures exact { Finds (λ x. (x.tree.items, x.after)) result
         (items_from (suc (length tokens.now)) (field_at tokens.now) (begins_type tokens.now) at) }
@@ -53,17 +53,17 @@ fn fields(alloc: Global, tokens: &[Token], at: usize) -> Result<Parsed<Vec<Field
         items.push(next.tree)?;
         after = next.after;
     }
-    Ok(Parsed { tree: items, after })
+    Ok(Part { tree: items, after })
 }
 
 /// The method that begins at a place.
-fn method_at(alloc: Global, tokens: &[Token], at: usize) -> Result<Parsed<MethodTree>, ParseFault>
+fn method_at(alloc: Global, tokens: &[Token], at: usize) -> Result<Part<MethodTree>, ParseFault>
     requires { at ≤ length tokens.now }
     ensures exact { Finds (λ x. (method_view x.tree, x.after)) result (method_from tokens.now at) }
     ensures within { IfOk result (λ x. (at < x.after) × (x.after ≤ length tokens.now)) }
 {
     match method(alloc, &tokens[at..]) {
-        Ok(method) => Ok(Parsed {
+        Ok(method) => Ok(Part {
             tree: method.tree,
             after: at + method.after,
         }),
@@ -76,7 +76,7 @@ fn methods(
     alloc: Global,
     tokens: &[Token],
     at: usize,
-) -> Result<Parsed<Vec<MethodTree>>, ParseFault>
+) -> Result<Part<Vec<MethodTree>>, ParseFault>
     requires { at ≤ length tokens.now }
     ensures exact { Finds (λ x. (map method_view x.tree.items, x.after)) result
         (items_from (suc (length tokens.now)) (method_from tokens.now) (at_public tokens.now)
@@ -90,7 +90,7 @@ fn methods(
         items.push(next.tree)?;
         after = next.after;
     }
-    Ok(Parsed { tree: items, after })
+    Ok(Part { tree: items, after })
 }
 
 /// `extends` and a name, or nothing.
@@ -99,26 +99,26 @@ fn superclass(
     alloc: Global,
     tokens: &[Token],
     at: usize,
-) -> Result<Parsed<Option<Name>>, ParseFault>
+) -> Result<Part<Option<Name>>, ParseFault>
     requires { at ≤ length tokens.now }
     ensures exact { Finds (λ x. (x.tree, x.after)) result (superclass_at tokens.now at) }
     ensures within { IfOk result (λ x. (at ≤ x.after) × (x.after ≤ length tokens.now)) }
 {
     if !has(tokens, at, Terminal::Extends) {
-        return Ok(Parsed {
+        return Ok(Part {
             tree: None,
             after: at,
         });
     }
     let name = expect_name(tokens, at + 1)?;
-    Ok(Parsed {
+    Ok(Part {
         tree: Some(name.copy(alloc)?),
         after: at + 2,
     })
 }
 
 #[tactic(auto, unfolding(crate::specs::FileReading::class_at))]
-fn class(alloc: Global, tokens: &[Token], at: usize) -> Result<Parsed<ClassTree>, ParseFault>
+fn class(alloc: Global, tokens: &[Token], at: usize) -> Result<Part<ClassTree>, ParseFault>
     requires { at ≤ length tokens.now }
     ensures exact { Finds (λ x. (class_view x.tree, x.after)) result (class_at tokens.now at) }
     ensures within { IfOk result (λ x. (at < x.after) × (x.after ≤ length tokens.now)) }
@@ -130,7 +130,7 @@ fn class(alloc: Global, tokens: &[Token], at: usize) -> Result<Parsed<ClassTree>
     let fields = fields(alloc, tokens, after)?;
     let methods = methods(alloc, tokens, fields.after)?;
     let after = expect(tokens, methods.after, Terminal::RightBrace)?;
-    Ok(Parsed {
+    Ok(Part {
         tree: ClassTree {
             name: name.copy(alloc)?,
             superclass: superclass.tree,
@@ -142,7 +142,7 @@ fn class(alloc: Global, tokens: &[Token], at: usize) -> Result<Parsed<ClassTree>
 }
 
 /// The classes up to the end.
-fn classes(alloc: Global, tokens: &[Token], at: usize) -> Result<Parsed<Vec<ClassTree>>, ParseFault>
+fn classes(alloc: Global, tokens: &[Token], at: usize) -> Result<Part<Vec<ClassTree>>, ParseFault>
     requires { at ≤ length tokens.now }
     ensures exact { Finds (λ x. (map class_view x.tree.items, x.after)) result
         (items_from (suc (length tokens.now)) (class_at tokens.now) (before_end tokens.now) at) }
@@ -155,7 +155,7 @@ fn classes(alloc: Global, tokens: &[Token], at: usize) -> Result<Parsed<Vec<Clas
         items.push(next.tree)?;
         after = next.after;
     }
-    Ok(Parsed { tree: items, after })
+    Ok(Part { tree: items, after })
 }
 
 /// The place after `public static void main (`.
@@ -187,7 +187,7 @@ fn expect_main_parameter(tokens: &[Token]) -> Result<usize, ParseFault>
 
 /// The statement of `main`, which the tokens begin with, and the end of the main class.
 #[tactic(auto, unfolding(crate::specs::FileReading::main_method_at))]
-fn main_method(alloc: Global, tokens: &[Token]) -> Result<Parsed<Stmt>, ParseFault>
+fn main_method(alloc: Global, tokens: &[Token]) -> Result<Part<Stmt>, ParseFault>
     ensures exact { Finds (λ x. (stmt_view x.tree, x.after)) result (main_method_at tokens.now) }
     ensures within { IfOk result (λ x. x.after ≤ length tokens.now) }
 {
@@ -196,20 +196,20 @@ fn main_method(alloc: Global, tokens: &[Token]) -> Result<Parsed<Stmt>, ParseFau
     let statement = statement(alloc, tokens, inside, MOST_LEVELS)?;
     let after = expect(tokens, statement.after, Terminal::RightBrace)?;
     let after = expect(tokens, after, Terminal::RightBrace)?;
-    Ok(Parsed {
+    Ok(Part {
         tree: statement.tree,
         after,
     })
 }
 
 /// The statement of a main class whose `main` begins at place 3.
-fn main_statement(alloc: Global, tokens: &[Token]) -> Result<Parsed<Stmt>, ParseFault>
+fn main_statement(alloc: Global, tokens: &[Token]) -> Result<Part<Stmt>, ParseFault>
     requires { 3 ≤ length tokens.now }
     ensures exact { Finds (λ x. (stmt_view x.tree, x.after)) result (main_from tokens.now) }
     ensures within { IfOk result (λ x. x.after ≤ length tokens.now) }
 {
     match main_method(alloc, &tokens[3..]) {
-        Ok(statement) => Ok(Parsed {
+        Ok(statement) => Ok(Part {
             tree: statement.tree,
             after: 3 + statement.after,
         }),
@@ -218,7 +218,7 @@ fn main_statement(alloc: Global, tokens: &[Token]) -> Result<Parsed<Stmt>, Parse
 }
 
 #[tactic(auto, unfolding(crate::specs::FileReading::main_at))]
-fn main_class(alloc: Global, tokens: &[Token]) -> Result<Parsed<MainTree>, ParseFault>
+fn main_class(alloc: Global, tokens: &[Token]) -> Result<Part<MainTree>, ParseFault>
     ensures exact { Finds (λ x. (main_view x.tree, x.after)) result (main_at tokens.now) }
     ensures within { IfOk result (λ x. x.after ≤ length tokens.now) }
 {
@@ -226,7 +226,7 @@ fn main_class(alloc: Global, tokens: &[Token]) -> Result<Parsed<MainTree>, Parse
     let name = expect_name(tokens, after)?;
     expect(tokens, 2, Terminal::LeftBrace)?;
     let statement = main_statement(alloc, tokens)?;
-    Ok(Parsed {
+    Ok(Part {
         tree: MainTree {
             name: name.copy(alloc)?,
             statement: statement.tree,
@@ -245,19 +245,19 @@ fn begins_main(tokens: &[Token]) -> bool
 }
 
 #[tactic(auto, unfolding(crate::specs::FileReading::main_part_at))]
-fn main_part(alloc: Global, tokens: &[Token]) -> Result<Parsed<Option<MainTree>>, ParseFault>
+fn main_part(alloc: Global, tokens: &[Token]) -> Result<Part<Option<MainTree>>, ParseFault>
     ensures exact { Finds (λ x. (option_map main_view x.tree, x.after)) result
         (main_part_at tokens.now) }
     ensures within { IfOk result (λ x. x.after ≤ length tokens.now) }
 {
     if !begins_main(tokens) {
-        return Ok(Parsed {
+        return Ok(Part {
             tree: None,
             after: 0,
         });
     }
     let main = main_class(alloc, tokens)?;
-    Ok(Parsed {
+    Ok(Part {
         tree: Some(main.tree),
         after: main.after,
     })

@@ -116,7 +116,7 @@ pub fn not(alloc: Global, mark: usize, operand: Exp) -> Result<Exp, AllocError>
     })
 }
 
-pub fn parenthesized(alloc: Global, mark: usize, inner: Exp) -> Result<Exp, AllocError>
+pub fn parentheses(alloc: Global, mark: usize, inner: Exp) -> Result<Exp, AllocError>
     ensures { IfOk result (λ e. exp_view e ≡ trees.Parenthesized mark (exp_view inner)) }
 {
     Ok(Exp::Parenthesized {

@@ -11,10 +11,10 @@ ghost use Rattle.mj_parser.specs.StatementReading.{not_brace, block_at, conditio
 ghost use Rattle.mj_parser.specs.declared.fault.ParseFault.{ParseFault};
 ghost use Rattle.mj_parser.specs.declared.fault.ParseFault.TheVariants.{NotAFile, OutOfMemory};
 
-use crate::expressions::{ANY_TIER, Measured, read};
+use crate::expressions::{ANY_TIER, ExpPart, read};
 use crate::fault::ParseFault;
 use crate::nodes;
-use crate::tokens::{Parsed, expect, expect_name, expect_word, has, name, says};
+use crate::tokens::{Part, expect, expect_name, expect_word, has, name, says};
 use mj_lexer::{Name, Terminal, Token};
 use mj_tree::Stmt;
 use std::alloc::Global;
@@ -26,7 +26,7 @@ fn condition(
     tokens: &[Token],
     at: usize,
     room: usize,
-) -> Result<Measured, ParseFault>
+) -> Result<ExpPart, ParseFault>
     requires deep { room ≤ most_levels }
     requires within { at ≤ length tokens.now }
     ensures exact { Finds (λ x. (exp_view x.exp, x.after)) result
@@ -36,7 +36,7 @@ fn condition(
     let inside = expect(tokens, at, Terminal::LeftParenthesis)?;
     let exp = read(alloc, tokens, inside, room, ANY_TIER)?;
     let after = expect(tokens, exp.after, Terminal::RightParenthesis)?;
-    Ok(Measured { after, ..exp })
+    Ok(ExpPart { after, ..exp })
 }
 
 /// The place after `System . out . println (`. Another name than `System` begins a statement too, so that the fault
@@ -63,7 +63,7 @@ fn print(
     tokens: &[Token],
     at: usize,
     room: usize,
-) -> Result<Parsed<Stmt>, ParseFault>
+) -> Result<Part<Stmt>, ParseFault>
     requires deep { room ≤ most_levels }
     requires within { at < length tokens.now }
     ensures exact { Finds (λ x. (stmt_view x.tree, x.after)) result
@@ -74,7 +74,7 @@ fn print(
     let value = read(alloc, tokens, inside, room, ANY_TIER)?;
     let after = expect(tokens, value.after, Terminal::RightParenthesis)?;
     let after = expect(tokens, after, Terminal::Semicolon)?;
-    Ok(Parsed {
+    Ok(Part {
         tree: nodes::print(at, value.exp),
         after,
     })
@@ -87,7 +87,7 @@ fn assign(
     name: &Name,
     at: usize,
     room: usize,
-) -> Result<Parsed<Stmt>, ParseFault>
+) -> Result<Part<Stmt>, ParseFault>
     requires deep { room ≤ most_levels }
     requires within { at + 1 < length tokens.now }
     ensures exact { Finds (λ x. (stmt_view x.tree, x.after)) result
@@ -96,7 +96,7 @@ fn assign(
 {
     let value = read(alloc, tokens, at + 2, room, ANY_TIER)?;
     let after = expect(tokens, value.after, Terminal::Semicolon)?;
-    Ok(Parsed {
+    Ok(Part {
         tree: nodes::assign(alloc, at + 1, name, at, value.exp)?,
         after,
     })
@@ -109,7 +109,7 @@ fn store(
     name: &Name,
     at: usize,
     room: usize,
-) -> Result<Parsed<Stmt>, ParseFault>
+) -> Result<Part<Stmt>, ParseFault>
     requires deep { room ≤ most_levels }
     requires within { at + 1 < length tokens.now }
     ensures exact { Finds (λ x. (stmt_view x.tree, x.after)) result
@@ -121,7 +121,7 @@ fn store(
     let inside = expect(tokens, mark, Terminal::Assign)?;
     let value = read(alloc, tokens, inside, room, ANY_TIER)?;
     let after = expect(tokens, value.after, Terminal::Semicolon)?;
-    Ok(Parsed {
+    Ok(Part {
         tree: nodes::store(alloc, mark, name, at, index.exp, value.exp)?,
         after,
     })
@@ -129,12 +129,12 @@ fn store(
 
 /// A statement that begins with a name.
 #[tactic(auto, unfolding(crate::specs::StatementReading::named_at))]
-fn named(
+fn name_statement(
     alloc: Global,
     tokens: &[Token],
     at: usize,
     room: usize,
-) -> Result<Parsed<Stmt>, ParseFault>
+) -> Result<Part<Stmt>, ParseFault>
     requires deep { room ≤ most_levels }
     ensures exact { Finds (λ x. (stmt_view x.tree, x.after)) result
         (named_at (exp_at room tokens.now any_tier) tokens.now at) }
@@ -159,7 +159,7 @@ fn begins_statement(tokens: &[Token], at: usize) -> bool {
 }
 
 /// Why no statement is read where its levels don't suffice.
-fn refused(tokens: &[Token], at: usize) -> ParseFault
+fn refusal(tokens: &[Token], at: usize) -> ParseFault
     ensures { result ≢ OutOfMemory }
 {
     if begins_statement(tokens, at) {
@@ -181,12 +181,12 @@ fn lacks_levels(tokens: &[Token], at: usize, room: usize) -> bool
 /// Statements up to a closing brace.
 #[cycle(statements)]
 #[inline(never)]
-fn braced(
+fn read_block(
     alloc: Global,
     tokens: &[Token],
     at: usize,
     room: usize,
-) -> Result<Parsed<Vec<Stmt>>, ParseFault>
+) -> Result<Part<Vec<Stmt>>, ParseFault>
     requires deep { room ≤ most_levels }
     requires within { at ≤ length tokens.now }
     ensures exact { Finds (λ x. (map stmt_view x.tree.items, x.after)) result
@@ -201,7 +201,7 @@ fn braced(
         stmts.push(next.tree)?;
         after = next.after;
     }
-    Ok(Parsed { tree: stmts, after })
+    Ok(Part { tree: stmts, after })
 }
 
 #[cycle(statements)]
@@ -212,15 +212,15 @@ fn block(
     tokens: &[Token],
     at: usize,
     room: usize,
-) -> Result<Parsed<Stmt>, ParseFault>
+) -> Result<Part<Stmt>, ParseFault>
     requires deep { room ≤ most_levels }
     requires within { at < length tokens.now }
     ensures exact { Finds (λ x. (stmt_view x.tree, x.after)) result
         (block_at (stmt_at room tokens.now) tokens.now at) }
     ensures within { IfOk result (λ x. (at < x.after) × (x.after ≤ length tokens.now)) }
 {
-    let body = braced(alloc, tokens, at + 1, room)?;
-    Ok(Parsed {
+    let body = read_block(alloc, tokens, at + 1, room)?;
+    Ok(Part {
         tree: nodes::block(at, body.tree),
         after: body.after + 1,
     })
@@ -234,7 +234,7 @@ fn choice(
     tokens: &[Token],
     at: usize,
     room: usize,
-) -> Result<Parsed<Stmt>, ParseFault>
+) -> Result<Part<Stmt>, ParseFault>
     requires deep { room ≤ most_levels }
     requires within { at < length tokens.now }
     ensures exact { Finds (λ x. (stmt_view x.tree, x.after)) result
@@ -245,7 +245,7 @@ fn choice(
     let first = statement(alloc, tokens, condition.after, room)?;
     let after = expect(tokens, first.after, Terminal::Else)?;
     let second = statement(alloc, tokens, after, room)?;
-    Ok(Parsed {
+    Ok(Part {
         tree: nodes::choice(alloc, at, condition.exp, first.tree, second.tree)?,
         after: second.after,
     })
@@ -259,7 +259,7 @@ fn repetition(
     tokens: &[Token],
     at: usize,
     room: usize,
-) -> Result<Parsed<Stmt>, ParseFault>
+) -> Result<Part<Stmt>, ParseFault>
     requires deep { room ≤ most_levels }
     requires within { at < length tokens.now }
     ensures exact { Finds (λ x. (stmt_view x.tree, x.after)) result
@@ -268,7 +268,7 @@ fn repetition(
 {
     let condition = condition(alloc, tokens, at + 1, room)?;
     let body = statement(alloc, tokens, condition.after, room)?;
-    Ok(Parsed {
+    Ok(Part {
         tree: nodes::repetition(alloc, at, condition.exp, body.tree)?,
         after: body.after,
     })
@@ -283,14 +283,14 @@ pub fn statement(
     tokens: &[Token],
     at: usize,
     room: usize,
-) -> Result<Parsed<Stmt>, ParseFault>
+) -> Result<Part<Stmt>, ParseFault>
     requires deep { room ≤ most_levels }
     requires within { at ≤ length tokens.now }
     ensures exact { Finds (λ x. (stmt_view x.tree, x.after)) result (stmt_at room tokens.now at) }
     ensures within { IfOk result (λ x. (at < x.after) × (x.after ≤ length tokens.now)) }
 {
     if lacks_levels(tokens, at, room) {
-        return Err(refused(tokens, at));
+        return Err(refusal(tokens, at));
     }
     if has(tokens, at, Terminal::LeftBrace) {
         block(alloc, tokens, at, room - 1)
@@ -299,6 +299,6 @@ pub fn statement(
     } else if has(tokens, at, Terminal::While) {
         repetition(alloc, tokens, at, room - 1)
     } else {
-        named(alloc, tokens, at, room - 1)
+        name_statement(alloc, tokens, at, room - 1)
     }
 }

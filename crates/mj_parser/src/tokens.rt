@@ -8,7 +8,7 @@ use mj_lexer::{Kind, Name, Terminal, Token};
 
 /// What was read, and the place after it.
 #[derive(Debug, Drop)]
-pub struct Parsed<T: Drop> {
+pub struct Part<T: Drop> {
     pub tree: T,
     pub after: usize,
 }

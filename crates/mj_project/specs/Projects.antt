@@ -20,14 +20,21 @@ names_of files = map (λ f. f.name) files
 
 -- ---- projects
 
+-- the files that a project may have, and the bytes that a file's name may have
+abbrev pub most_files : ℕ
+most_files = 4096
+
+abbrev pub most_name_bytes : ℕ
+most_name_bytes = 255
+
 abbrev pub IsFileName : List ℕ → Type 0
-IsFileName name = (0 < length name) × (length name ≤ 255)
+IsFileName name = (0 < length name) × (length name ≤ most_name_bytes)
 
 abbrev pub is_file_name : List ℕ → Bool
-is_file_name name = nat_lt 0 (length name) && nat_le (length name) 255
+is_file_name name = nat_lt 0 (length name) && nat_le (length name) most_name_bytes
 
 abbrev pub HasProjectSize : List SourceFile → Type 0
-HasProjectSize files = (0 < length files) × (length files ≤ 4096)
+HasProjectSize files = (0 < length files) × (length files ≤ most_files)
 
 -- the name at this place stands before it
 abbrev pub IsRepeated : List (List ℕ) → ℕ → List ℕ → Type 0
@@ -51,7 +58,7 @@ pub record IsFirst (Holds : ℕ → List ℕ → Type 0) (names : List (List ℕ
 -- Why files are no project: the first of these reasons, in this order.
 abbrev pub Refuses : List SourceFile → ProjectFault → Type 0
 Refuses files NoFiles = files ≡ []
-Refuses files TooManyFiles = 4096 < length files
+Refuses files TooManyFiles = most_files < length files
 Refuses files (BadFileName i) = HasProjectSize files × IsFirst (λ k name. IsFileName name → ⊥) (names_of files) i
 Refuses files (RepeatedFile i) = HasProjectSize files × All IsFileName (names_of files) × IsFirst (IsRepeated (names_of files)) (names_of files) i
 Refuses files OutOfMemory = ⊥

@@ -11,7 +11,7 @@ use Rattle.mj_typing.specs.declared.verdict.Verdict.TheVariants.{Wrong}
 use Rattle.mj_typing.specs.Inquiries.{Sig, Inquiry, Concludes, AsksDescent, AsksField, AsksMethod, AsksDeclared, and_then}
 use Rattle.mj_typing.specs.Phrases.{demand, demand_asked, is}
 use Rattle.mj_typing.specs.Steps.{Check, Proceeds, Aborts}
-use Rattle.mj_typing.specs.Table.{accepts, accepts_all, called}
+use Rattle.mj_typing.specs.Table.{accepts, accepts_all, arguments}
 
 pub and_then-and_then : {R S T : Type 0} (m : Inquiry R) (f : R → Inquiry S) (g : S → Inquiry T) → and_then (and_then m f) g ≡ and_then m (λ r. and_then (f r) g)
 and_then-and_then (Concludes r) f g = refl
@@ -59,24 +59,24 @@ module _ {S E : Type 0} (stands : S → Check → Check → Type 0) (halts : S �
 
 module _ {S E : Type 0} (stands : S → Check → Check → Type 0) (halts : S → Check → E → Type 0) (s : Sig) (ts : List Ty) (old : S) where
   -- there are as many arguments as formals
-  as_many : length ts ≡ length s.formals → (start : Check) (k : Verdict → Check) → stands old start (and_then (called s ts) k) → stands old start (and_then (demand_asked (accepts_all ts s.formals) E313 (is s.returns)) k)
-  unfolding called
+  as_many : length ts ≡ length s.formals → (start : Check) (k : Verdict → Check) → stands old start (and_then (arguments s ts) k) → stands old start (and_then (demand_asked (accepts_all ts s.formals) E313 (is s.returns)) k)
+  unfolding arguments
   as_many same start k h =
       subst (λ b. stands old start (and_then (cond b (demand_asked (accepts_all ts s.formals) E313 (is s.returns)) (Concludes (Wrong E312))) k)) (eq-eqb (length ts) (length s.formals) same) h
 
-  pub goes_called : (us : List Ty) (ok : Bool) (v : Verdict) (new : S) → us ≡ s.formals → length ts ≡ length us → Proceeds stands (and_then (accepts_all ts us)) old ok new → demand ok E313 (is s.returns) ≡ Concludes v → Proceeds stands (and_then (called s ts)) old v new
+  pub goes_called : (us : List Ty) (ok : Bool) (v : Verdict) (new : S) → us ≡ s.formals → length ts ≡ length us → Proceeds stands (and_then (accepts_all ts us)) old ok new → demand ok E313 (is s.returns) ≡ Concludes v → Proceeds stands (and_then (arguments s ts)) old v new
   goes_called us ok v new u same l e =
       let l' : Proceeds stands (and_then (accepts_all ts s.formals)) old ok new = subst (λ us. Proceeds stands (and_then (accepts_all ts us)) old ok new) u l in
       record { goes = λ start k h. (goes_demand stands (accepts_all ts s.formals) E313 (is s.returns) ok v old new l' e).goes start k (as_many (same ∙ ap length u) start k h) }
 
-  pub up_called : (us : List Ty) (e : E) (new : S) → us ≡ s.formals → length ts ≡ length us → Aborts stands halts (and_then (accepts_all ts us)) old e new → Aborts stands halts (and_then (called s ts)) old e new
+  pub up_called : (us : List Ty) (e : E) (new : S) → us ≡ s.formals → length ts ≡ length us → Aborts stands halts (and_then (accepts_all ts us)) old e new → Aborts stands halts (and_then (arguments s ts)) old e new
   up_called us e new u same l =
       let l' : Aborts stands halts (and_then (accepts_all ts s.formals)) old e new = subst (λ us. Aborts stands halts (and_then (accepts_all ts us)) old e new) u l in
       record { ends = λ start k h. (up_demand stands halts (accepts_all ts s.formals) E313 (is s.returns) e old new l').ends start k (as_many (same ∙ ap length u) start k h) }
 
 module _ {S : Type 0} (stands : S → Check → Check → Type 0) where
-  pub goes_miscounted : (s : Sig) (ts us : List Ty) (old : S) → us ≡ s.formals → (length ts ≡ length us → ⊥) → Proceeds stands (and_then (called s ts)) old (Wrong E312) old
-  unfolding called
+  pub goes_miscounted : (s : Sig) (ts us : List Ty) (old : S) → us ≡ s.formals → (length ts ≡ length us → ⊥) → Proceeds stands (and_then (arguments s ts)) old (Wrong E312) old
+  unfolding arguments
   goes_miscounted s ts us old u other =
       let off : nat_eq (length ts) (length s.formals) ≡ false = ne_eqb (length ts) (length s.formals) (λ e. other (e ∙ ap length (sym u))) in
       record { goes = λ start k h. subst (λ b. stands old start (and_then (cond b (demand_asked (accepts_all ts s.formals) E313 (is s.returns)) (Concludes (Wrong E312))) k)) off h }

@@ -15,7 +15,7 @@ use Rattle.mj_typing.specs.declared.verdict.Verdict.TheVariants.{Is, Fine, Wrong
 use Rattle.mj_typing.specs.Types.{is_same, is_int, is_boolean, is_int_array, class_in}
 use Rattle.mj_typing.specs.Inquiries.{World, Inquiry, Concludes, AsksDescent, AsksField, AsksMethod, conclusion}
 use Rattle.mj_typing.specs.Phrases.{demand, demand_asked, given, is, Phrase, Phrases, nothing, part, HasType, AllTyped}
-use Rattle.mj_typing.specs.Table.{Scope, local_of, accepts, accepts_all, literal, named, local_or_field, this, negation, binary, index, array_length, called, call, new_array, new_object, no_parts, one_part, two_parts, three_parts, some_parts, phrase_of, phrases_of}
+use Rattle.mj_typing.specs.Table.{Scope, local_of, accepts, accepts_all, literal, variable, local_or_field, this, negation, binary, index, array_length, arguments, call, new_array, new_object, no_parts, one_part, two_parts, three_parts, some_parts, phrase_of, phrases_of}
 use Rattle.mj_typing.specs.Cases.{Accepted, IsLocal, IsNoLocal, IsVariable, operand_type, result_type, HasTypeByCases, AcceptedBy}
 use Rattle.mj_typing.proofs.Checks.{conclusion-and_then}
 use Rattle.mj_typing.proofs.Mistakes.{same_from, from_same}
@@ -167,12 +167,12 @@ module _ (w : World) where
       let f = given_holds (w.field c.0 x) E303 is (Is t) tt c.2 in
       inr (none_is s.variables x l, (c.0, c.1, f.1 ∙ ap (λ (t : Ty). Some t) (is_inj f.0 t f.2)))
 
-  pub variable_from : (s : Scope) (x : Name) (t : Ty) → conclusion w (named s x) ≡ Is t → IsVariable w s x t
-  unfolding named
+  pub variable_from : (s : Scope) (x : Name) (t : Ty) → conclusion w (variable s x) ≡ Is t → IsVariable w s x t
+  unfolding variable
   variable_from s x t e = variable_by s x t (local_of s.variables x) refl e
 
-  pub from_variable : (s : Scope) (x : Name) (t : Ty) → IsVariable w s x t → conclusion w (named s x) ≡ Is t
-  unfolding named
+  pub from_variable : (s : Scope) (x : Name) (t : Ty) → IsVariable w s x t → conclusion w (variable s x) ≡ Is t
+  unfolding variable
   from_variable s x t (inl h) = ap (λ o. conclusion w (local_or_field o s.class x)) (is_local s.variables x t h)
   from_variable s x t (inr h) =
       ap (λ o. conclusion w (local_or_field o s.class x)) (is_none s.variables x h.0)
@@ -249,12 +249,12 @@ module _ (w : World) where
   first_accepted false rest e = absurd cc
 
   mutual
-    unfolding literal named this negation index array_length called call new_array new_object accepts_all
+    unfolding literal variable this negation index array_length arguments call new_array new_object accepts_all
 
     pub by_cases : (s : Scope) (e : Expression) (t : Ty) → HasType w (phrase_of s e) t → HasTypeByCases w s e t
     by_cases s (Literal mark value) t h = let d = demand_holds (nat_le value 2147483647) E315 (is ty.Int) (Is t) tt (from_none (literal value) (Is t) h) in (leb-true value 2147483647 d.0, sym (is_inj ty.Int t d.1))
     by_cases s (Boolean mark value) t h = sym (is_inj ty.Boolean t (from_none (is ty.Boolean) (Is t) h))
-    by_cases s (Named mark x) t h = variable_from s x t (from_none (named s x) (Is t) h)
+    by_cases s (Named mark x) t h = variable_from s x t (from_none (variable s x) (Is t) h)
     by_cases s (This mark) t h = let c = given_holds s.class E306 (λ c. is (ty.Class c)) (Is t) tt (from_none (this s) (Is t) h) in (c.0, c.1, sym (is_inj (ty.Class c.0) t c.2))
     by_cases s (Parenthesized mark e) t h = let a = from_one (λ a. is a) (phrase_of s e) (Is t) h in subst (HasTypeByCases w s e) (is_inj a.0 t a.2) (by_cases s e a.0 a.1)
     by_cases s (Not mark e) t h =
@@ -276,8 +276,8 @@ module _ (w : World) where
         (subst (HasTypeByCases w s e) (array_is a.0 d.0) (by_cases s e a.0 a.1), sym (is_inj ty.Int t d.1))
     by_cases s (Call mark e m es) t h =
         let a = from_some (call m) (phrase_of s e) (phrases_of s es) (Is t) h in
-        let c = given_holds (class_in a.0) E310 (λ c. AsksMethod c m (λ method. given method E311 (λ s. called s a.1))) (Is t) tt a.4 in
-        let sig = given_holds (w.method c.0 m) E311 (λ s. called s a.1) (Is t) tt c.2 in
+        let c = given_holds (class_in a.0) E310 (λ c. AsksMethod c m (λ method. given method E311 (λ s. arguments s a.1))) (Is t) tt a.4 in
+        let sig = given_holds (w.method c.0 m) E311 (λ s. arguments s a.1) (Is t) tt c.2 in
         let d = demand_holds (nat_eq (length a.1) (length sig.0.formals)) E312 (demand_asked (accepts_all a.1 sig.0.formals) E313 (is sig.0.returns)) (Is t) tt sig.2 in
         let f = asked_holds (accepts_all a.1 sig.0.formals) E313 (is sig.0.returns) (Is t) tt d.1 in
         (c.0, sig.0, subst (HasTypeByCases w s e) (class_is a.0 c.0 c.1) (by_cases s e a.0 a.2), sig.1, arguments_by_cases s es a.1 sig.0.formals a.3 (eqb-true (length a.1) (length sig.0.formals) d.0) f.0, sym (is_inj sig.0.returns t f.1))
@@ -298,7 +298,7 @@ module _ (w : World) where
         ((t, by_cases s x t h.0, accepted_from t u f.0), arguments_by_cases s xs ts us h.1 (omega (arith, n)) f.1)
 
   mutual
-    unfolding literal named this negation index array_length called call new_array new_object accepts_all
+    unfolding literal variable this negation index array_length arguments call new_array new_object accepts_all
 
     pub from_cases : (s : Scope) (e : Expression) (t : Ty) → HasTypeByCases w s e t → HasType w (phrase_of s e) t
     from_cases s (Literal mark value) t h = ([], tt, demand_true (nat_le value 2147483647) E315 (is ty.Int) (le-leb value 2147483647 h.0) ∙ ap (λ (t : Ty). Is t) (sym h.1))
@@ -315,7 +315,7 @@ module _ (w : World) where
         let a = arguments_from_cases s es h.1.formals h.4 in (
           ty.Class h.0 ∷ a.0,
           (from_cases s e (ty.Class h.0) h.2, a.1),
-          given_some (w.method h.0 m) E311 (λ s. called s a.0) h.1 h.3
+          given_some (w.method h.0 m) E311 (λ s. arguments s a.0) h.1 h.3
               ∙ demand_true (nat_eq (length a.0) (length h.1.formals)) E312 (demand_asked (accepts_all a.0 h.1.formals) E313 (is h.1.returns)) (eq-eqb (length a.0) (length h.1.formals) a.2)
               ∙ asked_true (accepts_all a.0 h.1.formals) E313 (is h.1.returns) a.3
               ∙ ap (λ (t : Ty). Is t) (sym h.5),

@@ -11,7 +11,7 @@ use Rattle.mj_typing.specs.declared.verdict.Verdict.TheVariants.{Is, Fine, Wrong
 use Rattle.mj_typing.specs.declared.verdict.Mistake.{Mistake}
 use Rattle.mj_typing.specs.Inquiries.{World, Inquiry, conclusion}
 use Rattle.mj_typing.specs.Phrases.{Phrase, Phrases, phrase, nothing, part, demand, fine, HasType, AllTyped, Well, FaultIn, FaultInAny, FaultInSome}
-use Rattle.mj_typing.specs.Table.{Scope, main_scope, method_scope, phrase_of, name_phrase, own_phrase, statement_phrases, statements_phrases, return_phrase, method_phrases, main_phrases, condition, print, assign, store, returned, accepts, named}
+use Rattle.mj_typing.specs.Table.{Scope, main_scope, method_scope, phrase_of, name_phrase, own_phrase, statement_phrases, statements_phrases, return_phrase, method_phrases, main_phrases, condition, print, assign, store, return_value, accepts, variable}
 use Rattle.mj_typing.specs.Cases.{Accepted, IsVariable, HasTypeByCases, WellByCases, AllWellByCases, MethodIsWell, MainIsWell}
 use Rattle.mj_typing.specs.Laws.{count, IsOfExpression, IsOfStatement, Decides, DecideAll, DecidesStatement, AllDecide}
 use Rattle.mj_typing.proofs.Agree.{one_list, nowhere, first, later, first_or_later}
@@ -124,7 +124,7 @@ module _ (w : World) where
   from_condition mark s e h = (ty.Boolean ∷ [], (from_cases w s e ty.Boolean h, tt), refl)
 
   name_typed : (s : Scope) (mark : ℕ) (x : Name) (t : Ty) → HasType w (name_phrase s mark x) t → IsVariable w s x t
-  name_typed s mark x t h = variable_from w s x t (from_none w (named s x) (Is t) h)
+  name_typed s mark x t h = variable_from w s x t (from_none w (variable s x) (Is t) h)
 
   typed_name : (s : Scope) (mark : ℕ) (x : Name) (t : Ty) → IsVariable w s x t → HasType w (name_phrase s mark x) t
   typed_name s mark x t h = ([], tt, from_variable w s x t h)
@@ -173,14 +173,14 @@ module _ (w : World) where
     from_all_well s (next a ss) h = well_both (statement_phrases s a) (statements_phrases s ss) (from_well s a h.0) (from_all_well s ss h.1)
 
   return_from : (s : Scope) (mark : ℕ) (wanted : Ty) (e : Expression) → Well w (return_phrase s mark wanted e) → (t : Ty) × HasTypeByCases w s e t × Accepted w t wanted
-  unfolding returned
+  unfolding return_value
   return_from s mark wanted e h =
-      let a = from_one w (returned wanted) (phrase_of s e) Fine h in
+      let a = from_one w (return_value wanted) (phrase_of s e) Fine h in
       let d = asked_holds w (accepts a.0 wanted) E319 fine Fine tt a.2 in
       (a.0, by_cases w s e a.0 a.1, accepted_from w a.0 wanted d.0)
 
   from_return : (s : Scope) (mark : ℕ) (wanted : Ty) (e : Expression) → (t : Ty) × HasTypeByCases w s e t × Accepted w t wanted → Well w (return_phrase s mark wanted e)
-  unfolding returned
+  unfolding return_value
   from_return s mark wanted e h = (h.0 ∷ [], (from_cases w s e h.0 h.1, tt), asked_true w (accepts h.0 wanted) E319 fine (from_accepted w h.0 wanted h.2))
 
   pub method_well : (class : Name) (m : Method) → ((x : Mistake) → FaultInSome w (method_phrases class m) x → ⊥) → MethodIsWell w class m

@@ -13,7 +13,7 @@ use Rattle.mj_typing.specs.declared.verdict.Verdict.{Verdict}
 use Rattle.mj_typing.specs.declared.verdict.Verdict.TheVariants.{Wrong}
 use Rattle.mj_typing.specs.Inquiries.{World, Sig, Inquiry, AsksField, AsksMethod, conclusion}
 use Rattle.mj_typing.specs.Phrases.{demand, demand_asked, given, is, fine, Phrase}
-use Rattle.mj_typing.specs.Table.{Scope, main_scope, method_scope, local_of, accepts, accepts_all, literal, named, local_or_field, parenthesized, this, negation, binary, index, array_length, called, call, new_array, new_object, condition, print, assign, store, returned, no_parts, one_part, two_parts, three_parts, some_parts, phrase_of, phrases_of, name_phrase, own_phrase, statement_phrases, statements_phrases, return_phrase, method_phrases, main_phrases}
+use Rattle.mj_typing.specs.Table.{Scope, main_scope, method_scope, local_of, accepts, accepts_all, literal, variable, local_or_field, parenthesized, this, negation, binary, index, array_length, arguments, call, new_array, new_object, condition, print, assign, store, return_value, no_parts, one_part, two_parts, three_parts, some_parts, phrase_of, phrases_of, name_phrase, own_phrase, statement_phrases, statements_phrases, return_phrase, method_phrases, main_phrases}
 use Rattle.mj_typing.specs.Laws.{count, IsOfExpression, IsOfStatement, Decides, DecideAll, DecidesStatement, AllDecide}
 use Rattle.mj_typing.proofs.Checks.{conclusion-and_then}
 
@@ -71,8 +71,8 @@ module _ (w : World) where
   local_row (Some t) class x = tt
   local_row None class x = given_of w IsOfExpression wrong_e class E303 (λ c. AsksField c x (λ field. given field E303 is)) (λ c. given_of w IsOfExpression wrong_e (w.field c x) E303 is (λ t. tt))
 
-  named_row : (s : Scope) (x : Name) → E (conclusion w (named s x))
-  unfolding named
+  named_row : (s : Scope) (x : Name) → E (conclusion w (variable s x))
+  unfolding variable
   named_row s x = local_row (local_of s.variables x) s.class x
 
   this_row : (s : Scope) → E (conclusion w (this s))
@@ -99,13 +99,13 @@ module _ (w : World) where
   unfolding array_length
   length_row a = demand_of w IsOfExpression wrong_e (is_int_array a) E309 (is ty.Int) tt
 
-  called_row : (s : Sig) (ts : List Ty) → E (conclusion w (called s ts))
-  unfolding called
+  called_row : (s : Sig) (ts : List Ty) → E (conclusion w (arguments s ts))
+  unfolding arguments
   called_row s ts = demand_of w IsOfExpression wrong_e (nat_eq (length ts) (length s.formals)) E312 (demand_asked (accepts_all ts s.formals) E313 (is s.returns)) (demand_asked_of w IsOfExpression wrong_e (accepts_all ts s.formals) E313 (is s.returns) tt)
 
   call_row : (m : Name) (a : Ty) (ts : List Ty) → E (conclusion w (call m a ts))
   unfolding call
-  call_row m a ts = given_of w IsOfExpression wrong_e (class_in a) E310 (λ c. AsksMethod c m (λ method. given method E311 (λ s. called s ts))) (λ c. given_of w IsOfExpression wrong_e (w.method c m) E311 (λ s. called s ts) (λ s. called_row s ts))
+  call_row m a ts = given_of w IsOfExpression wrong_e (class_in a) E310 (λ c. AsksMethod c m (λ method. given method E311 (λ s. arguments s ts))) (λ c. given_of w IsOfExpression wrong_e (w.method c m) E311 (λ s. arguments s ts) (λ s. called_row s ts))
 
   new_array_row : (a : Ty) → E (conclusion w (new_array a))
   unfolding new_array
@@ -119,7 +119,7 @@ module _ (w : World) where
     pub decides : (s : Scope) (e : Expression) → Decides w (phrase_of s e)
     decides s (Literal mark value) = (no_row w IsOfExpression wrong_e (literal value) (literal_row value), tt)
     decides s (Boolean mark value) = (no_row w IsOfExpression wrong_e (is ty.Boolean) tt, tt)
-    decides s (Named mark x) = (no_row w IsOfExpression wrong_e (named s x) (named_row s x), tt)
+    decides s (Named mark x) = (no_row w IsOfExpression wrong_e (variable s x) (named_row s x), tt)
     decides s (This mark) = (no_row w IsOfExpression wrong_e (this s) (this_row s), tt)
     decides s (Parenthesized mark e) = (one_row w IsOfExpression wrong_e parenthesized (λ a. tt), (decides s e, tt))
     decides s (Not mark e) = (one_row w IsOfExpression wrong_e negation negation_row, (decides s e, tt))
@@ -135,7 +135,7 @@ module _ (w : World) where
     all_decide s (more e es) = (decides s e, all_decide s es)
 
   name_decides : (s : Scope) (mark : ℕ) (x : Name) → Decides w (name_phrase s mark x)
-  name_decides s mark x = (no_row w IsOfExpression wrong_e (named s x) (named_row s x), tt)
+  name_decides s mark x = (no_row w IsOfExpression wrong_e (variable s x) (named_row s x), tt)
 
   -- ---- statements
 
@@ -158,8 +158,8 @@ module _ (w : World) where
   unfolding store
   store_row x i a = demand_of w IsOfStatement wrong_s (is_int_array x) E307 (demand (is_int i) E308 (demand (is_int a) E318 fine)) (demand_of w IsOfStatement wrong_s (is_int i) E308 (demand (is_int a) E318 fine) (demand_of w IsOfStatement wrong_s (is_int a) E318 fine tt))
 
-  returned_row : (u a : Ty) → IsOfStatement (conclusion w (returned u a))
-  unfolding returned
+  returned_row : (u a : Ty) → IsOfStatement (conclusion w (return_value u a))
+  unfolding return_value
   returned_row u a = demand_asked_of w IsOfStatement wrong_s (accepts a u) E319 fine tt
 
   own_decides : (s : Scope) (a : Statement) → DecidesStatement w (own_phrase s a)
@@ -190,7 +190,7 @@ module _ (w : World) where
   pub method_decides : (class : Name) (m : Method) → AllDecide w (method_phrases class m)
   method_decides class m =
       append_decide (statements_phrases (method_scope class m) m.body) (return_phrase (method_scope class m) m.return_mark m.returns m.returned ∷ []) (statements_decide (method_scope class m) m.body)
-      ((one_row w IsOfStatement wrong_s (returned m.returns) (returned_row m.returns), (decides (method_scope class m) m.returned, tt)), tt)
+      ((one_row w IsOfStatement wrong_s (return_value m.returns) (returned_row m.returns), (decides (method_scope class m) m.returned, tt)), tt)
 
   pub main_decides : (m : Main) → AllDecide w (main_phrases m)
   main_decides m = statement_decides main_scope m.statement

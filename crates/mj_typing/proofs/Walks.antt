@@ -10,7 +10,7 @@ use Rattle.mj_typing.specs.declared.verdict.Mistake.{Mistake}
 use Rattle.mj_typing.specs.declared.verdict.Verdict.{Verdict}
 use Rattle.mj_typing.specs.Bodies.{variables_of, add_repeated_each, declared_step, method_step, type_step, types_step, mistakes_step, statement_step, statements_step}
 use Rattle.mj_typing.specs.Inquiries.{Inquiry}
-use Rattle.mj_typing.specs.Phrases.{Phrase, Phrases, phrase, nothing, part, Found, own_step, phrase_step, parts_step, and_type, with_type}
+use Rattle.mj_typing.specs.Phrases.{Phrase, Phrases, phrase, nothing, part, Finding, own_step, phrase_step, parts_step, and_type, with_type}
 use Rattle.mj_typing.specs.Steps.{Check, Proceeds, Aborts}
 use Rattle.mj_typing.specs.Table.{Scope, phrase_of, phrases_of, return_phrase, method_scope}
 use Rattle.mj_typing.proofs.Asked.{Comes, memory_inside, front_at, at_end}
@@ -23,7 +23,7 @@ pub if_err : {A E : Type 0} {P Q : E → Type 0} (r : Result A E) → ((e : E) �
 if_err (Ok a) f h = tt
 if_err (Err e) f h = f e h
 
-abbrev found : {T : Type 0} → Option T → List Mistake → Found T
+abbrev found : {T : Type 0} → Option T → List Mistake → Finding T
 found t mistakes = record { type = t; mistakes = mistakes }
 
 module _ {S E : Type 0} (stands : S → Check → Check → Type 0) (halts : S → Check → E → Type 0) where
@@ -31,7 +31,7 @@ module _ {S E : Type 0} (stands : S → Check → Check → Type 0) (halts : S �
 
   module _ (mark : ℕ) (row : List Ty → Inquiry Verdict) (p : Phrase) (ps : Phrases) (before : List Mistake) (old mid : S) where
     -- the first part, then the others, then the phrase itself
-    pub goes_whole : (first : Found Ty) (others : Found (List Ty)) (x : Found Ty) (next new : S) → Proceeds stands (phrase_step p before) old first mid → Proceeds stands (parts_step ps first.mistakes) mid others next → Proceeds stands (own_step mark row (found (and_type first.type others.type) others.mistakes)) next x new → Proceeds stands (phrase_step (phrase mark row (part p ps)) before) old x new
+    pub goes_whole : (first : Finding Ty) (others : Finding (List Ty)) (x : Finding Ty) (next new : S) → Proceeds stands (phrase_step p before) old first mid → Proceeds stands (parts_step ps first.mistakes) mid others next → Proceeds stands (own_step mark row (found (and_type first.type others.type) others.mistakes)) next x new → Proceeds stands (phrase_step (phrase mark row (part p ps)) before) old x new
     unfolding phrase_step parts_step
     goes_whole first others x next new a b c = record {
       goes = λ start k h.
@@ -40,7 +40,7 @@ module _ {S E : Type 0} (stands : S → Check → Check → Type 0) (halts : S �
           (a.goes start (λ first. parts_step ps first.mistakes (λ others. own_step mark row (found (and_type first.type others.type) others.mistakes) k)) h));
     }
 
-    pub up_whole : (first : Found Ty) (others : Found (List Ty)) (e : E) (next new : S) → Proceeds stands (phrase_step p before) old first mid → Proceeds stands (parts_step ps first.mistakes) mid others next → Aborts stands halts (own_step mark row (found (and_type first.type others.type) others.mistakes)) next e new → Aborts stands halts (phrase_step (phrase mark row (part p ps)) before) old e new
+    pub up_whole : (first : Finding Ty) (others : Finding (List Ty)) (e : E) (next new : S) → Proceeds stands (phrase_step p before) old first mid → Proceeds stands (parts_step ps first.mistakes) mid others next → Aborts stands halts (own_step mark row (found (and_type first.type others.type) others.mistakes)) next e new → Aborts stands halts (phrase_step (phrase mark row (part p ps)) before) old e new
     unfolding phrase_step parts_step
     up_whole first others e next new a b c = record {
       ends = λ start k h.
@@ -49,7 +49,7 @@ module _ {S E : Type 0} (stands : S → Check → Check → Type 0) (halts : S �
           (a.goes start (λ first. parts_step ps first.mistakes (λ others. own_step mark row (found (and_type first.type others.type) others.mistakes) k)) h));
     }
 
-    pub up_others : (first : Found Ty) (e : E) (new : S) → Proceeds stands (phrase_step p before) old first mid → Aborts stands halts (parts_step ps first.mistakes) mid e new → Aborts stands halts (phrase_step (phrase mark row (part p ps)) before) old e new
+    pub up_others : (first : Finding Ty) (e : E) (new : S) → Proceeds stands (phrase_step p before) old first mid → Aborts stands halts (parts_step ps first.mistakes) mid e new → Aborts stands halts (phrase_step (phrase mark row (part p ps)) before) old e new
     unfolding phrase_step parts_step
     up_others first e new a b = record {
       ends = λ start k h.
@@ -60,12 +60,12 @@ module _ {S E : Type 0} (stands : S → Check → Check → Type 0) (halts : S �
   -- ---- want of memory after the parts
 
   module _ (out : E) (wanting : (s : S) (start now : Check) → stands s start now → halts s start out) {A : Type 0} (mark : ℕ) (row : List Ty → Inquiry Verdict) (before : List Mistake) where
-    pub memory_one : (p : Phrase) (first : Found Ty) (old new : S) → Proceeds stands (phrase_step p before) old first new → (r : Result A E) → IfErr r (λ e. e ≡ out) → IfErr r (λ e. Aborts stands halts (phrase_step (phrase mark row (part p nothing)) before) old e new)
+    pub memory_one : (p : Phrase) (first : Finding Ty) (old new : S) → Proceeds stands (phrase_step p before) old first new → (r : Result A E) → IfErr r (λ e. e ≡ out) → IfErr r (λ e. Aborts stands halts (phrase_step (phrase mark row (part p nothing)) before) old e new)
     unfolding phrase_step parts_step
     memory_one p first old new g r h =
         memory_inside stands halts out wanting (phrase_step (phrase mark row (part p nothing)) before) (phrase_step p before) (λ k first. own_step mark row (found (and_type first.type (Some [])) first.mistakes) k) (λ k. refl) old first new g r h
 
-    pub memory_two : (p q : Phrase) (first second : Found Ty) (old mid new : S) → Proceeds stands (phrase_step p before) old first mid → Proceeds stands (phrase_step q first.mistakes) mid second new → (r : Result A E) → IfErr r (λ e. e ≡ out) → IfErr r (λ e. Aborts stands halts (phrase_step (phrase mark row (part p (part q nothing))) before) old e new)
+    pub memory_two : (p q : Phrase) (first second : Finding Ty) (old mid new : S) → Proceeds stands (phrase_step p before) old first mid → Proceeds stands (phrase_step q first.mistakes) mid second new → (r : Result A E) → IfErr r (λ e. e ≡ out) → IfErr r (λ e. Aborts stands halts (phrase_step (phrase mark row (part p (part q nothing))) before) old e new)
     unfolding phrase_step parts_step
     memory_two p q first second old mid new a b r h =
         memory_inside stands halts out wanting (phrase_step (phrase mark row (part p (part q nothing))) before)

@@ -135,19 +135,19 @@ add_each w mistakes (p ∷ ps) = add_each w (add_faults w mistakes p) ps
 -- ---- the same as a check that asks
 
 -- the type of a phrase, where it has one, and the mistakes so far
-pub record Found (T : Type 0) : Type 0 where
+pub record Finding (T : Type 0) : Type 0 where
   pub type : Option T
   pub mistakes : List Mistake
 
 -- notes what is wrong, and gives the type
-abbrev pub noted : List Mistake → ℕ → Verdict → Found Ty
+abbrev pub noted : List Mistake → ℕ → Verdict → Finding Ty
 noted mistakes mark verdict = record {
   type = type_by verdict;
   mistakes = add_own mistakes mark verdict;
 }
 
 -- where all parts have types the phrase's demands are asked in their order
-abbrev pub own_step : ℕ → (List Ty → Inquiry Verdict) → Found (List Ty) → (Found Ty → Check) → Check
+abbrev pub own_step : ℕ → (List Ty → Inquiry Verdict) → Finding (List Ty) → (Finding Ty → Check) → Check
 own_step mark row found next = of_types found.type
   where
     of_types : Option (List Ty) → Check
@@ -156,11 +156,11 @@ own_step mark row found next = of_types found.type
 
 -- the parts in their order, then the phrase
 unfoldable mutual
-  pub phrase_step : Phrase → List Mistake → (Found Ty → Check) → Check
+  pub phrase_step : Phrase → List Mistake → (Finding Ty → Check) → Check
   phrase_step (phrase mark row parts) mistakes next =
       parts_step parts mistakes (λ found. own_step mark row found next)
 
-  pub parts_step : Phrases → List Mistake → (Found (List Ty) → Check) → Check
+  pub parts_step : Phrases → List Mistake → (Finding (List Ty) → Check) → Check
   parts_step nothing mistakes next = next (record { type = Some []; mistakes = mistakes })
   parts_step (part p ps) mistakes next =
       phrase_step p mistakes (λ first. parts_step ps first.mistakes (λ others. next (record { type = and_type first.type others.type; mistakes = others.mistakes })))

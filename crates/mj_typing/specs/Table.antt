@@ -53,8 +53,8 @@ abbrev pub local_or_field : Option Ty → Option Name → Name → Inquiry Verdi
 local_or_field (Some t) class x = is t
 local_or_field None class x = given class E303 (λ c. AsksField c x (λ field. given field E303 is))
 
-unfoldable pub named : Scope → Name → Inquiry Verdict
-named scope x = local_or_field (local_of scope.variables x) scope.class x
+unfoldable pub variable : Scope → Name → Inquiry Verdict
+variable scope x = local_or_field (local_of scope.variables x) scope.class x
 
 unfoldable pub this : Scope → Inquiry Verdict
 this scope = given scope.class E306 (λ c. is (ty.Class c))
@@ -79,14 +79,14 @@ unfoldable pub array_length : Ty → Inquiry Verdict
 array_length a = demand (is_int_array a) E309 (is ty.Int)
 
 -- as many arguments as formals, each accepted
-unfoldable pub called : Sig → List Ty → Inquiry Verdict
-called s ts =
+unfoldable pub arguments : Sig → List Ty → Inquiry Verdict
+arguments s ts =
     demand (nat_eq (length ts) (length s.formals)) E312
     (demand_asked (accepts_all ts s.formals) E313 (is s.returns))
 
 unfoldable pub call : Name → Ty → List Ty → Inquiry Verdict
 call m a ts =
-    given (class_in a) E310 (λ c. AsksMethod c m (λ method. given method E311 (λ s. called s ts)))
+    given (class_in a) E310 (λ c. AsksMethod c m (λ method. given method E311 (λ s. arguments s ts)))
 
 unfoldable pub new_array : Ty → Inquiry Verdict
 new_array a = demand (is_int a) E314 (is ty.IntArray)
@@ -108,8 +108,8 @@ assign x a = demand_asked (accepts a x) E318 fine
 unfoldable pub store : Ty → Ty → Ty → Inquiry Verdict
 store x i a = demand (is_int_array x) E307 (demand (is_int i) E308 (demand (is_int a) E318 fine))
 
-unfoldable pub returned : Ty → Ty → Inquiry Verdict
-returned wanted a = demand_asked (accepts a wanted) E319 fine
+unfoldable pub return_value : Ty → Ty → Inquiry Verdict
+return_value wanted a = demand_asked (accepts a wanted) E319 fine
 
 -- ---- the table
 
@@ -134,7 +134,7 @@ some_parts row [] = Concludes Silent
 some_parts row (a ∷ ts) = row a ts
 
 abbrev pub name_phrase : Scope → ℕ → Name → Phrase
-name_phrase scope mark x = phrase mark (no_parts (named scope x)) nothing
+name_phrase scope mark x = phrase mark (no_parts (variable scope x)) nothing
 
 abbrev mutual
   pub phrase_of : Scope → Expression → Phrase
@@ -174,7 +174,7 @@ own_phrase s (Store mark x x_mark i e) =
 -- the return of a method
 abbrev pub return_phrase : Scope → ℕ → Ty → Expression → Phrase
 return_phrase s mark wanted e =
-    phrase mark (one_part (returned wanted)) (part (phrase_of s e) nothing)
+    phrase mark (one_part (return_value wanted)) (part (phrase_of s e) nothing)
 
 -- the statements inside a statement are phrases of their own, in the order of the text
 abbrev mutual

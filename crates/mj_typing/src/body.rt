@@ -122,7 +122,7 @@ pub fn check_return<A: Asking>(
     let Some(ty) = check(alloc, asking, scope, value, mistakes)? else {
         return Ok(());
     };
-    let verdict = rows::returned(alloc, asking, wanted, &ty)?;
+    let verdict = rows::return_value(alloc, asking, wanted, &ty)?;
     report(mistakes, mark, verdict)
 }
 

@@ -72,7 +72,7 @@ impl<'a, D: Environment> Asking for Plain<'a, D> {
 }
 
 /// What a check that nobody refuses an answer came to.
-fn unrefused(outcome: Result<Vec<Mistake>, Stop<Infallible>>) -> Result<Vec<Mistake>, AllocError>
+fn mistakes_of(outcome: Result<Vec<Mistake>, Stop<Infallible>>) -> Result<Vec<Mistake>, AllocError>
     ensures { IfOk result (λ mistakes. outcome ≡ Ok mistakes) }
 {
     match outcome {
@@ -93,7 +93,7 @@ pub fn method_mistakes<D: Environment>(
         mistakes.items
         ≡ method_faults (D.world declarations.now) class.now (method_view method.now)) }
 {
-    unrefused(check_method(alloc, &mut Plain { declarations }, class, method))
+    mistakes_of(check_method(alloc, &mut Plain { declarations }, class, method))
 }
 
 /// The mistakes in main, where the declarations answer by themselves.
@@ -105,5 +105,5 @@ pub fn main_mistakes<D: Environment>(
     ensures { IfOk result (λ mistakes.
         mistakes.items ≡ main_faults (D.world declarations.now) (main_view main.now)) }
 {
-    unrefused(check_main(alloc, &mut Plain { declarations }, main))
+    mistakes_of(check_main(alloc, &mut Plain { declarations }, main))
 }

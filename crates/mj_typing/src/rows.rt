@@ -2,7 +2,7 @@
 ghost use Rattle.std.specs.Prelude.{◌≡◌, length, IfOk, IfErr};
 ghost use Rattle.mj_typing.specs.Inquiries.{Concludes, and_then};
 ghost use Rattle.mj_typing.specs.Steps.{Proceeds, Aborts};
-ghost use Rattle.mj_typing.specs.Table.{accepts, accepts_all, literal, named, this, negation, binary, index, array_length, called, call, new_array, new_object, condition, print, assign, store, returned};
+ghost use Rattle.mj_typing.specs.Table.{accepts, accepts_all, literal, variable, this, negation, binary, index, array_length, arguments, call, new_array, new_object, condition, print, assign, store, return_value};
 
 use crate::asking::{Asking, Signature, Stop};
 use crate::scope::Scope;
@@ -184,17 +184,17 @@ fn accepts_all<A: Asking>(
 }
 
 /// What a call of a method comes to by the types of its arguments.
-fn called<A: Asking>(
+fn arguments<A: Asking>(
     alloc: Global,
     asking: &mut A,
     method: &A::Method,
     types: &[Ty],
 ) -> Result<Verdict, Stop<A::Refusal>>
     ensures ok { IfOk result (λ v.
-        Proceeds A.stands (and_then (called (A.Method.sig method.now) types.now)) asking.old v
+        Proceeds A.stands (and_then (arguments (A.Method.sig method.now) types.now)) asking.old v
         asking.new) }
     ensures err { IfErr result (λ e.
-        Aborts A.stands A.halts (and_then (called (A.Method.sig method.now) types.now))
+        Aborts A.stands A.halts (and_then (arguments (A.Method.sig method.now) types.now))
         asking.old e asking.new) }
     ensures follows { A.follows asking.old asking.new }
 {
@@ -230,20 +230,20 @@ pub fn call<A: Asking>(
     let Some(found) = asking.method(alloc, class, method)? else {
         return Ok(Verdict::Wrong(Code::E311));
     };
-    called(alloc, asking, &found, types)
+    arguments(alloc, asking, &found, types)
 }
 
-#[tactic(auto, unfolding(crate::specs::Table::named))]
-pub fn named<A: Asking>(
+#[tactic(auto, unfolding(crate::specs::Table::variable))]
+pub fn variable<A: Asking>(
     alloc: Global,
     asking: &mut A,
     scope: &Scope,
     name: &Name,
 ) -> Result<Verdict, Stop<A::Refusal>>
     ensures ok { IfOk result (λ v.
-        Proceeds A.stands (and_then (named scope.now name.now)) asking.old v asking.new) }
+        Proceeds A.stands (and_then (variable scope.now name.now)) asking.old v asking.new) }
     ensures err { IfErr result (λ e.
-        Aborts A.stands A.halts (and_then (named scope.now name.now)) asking.old e asking.new) }
+        Aborts A.stands A.halts (and_then (variable scope.now name.now)) asking.old e asking.new) }
     ensures follows { A.follows asking.old asking.new }
 {
     if let Some(ty) = scope.local(name) {
@@ -306,16 +306,16 @@ pub fn assign<A: Asking>(
     }
 }
 
-pub fn returned<A: Asking>(
+pub fn return_value<A: Asking>(
     alloc: Global,
     asking: &mut A,
     wanted: &Ty,
     value: &Ty,
 ) -> Result<Verdict, Stop<A::Refusal>>
     ensures ok { IfOk result (λ v.
-        Proceeds A.stands (and_then (returned wanted.now value.now)) asking.old v asking.new) }
+        Proceeds A.stands (and_then (return_value wanted.now value.now)) asking.old v asking.new) }
     ensures err { IfErr result (λ e.
-        Aborts A.stands A.halts (and_then (returned wanted.now value.now)) asking.old e
+        Aborts A.stands A.halts (and_then (return_value wanted.now value.now)) asking.old e
         asking.new) }
     ensures follows { A.follows asking.old asking.new }
 {

@@ -55,7 +55,7 @@ pub fn name_type<A: Asking>(
         asking.new) }
     ensures follows { A.follows asking.old asking.new }
 {
-    let verdict = rows::named(alloc, asking, scope, name)?;
+    let verdict = rows::variable(alloc, asking, scope, name)?;
     note(mistakes, mark, verdict)
 }
 

@@ -7,7 +7,7 @@ use Rattle.item_ids.specs.declared.key.Key.{Key}
 use Rattle.result_bytes.specs.declared.value.Value.{Value}
 use Rattle.mj_project.specs.Projects.{IsProject}
 use Rattle.recorder.specs.Projects.{Project}
-use Rattle.recorder.specs.Backed.{Meaning, ReadLists, Told, keys, rank, AreLower, Gives, GivesEach, BeginsWith, Asked, IsNext, Backed}
+use Rattle.recorder.specs.Backed.{Meaning, ReadLists, ReadValue, keys, rank, AreLower, Gives, GivesEach, BeginsWith, Asked, IsNext, Backed}
 use Rattle.recorder.specs.Recording.{IsUnread}
 use Rattle.recorder.specs.Programs.{Prog, Ret, Ask, runs, asks, is_seen, Fits, Reached, Start, Again, First}
 use Rattle.recorder.proofs.Recorded.{all_last, all_at}
@@ -17,7 +17,7 @@ all_before : {X : Type 0} (P : X → Type 0) (xs : List X) (x : X) → AllByRecu
 all_before P [] x h = (tt, h.0)
 all_before P (y ∷ ys) x h = let r = all_before P ys x h.1 in ((h.0, r.0), r.1)
 
-keys_last : (xs : List Told) (t : Told) → keys (xs ++ t ∷ []) ≡ keys xs ++ t.key ∷ []
+keys_last : (xs : List ReadValue) (t : ReadValue) → keys (xs ++ t ∷ []) ≡ keys xs ++ t.key ∷ []
 keys_last [] t = refl
 keys_last (x ∷ xs) t = ap (λ ks. x.key ∷ ks) (keys_last xs t)
 
@@ -29,7 +29,7 @@ pub asks_new : (k : Key) (f : Value → Prog) (m : Key → Value) (seen : List K
 unfolding asks
 asks_new k f m seen e = ap (λ b. if b then asks (f (m k)) m seen else k ∷ asks (f (m k)) m (seen ++ k ∷ [])) e
 
-reached_runs : (prog : Prog) (m : Key → Value) (told : List Told) (p : Prog) → Reached prog told p → GivesEach m told → runs prog m ≡ runs p m
+reached_runs : (prog : Prog) (m : Key → Value) (told : List ReadValue) (p : Prog) → Reached prog told p → GivesEach m told → runs prog m ≡ runs p m
 unfolding runs
 reached_runs prog m _ _ Start g = refl
 reached_runs prog m _ _ (Again told k f v h c) g =
@@ -38,21 +38,21 @@ reached_runs prog m _ _ (First told k f v h u) g =
     let b = all_before (λ t. m t.key ≡ t.value) told (record { key = k; value = v }) g in
     reached_runs prog m told (Ask k f) h b.0 ∙ ap (λ w. runs (f w) m) b.1
 
-reached_asks : (prog : Prog) (m : Key → Value) (told : List Told) (p : Prog) → Reached prog told p → GivesEach m told → asks prog m [] ≡ keys told ++ asks p m (keys told)
+reached_asks : (prog : Prog) (m : Key → Value) (told : List ReadValue) (p : Prog) → Reached prog told p → GivesEach m told → asks prog m [] ≡ keys told ++ asks p m (keys told)
 reached_asks prog m _ _ Start g = refl
 reached_asks prog m _ _ (Again told k f v h c) g =
-    let t : Told = record { key = k; value = v } in
+    let t : ReadValue = record { key = k; value = v } in
     reached_asks prog m told (Ask k f) h g
     ∙ ap (λ l. keys told ++ l) (asks_seen k f m (keys told) (seen_told told t c) ∙ ap (λ w. asks (f w) m (keys told)) (all_at (λ t. m t.key ≡ t.value) told t c g))
 reached_asks prog m _ _ (First told k f v h u) g =
-    let t : Told = record { key = k; value = v } in
+    let t : ReadValue = record { key = k; value = v } in
     let b = all_before (λ t. m t.key ≡ t.value) told t g in
     reached_asks prog m told (Ask k f) h b.0
     ∙ ap (λ l. keys told ++ l) (asks_new k f m (keys told) (unseen_unread told k u) ∙ ap (λ w. k ∷ asks (f w) m (keys told ++ k ∷ [])) b.1)
     ∙ sym (append_assoc (keys told) (k ∷ []) (asks (f v) m (keys told ++ k ∷ [])))
     ∙ ap (λ ks. ks ++ asks (f v) m ks) (sym (keys_last told t))
 
-pub reached_lower : (prog : Prog) (q : Key) → Fits q prog → (told : List Told) (p : Prog) → Reached prog told p → AreLower q (keys told) × Fits q p
+pub reached_lower : (prog : Prog) (q : Key) → Fits q prog → (told : List ReadValue) (p : Prog) → Reached prog told p → AreLower q (keys told) × Fits q p
 unfolding Fits
 reached_lower prog q r _ _ Start = (tt, r)
 reached_lower prog q r _ _ (Again told k f v h c) = let i = reached_lower prog q r told (Ask k f) h in (i.0, i.1.1 v)
@@ -61,7 +61,7 @@ reached_lower prog q r _ _ (First told k f v h u) =
     (subst (AreLower q) (sym (keys_last told (record { key = k; value = v }))) (all_last (λ l. rank l < rank q) (keys told) k i.0 i.1.0), i.1.1 v)
 
 module _ (mean : Meaning) (reads : ReadLists) (q : Key) where
-  asked_more : (told : List Told) (t : Told) → Asked mean reads q told → IsNext mean reads q told t.key → Asked mean reads q (told ++ t ∷ [])
+  asked_more : (told : List ReadValue) (t : ReadValue) → Asked mean reads q told → IsNext mean reads q told t.key → Asked mean reads q (told ++ t ∷ [])
   asked_more told t a n i h p g =
       let long : i ≤ length told = omega (arith, length-append told (t ∷ [])) in
       elim (eq-or-lt_of_le long) [
@@ -76,7 +76,7 @@ module _ (mean : Meaning) (reads : ReadLists) (q : Key) where
       ]
 
 module _ (mean : Meaning) (reads : ReadLists) (q : Key) (prog : Prog) (tie : (p : Project) → IsProject p → reads p q ≡ asks prog (mean p) []) where
-  pub reached_next : (told : List Told) (k : Key) (f : Value → Prog) → Reached prog told (Ask k f) → IsUnread k told → IsNext mean reads q told k
+  pub reached_next : (told : List ReadValue) (k : Key) (f : Value → Prog) → Reached prog told (Ask k f) → IsUnread k told → IsNext mean reads q told k
   reached_next told k f h u p g =
       let rest = asks (f (mean p k)) (mean p) (keys told ++ k ∷ []) in (
         rest,
@@ -86,13 +86,13 @@ module _ (mean : Meaning) (reads : ReadLists) (q : Key) (prog : Prog) (tie : (p 
             ∙ sym (tie p g.project),
       )
 
-  pub reached_asked : (told : List Told) (p : Prog) → Reached prog told p → Asked mean reads q told
+  pub reached_asked : (told : List ReadValue) (p : Prog) → Reached prog told p → Asked mean reads q told
   reached_asked _ _ Start = λ i l. absurd (omega (arith, l))
   reached_asked _ _ (Again told k f v h c) = reached_asked told (Ask k f) h
   reached_asked _ _ (First told k f v h u) =
       asked_more mean reads q told (record { key = k; value = v }) (reached_asked told (Ask k f) h) (reached_next told k f h u)
 
-  pub reached_backed : ((p : Project) → IsProject p → mean p q ≡ runs prog (mean p)) → (told : List Told) (v : Value) → Reached prog told (Ret v) → Backed mean reads q told v
+  pub reached_backed : ((p : Project) → IsProject p → mean p q ≡ runs prog (mean p)) → (told : List ReadValue) (v : Value) → Reached prog told (Ret v) → Backed mean reads q told v
   unfolding asks runs
   reached_backed means told v h = record {
     asked = reached_asked told (Ret v) h;

@@ -4,7 +4,7 @@ use Rattle.std.specs.List.{AllByRecursion}
 use Rattle.std.proofs.lemmas.List.Elements.{All-contains, All-from_recursion}
 use Rattle.item_ids.specs.declared.key.Key.{Key}
 use Rattle.result_bytes.specs.declared.value.Value.{Value}
-use Rattle.recorder.specs.Backed.{Told, IsTold, IsOfKind, NoneTwice}
+use Rattle.recorder.specs.Backed.{ReadValue, IsTold, IsOfKind, NoneTwice}
 use Rattle.recorder.specs.Recording.{IsUnread, Keeps}
 use Rattle.recorder.specs.declared.reader.ReadFault.{ReadFault}
 
@@ -24,7 +24,7 @@ once_last key [] x d u = (tt, tt)
 once_last key (y ∷ ys) x d u = (all_last (λ z. key z ≢ key y) ys x d.0 (λ e. u.0 (sym e)), once_last key ys x d.1 u.1)
 
 -- the reader may still give what it gave
-pub keeps_after : (A B : Key → Value → Type 0) (F G : Key → ReadFault → Type 0) → ((q : Key) (v : Value) → A q v → B q v) → (told : List Told) → Keeps A F told None → Keeps B G told None
+pub keeps_after : (A B : Key → Value → Type 0) (F G : Key → ReadFault → Type 0) → ((q : Key) (v : Value) → A q v → B q v) → (told : List ReadValue) → Keeps A F told None → Keeps B G told None
 keeps_after A B F G f told k = record {
   answers = all_map (λ t. A t.key t.value) (λ t. B t.key t.value) (λ t. f t.key t.value) told k.answers;
   held = k.held;
@@ -34,7 +34,7 @@ keeps_after A B F G f told k = record {
 }
 
 -- and its new answer too
-pub keeps_last : (A : Key → Value → Type 0) (F : Key → ReadFault → Type 0) (told : List Told) (k : Key) (v : Value) → Keeps A F told None → A k v → IsTold (record { key = k; value = v }) → IsOfKind k v → IsUnread k told → Keeps A F (told ++ record { key = k; value = v } ∷ []) None
+pub keeps_last : (A : Key → Value → Type 0) (F : Key → ReadFault → Type 0) (told : List ReadValue) (k : Key) (v : Value) → Keeps A F told None → A k v → IsTold (record { key = k; value = v }) → IsOfKind k v → IsUnread k told → Keeps A F (told ++ record { key = k; value = v } ∷ []) None
 keeps_last A F told k v h a w o u = record {
   answers = all_last (λ t. A t.key t.value) told (record { key = k; value = v }) h.answers a;
   held = all_last IsTold told (record { key = k; value = v }) h.held w;

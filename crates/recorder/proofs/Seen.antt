@@ -6,7 +6,7 @@ use Rattle.item_ids.specs.declared.key.Key.{Key}
 use Rattle.item_ids.specs.Keys.{key_cmp}
 use Rattle.item_ids.proofs.Apart.{test_same, test_itself}
 use Rattle.result_bytes.specs.declared.value.Value.{Value}
-use Rattle.recorder.specs.Backed.{Told, Alike, keys}
+use Rattle.recorder.specs.Backed.{ReadValue, Alike, keys}
 use Rattle.recorder.specs.Recording.{IsUnread}
 use Rattle.recorder.specs.Programs.{is_seen}
 use Rattle.recorder.proofs.Recorded.{all_at}
@@ -26,17 +26,17 @@ seen_cases (x ∷ xs) k = go (seen_cases xs k) (is_eq (key_cmp x k)) refl
       | inr h ↦ inr ((λ same. differs (sym e ∙ test_itself x k same)), h)
     ]
 
-by_keys : (P : Key → Type 0) (told : List Told) → AllByRecursion P (keys told) → AllByRecursion (λ t. P t.key) told
+by_keys : (P : Key → Type 0) (told : List ReadValue) → AllByRecursion P (keys told) → AllByRecursion (λ t. P t.key) told
 by_keys P [] h = tt
 by_keys P (t ∷ ts) h = (h.0, by_keys P ts h.1)
 
-pub seen_told : (told : List Told) (t : Told) → Contains told t → is_seen (keys told) t.key ≡ true
+pub seen_told : (told : List ReadValue) (t : ReadValue) → Contains told t → is_seen (keys told) t.key ≡ true
 seen_told told t c = elim (seen_cases (keys told) t.key) [
   | inl h ↦ h
   | inr h ↦ absurd (all_at (λ s. s.key ≢ t.key) told t c (by_keys (λ k. k ≢ t.key) told h) refl)
 ]
 
-pub unseen_unread : (told : List Told) (k : Key) → IsUnread k told → is_seen (keys told) k ≡ false
+pub unseen_unread : (told : List ReadValue) (k : Key) → IsUnread k told → is_seen (keys told) k ≡ false
 unseen_unread [] k u = refl
 unseen_unread (t ∷ ts) k u = go (unseen_unread ts k u.1) (is_eq (key_cmp t.key k)) refl
   where

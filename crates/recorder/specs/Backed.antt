@@ -76,24 +76,24 @@ pub record RunnerLaws (mean : Meaning) (reads : ReadLists) : Type 0 where
 -- ---- what the reads of a run say
 
 -- a key that was read, and the answer
-pub record Told : Type 0 where
+pub record ReadValue : Type 0 where
   pub key : Key
   pub value : Value
 
 -- key and value are such as types keep them
-pub record IsTold (t : Told) : Type 0 where
+pub record IsTold (t : ReadValue) : Type 0 where
   pub key : IsKey t.key
   pub value : IsValue t.value
 
-abbrev pub keys : List Told → List Key
+abbrev pub keys : List ReadValue → List Key
 keys told = map (λ t. t.key) told
 
 -- these answers are the values
-abbrev pub GivesEach : (Key → Value) → List Told → Type 0
+abbrev pub GivesEach : (Key → Value) → List ReadValue → Type 0
 GivesEach m told = AllByRecursion (λ t. m t.key ≡ t.value) told
 
 -- a project in which these answers are the values
-pub record Gives (mean : Meaning) (p : Project) (told : List Told) : Type 0 where
+pub record Gives (mean : Meaning) (p : Project) (told : List ReadValue) : Type 0 where
   pub project : IsProject p
   pub each : GivesEach (mean p) told
 
@@ -101,16 +101,16 @@ abbrev pub BeginsWith : List Key → List Key → Type 0
 BeginsWith front all = (rest : List Key) × (front ++ rest ≡ all)
 
 -- each key is the next read of q in every project that gives the answers before it
-abbrev pub Asked : Meaning → ReadLists → Key → List Told → Type 0
+abbrev pub Asked : Meaning → ReadLists → Key → List ReadValue → Type 0
 Asked mean reads q told = (i : ℕ) → i < length told → (p : Project) → Gives mean p (take i told) → BeginsWith (keys (take (suc i) told)) (reads p q)
 
 -- k is the next read of q in every project that gives these answers
-abbrev pub IsNext : Meaning → ReadLists → Key → List Told → Key → Type 0
+abbrev pub IsNext : Meaning → ReadLists → Key → List ReadValue → Key → Type 0
 IsNext mean reads q told k = (p : Project) → Gives mean p told → BeginsWith (keys told ++ k ∷ []) (reads p q)
 
 -- v follows from these reads: in every project that gives their answers they are the reads of q, one after the other,
 -- and v is its value
-pub record Backed (mean : Meaning) (reads : ReadLists) (q : Key) (told : List Told) (v : Value) : Type 0 where
+pub record Backed (mean : Meaning) (reads : ReadLists) (q : Key) (told : List ReadValue) (v : Value) : Type 0 where
   pub asked : Asked mean reads q told
   pub whole : (p : Project) → Gives mean p told → reads p q ≡ keys told
   pub means : (p : Project) → Gives mean p told → mean p q ≡ v

@@ -5,9 +5,9 @@ use Rattle.item_ids.specs.declared.key.Key.{Key}
 use Rattle.item_ids.specs.contracts.key.Key as key_contracts
 use Rattle.result_bytes.specs.declared.value.Value.{Value}
 use Rattle.result_bytes.specs.contracts.value.Value as value_contracts
-use Rattle.recorder.specs.Backed.{Told}
+use Rattle.recorder.specs.Backed.{ReadValue}
 use Rattle.recorder.specs.Recording.{Recording}
-use Rattle.recorder.specs.Runs.{Ran}
+use Rattle.recorder.specs.Runs.{OutcomeValue}
 use Rattle.recorder.specs.declared.refused.Refused.{Refused}
 use Rattle.recorder.specs.contracts.refused.Refused as refused_contracts
 
@@ -20,25 +20,25 @@ coded_value = value_contracts.the_row.coded
 abbrev coded_refused : Coded (Option Refused)
 coded_refused = coded_option refused_contracts.the_row.coded
 
-abbrev pub coded_told : Coded Told
+abbrev pub coded_told : Coded ReadValue
 coded_told =
     code_by (Key × Value) (coded× coded_key coded_value)
     (λ t. (t.key, t.value)) (λ p. record { key = p.0; value = p.1 }) (λ _. refl)
 
-abbrev pub coded_reads : Coded (List Told)
+abbrev pub coded_reads : Coded (List ReadValue)
 coded_reads = coded_list coded_told
 
 -- over any reader
 abbrev pub coded_recording : {D : Type 0} → Coded D → Coded (Recording D)
 coded_recording {D} inner =
-    code_by (D × (List Told × Option Refused)) (coded× inner (coded× coded_reads coded_refused))
+    code_by (D × (List ReadValue × Option Refused)) (coded× inner (coded× coded_reads coded_refused))
     (λ r. (r.inner, (r.told, r.refused)))
     (λ p. record { inner = p.0; told = p.1.0; refused = p.1.1 })
     (λ _. refl)
 
-abbrev pub coded_ran : Coded Ran
+abbrev pub coded_ran : Coded OutcomeValue
 coded_ran =
-    code_by (Key × (List Told × Value)) (coded× coded_key (coded× coded_reads coded_value))
+    code_by (Key × (List ReadValue × Value)) (coded× coded_key (coded× coded_reads coded_value))
     (λ r. (r.key, (r.told, r.value)))
     (λ p. record { key = p.0; told = p.1.0; value = p.1.1 })
     (λ _. refl)

@@ -8,7 +8,7 @@ use Rattle.result_bytes.specs.declared.value.Value.{Value}
 use Rattle.result_bytes.specs.declared.value.Value.TheVariants as values
 use Rattle.mj_project.specs.Projects.{names_of, IsProject}
 use Rattle.recorder.specs.Projects.{Project, bytes_at}
-use Rattle.recorder.specs.Backed.{Meaning, ReadLists, Told, rank, IsOfKind}
+use Rattle.recorder.specs.Backed.{Meaning, ReadLists, ReadValue, rank, IsOfKind}
 use Rattle.recorder.specs.Recording.{Recording, IsUnread, key_of}
 use Rattle.recorder.specs.Runs.{IsFaultKept}
 use Rattle.recorder.specs.declared.runner.RunFault.{RunFault}
@@ -51,10 +51,10 @@ pub record Tied (prog_of : Key → Prog) (mean : Meaning) (reads : ReadLists) : 
 -- ---- how far a run has come
 
 -- after these first reads the program stands at the last one
-pub data Reached (prog : Prog) : List Told → Prog → Type 0 where
+pub data Reached (prog : Prog) : List ReadValue → Prog → Type 0 where
   Start : Reached prog [] prog
-  Again : (told : List Told) (k : Key) (f : Value → Prog) (v : Value) → Reached prog told (Ask k f) → Contains told (record { key = k; value = v }) → Reached prog told (f v)
-  First : (told : List Told) (k : Key) (f : Value → Prog) (v : Value) → Reached prog told (Ask k f) → IsUnread k told → Reached prog (told ++ record { key = k; value = v } ∷ []) (f v)
+  Again : (told : List ReadValue) (k : Key) (f : Value → Prog) (v : Value) → Reached prog told (Ask k f) → Contains told (record { key = k; value = v }) → Reached prog told (f v)
+  First : (told : List ReadValue) (k : Key) (f : Value → Prog) (v : Value) → Reached prog told (Ask k f) → IsUnread k told → Reached prog (told ++ record { key = k; value = v } ∷ []) (f v)
 
 -- with this recorder a run of prog stands at p
 pub record Stands {D : Type 0} (prog : Prog) (r : Recording D) (p : Prog) : Type 0 where
@@ -62,7 +62,7 @@ pub record Stands {D : Type 0} (prog : Prog) (r : Recording D) (p : Prog) : Type
   pub unrefused : r.refused ≡ None
 
 -- p asks k, for the first time
-abbrev pub IsAsked : List Told → Prog → Key → Type 0
+abbrev pub IsAsked : List ReadValue → Prog → Key → Type 0
 IsAsked told p k = IsUnread k told × ((f : Value → Prog) × (p ≡ Ask k f))
 
 -- with this recorder a run of prog has given up: at a key that was refused, or for want of memory

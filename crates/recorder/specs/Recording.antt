@@ -3,7 +3,7 @@ use Rattle.std.specs.Prelude.{◌≡◌, ◌≢◌, ◌⊎◌, List, [], ◌∷�
 use Rattle.std.specs.List.{AllByRecursion}
 use Rattle.item_ids.specs.declared.key.Key.{Key}
 use Rattle.result_bytes.specs.declared.value.Value.{Value}
-use Rattle.recorder.specs.Backed.{Told, IsTold, IsOfKind, NoneTwice}
+use Rattle.recorder.specs.Backed.{ReadValue, IsTold, IsOfKind, NoneTwice}
 use Rattle.recorder.specs.declared.reader.ReadFault.{ReadFault}
 use Rattle.recorder.specs.declared.reader.ReadFault.TheVariants.{OutOfMemory}
 use Rattle.recorder.specs.declared.refused.Refused.{Refused}
@@ -11,7 +11,7 @@ use Rattle.recorder.specs.declared.refused.Refused.{Refused}
 -- a reader, the first reads in order with their answers, and what is kept of a refused read
 pub record Recording (D : Type 0) : Type 0 where
   pub inner : D
-  pub told : List Told
+  pub told : List ReadValue
   pub refused : Option Refused
 
 -- the fault that is kept of a refused read
@@ -23,7 +23,7 @@ abbrev pub key_of : {D : Type 0} → Recording D → Option Key
 key_of r = option_and_then (λ x. x.key) r.refused
 
 -- k wasn't read
-abbrev pub IsUnread : Key → List Told → Type 0
+abbrev pub IsUnread : Key → List ReadValue → Type 0
 IsUnread k told = AllByRecursion (λ t. t.key ≢ k) told
 
 -- memory ran out, and no key is kept
@@ -35,7 +35,7 @@ abbrev pub IsByReader : (Key → ReadFault → Type 0) → Key → Refused → T
 IsByReader MayRefuse k r = (r.key ≡ Some k) × (r.fault ≢ OutOfMemory) × MayRefuse k r.fault
 
 -- what a recorder keeps over a reader with these answers and faults
-pub record Keeps (MayAnswer : Key → Value → Type 0) (MayRefuse : Key → ReadFault → Type 0) (told : List Told) (refused : Option Refused) : Type 0 where
+pub record Keeps (MayAnswer : Key → Value → Type 0) (MayRefuse : Key → ReadFault → Type 0) (told : List ReadValue) (refused : Option Refused) : Type 0 where
   pub answers : AllByRecursion (λ t. MayAnswer t.key t.value) told
   pub held : AllByRecursion IsTold told
   pub kinds : AllByRecursion (λ t. IsOfKind t.key t.value) told

@@ -5,7 +5,7 @@ use Rattle.item_ids.specs.declared.key.Key.{Key}
 use Rattle.item_ids.specs.Keys.{IsKey}
 use Rattle.result_bytes.specs.declared.value.Value.{Value}
 use Rattle.result_bytes.specs.Values.{IsValue}
-use Rattle.recorder.specs.Backed.{Meaning, ReadLists, Told, IsTold, rank, keys, IsOfKind, AreLower, NoneTwice, Asked, IsNext, Backed}
+use Rattle.recorder.specs.Backed.{Meaning, ReadLists, ReadValue, IsTold, rank, keys, IsOfKind, AreLower, NoneTwice, Asked, IsNext, Backed}
 use Rattle.recorder.specs.Recording.{Recording, fault_of, key_of}
 use Rattle.recorder.specs.declared.reader.ReadFault.{ReadFault}
 use Rattle.recorder.specs.declared.runner.RunFault.{RunFault}
@@ -43,12 +43,12 @@ Logs q old new = new ≡ old ++ q ∷ []
 -- ---- the outcome of a run
 
 -- a key, what was read for it, and its value
-pub record Ran : Type 0 where
+pub record OutcomeValue : Type 0 where
   pub key : Key
-  pub told : List Told
+  pub told : List ReadValue
   pub value : Value
 
-pub record IsOutcome (mean : Meaning) (reads : ReadLists) (o : Ran) : Type 0 where
+pub record IsOutcome (mean : Meaning) (reads : ReadLists) (o : OutcomeValue) : Type 0 where
   pub kind : IsOfKind o.key o.value
   pub backed : Backed mean reads o.key o.told o.value
   pub lower : AreLower o.key (keys o.told)

@@ -23,10 +23,10 @@ pub struct AnswerList {
 impl Model for AnswerList {
     ghost use Rattle.std.specs.Prelude.{List};
     ghost use Rattle.std.specs.List.{AllByRecursion};
-    ghost use Rattle.recorder.specs.Backed.{Told, IsOfKind};
+    ghost use Rattle.recorder.specs.Backed.{ReadValue, IsOfKind};
     ghost use Rattle.recorder.specs.Codes.{coded_reads};
 
-    ghost Value = { List Told };
+    ghost Value = { List ReadValue };
 
     ghost coded = { coded_reads };
 

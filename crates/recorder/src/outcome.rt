@@ -27,10 +27,10 @@ pub struct Outcome<R: Runner> {
 
 impl<R: Runner> Model for Outcome<R> {
     ghost use Rattle.std.specs.Arc.{arc_value};
-    ghost use Rattle.recorder.specs.Runs.{Ran, IsOutcome};
+    ghost use Rattle.recorder.specs.Runs.{OutcomeValue, IsOutcome};
     ghost use Rattle.recorder.specs.Codes.{coded_ran};
 
-    ghost Value = { Ran };
+    ghost Value = { OutcomeValue };
 
     ghost coded = { coded_ran };
 
@@ -91,7 +91,7 @@ pub fn record<R: Runner, D: Reader>(
     is_key(key);
     let value = runner.run(alloc, key, recorder)?;
     let reads = copy_reads(alloc, recorder.reads())?;
-    let sealed = shared(alloc, value)?;
+    let sealed = share(alloc, value)?;
     let key = key.copy(alloc)?;
     Ok(Outcome {
         key,
@@ -102,7 +102,7 @@ pub fn record<R: Runner, D: Reader>(
 }
 
 /// The sealed value, to be shared.
-fn shared(alloc: Global, value: Value) -> Result<Arc<Sealed>, AllocError>
+fn share(alloc: Global, value: Value) -> Result<Arc<Sealed>, AllocError>
     ensures value { IfOk result (λ a. arc_value a ≡ value) }
     ensures kept { IfOk result (λ a. IsValue (arc_value a)) }
 {

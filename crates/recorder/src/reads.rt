@@ -23,11 +23,11 @@ impl Model for Reads {
     ghost use Rattle.std.specs.Prelude.{List};
     ghost use Rattle.std.specs.BTreeMap.{get};
     ghost use Rattle.item_ids.specs.Keys.{key_cmp};
-    ghost use Rattle.recorder.specs.Backed.{Told};
+    ghost use Rattle.recorder.specs.Backed.{ReadValue};
     ghost use Rattle.recorder.specs.Codes.{coded_reads};
     ghost use Rattle.item_ids.specs.Places.{ArePlaces};
 
-    ghost Value = { List Told };
+    ghost Value = { List ReadValue };
 
     ghost coded = { coded_reads };
 

@@ -20,10 +20,10 @@ pub struct Read {
 
 impl Model for Read {
     ghost use Rattle.std.specs.Arc.{arc_value};
-    ghost use Rattle.recorder.specs.Backed.{Told};
+    ghost use Rattle.recorder.specs.Backed.{ReadValue};
     ghost use Rattle.recorder.specs.Codes.{coded_told};
 
-    ghost Value = { Told };
+    ghost Value = { ReadValue };
 
     ghost coded = { coded_told };
 

@@ -136,7 +136,7 @@ fn tree_of(alloc: Global, text: &str) -> Result<FileTree, Fail> {
 }
 
 /// What was asked, and the mistakes as in `E304@19`, or `refused`.
-fn told(scribe: Scribe, found: Result<Vec<Mistake>, Stop<usize>>) -> Result<String, AllocError> {
+fn summary(scribe: Scribe, found: Result<Vec<Mistake>, Stop<usize>>) -> Result<String, AllocError> {
     let mut text = scribe.asked;
     match found {
         Ok(mistakes) => {
@@ -162,7 +162,7 @@ fn is_of_first(
     };
     let mut scribe = Scribe::new(alloc, answers);
     let found = check_method(alloc, &mut scribe, &class.name, method);
-    Ok(told(scribe, found)?.as_str() == want)
+    Ok(summary(scribe, found)?.as_str() == want)
 }
 
 fn is_of_method(alloc: Global, text: &str, answers: usize, want: &str) -> Result<bool, Fail> {
@@ -220,7 +220,7 @@ const MAIN: &str =
 fn is_of_statement(alloc: Global, main: &MainTree, want: &str) -> Result<bool, AllocError> {
     let mut scribe = Scribe::new(alloc, 0);
     let found = check_main(alloc, &mut scribe, main);
-    Ok(told(scribe, found)?.as_str() == want)
+    Ok(summary(scribe, found)?.as_str() == want)
 }
 
 fn is_of_main(alloc: Global, text: &str, want: &str) -> Result<bool, Fail> {

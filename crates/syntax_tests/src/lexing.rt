@@ -5,7 +5,7 @@ use std::hash::{DefaultHasher, Hash, Hasher};
 use std::test::Fail;
 
 /// The tokens of a text in words, or its fault.
-fn told(alloc: Global, text: &[u8]) -> Result<String, AllocError> {
+fn summary(alloc: Global, text: &[u8]) -> Result<String, AllocError> {
     let mut words = String::new(alloc);
     match lex(alloc, text) {
         Ok(tokens) => {
@@ -68,7 +68,7 @@ const TOLD: &[(&str, &str)] = &[
 
 /// Whether the tokens of a text, or its fault, read so.
 fn is_told(alloc: Global, text: &[u8], want: &str) -> Result<bool, AllocError> {
-    Ok(told(alloc, text)?.as_str() == want)
+    Ok(summary(alloc, text)?.as_str() == want)
 }
 
 #[test]

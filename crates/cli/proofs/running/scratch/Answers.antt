@@ -10,7 +10,7 @@ returns-clause-reports g c = record {
   answer = c.in_ok-answer.answer;
   named = ap names_of c.in_ok-project.ensures.accepted ∙ names_of_sources _ ∙ c.in_ok-read_files.ensures.named;
   rules = c.in_ok-answer.ensures;
-  text = c.in_ok-answered.ensures.answer;
-  lines = c.in_ok-answered.ensures.notes;
-  status = c.in_ok-answered.ensures.status;
+  text = c.in_ok-answer_report.ensures.answer;
+  lines = c.in_ok-answer_report.ensures.notes;
+  status = c.in_ok-answer_report.ensures.status;
 }

@@ -3,7 +3,7 @@ use Rattle.mj_tree.specs.Trees.{Expression}
 use Rattle.mj_tree.specs.Views.{exp_view, exps_view}
 use Rattle.mj_parser.specs.Expressions.{height, heights}
 use Rattle.mj_parser.specs.Steps.{listed_at}
-use Rattle.mj_parser.specs.ExpressionReading.{Found, exp_at}
+use Rattle.mj_parser.specs.ExpressionReading.{Reading, exp_at}
 use Rattle.mj_parser.proofs.Items.{ListLeads, closed_list}
 use Rattle.mj_parser.proofs.Loops.{ChainLeads, PostLeads}
 use Rattle.mj_parser.proofs.expressions.+expressions.Given as goal
@@ -11,8 +11,8 @@ use Rattle.mj_parser.proofs.expressions.+expressions.Given as goal
 abbrev pub decreases-read : goal.decreases-read
 decreases-read l = 16 * l.room + 8 + l.tier
 
-abbrev pub decreases-tiered : goal.decreases-tiered
-decreases-tiered l = 16 * (l.room + 1) + 4 + l.tier
+abbrev pub decreases-read_tier : goal.decreases-read_tier
+decreases-read_tier l = 16 * (l.room + 1) + 4 + l.tier
 
 abbrev pub decreases-post : goal.decreases-post
 decreases-post l = 16 * (l.room + 1) + 3
@@ -29,17 +29,17 @@ invariant-chain-chain l = record {
   onward : l.initial.left.after ≤ l.left.after;
   height_is : l.left.height ≡ height (exp_view l.left.exp);
   low : l.left.height ≤ l.room + 1;
-  so_far : (total : Found) → ChainLeads (exp_at l.room l.tokens) l.tokens l.room l.tier (exp_view l.left.exp) l.left.after total → ChainLeads (exp_at l.room l.tokens) l.tokens l.room l.tier (exp_view l.initial.left.exp) l.initial.left.after total;
+  so_far : (total : Reading) → ChainLeads (exp_at l.room l.tokens) l.tokens l.room l.tier (exp_view l.left.exp) l.left.after total → ChainLeads (exp_at l.room l.tokens) l.tokens l.room l.tier (exp_view l.initial.left.exp) l.initial.left.after total;
 }
 
 abbrev pub decreases-chain-chain : goal.decreases-chain-chain
 decreases-chain-chain l = length l.tokens - l.left.after
 
-abbrev pub decreases-made : goal.decreases-made
-decreases-made l = 16 * (l.room + 1)
+abbrev pub decreases-read_new : goal.decreases-read_new
+decreases-read_new l = 16 * (l.room + 1)
 
-abbrev pub decreases-followed : goal.decreases-followed
-decreases-followed l = 16 * (l.room + 1) + 2
+abbrev pub decreases-read_suffixes : goal.decreases-read_suffixes
+decreases-read_suffixes l = 16 * (l.room + 1) + 2
 
 abbrev pub decreases-index : goal.decreases-index
 decreases-index l = 16 * (l.room + 1) + 1
@@ -50,17 +50,17 @@ decreases-member l = 16 * (l.room + 1) + 1
 abbrev pub decreases-arguments : goal.decreases-arguments
 decreases-arguments l = 16 * (l.room + 1)
 
-abbrev pub invariant-followed-items : goal.invariant-followed-items
-invariant-followed-items l = record {
+abbrev pub invariant-read_suffixes-items : goal.invariant-read_suffixes-items
+invariant-read_suffixes-items l = record {
   within : l.left.after ≤ length l.tokens;
   onward : l.initial.left.after ≤ l.left.after;
   height_is : l.left.height ≡ height (exp_view l.left.exp);
   low : l.left.height ≤ l.room + 1;
-  so_far : (total : Found) → PostLeads (exp_at l.room l.tokens) l.tokens l.room (exp_view l.left.exp) l.left.after total → PostLeads (exp_at l.room l.tokens) l.tokens l.room (exp_view l.initial.left.exp) l.initial.left.after total;
+  so_far : (total : Reading) → PostLeads (exp_at l.room l.tokens) l.tokens l.room (exp_view l.left.exp) l.left.after total → PostLeads (exp_at l.room l.tokens) l.tokens l.room (exp_view l.initial.left.exp) l.initial.left.after total;
 }
 
-abbrev pub decreases-followed-items : goal.decreases-followed-items
-decreases-followed-items l = length l.tokens - l.left.after
+abbrev pub decreases-read_suffixes-items : goal.decreases-read_suffixes-items
+decreases-read_suffixes-items l = length l.tokens - l.left.after
 
 abbrev pub invariant-arguments-list : goal.invariant-arguments-list
 invariant-arguments-list l = record {

@@ -15,18 +15,18 @@ decreases-choice l = 4 * l.room + 1
 abbrev pub decreases-repetition : goal.decreases-repetition
 decreases-repetition l = 4 * l.room + 1
 
-abbrev pub decreases-braced : goal.decreases-braced
-decreases-braced l = 4 * l.room + 1
+abbrev pub decreases-read_block : goal.decreases-read_block
+decreases-read_block l = 4 * l.room + 1
 
 abbrev pub decreases-block : goal.decreases-block
 decreases-block l = 4 * l.room + 2
 
-abbrev pub invariant-braced-items : goal.invariant-braced-items
-invariant-braced-items l = record {
+abbrev pub invariant-read_block-items : goal.invariant-read_block-items
+invariant-read_block-items l = record {
   within : l.after ≤ length l.tokens;
   onward : l.at ≤ l.after;
   so_far : (total : Option (List Statement × ℕ)) → ItemsLead (stmt_at l.room l.tokens) (not_brace l.tokens) (length l.tokens) (map stmt_view l.stmts.items) l.after total → items_from (suc (length l.tokens)) (stmt_at l.room l.tokens) (not_brace l.tokens) l.at ≡ total;
 }
 
-abbrev pub decreases-braced-items : goal.decreases-braced-items
-decreases-braced-items l = length l.tokens - l.after
+abbrev pub decreases-read_block-items : goal.decreases-read_block-items
+decreases-read_block-items l = length l.tokens - l.after

@@ -7,7 +7,7 @@ use Rattle.mj_typing.proofs.plain.method_mistakes.Goals as goal
 
 pub returns : goal.returns
 returns g c =
-    handed_on (λ ms. ms.items ≡ method_faults (g.D.Environment.world c.args.declarations.now) c.args.class.now (method_view c.args.method.now)) c.check_method.result c.unrefused.result c.unrefused.ensures
+    handed_on (λ ms. ms.items ≡ method_faults (g.D.Environment.world c.args.declarations.now) c.args.class.now (method_view c.args.method.now)) c.check_method.result c.mistakes_of.result c.mistakes_of.ensures
     (if_ok c.check_method.result
     (λ ms h. method_plainly (λ s. g.D.Environment.world s.declarations.now) (record { declarations = c.args.declarations }) c.check_method.new.asking ms.items c.args.class.now (method_view c.args.method.now) h (ap g.D.Environment.world c.check_method.ensures.follows))
     c.check_method.ensures.ok)

@@ -4,7 +4,7 @@ use Rattle.item_ids.specs.declared.key.Key.{Key as SpecKey}
 use Rattle.item_ids.specs.Keys.{key_cmp}
 use Rattle.item_ids.specs.Places.{ArePlaces, with_place}
 use Rattle.item_ids.proofs.Places.{places_more}
-use Rattle.recorder.specs.Backed.{Told}
+use Rattle.recorder.specs.Backed.{ReadValue}
 use Rattle.recorder.proofs.reads.push_read.Goals as goal
 
 pub returns-clause-places : goal.returns-clause-places
@@ -16,5 +16,5 @@ returns-clause-places c =
     c.in_ok-note_place.ensures.ok q
     ∙ ap (λ (k : SpecKey). with_place old k c.len.result q) c.key.ensures.key
     ∙ ap (λ (n : ℕ). with_place old c.args.read.key n q) len in
-    let items : c.push_reserved.new.self.items ≡ c.args.list.now.items ++ c.args.read ∷ [] = c.push_reserved.ensures.items ∙ ap (λ (l : List Told). l ++ c.args.read ∷ []) c.in_ok-reserve.ensures.items in
-    subst (λ (l : List Told). ArePlaces (λ t. t.key) l now) (sym items) (places_more (λ t. t.key) c.args.list.now.items c.args.read old now c.requires.places noted)
+    let items : c.push_reserved.new.self.items ≡ c.args.list.now.items ++ c.args.read ∷ [] = c.push_reserved.ensures.items ∙ ap (λ (l : List ReadValue). l ++ c.args.read ∷ []) c.in_ok-reserve.ensures.items in
+    subst (λ (l : List ReadValue). ArePlaces (λ t. t.key) l now) (sym items) (places_more (λ t. t.key) c.args.list.now.items c.args.read old now c.requires.places noted)

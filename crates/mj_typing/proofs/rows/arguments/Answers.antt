@@ -4,13 +4,13 @@ use Rattle.mj_answer.specs.declared.code.Code.TheVariants.{E313}
 use Rattle.mj_typing.specs.declared.verdict.Verdict.TheVariants.{Is, Wrong}
 use Rattle.mj_typing.specs.Inquiries.{and_then}
 use Rattle.mj_typing.specs.Steps.{Proceeds, Aborts}
-use Rattle.mj_typing.specs.Table.{called}
+use Rattle.mj_typing.specs.Table.{arguments}
 use Rattle.mj_typing.proofs.Asked.{goes_miscounted, goes_called, up_called, memory}
-use Rattle.mj_typing.proofs.rows.called.Goals as goal
+use Rattle.mj_typing.proofs.rows.arguments.Goals as goal
 
 pub returns-in_err-accepts_all-clause-err : goal.returns-in_err-accepts_all-clause-err
 returns-in_err-accepts_all-clause-err g c =
-    let h : Aborts g.A.Asking.stands g.A.Asking.halts (and_then (called (g.A.Method.Signature.sig c.args.method.now) c.args.types.now)) c.args.asking.now c.in_err-accepts_all.field-0.0 c.accepts_all.new.asking =
+    let h : Aborts g.A.Asking.stands g.A.Asking.halts (and_then (arguments (g.A.Method.Signature.sig c.args.method.now) c.args.types.now)) c.args.asking.now c.in_err-accepts_all.field-0.0 c.accepts_all.new.asking =
     up_called g.A.Asking.stands g.A.Asking.halts (g.A.Method.Signature.sig c.args.method.now) c.args.types.now _ c.formals-formals.result.now _ _ c.formals-formals.ensures c.if-types-formals.false c.in_err-accepts_all.ensures.err in
     search rules
 
@@ -20,9 +20,9 @@ returns-then-not-branch-clause-ok g c =
 
 pub returns-in_err-copy_of-clause-err : goal.returns-in_err-copy_of-clause-err
 returns-in_err-copy_of-clause-err g c =
-    let whole : Proceeds g.A.Asking.stands (and_then (called (g.A.Method.Signature.sig c.args.method.now) c.args.types.now)) c.args.asking.now (Is (g.A.Method.Signature.sig c.args.method.now).returns) c.accepts_all.new.asking =
+    let whole : Proceeds g.A.Asking.stands (and_then (arguments (g.A.Method.Signature.sig c.args.method.now) c.args.types.now)) c.args.asking.now (Is (g.A.Method.Signature.sig c.args.method.now).returns) c.accepts_all.new.asking =
     goes_called g.A.Asking.stands g.A.Asking.halts (g.A.Method.Signature.sig c.args.method.now) c.args.types.now _ c.formals-formals.result.now c.in_ok-accepts_all.field-0 _ _ c.formals-formals.ensures c.if-types-formals.false c.in_ok-accepts_all.ensures.ok (rw c.if-not-branch.false refl) in
-    let h : Aborts g.A.Asking.stands g.A.Asking.halts (and_then (called (g.A.Method.Signature.sig c.args.method.now) c.args.types.now)) c.args.asking.now OutOfMemory c.accepts_all.new.asking =
+    let h : Aborts g.A.Asking.stands g.A.Asking.halts (and_then (arguments (g.A.Method.Signature.sig c.args.method.now) c.args.types.now)) c.args.asking.now OutOfMemory c.accepts_all.new.asking =
     memory g.A.Asking.stands g.A.Asking.halts OutOfMemory g.met.A.Asking.wanting _ _ _ _ whole in
     search rules
 

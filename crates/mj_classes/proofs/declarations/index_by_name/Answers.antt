@@ -4,8 +4,8 @@ use Rattle.std.specs.BTreeMap.{get}
 use Rattle.std.specs.Ordering.{nat_cmp, is_eq}
 use Rattle.std.specs.Cmp.Lexicographic.{slice_cmp}
 use Rattle.mj_classes.proofs.Index.{index_kept, index_added}
-use Rattle.mj_classes.proofs.declarations.indexed.Goals as goal
-use Rattle.mj_classes.proofs.declarations.indexed.Goals.{then-not-contains_key+in_ok-copy+in_ok-insert, else-not-contains_key}
+use Rattle.mj_classes.proofs.declarations.index_by_name.Goals as goal
+use Rattle.mj_classes.proofs.declarations.index_by_name.Goals.{then-not-contains_key+in_ok-copy+in_ok-insert, else-not-contains_key}
 
 pub loop-at-preserved : goal.loop-at-preserved
 loop-at-preserved c =
