@@ -14,5 +14,6 @@ mod tokens;
 
 pub use fault::ParseFault;
 pub use laws::{grammar_laws, mark_laws};
-pub use location::locate;
+pub use location::{locate, method_name};
 pub use parser::parse;
+pub use tokens::{has, name};

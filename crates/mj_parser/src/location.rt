@@ -50,8 +50,8 @@ fn class_end(tokens: &[Token], start: usize) -> usize
     }
 }
 
-/// The place of the name of the method that begins at a place, or of `main`.
-fn method_name(tokens: &[Token], start: usize) -> usize
+/// The place of the name of the method whose `public` stands at a place, or of the word `main`.
+pub fn method_name(tokens: &[Token], start: usize) -> usize
     requires { start < length tokens.now }
     ensures value { result ≡ method_name tokens.now start }
     ensures within { result ≤ start + 4 }
@@ -126,10 +126,11 @@ fn name_of_method(tokens: &[Token], class: usize, number: usize) -> Option<usize
 
 /// The token of a place in the class with this number; that of a whole file or project is none. Classes are numbered
 /// from 0, the main class first. The tokens are those of a file.
-pub fn locate(tokens: &[Token], class: usize, place: &Place) -> Option<usize>
+pub fn locate(tokens: &[Token], class: u32, place: &Place) -> Option<usize>
     ensures value { result ≡ token_of tokens.now class place.now }
     ensures within { IfSome result (λ at. at < length tokens.now) }
 {
+    let class = class as usize;
     match place {
         Place::Project | Place::File(_) => None,
         Place::ClassOf(_, number) => class_name(tokens, *number),

@@ -70,6 +70,7 @@ impl<'a> Texts<'a> {
     fn spot(&self, file: usize, class: usize, place: &Place) -> Option<(usize, usize)> {
         let (_, bytes) = self.files.get(file)?;
         let tokens = &self.tokens.get(file)?.tokens;
+        let class = u32::try_from(class).ok()?;
         let token = tokens.get(locate(tokens, class, place)?)?;
         Some(line_col(bytes, token.start))
     }

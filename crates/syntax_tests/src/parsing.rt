@@ -120,7 +120,7 @@ const PLACED: &str =
 /// Whether the token of the place starts at this byte.
 fn is_at(
     alloc: Global,
-    class: usize,
+    class: u32,
     place: &Place,
     want: Option<usize>,
 ) -> Result<bool, LexFault> {
@@ -129,7 +129,7 @@ fn is_at(
 }
 
 /// Numbers of classes, and the byte at which the class's token starts.
-const CLASSES: &[(usize, Option<usize>)] = &[(0, Some(14)), (1, Some(89)), (2, None)];
+const CLASSES: &[(u32, Option<usize>)] = &[(0, Some(14)), (1, Some(89)), (2, None)];
 
 #[test]
 fn places_of_classes(rt: HostRuntime) -> Result<(), Fail> {
@@ -181,7 +181,7 @@ fn places_of_files(rt: HostRuntime) -> Result<(), Fail> {
 }
 
 /// A phrase of a class: its method and mark, and the byte at which its token starts.
-type Phrase<'a> = (usize, &'a str, usize, Option<usize>);
+type Phrase<'a> = (u32, &'a str, usize, Option<usize>);
 
 const PHRASES: &[Phrase] = &[
     (0, "main", 11, Some(56)),
