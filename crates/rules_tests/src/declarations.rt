@@ -1,7 +1,5 @@
 //! Tests: chains, ends and owners are those of small programs worked by hand.
-use mj_classes::{
-    ClassChain, ClassRef, Declarations, End, acceptance_laws, chain_laws, member_laws,
-};
+use mj_classes::{ClassChain, ClassRef, Declarations, End};
 use mj_lexer::{Name, lex};
 use mj_parser::parse;
 use mj_tree::{FileTree, Ty};
@@ -43,26 +41,41 @@ fn tree_of(alloc: Global, text: &str) -> Result<FileTree, Fail> {
 /// The two files with a file between them that is no sentence.
 fn project(alloc: Global) -> Result<Vec<Option<FileTree>>, Fail> {
     let mut files = Vec::new(alloc);
-    files.push(Some(tree_of(alloc, FIRST)?))?;
-    files.push(None)?;
-    files.push(Some(tree_of(alloc, LAST)?))?;
+    for text in [FIRST, "", LAST] {
+        let tree = match text {
+            "" => None,
+            text => Some(tree_of(alloc, text)?),
+        };
+        files.push(tree)?;
+    }
     Ok(files)
+}
+
+/// What is asked of the declared classes, with its answer.
+enum Row<'a> {
+    Chain(Chain<'a>),
+    /// The classes that the files declare, those of one name counted again.
+    Count(usize),
+    /// Two types, and whether the first is accepted by the second.
+    Accepted(&'a str, &'a str, bool),
+    /// A class, the name of a member, and the owners of its nearest field and of its nearest method.
+    Nearest(&'a str, &'a str, &'a str, &'a str),
 }
 
 /// A class, the numbers of its file and of the class in it, the names of its chain, how the chain ends, and the name at
 /// its end.
 type Chain<'a> = (&'a str, usize, usize, &'a [&'a str], &'a str, &'a str);
 
-const CHAINS: &[Chain] = &[
-    ("M", 0, 0, &["M"], "top", ""),
-    ("A", 0, 1, &["A"], "top", ""),
-    ("B", 0, 2, &["B", "A"], "top", ""),
-    ("C", 2, 1, &["C", "D"], "again", "C"),
-    ("D", 2, 2, &["D", "C"], "again", "D"),
-    ("E", 2, 3, &["E", "C", "D"], "again", "C"),
-    ("F", 2, 4, &["F"], "again", "F"),
-    ("G", 2, 5, &["G"], "undeclared", "Missing"),
-    ("Missing", 0, 0, &[], "missing", ""),
+const CHAINS: &[Row] = &[
+    Row::Chain(("M", 0, 0, &["M"], "top", "")),
+    Row::Chain(("A", 0, 1, &["A"], "top", "")),
+    Row::Chain(("B", 0, 2, &["B", "A"], "top", "")),
+    Row::Chain(("C", 2, 1, &["C", "D"], "again", "C")),
+    Row::Chain(("D", 2, 2, &["D", "C"], "again", "D")),
+    Row::Chain(("E", 2, 3, &["E", "C", "D"], "again", "C")),
+    Row::Chain(("F", 2, 4, &["F"], "again", "F")),
+    Row::Chain(("G", 2, 5, &["G"], "undeclared", "Missing")),
+    Row::Chain(("Missing", 0, 0, &[], "missing", "")),
 ];
 
 /// Whether the chain ends so.
@@ -106,50 +119,21 @@ fn is_climbed(
     }
 }
 
-fn has_chain(alloc: Global, row: &Chain) -> Result<bool, Fail> {
-    let files = project(alloc)?;
-    let declarations = Declarations::new(alloc, &files)?;
-    let name = name(alloc, row.0)?;
-    Ok(is_climbed(alloc, &declarations, &name, row)?)
-}
-
-#[test]
-fn chains(rt: HostRuntime) -> Result<(), Fail> {
-    chain_laws();
-    for row in CHAINS {
-        assert!(rt; has_chain(rt.alloc(), row)?, "{row:?}");
-    }
-    Ok(())
-}
-
-/// Whether the files declare so many classes, those of one name counted again.
-fn has_count(alloc: Global, want: usize) -> Result<bool, Fail> {
-    let files = project(alloc)?;
-    let declarations = Declarations::new(alloc, &files)?;
-    Ok(declarations.classes().len() == want)
-}
-
-#[test]
-fn classes_are_counted(rt: HostRuntime) -> Result<(), Fail> {
-    assert!(rt; has_count(rt.alloc(), 9)?);
-    Ok(())
-}
-
 /// Two types, and whether the first is accepted by the second.
-const ACCEPTED: &[(&str, &str, bool)] = &[
-    ("int", "int", true),
-    ("int", "boolean", false),
-    ("int[]", "int[]", true),
-    ("B", "A", true),
-    ("A", "B", false),
-    ("A", "int", false),
-    ("C", "D", true),
-    ("D", "C", true),
-    ("E", "D", true),
-    ("C", "E", false),
-    ("F", "M", false),
-    ("G", "Missing", false),
-    ("Missing", "Missing", true),
+const ACCEPTED: &[Row] = &[
+    Row::Accepted("int", "int", true),
+    Row::Accepted("int", "boolean", false),
+    Row::Accepted("int[]", "int[]", true),
+    Row::Accepted("B", "A", true),
+    Row::Accepted("A", "B", false),
+    Row::Accepted("A", "int", false),
+    Row::Accepted("C", "D", true),
+    Row::Accepted("D", "C", true),
+    Row::Accepted("E", "D", true),
+    Row::Accepted("C", "E", false),
+    Row::Accepted("F", "M", false),
+    Row::Accepted("G", "Missing", false),
+    Row::Accepted("Missing", "Missing", true),
 ];
 
 fn accepts(
@@ -163,35 +147,17 @@ fn accepts(
     Ok(declarations.accepts(&ty, &wanted))
 }
 
-fn is_accepted(alloc: Global, ty: &str, wanted: &str) -> Result<bool, Fail> {
-    let files = project(alloc)?;
-    let declarations = Declarations::new(alloc, &files)?;
-    Ok(accepts(alloc, &declarations, ty, wanted)?)
-}
-
-#[test]
-fn acceptance(rt: HostRuntime) -> Result<(), Fail> {
-    acceptance_laws();
-    for (ty, wanted, want) in ACCEPTED {
-        assert!(rt;
-            is_accepted(rt.alloc(), ty, wanted)? == *want,
-            "{ty} by {wanted}"
-        );
-    }
-    Ok(())
-}
-
 /// A class, the name of a member, and the owners of its nearest field and of its nearest method.
-const NEAREST: &[(&str, &str, &str, &str)] = &[
-    ("B", "x", "B", ""),
-    ("B", "y", "A", ""),
-    ("B", "f", "", "B"),
-    ("B", "g", "", "A"),
-    ("E", "n", "D", ""),
-    ("E", "x", "", ""),
-    ("F", "x", "", ""),
-    ("M", "main", "", ""),
-    ("Missing", "x", "", ""),
+const NEAREST: &[Row] = &[
+    Row::Nearest("B", "x", "B", ""),
+    Row::Nearest("B", "y", "A", ""),
+    Row::Nearest("B", "f", "", "B"),
+    Row::Nearest("B", "g", "", "A"),
+    Row::Nearest("E", "n", "D", ""),
+    Row::Nearest("E", "x", "", ""),
+    Row::Nearest("F", "x", "", ""),
+    Row::Nearest("M", "main", "", ""),
+    Row::Nearest("Missing", "x", "", ""),
 ];
 
 /// Whether these are the owners.
@@ -206,24 +172,64 @@ fn are_owners(declarations: &Declarations, class: &Name, member: &Name, want: [&
 fn has_owners(
     alloc: Global,
     declarations: &Declarations,
-    row: &(&str, &str, &str, &str),
+    class: &str,
+    member: &str,
+    want: [&str; 2],
 ) -> Result<bool, AllocError> {
-    let class = name(alloc, row.0)?;
-    let member = name(alloc, row.1)?;
-    Ok(are_owners(declarations, &class, &member, [row.2, row.3]))
+    let class = name(alloc, class)?;
+    let member = name(alloc, member)?;
+    Ok(are_owners(declarations, &class, &member, want))
 }
 
-fn is_nearest(alloc: Global, row: &(&str, &str, &str, &str)) -> Result<bool, Fail> {
+/// Whether the class of the row has its chain, or is missing.
+fn has_chain(alloc: Global, declarations: &Declarations, row: &Chain) -> Result<bool, AllocError> {
+    let class = name(alloc, row.0)?;
+    is_climbed(alloc, declarations, &class, row)
+}
+
+fn holds_of(alloc: Global, declarations: &Declarations, row: &Row) -> Result<bool, AllocError> {
+    match row {
+        Row::Chain(chain) => has_chain(alloc, declarations, chain),
+        Row::Count(want) => Ok(declarations.classes().len() == *want),
+        Row::Accepted(ty, wanted, want) => Ok(accepts(alloc, declarations, ty, wanted)? == *want),
+        Row::Nearest(class, member, field, method) => {
+            has_owners(alloc, declarations, class, member, [*field, *method])
+        }
+    }
+}
+
+fn holds(alloc: Global, row: &Row) -> Result<bool, Fail> {
     let files = project(alloc)?;
     let declarations = Declarations::new(alloc, &files)?;
-    Ok(has_owners(alloc, &declarations, row)?)
+    Ok(holds_of(alloc, &declarations, row)?)
+}
+
+#[test]
+fn chains(rt: HostRuntime) -> Result<(), Fail> {
+    for (number, row) in CHAINS.iter().enumerate() {
+        assert!(rt; holds(rt.alloc(), row)?, "row {number}");
+    }
+    Ok(())
+}
+
+#[test]
+fn classes_are_counted(rt: HostRuntime) -> Result<(), Fail> {
+    assert!(rt; holds(rt.alloc(), &Row::Count(9))?);
+    Ok(())
+}
+
+#[test]
+fn acceptance(rt: HostRuntime) -> Result<(), Fail> {
+    for (number, row) in ACCEPTED.iter().enumerate() {
+        assert!(rt; holds(rt.alloc(), row)?, "row {number}");
+    }
+    Ok(())
 }
 
 #[test]
 fn nearest_members(rt: HostRuntime) -> Result<(), Fail> {
-    member_laws();
-    for row in NEAREST {
-        assert!(rt; is_nearest(rt.alloc(), row)?, "{row:?}");
+    for (number, row) in NEAREST.iter().enumerate() {
+        assert!(rt; holds(rt.alloc(), row)?, "row {number}");
     }
     Ok(())
 }

@@ -3,10 +3,7 @@
 use mj_lexer::{Name, lex};
 use mj_parser::parse;
 use mj_tree::{ClassTree, FileTree, MainTree, Ty};
-use mj_typing::{
-    Asking, Mistake, Signature, Stop, body_laws, case_laws, check_main, check_method, row_laws,
-    typing_laws,
-};
+use mj_typing::{Asking, Mistake, Signature, Stop, check_main, check_method};
 use std::alloc::{AllocError, Global};
 use std::test::Fail;
 
@@ -130,11 +127,6 @@ impl Asking for Scribe {
     }
 }
 
-fn tree_of(alloc: Global, text: &str) -> Result<FileTree, Fail> {
-    let tokens = lex(alloc, text.as_bytes())?;
-    Ok(parse(alloc, &tokens)?)
-}
-
 /// What was asked, and the mistakes as in `E304@19`, or `refused`.
 fn summary(scribe: Scribe, found: Result<Vec<Mistake>, Stop<usize>>) -> Result<String, AllocError> {
     let mut text = scribe.asked;
@@ -165,12 +157,31 @@ fn is_of_first(
     Ok(summary(scribe, found)?.as_str() == want)
 }
 
-fn is_of_method(alloc: Global, text: &str, answers: usize, want: &str) -> Result<bool, Fail> {
-    let tree = tree_of(alloc, text)?;
-    match tree.classes.first() {
-        Some(class) => Ok(is_of_first(alloc, class, answers, want)?),
-        None => Ok(false),
+/// Whether this is what the check of the main asks and finds, where no question is answered.
+fn is_of_statement(alloc: Global, main: &MainTree, want: &str) -> Result<bool, AllocError> {
+    let mut scribe = Scribe::new(alloc, 0);
+    let found = check_main(alloc, &mut scribe, main);
+    Ok(summary(scribe, found)?.as_str() == want)
+}
+
+/// Whether this is what the check of the main, or else of the first class's first method, asks and finds.
+fn is_of_file(
+    alloc: Global,
+    tree: &FileTree,
+    answers: usize,
+    want: &str,
+) -> Result<bool, AllocError> {
+    match (&tree.main, tree.classes.first()) {
+        (Some(main), _) => is_of_statement(alloc, main, want),
+        (None, Some(class)) => is_of_first(alloc, class, answers, want),
+        (None, None) => Ok(false),
     }
+}
+
+fn is_of_text(alloc: Global, text: &str, answers: usize, want: &str) -> Result<bool, Fail> {
+    let tokens = lex(alloc, text.as_bytes())?;
+    let tree = parse(alloc, &tokens)?;
+    Ok(is_of_file(alloc, &tree, answers, want)?)
 }
 
 /// A method whose check asks each question: the class types declared, then each phrase behind its parts.
@@ -198,7 +209,7 @@ const ASKED: &[(usize, &str)] = &[
 #[test]
 fn questions_in_order(rt: HostRuntime) -> Result<(), Fail> {
     for (answers, want) in ASKED {
-        assert!(rt; is_of_method(rt.alloc(), ASKING, *answers, want)?, "{want}");
+        assert!(rt; is_of_text(rt.alloc(), ASKING, *answers, want)?, "{want}");
     }
     Ok(())
 }
@@ -208,7 +219,7 @@ fn questions_in_order(rt: HostRuntime) -> Result<(), Fail> {
 fn mistakes_in_order(rt: HostRuntime) -> Result<(), Fail> {
     let text = "class A { public C g(D d, int d) { C c; return c; } }";
     let want = "C? D? C? E207@8 E206@1 E206@4 E206@11 ";
-    assert!(rt; is_of_method(rt.alloc(), text, 10, want)?);
+    assert!(rt; is_of_text(rt.alloc(), text, 10, want)?);
     Ok(())
 }
 
@@ -216,31 +227,8 @@ fn mistakes_in_order(rt: HostRuntime) -> Result<(), Fail> {
 const MAIN: &str =
     "class M { public static void main(String[] a) { System.out.println(x + (this.f(y))); } }";
 
-/// Whether this is what the check of the main asks and finds, where no question is answered.
-fn is_of_statement(alloc: Global, main: &MainTree, want: &str) -> Result<bool, AllocError> {
-    let mut scribe = Scribe::new(alloc, 0);
-    let found = check_main(alloc, &mut scribe, main);
-    Ok(summary(scribe, found)?.as_str() == want)
-}
-
-fn is_of_main(alloc: Global, text: &str, want: &str) -> Result<bool, Fail> {
-    let tree = tree_of(alloc, text)?;
-    match &tree.main {
-        Some(main) => Ok(is_of_statement(alloc, main, want)?),
-        None => Ok(false),
-    }
-}
-
 #[test]
 fn nothing_is_asked_in_main(rt: HostRuntime) -> Result<(), Fail> {
-    assert!(rt; is_of_main(rt.alloc(), MAIN, "E303@17 E306@20 E303@24 ")?);
+    assert!(rt; is_of_text(rt.alloc(), MAIN, 0, "E303@17 E306@20 E303@24 ")?);
     Ok(())
-}
-
-#[test]
-fn laws(_rt: HostRuntime) {
-    typing_laws();
-    row_laws();
-    case_laws();
-    body_laws();
 }

@@ -33,15 +33,15 @@ chain-chain-preserved t c =
 pub chain-returns-clause-exact : goal.chain-returns-clause-exact
 chain-returns-clause-exact t c = c.chain.invariant.so_far _ (chain_ends _ _ _ _ _ _ c.chain.invariant.within (sym c.operator.ensures.value ∙ c.in_default.is))
 
-pub read_suffixes-returns-then-left-room-clause-exact : goal.followed-returns-then-left-room-clause-exact
+pub read_suffixes-returns-then-left-room-clause-exact : goal.read_suffixes-returns-then-left-room-clause-exact
 read_suffixes-returns-then-left-room-clause-exact t c = c.items.invariant.so_far None (index_too_deep _ _ _ _ _ c.items.invariant.within (sym c.takes_index.ensures.value ∙ c.if-takes_index.true) (omega arith))
 
-pub read_suffixes-returns-in_err-left-clause-exact : goal.followed-returns-in_err-left-clause-exact
+pub read_suffixes-returns-in_err-left-clause-exact : goal.read_suffixes-returns-in_err-left-clause-exact
 read_suffixes-returns-in_err-left-clause-exact t c =
     let p = err_from_is_err_and c.from_residual.result c.from_residual.ensures.1 in
     λ gas enough. rw (p.1, p.2) (fails_on _ _ _ (λ n. c.items.invariant.so_far None (no_index _ _ _ _ _ c.items.invariant.within (sym c.takes_index.ensures.value ∙ c.if-takes_index.true) (omega arith) n) gas enough) c.in_err-left.ensures.exact)
 
-pub read_suffixes-items-preserved-then-takes_index : goal.followed-items-preserved-then-takes_index
+pub read_suffixes-items-preserved-then-takes_index : goal.read_suffixes-items-preserved-then-takes_index
 read_suffixes-items-preserved-then-takes_index t c =
     let w = c.in_ok-left.ensures.within in
     record {
@@ -52,15 +52,15 @@ read_suffixes-items-preserved-then-takes_index t c =
       so_far = λ total leads. c.items.invariant.so_far total (index_goes_on _ _ _ _ _ c.items.invariant.within _ _ total (sym c.takes_index.ensures.value ∙ c.if-takes_index.true) (omega arith) c.in_ok-left.ensures.exact w.0 leads);
     }
 
-pub read_suffixes-returns-then-left-room-2-clause-exact : goal.followed-returns-then-left-room-2-clause-exact
+pub read_suffixes-returns-then-left-room-2-clause-exact : goal.read_suffixes-returns-then-left-room-2-clause-exact
 read_suffixes-returns-then-left-room-2-clause-exact t c = c.items.invariant.so_far None (member_too_deep _ _ _ _ _ c.items.invariant.within (sym c.takes_index.ensures.value ∙ c.if-takes_index.false) (sym c.has.ensures.value ∙ c.if-has.true) (omega arith))
 
-pub read_suffixes-returns-in_err-left-2-clause-exact : goal.followed-returns-in_err-left-2-clause-exact
+pub read_suffixes-returns-in_err-left-2-clause-exact : goal.read_suffixes-returns-in_err-left-2-clause-exact
 read_suffixes-returns-in_err-left-2-clause-exact t c =
     let p = err_from_is_err_and c.from_residual-in_err-left-2.result c.from_residual-in_err-left-2.ensures.1 in
     λ gas enough. rw (p.1, p.2) (fails_on _ _ _ (λ n. c.items.invariant.so_far None (no_member _ _ _ _ _ c.items.invariant.within (sym c.takes_index.ensures.value ∙ c.if-takes_index.false) (sym c.has.ensures.value ∙ c.if-has.true) (omega arith) n) gas enough) c.in_err-left-2.ensures.exact)
 
-pub read_suffixes-items-preserved : goal.followed-items-preserved
+pub read_suffixes-items-preserved : goal.read_suffixes-items-preserved
 read_suffixes-items-preserved t c =
     let w = c.in_ok-left-2.ensures.within in
     record {
@@ -71,7 +71,7 @@ read_suffixes-items-preserved t c =
       so_far = λ total leads. c.items.invariant.so_far total (member_goes_on _ _ _ _ _ c.items.invariant.within _ _ total (sym c.takes_index.ensures.value ∙ c.if-takes_index.false) (sym c.has.ensures.value ∙ c.if-has.true) (omega arith) c.in_ok-left-2.ensures.exact w.0 leads);
     }
 
-pub read_suffixes-returns-else-has-clause-exact : goal.followed-returns-else-has-clause-exact
+pub read_suffixes-returns-else-has-clause-exact : goal.read_suffixes-returns-else-has-clause-exact
 read_suffixes-returns-else-has-clause-exact t c = c.items.invariant.so_far _ (post_ends _ _ _ _ _ c.items.invariant.within (sym c.takes_index.ensures.value ∙ c.if-takes_index.false) (sym c.has.ensures.value ∙ c.if-has.false))
 
 pub arguments-returns-then-has-clause-exact : goal.arguments-returns-then-has-clause-exact

@@ -6,20 +6,20 @@ use Rattle.mj_parser.specs.StatementReading.{not_brace, stmt_at}
 use Rattle.mj_parser.proofs.Items.{items_begin, items_end, items_fail, items_go_on, fails_on}
 use Rattle.mj_parser.proofs.statements.+statements.Goals as goal
 
-pub read_block-items-init : goal.braced-items-init
+pub read_block-items-init : goal.read_block-items-init
 read_block-items-init t c = record {
   within = c.requires.within;
   onward = omega arith;
   so_far = λ total leads. items_begin (stmt_at c.args.room c.args.tokens.now) (not_brace c.args.tokens.now) (length c.args.tokens.now) c.args.at total (rw c.new-stmts.ensures.items at leads);
 }
 
-pub read_block-returns-in_err-next-clause-exact : goal.braced-returns-in_err-next-clause-exact
+pub read_block-returns-in_err-next-clause-exact : goal.read_block-returns-in_err-next-clause-exact
 read_block-returns-in_err-next-clause-exact t c =
     let p = err_from_is_err_and c.from_residual.result c.from_residual.ensures.1 in
     rw (p.1, p.2) (fails_on _ _ _ (λ n. c.items.invariant.so_far None (items_fail (stmt_at c.args.room c.args.tokens.now) (not_brace c.args.tokens.now) (length c.args.tokens.now) (map stmt_view c.items.stmts.items) c.items.after c.items.invariant.within
     (ap not (sym c.has.ensures.value ∙ c.items-test.true)) n)) c.in_err-next.ensures.exact)
 
-pub read_block-items-preserved : goal.braced-items-preserved
+pub read_block-items-preserved : goal.read_block-items-preserved
 read_block-items-preserved t c =
     let w = c.in_ok-next.ensures.within in
     let pushed = c.in_ok-push.ensures.items in
@@ -30,6 +30,6 @@ read_block-items-preserved t c =
           c.items.invariant.within (ap not (sym c.has.ensures.value ∙ c.items-test.true)) c.in_ok-next.ensures.exact w.0 (rw (pushed, map-append) at leads));
     }
 
-pub read_block-returns-clause-exact : goal.braced-returns-clause-exact
+pub read_block-returns-clause-exact : goal.read_block-returns-clause-exact
 read_block-returns-clause-exact t c = c.items.invariant.so_far (Some (map stmt_view c.items.stmts.items, c.items.after)) (items_end (stmt_at c.args.room c.args.tokens.now) (not_brace c.args.tokens.now) (length c.args.tokens.now) (map stmt_view c.items.stmts.items) c.items.after c.items.invariant.within
     (ap not (sym c.has.ensures.value ∙ c.items-test.false)))
