@@ -10,7 +10,7 @@ mod table;
 mod text;
 
 pub use code::Code;
-pub use diagnostic::Diagnostic;
+pub use diagnostic::{Diagnostic, copy_faults};
 pub use laws::{code_numbers, one_list, strict_total_orders};
 pub use lookup::{Named, find_by_name, position_by_name};
 pub use sets::{ascending, fault_set, name_set};

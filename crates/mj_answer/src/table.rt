@@ -1,9 +1,10 @@
 //! The fields and methods of classes, and the whole answer.
-ghost use Rattle.std.specs.Prelude.{◌≡◌};
+ghost use Rattle.std.specs.Prelude.{◌≡◌, IfOk};
 
 use crate::diagnostic::Diagnostic;
 use mj_lexer::Name;
-use mj_tree::Ty;
+use mj_tree::{Ty, copy_types};
+use std::alloc::{AllocError, Global};
 use std::marker::Model;
 
 /// A field that a class has, with the class that declares it.
@@ -12,6 +13,19 @@ pub struct FieldRow {
     pub name: Name,
     pub owner: Name,
     pub ty: Ty,
+}
+
+impl FieldRow {
+    /// An equal row.
+    pub fn copy(&self, alloc: Global) -> Result<FieldRow, AllocError>
+        ensures { IfOk result (λ row. row ≡ self.now) }
+    {
+        Ok(FieldRow {
+            name: self.name.copy(alloc)?,
+            owner: self.owner.copy(alloc)?,
+            ty: self.ty.copy(alloc)?,
+        })
+    }
 }
 
 /// A method that a class has, with the class that declares it.
@@ -78,6 +92,19 @@ impl MethodRow {
     {
         &self.returns
     }
+
+    /// An equal row.
+    pub fn copy(&self, alloc: Global) -> Result<MethodRow, AllocError>
+        ensures { IfOk result (λ row. row ≡ self.now) }
+    {
+        let formals = copy_types(alloc, &self.formals)?;
+        Ok(MethodRow {
+            name: self.name.copy(alloc)?,
+            owner: self.owner.copy(alloc)?,
+            formals,
+            returns: self.returns.copy(alloc)?,
+        })
+    }
 }
 
 /// The fields and the methods that a class has, each ascending by name.
@@ -116,6 +143,37 @@ impl ClassTable {
     {
         self.methods.as_slice()
     }
+
+    /// An equal table.
+    pub fn copy(&self, alloc: Global) -> Result<ClassTable, AllocError>
+        ensures { IfOk result (λ table. table ≡ self.now) }
+    {
+        let fields = copy_fields(alloc, &self.fields)?;
+        Ok(ClassTable {
+            fields,
+            methods: copy_methods(alloc, &self.methods)?,
+        })
+    }
+}
+
+fn copy_fields(alloc: Global, rows: &[FieldRow]) -> Result<Vec<FieldRow>, AllocError>
+    ensures { IfOk result (λ copies. copies.items ≡ rows.now) }
+{
+    let mut copies = Vec::new(alloc);
+    for row in rows {
+        copies.push(row.copy(alloc)?)?;
+    }
+    Ok(copies)
+}
+
+fn copy_methods(alloc: Global, rows: &[MethodRow]) -> Result<Vec<MethodRow>, AllocError>
+    ensures { IfOk result (λ copies. copies.items ≡ rows.now) }
+{
+    let mut copies = Vec::new(alloc);
+    for row in rows {
+        copies.push(row.copy(alloc)?)?;
+    }
+    Ok(copies)
 }
 
 /// What is answered for a class: its fields and methods, and its faults in ascending order.

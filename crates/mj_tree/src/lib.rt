@@ -1,11 +1,12 @@
 //! Trees of files, and places in them.
 #![tactic(auto)]
 
+mod copies;
 mod place;
 mod tree;
 
 pub use place::Place;
 pub use tree::{
     ClassTree, Exp, Field, FileTree, MOST_LEVELS, MainTree, MethodTree, Operator, Stmt, Ty,
-    Variable,
+    Variable, copy_types,
 };

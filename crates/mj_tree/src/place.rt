@@ -1,5 +1,8 @@
 //! Where a fault stands.
+ghost use Rattle.std.specs.Prelude.{◌≡◌, IfOk};
+
 use mj_lexer::Name;
+use std::alloc::{AllocError, Global};
 
 /// A place that stays the same under edits outside its item. Places are ordered as they are listed here, then by
 /// their contents, names by their bytes.
@@ -19,4 +22,21 @@ pub enum Place {
     Method(usize),
     /// The token with this number in the first method of this name, counted from its `public`.
     Inside(Name, usize),
+}
+
+impl Place {
+    /// An equal place.
+    pub fn copy(&self, alloc: Global) -> Result<Place, AllocError>
+        ensures { IfOk result (λ place. place ≡ self.now) }
+    {
+        match self {
+            Place::Project => Ok(Place::Project),
+            Place::File(name) => Ok(Place::File(name.copy(alloc)?)),
+            Place::ClassOf(name, number) => Ok(Place::ClassOf(name.copy(alloc)?, *number)),
+            Place::Class => Ok(Place::Class),
+            Place::Field(number) => Ok(Place::Field(*number)),
+            Place::Method(number) => Ok(Place::Method(*number)),
+            Place::Inside(method, token) => Ok(Place::Inside(method.copy(alloc)?, *token)),
+        }
+    }
 }

@@ -1,6 +1,9 @@
 //! Trees of MiniJava. A mark is the number of a token, counted from the `public` of its method or of `main`, which
 //! is 0. Contracts see a tree by its view, which leaves out where it lies in memory.
+ghost use Rattle.std.specs.Prelude.{◌≡◌, IfOk};
+
 use mj_lexer::Name;
+use std::alloc::{AllocError, Global};
 
 /// The most levels of a phrase: a statement in a body and the returned expression have level 1, a part of a phrase one
 /// more than the phrase.
@@ -14,6 +17,31 @@ pub enum Ty {
     IntArray,
     /// A class, declared or not.
     Class(Name),
+}
+
+impl Ty {
+    /// An equal type.
+    pub fn copy(&self, alloc: Global) -> Result<Ty, AllocError>
+        ensures { IfOk result (λ ty. ty ≡ self.now) }
+    {
+        match self {
+            Ty::Int => Ok(Ty::Int),
+            Ty::Boolean => Ok(Ty::Boolean),
+            Ty::IntArray => Ok(Ty::IntArray),
+            Ty::Class(class) => Ok(Ty::Class(class.copy(alloc)?)),
+        }
+    }
+}
+
+/// Equal types in the same order.
+pub fn copy_types(alloc: Global, types: &[Ty]) -> Result<Vec<Ty>, AllocError>
+    ensures { IfOk result (λ copies. copies.items ≡ types.now) }
+{
+    let mut copies = Vec::new(alloc);
+    for ty in types {
+        copies.push(ty.copy(alloc)?)?;
+    }
+    Ok(copies)
 }
 
 /// A binary operator.
@@ -150,12 +178,37 @@ pub struct Field {
     pub ty: Ty,
 }
 
+impl Field {
+    /// An equal field.
+    pub fn copy(&self, alloc: Global) -> Result<Field, AllocError>
+        ensures { IfOk result (λ field. field ≡ self.now) }
+    {
+        Ok(Field {
+            name: self.name.copy(alloc)?,
+            ty: self.ty.copy(alloc)?,
+        })
+    }
+}
+
 /// A formal parameter or a local variable; the mark is the first token of its type.
 #[derive(Debug, Drop)]
 pub struct Variable {
     pub name: Name,
     pub ty: Ty,
     pub mark: usize,
+}
+
+impl Variable {
+    /// An equal variable.
+    pub fn copy(&self, alloc: Global) -> Result<Variable, AllocError>
+        ensures { IfOk result (λ variable. variable ≡ self.now) }
+    {
+        Ok(Variable {
+            name: self.name.copy(alloc)?,
+            ty: self.ty.copy(alloc)?,
+            mark: self.mark,
+        })
+    }
 }
 
 /// A method.
