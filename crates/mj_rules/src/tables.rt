@@ -9,25 +9,13 @@ use mj_classes::{ClassRef, FieldMember, MethodMember, field_table, method_table}
 use mj_tree::{Ty, Variable};
 use std::alloc::{AllocError, Global};
 
-/// An equal type.
-pub fn copy_type(alloc: Global, ty: &Ty) -> Result<Ty, AllocError>
-    ensures { IfOk result (λ copy. copy ≡ ty.now) }
-{
-    match ty {
-        Ty::Int => Ok(Ty::Int),
-        Ty::Boolean => Ok(Ty::Boolean),
-        Ty::IntArray => Ok(Ty::IntArray),
-        Ty::Class(name) => Ok(Ty::Class(name.copy(alloc)?)),
-    }
-}
-
 /// The types of formals.
 pub fn formal_types(alloc: Global, formals: &[Variable]) -> Result<Vec<Ty>, AllocError>
     ensures { IfOk result (λ types. types.items ≡ map (λ v. v.ty) formals.now) }
 {
     let mut types = Vec::new(alloc);
     for formal in formals {
-        types.push(copy_type(alloc, &formal.ty)?)?;
+        types.push(formal.ty.copy(alloc)?)?;
     }
     Ok(types)
 }
@@ -38,7 +26,7 @@ fn field_row(alloc: Global, member: &FieldMember) -> Result<FieldRow, AllocError
     Ok(FieldRow {
         name: member.field.name.copy(alloc)?,
         owner: member.owner.copy(alloc)?,
-        ty: copy_type(alloc, &member.field.ty)?,
+        ty: member.field.ty.copy(alloc)?,
     })
 }
 
@@ -48,7 +36,7 @@ fn method_row(alloc: Global, member: &MethodMember) -> Result<MethodRow, AllocEr
     let name = member.method.name.copy(alloc)?;
     let owner = member.owner.copy(alloc)?;
     let formals = formal_types(alloc, &member.method.formals)?;
-    let returns = copy_type(alloc, &member.method.returns)?;
+    let returns = member.method.returns.copy(alloc)?;
     Ok(MethodRow::new(name, owner, formals, returns))
 }
 

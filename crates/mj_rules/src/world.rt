@@ -4,7 +4,7 @@ ghost use Rattle.std.specs.Str.{bytes_eq};
 ghost use Rattle.std.specs.List.{list_any};
 ghost use Rattle.mj_classes.specs.Classes.{class_ref_view};
 
-use crate::tables::{copy_type, formal_types};
+use crate::tables::formal_types;
 use mj_classes::{ClassRef, Declarations};
 use mj_lexer::Name;
 use mj_tree::Ty;
@@ -61,7 +61,7 @@ impl<'d, 'a> mj_typing::Environment for World<'d, 'a> {
 
     fn field(&self, alloc: Global, class: &Name, name: &Name) -> Result<Option<Ty>, AllocError> {
         match self.declarations.field(class, name) {
-            Some(member) => Ok(Some(copy_type(alloc, &member.field.ty)?)),
+            Some(member) => Ok(Some(member.field.ty.copy(alloc)?)),
             None => Ok(None),
         }
     }
@@ -75,7 +75,7 @@ impl<'d, 'a> mj_typing::Environment for World<'d, 'a> {
         match self.declarations.method(class, name) {
             Some(member) => Ok(Some(MethodTypes {
                 formals: formal_types(alloc, &member.method.formals)?,
-                returns: copy_type(alloc, &member.method.returns)?,
+                returns: member.method.returns.copy(alloc)?,
             })),
             None => Ok(None),
         }

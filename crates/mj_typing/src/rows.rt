@@ -6,7 +6,7 @@ ghost use Rattle.mj_typing.specs.Table.{accepts, accepts_all, literal, variable,
 
 use crate::asking::{Asking, Signature, Stop};
 use crate::scope::Scope;
-use crate::types::{copy_of, is_boolean, is_int, is_int_array};
+use crate::types::{is_boolean, is_int, is_int_array};
 use crate::verdict::Verdict;
 use mj_answer::Code;
 use mj_lexer::Name;
@@ -205,7 +205,7 @@ fn arguments<A: Asking>(
     if !accepts_all(alloc, asking, types, formals)? {
         return Ok(Verdict::Wrong(Code::E313));
     }
-    Ok(Verdict::Is(copy_of(alloc, method.returns())?))
+    Ok(Verdict::Is(method.returns().copy(alloc)?))
 }
 
 #[tactic(auto, unfolding(crate::specs::Table::call))]
@@ -247,7 +247,7 @@ pub fn variable<A: Asking>(
     ensures follows { A.follows asking.old asking.new }
 {
     if let Some(ty) = scope.local(name) {
-        return Ok(Verdict::Is(copy_of(alloc, ty)?));
+        return Ok(Verdict::Is(ty.copy(alloc)?));
     }
     let Some(class) = scope.class() else {
         return Ok(Verdict::Wrong(Code::E303));

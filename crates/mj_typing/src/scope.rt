@@ -7,7 +7,6 @@ ghost use Rattle.mj_typing.specs.Bodies.{variables_of, name_mark, add_repeated, 
 ghost use Rattle.mj_typing.specs.Seen.{Covers};
 ghost use Rattle.mj_typing.specs.Table.{local_of, main_scope, method_scope};
 
-use crate::types::copy_of;
 use crate::verdict::Mistake;
 use mj_answer::Code;
 use mj_lexer::Name;
@@ -126,7 +125,7 @@ fn declare(
         return Ok(());
     }
     let name = variable.name.copy(alloc)?;
-    let ty = copy_of(alloc, &variable.ty)?;
+    let ty = variable.ty.copy(alloc)?;
     types.insert(name, ty)?;
     Ok(())
 }

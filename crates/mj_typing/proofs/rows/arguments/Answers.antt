@@ -18,8 +18,8 @@ pub returns-then-not-branch-clause-ok : goal.returns-then-not-branch-clause-ok
 returns-then-not-branch-clause-ok g c =
     goes_called g.A.Asking.stands g.A.Asking.halts (g.A.Method.Signature.sig c.args.method.now) c.args.types.now _ c.formals-formals.result.now c.in_ok-accepts_all.field-0 (Wrong E313) _ c.formals-formals.ensures c.if-types-formals.false c.in_ok-accepts_all.ensures.ok (rw c.if-not-branch.true refl)
 
-pub returns-in_err-copy_of-clause-err : goal.returns-in_err-copy_of-clause-err
-returns-in_err-copy_of-clause-err g c =
+pub returns-in_err-copy-clause-err : goal.returns-in_err-copy-clause-err
+returns-in_err-copy-clause-err g c =
     let whole : Proceeds g.A.Asking.stands (and_then (arguments (g.A.Method.Signature.sig c.args.method.now) c.args.types.now)) c.args.asking.now (Is (g.A.Method.Signature.sig c.args.method.now).returns) c.accepts_all.new.asking =
     goes_called g.A.Asking.stands g.A.Asking.halts (g.A.Method.Signature.sig c.args.method.now) c.args.types.now _ c.formals-formals.result.now c.in_ok-accepts_all.field-0 _ _ c.formals-formals.ensures c.if-types-formals.false c.in_ok-accepts_all.ensures.ok (rw c.if-not-branch.false refl) in
     let h : Aborts g.A.Asking.stands g.A.Asking.halts (and_then (arguments (g.A.Method.Signature.sig c.args.method.now) c.args.types.now)) c.args.asking.now OutOfMemory c.accepts_all.new.asking =
@@ -28,7 +28,7 @@ returns-in_err-copy_of-clause-err g c =
 
 pub returns-clause-ok : goal.returns-clause-ok
 returns-clause-ok g c =
-    goes_called g.A.Asking.stands g.A.Asking.halts (g.A.Method.Signature.sig c.args.method.now) c.args.types.now _ c.formals-formals.result.now c.in_ok-accepts_all.field-0 (Is c.in_ok-copy_of.field-0) _ c.formals-formals.ensures c.if-types-formals.false c.in_ok-accepts_all.ensures.ok (rw (c.if-not-branch.false, c.in_ok-copy_of.ensures, c.returns.ensures) refl)
+    goes_called g.A.Asking.stands g.A.Asking.halts (g.A.Method.Signature.sig c.args.method.now) c.args.types.now _ c.formals-formals.result.now c.in_ok-accepts_all.field-0 (Is c.in_ok-copy.field-0) _ c.formals-formals.ensures c.if-types-formals.false c.in_ok-accepts_all.ensures.ok (rw (c.if-not-branch.false, c.in_ok-copy.ensures, c.returns.ensures) refl)
 
 pub returns-then-types-formals-clause-ok : goal.returns-then-types-formals-clause-ok
 returns-then-types-formals-clause-ok g c = goes_miscounted g.A.Asking.stands (g.A.Method.Signature.sig c.args.method.now) c.args.types.now c.formals-formals.result.now _ c.formals-formals.ensures c.if-types-formals.true
