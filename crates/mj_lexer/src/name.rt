@@ -2,6 +2,7 @@
 ghost use Rattle.std.specs.Prelude.{◌≡◌, ◌==◌, ◌<◌, ◌≤◌, ℕ, List, length, Some, IfOk};
 ghost use Rattle.std.specs.Option.{SomeIff};
 ghost use Rattle.std.specs.Str.{IsUtf8};
+ghost use Rattle.std.specs.String.{string_bytes};
 ghost use Rattle.std.proofs.Common.{rules};
 ghost use Rattle.std.specs.Cmp.Lexicographic.{pointwise, slice_cmp};
 ghost use Rattle.std.specs.Cmp.{partial_order_from_own_ties};
@@ -10,27 +11,25 @@ ghost use Rattle.std.specs.Hash as writes;
 ghost use Rattle.std.specs.Ordering.{nat_cmp, as_partial_cmp};
 ghost use Rattle.mj_lexer.specs.Bytes.{most_name_bytes};
 
-use smallvec::SmallVec;
 use std::alloc::{AllocError, Global};
 use std::cmp::Ordering;
 use std::fmt;
 use std::hash::{Hash, Hasher};
 use std::marker::Model;
 
-/// A text of 1 to 255 bytes. Contracts see its bytes; names are ordered by them. A name of up to 22 bytes stands in the
-/// value itself.
-#[derive(Drop)]
+/// A text of 1 to 255 bytes. Contracts see its bytes; names are ordered by them.
+#[derive(Debug, Drop)]
 pub struct Name {
-    bytes: SmallVec<u8, 22>,
+    text: String,
 }
 
 impl Model for Name {
     ghost Value = { List ℕ };
 
-    ghost view = { λ n. n.bytes.items };
+    ghost view = { λ n. string_bytes n.text };
 
     ghost invariant = { λ n.
-        (0 < length n.bytes.items) × (length n.bytes.items ≤ most_name_bytes) × IsUtf8 n.bytes.items };
+        (0 < length (string_bytes n.text)) × (length (string_bytes n.text) ≤ most_name_bytes) };
 }
 
 impl Name {
@@ -44,7 +43,7 @@ impl Name {
         ensures { IfOk result (λ n. n ≡ text.now) }
     {
         Ok(Name {
-            bytes: SmallVec::from_slice(alloc, text.as_bytes())?,
+            text: String::from_str(alloc, text)?,
         })
     }
 
@@ -64,7 +63,7 @@ impl Name {
         ensures { IfOk result (λ n. n ≡ self.now) }
     {
         Ok(Name {
-            bytes: SmallVec::from_slice(alloc, self.bytes.as_slice())?,
+            text: String::from_str(alloc, self.text.as_str())?,
         })
     }
 
@@ -72,7 +71,7 @@ impl Name {
     pub fn as_str(&self) -> &str
         ensures { result.now ≡ self.now }
     {
-        unsafe { std::str::from_utf8_unchecked(self.bytes.as_slice()) }
+        self.text.as_str()
     }
 
     /// The bytes of the name's text.
@@ -82,7 +81,8 @@ impl Name {
         ensures short { length self.now ≤ most_name_bytes }
         ensures text { IsUtf8 self.now }
     {
-        self.bytes.as_slice()
+        let text = self.text.as_str();
+        text.as_bytes()
     }
 }
 
@@ -132,12 +132,6 @@ impl Hash for Name {
 
     fn hash<H: Hasher>(&self, state: &mut H) {
         self.as_str().hash(state);
-    }
-}
-
-impl fmt::Debug for Name {
-    fn fmt<W: fmt::Write>(&self, f: &mut fmt::Formatter<W>) -> fmt::Result {
-        fmt::Debug::fmt(self.as_str(), f)
     }
 }
 
