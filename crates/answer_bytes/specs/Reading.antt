@@ -12,7 +12,7 @@ use Rattle.mj_answer.specs.contracts.diagnostic.DiagnosticOrd.TheImpl.{cmp-value
 use Rattle.mj_answer.specs.Codes.{code_of}
 use Rattle.mj_answer.specs.AnswerValues.{MethodRowValue, ClassTableValue, ClassAnswerValue, AnswerValue}
 use Rattle.byte_readers.specs.declared.breach.Breach.TheVariants.{Short}
-use Rattle.byte_readers.specs.Reading.{◌>>=◌, Decoder, refused, any, two_at, four_at, name_at, pair_at, made_at, list_at}
+use Rattle.byte_readers.specs.Reading.{◌>>=◌, Decoder, not_canonical, any, two_at, four_at, name_at, pair_at, made_at, list_at}
 use Rattle.byte_readers.specs.Orders.{is_after}
 use Rattle.tree_bytes.specs.Reading.{ty_at}
 
@@ -46,7 +46,7 @@ project_place_at [] = Err Short
 project_place_at (zero ∷ rest) = Ok (places.Project, rest)
 project_place_at (suc zero ∷ rest) = made_at places.File name_at rest
 project_place_at (suc (suc zero) ∷ rest) = made_at class_of (pair_at name_at four_at) rest
-project_place_at (suc (suc (suc b)) ∷ rest) = refused (suc (suc (suc b)) ∷ rest)
+project_place_at (suc (suc (suc b)) ∷ rest) = not_canonical (suc (suc (suc b)) ∷ rest)
 
 abbrev pub inside_of : List ℕ × ℕ → Place
 inside_of x = places.Inside x.0 x.1
@@ -57,11 +57,11 @@ class_place_at (zero ∷ rest) = Ok (places.Class, rest)
 class_place_at (suc zero ∷ rest) = made_at places.Field four_at rest
 class_place_at (suc (suc zero) ∷ rest) = made_at places.Method four_at rest
 class_place_at (suc (suc (suc zero)) ∷ rest) = made_at inside_of (pair_at name_at four_at) rest
-class_place_at (suc (suc (suc (suc b))) ∷ rest) = refused (suc (suc (suc (suc b))) ∷ rest)
+class_place_at (suc (suc (suc (suc b))) ∷ rest) = not_canonical (suc (suc (suc (suc b))) ∷ rest)
 
 -- a number that is no code's is refused
 abbrev pub coded : List ℕ → Option Code → Decoder Code
-coded bytes None rest = refused bytes
+coded bytes None rest = not_canonical bytes
 coded bytes (Some code) rest = Ok (code, rest)
 
 unfoldable pub code_at : Decoder Code

@@ -151,7 +151,7 @@ fn put_table(out: &mut Vec<u8>, item: &ClassTable) -> Result<(), AllocError>
 
 #[tactic(auto, unfolding(crate::specs::Reading::table_at))]
 fn read_table(alloc: Global, bytes: &[u8]) -> Result<(ClassTable, &[u8]), ReadError>
-    ensures { Decodes (λ x. (x.0, x.1.now)) result (table_at bytes.now) }
+    ensures { Decodes (λ x. x) result (table_at bytes.now) }
 {
     let (fields, rest) = read_ascending::<FieldRowFormat>(alloc, bytes)?;
     let (methods, rest) = read_ascending::<MethodRowFormat>(alloc, rest)?;
@@ -203,7 +203,7 @@ pub fn put_faults(out: &mut Vec<u8>, faults: &Faults) -> Result<(), AllocError>
 /// Reads the faults of a class.
 #[tactic(auto, unfolding(crate::specs::Reading::class_faults_at))]
 pub fn read_faults(alloc: Global, bytes: &[u8]) -> Result<(Faults, &[u8]), ReadError>
-    ensures { Decodes (λ x. (x.0, x.1.now)) result (class_faults_at bytes.now) }
+    ensures { Decodes (λ x. x) result (class_faults_at bytes.now) }
 {
     let (list, rest) = read_ascending::<ClassFaultFormat>(alloc, bytes)?;
     Ok((Faults { list }, rest))
@@ -273,7 +273,7 @@ pub fn put_answer(out: &mut Vec<u8>, whole: &WholeAnswer) -> Result<(), AllocErr
 /// Reads the answer.
 #[tactic(auto, unfolding(crate::specs::Reading::answer_at, crate::specs::Reading::project_faults_at))]
 pub fn read_answer(alloc: Global, bytes: &[u8]) -> Result<(WholeAnswer, &[u8]), ReadError>
-    ensures { Decodes (λ x. (x.0, x.1.now)) result (answer_at bytes.now) }
+    ensures { Decodes (λ x. x) result (answer_at bytes.now) }
 {
     let (faults, rest) = read_ascending::<ProjectFaultFormat>(alloc, bytes)?;
     let (classes, rest) = read_ascending::<ClassFormat>(alloc, rest)?;

@@ -8,8 +8,8 @@ ghost use Rattle.answer_bytes.specs.Storable.{PlaceNameFits};
 ghost use Rattle.answer_bytes.specs.Reading.{project_place_at, class_place_at, code_at};
 
 use byte_readers::{
-    Breach, Format, Ordered, ReadError, check_name, put_four, put_name, put_two, read_four,
-    read_name, read_two, refused,
+    Breach, Format, Ordered, ReadError, check_name, not_canonical, put_four, put_name, put_two,
+    read_four, read_name, read_two,
 };
 use mj_answer::{Code, Diagnostic};
 use mj_tree::Place;
@@ -69,7 +69,7 @@ fn put_class_place(out: &mut Vec<u8>, place: &Place) -> Result<(), AllocError>
 
 #[tactic(auto, unfolding(crate::specs::Reading::project_place_at))]
 fn read_project_place(alloc: Global, bytes: &[u8]) -> Result<(Place, &[u8]), ReadError>
-    ensures { Decodes (λ x. (x.0, x.1.now)) result (project_place_at bytes.now) }
+    ensures { Decodes (λ x. x) result (project_place_at bytes.now) }
 {
     match bytes {
         [] => Err(ReadError::Breach(Breach::Short)),
@@ -83,13 +83,13 @@ fn read_project_place(alloc: Global, bytes: &[u8]) -> Result<(Place, &[u8]), Rea
             let (number, rest) = read_four(rest)?;
             Ok((Place::ClassOf(file, number as usize), rest))
         }
-        [_, ..] => Err(refused(bytes)),
+        [_, ..] => Err(not_canonical(bytes)),
     }
 }
 
 #[tactic(auto, unfolding(crate::specs::Reading::class_place_at))]
 fn read_class_place(alloc: Global, bytes: &[u8]) -> Result<(Place, &[u8]), ReadError>
-    ensures { Decodes (λ x. (x.0, x.1.now)) result (class_place_at bytes.now) }
+    ensures { Decodes (λ x. x) result (class_place_at bytes.now) }
 {
     match bytes {
         [] => Err(ReadError::Breach(Breach::Short)),
@@ -107,18 +107,18 @@ fn read_class_place(alloc: Global, bytes: &[u8]) -> Result<(Place, &[u8]), ReadE
             let (token, rest) = read_four(rest)?;
             Ok((Place::Inside(method, token as usize), rest))
         }
-        [_, ..] => Err(refused(bytes)),
+        [_, ..] => Err(not_canonical(bytes)),
     }
 }
 
 #[tactic(auto, unfolding(crate::specs::Reading::code_at))]
 fn read_code(bytes: &[u8]) -> Result<(Code, &[u8]), ReadError>
-    ensures { Decodes (λ x. (x.0, x.1.now)) result (code_at bytes.now) }
+    ensures { Decodes (λ x. x) result (code_at bytes.now) }
 {
     let (number, rest) = read_two(bytes)?;
     match Code::from_number(number) {
         Some(code) => Ok((code, rest)),
-        None => Err(refused(bytes)),
+        None => Err(not_canonical(bytes)),
     }
 }
 

@@ -5,7 +5,7 @@ use Rattle.byte_readers.specs.declared.breach.ReadError.{ReadError}
 use Rattle.byte_readers.specs.declared.breach.ReadError.TheVariants as errors
 use Rattle.std.specs.List.{slice_get}
 use Rattle.byte_readers.specs.Orders.{is_after}
-use Rattle.byte_readers.specs.Reading.{Decoder, Fails, refused, list_from}
+use Rattle.byte_readers.specs.Reading.{Decoder, Fails, not_canonical, list_from}
 
 pub goes_on : {A : Type 0} (part : Decoder A) (admits : List A → A → Bool) (front : List A) (count i : ℕ) (bytes : List ℕ) (item : A) (after : List ℕ) (total : Result (List A × List ℕ) Breach) → i < count → part bytes ≡ Ok (item, after) → admits front item ≡ true
     → list_from part admits front (count - i) bytes ≡ total → list_from part admits (front ++ item ∷ []) (count - (i + 1)) after ≡ total
@@ -16,11 +16,11 @@ goes_on part admits front count i bytes item after total lt h admitted so_far =
     sym one ∙ so_far
 
 pub is_refused : {A : Type 0} (part : Decoder A) (admits : List A → A → Bool) (front : List A) (count i : ℕ) (bytes : List ℕ) (item : A) (after : List ℕ) (total : Result (List A × List ℕ) Breach) → i < count → part bytes ≡ Ok (item, after) → admits front item ≡ false
-    → list_from part admits front (count - i) bytes ≡ total → total ≡ refused bytes
+    → list_from part admits front (count - i) bytes ≡ total → total ≡ not_canonical bytes
 unfolding list_from
 is_refused part admits front count i bytes item after total lt h not_so so_far =
     let k : count - i ≡ suc (count - (i + 1)) = omega arith in
-    let one : list_from part admits front (count - i) bytes ≡ refused bytes = rw (k, h, not_so) refl in
+    let one : list_from part admits front (count - i) bytes ≡ not_canonical bytes = rw (k, h, not_so) refl in
     sym so_far ∙ one
 
 pub ends : {A : Type 0} (e : ReadError) (part : Decoder A) (admits : List A → A → Bool) (front : List A) (count i : ℕ) (bytes : List ℕ) (total : Result (List A × List ℕ) Breach) → i < count → Fails e (part bytes)

@@ -13,7 +13,7 @@ use Rattle.byte_readers.specs.declared.breach.Breach.TheVariants.{Short, NotCano
 use Rattle.byte_readers.specs.Names.{IsName}
 use Rattle.byte_readers.specs.Lawful.{IsBytes, Takes, Lawful, Admitted, FitsList}
 use Rattle.byte_readers.specs.Spelling.{two, four, eight, name, option, list}
-use Rattle.byte_readers.specs.Reading.{◌>>=◌, Decoder, refused, number_at, two_at, four_at, eight_at, name_at, pair_at, made_at, option_at, list_from, list_at, any}
+use Rattle.byte_readers.specs.Reading.{◌>>=◌, Decoder, not_canonical, number_at, two_at, four_at, eight_at, name_at, pair_at, made_at, option_at, list_from, list_at, any}
 
 pub IsBytes-drop : (n : ℕ) (bytes : List ℕ) → IsBytes bytes → IsBytes (drop n bytes)
 IsBytes-drop n bytes h i = rw get_or-drop (h (n + i))
@@ -113,7 +113,7 @@ lawful_eight = lawful_number w64 (2 ^ 64) wide64
 
 -- ---- names
 
-name_parts : (bytes : List ℕ) (n : ℕ) (text rest : List ℕ) → cond (eqb n 0) (refused {A = List ℕ × List ℕ} bytes) (cond (ltb (length rest) n) (Err Short) (cond (is_utf8 (take n rest)) (done (take n rest, drop n rest)) (refused bytes))) ≡ Ok (text, drop n rest)
+name_parts : (bytes : List ℕ) (n : ℕ) (text rest : List ℕ) → cond (eqb n 0) (not_canonical {A = List ℕ × List ℕ} bytes) (cond (ltb (length rest) n) (Err Short) (cond (is_utf8 (take n rest)) (done (take n rest, drop n rest)) (not_canonical bytes))) ≡ Ok (text, drop n rest)
     → (0 < n) × (n ≤ length rest) × (is_utf8 (take n rest) ≡ true) × (take n rest ≡ text)
 name_parts bytes n text rest e =
     let a = guard_ok (eqb n 0) (NotCanonical (length bytes)) _ (text, drop n rest) e in
@@ -121,7 +121,7 @@ name_parts bytes n text rest e =
     let c = guard_so (is_utf8 (take n rest)) (NotCanonical (length bytes)) (Ok (take n rest, drop n rest)) (text, drop n rest) b.1 in
     (omega (arith, eqb-false _ _ a.0), ltb-false _ _ b.0, c.0, ap (λ (p : List ℕ × List ℕ). p.0) (ok_is (take n rest, drop n rest) (text, drop n rest) c.1))
 
-name_rest : (bytes : List ℕ) (n : ℕ) (text rest after : List ℕ) → cond (eqb n 0) (refused {A = List ℕ × List ℕ} bytes) (cond (ltb (length rest) n) (Err Short) (cond (is_utf8 (take n rest)) (done (take n rest, drop n rest)) (refused bytes))) ≡ Ok (text, after) → drop n rest ≡ after
+name_rest : (bytes : List ℕ) (n : ℕ) (text rest after : List ℕ) → cond (eqb n 0) (not_canonical {A = List ℕ × List ℕ} bytes) (cond (ltb (length rest) n) (Err Short) (cond (is_utf8 (take n rest)) (done (take n rest, drop n rest)) (not_canonical bytes))) ≡ Ok (text, after) → drop n rest ≡ after
 name_rest bytes n text rest after e =
     let a = guard_ok (eqb n 0) (NotCanonical (length bytes)) _ (text, after) e in
     let b = guard_ok (ltb (length rest) n) Short _ (text, after) a.1 in
@@ -225,7 +225,7 @@ list_takes {A} {p} {sp} {P} law admits zero front bytes whole rest fits e =
       admitted = tt;
     }
 list_takes {A} {p} {sp} {P} law admits (suc n) front bytes whole rest fits e =
-    let a = bind_ok (p bytes) (λ item. cond (admits front item.0) (list_from p admits (front ++ item.0 ∷ []) n item.1) (refused bytes)) (whole, rest) e in
+    let a = bind_ok (p bytes) (λ item. cond (admits front item.0) (list_from p admits (front ++ item.0 ∷ []) n item.1) (not_canonical bytes)) (whole, rest) e in
     let g = guard_so (admits front a.0.0) (NotCanonical (length bytes)) (list_from p admits (front ++ a.0.0 ∷ []) n a.0.1) (whole, rest) a.2 in
     let t = law.takes bytes a.0.0 a.0.1 fits a.1 in
     let u = list_takes law admits n (front ++ a.0.0 ∷ []) a.0.1 whole rest t.0.rest_fits g.1 in

@@ -7,7 +7,7 @@ use crate::breach::{Breach, ReadError};
 use std::alloc::AllocError;
 
 /// What isn't canonical, from its first byte on.
-pub fn refused(bytes: &[u8]) -> ReadError
+pub fn not_canonical(bytes: &[u8]) -> ReadError
     ensures { result ≡ ReadError.Breach (Breach.NotCanonical (length bytes.now)) }
 {
     ReadError::Breach(Breach::NotCanonical(bytes.len()))
@@ -15,7 +15,7 @@ pub fn refused(bytes: &[u8]) -> ReadError
 
 /// One byte.
 pub fn read_byte(bytes: &[u8]) -> Result<(u8, &[u8]), ReadError>
-    ensures { Decodes (λ x. (x.0, x.1.now)) result (byte_at bytes.now) }
+    ensures { Decodes (λ x. x) result (byte_at bytes.now) }
 {
     match bytes {
         [] => Err(ReadError::Breach(Breach::Short)),
@@ -26,7 +26,7 @@ pub fn read_byte(bytes: &[u8]) -> Result<(u8, &[u8]), ReadError>
 /// A number of two bytes.
 #[tactic(auto, unfolding(crate::specs::Reading::two_at))]
 pub fn read_two(bytes: &[u8]) -> Result<(u16, &[u8]), ReadError>
-    ensures { Decodes (λ x. (x.0, x.1.now)) result (two_at bytes.now) }
+    ensures { Decodes (λ x. x) result (two_at bytes.now) }
 {
     if bytes.len() < 2 {
         return Err(ReadError::Breach(Breach::Short));
@@ -38,7 +38,7 @@ pub fn read_two(bytes: &[u8]) -> Result<(u16, &[u8]), ReadError>
 /// A number of four bytes.
 #[tactic(auto, unfolding(crate::specs::Reading::four_at))]
 pub fn read_four(bytes: &[u8]) -> Result<(u32, &[u8]), ReadError>
-    ensures { Decodes (λ x. (x.0, x.1.now)) result (four_at bytes.now) }
+    ensures { Decodes (λ x. x) result (four_at bytes.now) }
 {
     if bytes.len() < 4 {
         return Err(ReadError::Breach(Breach::Short));
@@ -53,7 +53,7 @@ pub fn read_four(bytes: &[u8]) -> Result<(u32, &[u8]), ReadError>
 /// A number of eight bytes.
 #[tactic(auto, unfolding(crate::specs::Reading::eight_at))]
 pub fn read_eight(bytes: &[u8]) -> Result<(u64, &[u8]), ReadError>
-    ensures { Decodes (λ x. (x.0, x.1.now)) result (eight_at bytes.now) }
+    ensures { Decodes (λ x. x) result (eight_at bytes.now) }
 {
     if bytes.len() < 8 {
         return Err(ReadError::Breach(Breach::Short));

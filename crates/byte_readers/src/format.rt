@@ -31,7 +31,7 @@ pub trait Format {
 
     /// Reads an item from the front of the bytes, and answers the bytes behind it too.
     fn read(alloc: Global, bytes: &[u8]) -> Result<(Self::Item, &[u8]), ReadError>
-        ensures { Decodes (λ x. (x.0, x.1.now)) result (reading bytes.now) };
+        ensures { Decodes (λ x. x) result (reading bytes.now) };
 
     ghost lawful: { Lawful reading spelling has_spelling };
 }

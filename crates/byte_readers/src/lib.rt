@@ -10,9 +10,9 @@ mod options;
 
 pub use breach::{Breach, ReadError};
 pub use fields::{
-    put_eight, put_four, put_two, read_byte, read_eight, read_four, read_two, refused,
+    not_canonical, put_eight, put_four, put_two, read_byte, read_eight, read_four, read_two,
 };
 pub use format::{Format, Ordered};
 pub use lists::{check_list, put_list, read_ascending, read_list};
-pub use names::{NameFormat, check_name, put_name, read_name};
+pub use names::{NameFormat, check_name, put_name, read_name, read_name_text};
 pub use options::{check_option, put_option, read_option};

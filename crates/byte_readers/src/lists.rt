@@ -6,7 +6,7 @@ ghost use Rattle.byte_readers.specs.Reading.{Decodes, list_at, list_from, any};
 ghost use Rattle.byte_readers.specs.Orders.{is_after};
 
 use crate::breach::ReadError;
-use crate::fields::{put_eight, read_eight, refused};
+use crate::fields::{not_canonical, put_eight, read_eight};
 use crate::format::{Format, Ordered};
 use std::alloc::{AllocError, Global};
 
@@ -36,7 +36,7 @@ pub fn put_list<F: Format>(out: &mut Vec<u8>, items: &[F::Item]) -> Result<(), A
 /// Reads a list.
 #[tactic(auto, unfolding(crate::specs::Reading::list_at))]
 pub fn read_list<F: Format>(alloc: Global, bytes: &[u8]) -> Result<(Vec<F::Item>, &[u8]), ReadError>
-    ensures { Decodes (λ x. (x.0.items, x.1.now)) result (list_at F.reading any bytes.now) }
+    ensures { Decodes (λ x. x.items) result (list_at F.reading any bytes.now) }
 {
     let (count, rest) = read_eight(bytes)?;
     read_items::<F>(alloc, count, rest)
@@ -47,7 +47,7 @@ fn read_items<F: Format>(
     count: u64,
     bytes: &[u8],
 ) -> Result<(Vec<F::Item>, &[u8]), ReadError>
-    ensures { Decodes (λ x. (x.0.items, x.1.now)) result
+    ensures { Decodes (λ x. x.items) result
         (list_from F.reading any [] count bytes.now) }
 {
     let mut items = Vec::new(alloc);
@@ -66,7 +66,7 @@ pub fn read_ascending<F: Ordered>(
     alloc: Global,
     bytes: &[u8],
 ) -> Result<(Vec<F::Item>, &[u8]), ReadError>
-    ensures { Decodes (λ x. (x.0.items, x.1.now)) result
+    ensures { Decodes (λ x. x.items) result
         (list_at F.reading (is_after F.precedes) bytes.now) }
 {
     let (count, rest) = read_eight(bytes)?;
@@ -78,7 +78,7 @@ fn read_ascending_items<F: Ordered>(
     count: u64,
     bytes: &[u8],
 ) -> Result<(Vec<F::Item>, &[u8]), ReadError>
-    ensures { Decodes (λ x. (x.0.items, x.1.now)) result
+    ensures { Decodes (λ x. x.items) result
         (list_from F.reading (is_after F.precedes) [] count bytes.now) }
 {
     let mut items = Vec::new(alloc);
@@ -87,7 +87,7 @@ fn read_ascending_items<F: Ordered>(
         let (item, after) = F::read(alloc, rest)?;
         let admitted = is_after::<F>(&items, &item);
         if !admitted {
-            return Err(refused(rest));
+            return Err(not_canonical(rest));
         }
         items.push(item)?;
         rest = after;

@@ -1,12 +1,13 @@
 //! Names.
-ghost use Rattle.std.specs.Prelude.{◌≡◌, ◌++◌, List, ℕ, OnOk, IfSome, is_some};
+ghost use Rattle.std.specs.Prelude.{◌≡◌, ◌<◌, ◌≤◌, ◌++◌, List, ℕ, length, OnOk, IfOk, IfSome, is_some};
 ghost use Rattle.std.specs.Str.{is_utf8};
+ghost use Rattle.mj_lexer.specs.Bytes.{most_name_bytes};
 ghost use Rattle.byte_readers.specs.Spelling.{name};
 ghost use Rattle.byte_readers.specs.Reading.{Decodes, name_at};
 ghost use Rattle.byte_readers.specs.Names.{IsName};
 
 use crate::breach::{Breach, ReadError};
-use crate::fields::{read_byte, refused};
+use crate::fields::{not_canonical, read_byte};
 use crate::format::Format;
 use mj_lexer::Name;
 use std::alloc::{AllocError, Global};
@@ -24,23 +25,33 @@ pub fn put_name(out: &mut Vec<u8>, item: &Name) -> Result<(), AllocError>
 }
 
 /// Reads a name.
-#[tactic(auto, unfolding(crate::specs::Reading::name_at))]
 pub fn read_name(alloc: Global, bytes: &[u8]) -> Result<(Name, &[u8]), ReadError>
-    ensures { Decodes (λ x. (x.0, x.1.now)) result (name_at bytes.now) }
+    ensures { Decodes (λ x. x) result (name_at bytes.now) }
+{
+    let (text, rest) = read_name_text(bytes)?;
+    Ok((Name::new(alloc, text)?, rest))
+}
+
+/// Reads the text of a name, which isn't copied.
+#[tactic(auto, unfolding(crate::specs::Reading::name_at))]
+pub fn read_name_text(bytes: &[u8]) -> Result<(&str, &[u8]), ReadError>
+    ensures value { Decodes (λ text. text.now) result (name_at bytes.now) }
+    ensures some { IfOk result (λ x. 0 < length x.0.now) }
+    ensures short { IfOk result (λ x. length x.0.now ≤ most_name_bytes) }
 {
     let (len, rest) = read_byte(bytes)?;
     let len = len as usize;
     if len == 0 {
-        return Err(refused(bytes));
+        return Err(not_canonical(bytes));
     }
     if rest.len() < len {
         return Err(ReadError::Breach(Breach::Short));
     }
     let (front, rest) = rest.split_at(len);
     let Some(text) = as_text(front) else {
-        return Err(refused(bytes));
+        return Err(not_canonical(bytes));
     };
-    Ok((Name::new(alloc, text)?, rest))
+    Ok((text, rest))
 }
 
 /// The bytes as a text, where they are UTF-8.

@@ -4,7 +4,7 @@ ghost use Rattle.byte_readers.specs.Spelling.{option};
 ghost use Rattle.byte_readers.specs.Reading.{Decodes, option_at};
 
 use crate::breach::{Breach, ReadError};
-use crate::fields::refused;
+use crate::fields::not_canonical;
 use crate::format::Format;
 use std::alloc::{AllocError, Global};
 
@@ -38,7 +38,7 @@ pub fn read_option<F: Format>(
     alloc: Global,
     bytes: &[u8],
 ) -> Result<(Option<F::Item>, &[u8]), ReadError>
-    ensures { Decodes (λ x. (x.0, x.1.now)) result (option_at F.reading bytes.now) }
+    ensures { Decodes (λ x. x) result (option_at F.reading bytes.now) }
 {
     match bytes {
         [] => Err(ReadError::Breach(Breach::Short)),
@@ -47,6 +47,6 @@ pub fn read_option<F: Format>(
             let (item, rest) = F::read(alloc, rest)?;
             Ok((Some(item), rest))
         }
-        [_, ..] => Err(refused(bytes)),
+        [_, ..] => Err(not_canonical(bytes)),
     }
 }

@@ -7,7 +7,7 @@ use Rattle.std.proofs.lemmas.List.{take_at, drop_at, take-append-drop, length-ap
 use Rattle.byte_readers.specs.declared.breach.Breach.{Breach}
 use Rattle.byte_readers.specs.declared.breach.Breach.TheVariants.{Short, NotCanonical}
 use Rattle.byte_readers.specs.Spelling.{eight, name, list}
-use Rattle.byte_readers.specs.Reading.{refused, any, eight_at, name_at, list_from}
+use Rattle.byte_readers.specs.Reading.{not_canonical, any, eight_at, name_at, list_from}
 use Rattle.byte_readers.specs.Lawful.{IsBytes, Takes, Lawful}
 use Rattle.byte_readers.specs.Laws.{IsBytes-drop, bind_ok, guard_ok, guard_so, ok_is, Takes-then, made_again, lawful_eight, lawful_name, lawful_pair, lawful_option, lawful_list, list_takes, list_again, whole_list, lawful_made, lawful_where, any_admits}
 use Rattle.tree_bytes.specs.TypeLaws.{lawful_ty, lawful_field}
@@ -40,7 +40,7 @@ is_some_few n some few =
 file_names_takes : (bytes : List ℕ) (names : List (List ℕ)) (rest : List ℕ) → IsBytes bytes → file_names_at bytes ≡ Ok (names, rest) → Takes bytes (list name names) rest × FileNamesFit names
 unfolding file_names_at
 file_names_takes bytes names rest fits e =
-    let n = bind_ok (eight_at bytes) (λ n. cond (is_file_count n.0) (list_from name_at is_new [] n.0 n.1) (refused bytes)) (names, rest) e in
+    let n = bind_ok (eight_at bytes) (λ n. cond (is_file_count n.0) (list_from name_at is_new [] n.0 n.1) (not_canonical bytes)) (names, rest) e in
     let g = guard_so (is_file_count n.0.0) (NotCanonical (length bytes)) (list_from name_at is_new [] n.0.0 n.0.1) (names, rest) n.2 in
     let t = lawful_eight.takes bytes n.0.0 n.0.1 fits n.1 in
     let u = list_takes lawful_name is_new n.0.0 [] n.0.1 names rest t.0.rest_fits g.1 in

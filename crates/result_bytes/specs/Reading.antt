@@ -5,7 +5,7 @@ use Rattle.std.specs.List.{list_any}
 use Rattle.mj_tree.specs.declared.tree.Ty.{Ty}
 use Rattle.mj_tree.specs.declared.tree.Field.{Field}
 use Rattle.byte_readers.specs.declared.breach.Breach.TheVariants.{Short}
-use Rattle.byte_readers.specs.Reading.{◌>>=◌, Decoder, refused, any, eight_at, name_at, pair_at, made_at, option_at, list_from, list_at}
+use Rattle.byte_readers.specs.Reading.{◌>>=◌, Decoder, not_canonical, any, eight_at, name_at, pair_at, made_at, option_at, list_from, list_at}
 use Rattle.byte_readers.specs.Orders.{is_after}
 use Rattle.tree_bytes.specs.Reading.{ty_at, field_at}
 use Rattle.result_bytes.specs.declared.parts.ChainEnd.{ChainEnd}
@@ -26,7 +26,7 @@ is_file_count n = not (n == 0 || nat_lt most_files n)
 unfoldable pub file_names_at : Decoder (List (List ℕ))
 file_names_at bytes = do
   n ← eight_at bytes
-  if is_file_count n.0 then list_from name_at is_new [] n.0 n.1 else refused bytes
+  if is_file_count n.0 then list_from name_at is_new [] n.0 n.1 else not_canonical bytes
 
 unfoldable pub text_at : Decoder (List ℕ)
 text_at bytes = do
@@ -46,7 +46,7 @@ unfoldable pub boolean_at : Decoder Bool
 boolean_at [] = Err Short
 boolean_at (zero ∷ rest) = Ok (false, rest)
 boolean_at (suc zero ∷ rest) = Ok (true, rest)
-boolean_at (suc (suc b) ∷ rest) = refused (suc (suc b) ∷ rest)
+boolean_at (suc (suc b) ∷ rest) = not_canonical (suc (suc b) ∷ rest)
 
 abbrev pub header_value : Bool × (Option (List ℕ) × (List Field × List (List ℕ))) → HeaderValue
 header_value x = record { is_main = x.0; superclass = x.1.0; fields = x.1.1.0; methods = x.1.1.1 }
@@ -65,7 +65,7 @@ chain_end_at [] = Err Short
 chain_end_at (zero ∷ rest) = Ok (Top, rest)
 chain_end_at (suc zero ∷ rest) = made_at Undeclared name_at rest
 chain_end_at (suc (suc zero) ∷ rest) = made_at Repeated name_at rest
-chain_end_at (suc (suc (suc b)) ∷ rest) = refused (suc (suc (suc b)) ∷ rest)
+chain_end_at (suc (suc (suc b)) ∷ rest) = not_canonical (suc (suc (suc b)) ∷ rest)
 
 abbrev pub chain_value : List (List ℕ) × ChainEnd → ChainValue
 chain_value x = record { classes = x.0; end = x.1 }

@@ -7,11 +7,12 @@ ghost use Rattle.result_bytes.specs.Canon.{index_row};
 ghost use Rattle.result_bytes.specs.Reading.{is_new, file_names_at, index_at};
 
 use byte_readers::{
-    Breach, Format, NameFormat, Ordered, ReadError, check_list, check_name, put_eight, put_list,
-    put_name, read_ascending, read_eight, read_name, refused,
+    Breach, Format, NameFormat, Ordered, ReadError, check_list, check_name, not_canonical,
+    put_eight, put_list, put_name, read_ascending, read_eight, read_name, read_name_text,
 };
 use mj_lexer::Name;
 use std::alloc::{AllocError, Global};
+use std::collections::BTreeSet;
 use std::marker::Model;
 
 /// The most files of a project.
@@ -65,7 +66,7 @@ pub fn put_file_names(out: &mut Vec<u8>, files: &FileNames) -> Result<(), AllocE
 
 /// Reads the names of the files.
 pub fn read_file_names(alloc: Global, bytes: &[u8]) -> Result<(FileNames, &[u8]), ReadError>
-    ensures { Decodes (λ x. (x.0, x.1.now)) result (file_names_at bytes.now) }
+    ensures { Decodes (λ x. x) result (file_names_at bytes.now) }
 {
     let (names, rest) = read_names(alloc, bytes)?;
     Ok((FileNames { names }, rest))
@@ -74,39 +75,32 @@ pub fn read_file_names(alloc: Global, bytes: &[u8]) -> Result<(FileNames, &[u8])
 /// Reads 1 to 4,096 names that differ.
 #[tactic(auto, unfolding(crate::specs::Reading::file_names_at))]
 fn read_names(alloc: Global, bytes: &[u8]) -> Result<(Vec<Name>, &[u8]), ReadError>
-    ensures { Decodes (λ x. (x.0.items, x.1.now)) result (file_names_at bytes.now) }
+    ensures { Decodes (λ x. x.items) result (file_names_at bytes.now) }
 {
     let (count, rest) = read_eight(bytes)?;
     if count == 0 || count > 4096 {
-        return Err(refused(bytes));
+        return Err(not_canonical(bytes));
     }
     read_new_names(alloc, count, rest)
 }
 
 /// Reads so many names that differ.
 fn read_new_names(alloc: Global, count: u64, bytes: &[u8]) -> Result<(Vec<Name>, &[u8]), ReadError>
-    ensures { Decodes (λ x. (x.0.items, x.1.now)) result
-        (list_from name_at is_new [] count bytes.now) }
+    ensures { Decodes (λ x. x.items) result (list_from name_at is_new [] count bytes.now) }
 {
+    let mut seen = BTreeSet::new(alloc);
     let mut items = Vec::new(alloc);
     let mut rest = bytes;
     for _ in 0..count {
-        let (item, after) = read_name(alloc, rest)?;
-        let admitted = is_new(&items, &item);
-        if !admitted {
-            return Err(refused(rest));
+        let (text, after) = read_name_text(rest)?;
+        let is_new = seen.insert(text)?;
+        if !is_new {
+            return Err(not_canonical(rest));
         }
-        items.push(item)?;
+        items.push(Name::new(alloc, text)?)?;
         rest = after;
     }
     Ok((items, rest))
-}
-
-/// Whether no name in front is this one.
-fn is_new(front: &[Name], name: &Name) -> bool
-    ensures { result ≡ is_new front.now name.now }
-{
-    !front.iter().any(|other| other.bytes() == name.bytes())
 }
 
 /// The bytes of a source file.
@@ -292,7 +286,7 @@ pub fn put_index(out: &mut Vec<u8>, index: &Index) -> Result<(), AllocError>
 /// Reads an index.
 #[tactic(auto, unfolding(crate::specs::Reading::index_at))]
 pub fn read_index(alloc: Global, bytes: &[u8]) -> Result<(Index, &[u8]), ReadError>
-    ensures { Decodes (λ x. (x.0, x.1.now)) result (index_at bytes.now) }
+    ensures { Decodes (λ x. x) result (index_at bytes.now) }
 {
     let (rows, rest) = read_ascending::<IndexRowFormat>(alloc, bytes)?;
     Ok((Index { rows }, rest))

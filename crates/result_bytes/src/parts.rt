@@ -6,7 +6,7 @@ ghost use Rattle.result_bytes.specs.Canon.{boolean, chain_end};
 ghost use Rattle.result_bytes.specs.Storable.{ChainEndFits};
 ghost use Rattle.result_bytes.specs.Reading.{boolean_at, chain_end_at};
 
-use byte_readers::{Breach, ReadError, check_name, put_name, read_name, refused};
+use byte_readers::{Breach, ReadError, check_name, not_canonical, put_name, read_name};
 use mj_lexer::Name;
 use std::alloc::{AllocError, Global};
 
@@ -39,13 +39,13 @@ pub fn put_boolean(out: &mut Vec<u8>, value: bool) -> Result<(), AllocError>
 
 #[tactic(auto, unfolding(crate::specs::Reading::boolean_at))]
 pub fn read_boolean(bytes: &[u8]) -> Result<(bool, &[u8]), ReadError>
-    ensures { Decodes (λ x. (x.0, x.1.now)) result (boolean_at bytes.now) }
+    ensures { Decodes (λ x. x) result (boolean_at bytes.now) }
 {
     match bytes {
         [] => Err(ReadError::Breach(Breach::Short)),
         [0x00, rest @ ..] => Ok((false, rest)),
         [0x01, rest @ ..] => Ok((true, rest)),
-        [_, ..] => Err(refused(bytes)),
+        [_, ..] => Err(not_canonical(bytes)),
     }
 }
 
@@ -78,7 +78,7 @@ pub fn put_end(out: &mut Vec<u8>, end: &ChainEnd) -> Result<(), AllocError>
 
 #[tactic(auto, unfolding(crate::specs::Reading::chain_end_at))]
 pub fn read_end(alloc: Global, bytes: &[u8]) -> Result<(ChainEnd, &[u8]), ReadError>
-    ensures { Decodes (λ x. (x.0, x.1.now)) result (chain_end_at bytes.now) }
+    ensures { Decodes (λ x. x) result (chain_end_at bytes.now) }
 {
     match bytes {
         [] => Err(ReadError::Breach(Breach::Short)),
@@ -91,6 +91,6 @@ pub fn read_end(alloc: Global, bytes: &[u8]) -> Result<(ChainEnd, &[u8]), ReadEr
             let (class, rest) = read_name(alloc, rest)?;
             Ok((ChainEnd::Repeated(class), rest))
         }
-        [_, ..] => Err(refused(bytes)),
+        [_, ..] => Err(not_canonical(bytes)),
     }
 }

@@ -52,7 +52,7 @@ fn read_value(alloc: Global, kind: Kind, bytes: &[u8]) -> Result<Value, Refusal>
 /// Reads what stands behind the kind's number.
 #[tactic(auto, unfolding(crate::specs::Values::content_at))]
 fn read_content(alloc: Global, kind: Kind, bytes: &[u8]) -> Result<(Value, &[u8]), ReadError>
-    ensures { Decodes (λ x. (x.0, x.1.now)) result (content_at kind bytes.now) }
+    ensures { Decodes (λ x. x) result (content_at kind bytes.now) }
 {
     match kind {
         Kind::Files => {

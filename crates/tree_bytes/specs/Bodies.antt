@@ -6,7 +6,7 @@ use Rattle.mj_tree.specs.Trees.{Statement, Method}
 use Rattle.tree_bytes.specs.Spelling.{stmt, method}
 use Rattle.tree_bytes.specs.Storable.{TopStmtFits, MethodFits}
 use Rattle.byte_readers.specs.declared.breach.Breach.TheVariants.{Short}
-use Rattle.byte_readers.specs.Reading.{Decoder, refused, made_at}
+use Rattle.byte_readers.specs.Reading.{Decoder, not_canonical, made_at}
 use Rattle.tree_bytes.specs.Reading.{top_stmt_at, method_at}
 use Rattle.tree_bytes.specs.Codes.{statement_code, method_code}
 
@@ -42,4 +42,4 @@ unfoldable pub body_at : Decoder BodyValue
 body_at [] = Err Short
 body_at (zero ∷ rest) = made_at OfMain top_stmt_at rest
 body_at (suc zero ∷ rest) = made_at OfMethod method_at rest
-body_at (suc (suc b) ∷ rest) = refused (suc (suc b) ∷ rest)
+body_at (suc (suc b) ∷ rest) = not_canonical (suc (suc b) ∷ rest)

@@ -7,7 +7,7 @@ use Rattle.mj_tree.specs.Trees as trees
 use Rattle.byte_readers.specs.declared.breach.Breach.{Breach}
 use Rattle.byte_readers.specs.declared.breach.Breach.TheVariants.{NotCanonical}
 use Rattle.byte_readers.specs.Spelling.{four, eight, name}
-use Rattle.byte_readers.specs.Reading.{◌>>=◌, Decoder, refused, any, byte_at, four_at, made_at}
+use Rattle.byte_readers.specs.Reading.{◌>>=◌, Decoder, not_canonical, any, byte_at, four_at, made_at}
 use Rattle.byte_readers.specs.Lawful.{IsBytes, Takes, Lawful}
 use Rattle.byte_readers.specs.Laws.{IsBytes-rest, bind_ok, guard_ok, ok_is, Takes-then, takes_nothing, made_takes, made_again, lawful_four, lawful_name, lawful_pair, lawful_list, lawful_made, lawful_as, lawful_where, any_admits}
 use Rattle.mj_tree.specs.Trees.{Expression, Expressions, none, more}
@@ -72,7 +72,7 @@ lawful_literal : Lawful literal_at four (λ n. n ≤ greatest_literal)
 unfolding literal_at
 lawful_literal = record {
   takes = λ bytes n rest fits e.
-      let a = bind_ok (four_at bytes) (λ n. cond (ltb greatest_literal n.0) (refused bytes) (Ok n)) (n, rest) e in
+      let a = bind_ok (four_at bytes) (λ n. cond (ltb greatest_literal n.0) (not_canonical bytes) (Ok n)) (n, rest) e in
       let g = guard_ok (ltb greatest_literal a.0.0) (NotCanonical (length bytes)) (Ok a.0) (n, rest) a.2 in
       let t = lawful_four.takes bytes n rest fits (a.1 ∙ g.1) in
       let is = ok_is a.0 (n, rest) g.1 in

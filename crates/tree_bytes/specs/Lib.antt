@@ -10,3 +10,4 @@ pub mod TypeLaws
 pub mod ExpLaws
 pub mod StmtLaws
 pub mod FileLaws
+pub mod NamedBodies

@@ -8,7 +8,7 @@ use Rattle.mj_tree.specs.Trees.{Expression, Expressions, Statement, Statements, 
 use Rattle.mj_tree.specs.Trees as trees
 use Rattle.mj_tree.specs.Views.{expressions_of, statements_of}
 use Rattle.byte_readers.specs.declared.breach.Breach.TheVariants.{Short}
-use Rattle.byte_readers.specs.Reading.{◌>>=◌, Decoder, refused, any, byte_at, four_at, name_at, pair_at, made_at, option_at, list_at}
+use Rattle.byte_readers.specs.Reading.{◌>>=◌, Decoder, not_canonical, any, byte_at, four_at, name_at, pair_at, made_at, option_at, list_at}
 use Rattle.tree_bytes.specs.declared.tag.ExpTag.{ExpTag}
 use Rattle.tree_bytes.specs.declared.tag.ExpTag.TheVariants as tags
 use Rattle.tree_bytes.specs.declared.tag.TwoParts.{TwoParts}
@@ -27,7 +27,7 @@ ty_at (zero ∷ rest) = Ok (Int, rest)
 ty_at (suc zero ∷ rest) = Ok (Boolean, rest)
 ty_at (suc (suc zero) ∷ rest) = Ok (IntArray, rest)
 ty_at (suc (suc (suc zero)) ∷ rest) = made_at Class name_at rest
-ty_at (suc (suc (suc (suc b))) ∷ rest) = refused (suc (suc (suc (suc b))) ∷ rest)
+ty_at (suc (suc (suc (suc b))) ∷ rest) = not_canonical (suc (suc (suc (suc b))) ∷ rest)
 
 abbrev pub field_of : List ℕ × Ty → Field
 field_of x = record { name = x.0; ty = x.1 }
@@ -44,7 +44,7 @@ variable_at bytes = made_at variable_of (pair_at name_at (pair_at ty_at four_at)
 unfoldable pub literal_at : Decoder ℕ
 literal_at bytes = do
   n ← four_at bytes
-  if nat_lt greatest_literal n.0 then refused bytes else Ok n
+  if nat_lt greatest_literal n.0 then not_canonical bytes else Ok n
 
 abbrev pub two_of : TwoParts → ℕ → Expression → Expression → Expression
 two_of (twos.Binary operator) mark left right = trees.Binary operator mark left right
@@ -74,14 +74,14 @@ exp_body_at part tags.This mark bytes = Ok (trees.This mark, bytes)
 exp_body_at part tags.NewObject mark bytes = made_at (trees.NewObject mark) name_at bytes
 
 abbrev pub exp_tagged : Decoder Expression → List ℕ → Option ExpTag → Decoder Expression
-exp_tagged part bytes None rest = refused bytes
+exp_tagged part bytes None rest = not_canonical bytes
 exp_tagged part bytes (Some tag) rest = do
   mark ← four_at rest
   exp_body_at part tag mark.0 mark.1
 
 -- an expression of no more than so many levels
 unfoldable pub exp_at : ℕ → Decoder Expression
-exp_at zero bytes = byte_at bytes >>= λ tag. refused bytes
+exp_at zero bytes = byte_at bytes >>= λ tag. not_canonical bytes
 exp_at (suc room) bytes = byte_at bytes >>= λ tag. exp_tagged (exp_at room) bytes (exp_tag_of tag.0) tag.1
 
 -- what stands behind a tag and a mark
@@ -94,14 +94,14 @@ stmt_body_at value part statements.Assign mark bytes = made_at (λ x. trees.Assi
 stmt_body_at value part statements.Store mark bytes = made_at (λ x. trees.Store mark x.0 x.1.0 x.1.1.0 x.1.1.1) (pair_at name_at (pair_at four_at (pair_at value value))) bytes
 
 abbrev pub stmt_tagged : Decoder Expression → Decoder Statement → List ℕ → Option StmtTag → Decoder Statement
-stmt_tagged value part bytes None rest = refused bytes
+stmt_tagged value part bytes None rest = not_canonical bytes
 stmt_tagged value part bytes (Some tag) rest = do
   mark ← four_at rest
   stmt_body_at value part tag mark.0 mark.1
 
 -- a statement of no more than so many levels
 unfoldable pub stmt_at : ℕ → Decoder Statement
-stmt_at zero bytes = byte_at bytes >>= λ tag. refused bytes
+stmt_at zero bytes = byte_at bytes >>= λ tag. not_canonical bytes
 stmt_at (suc room) bytes = byte_at bytes >>= λ tag. stmt_tagged (exp_at room) (stmt_at room) bytes (stmt_tag_of tag.0) tag.1
 
 -- a statement and an expression of level 1
@@ -124,9 +124,9 @@ method_at bytes =
 -- a method of a class: any other tag is refused, that of `main` too
 unfoldable pub tagged_method_at : Decoder Method
 tagged_method_at [] = Err Short
-tagged_method_at (zero ∷ rest) = refused (zero ∷ rest)
+tagged_method_at (zero ∷ rest) = not_canonical (zero ∷ rest)
 tagged_method_at (suc zero ∷ rest) = method_at rest
-tagged_method_at (suc (suc b) ∷ rest) = refused (suc (suc b) ∷ rest)
+tagged_method_at (suc (suc b) ∷ rest) = not_canonical (suc (suc b) ∷ rest)
 
 abbrev pub main_of : List ℕ × Statement → Main
 main_of x = record { name = x.0; statement = x.1 }

@@ -6,14 +6,14 @@ ghost use Rattle.byte_readers.specs.Reading.{Decodes, made_at, name_at, list_fro
 ghost use Rattle.tree_bytes.specs.Reading.{literal_at, two_of, one_of, exp_at, exp_body_at, exps_at, top_exp_at};
 
 use crate::tag::{ExpTag, OnePart, TwoParts, exp_tag_of};
-use byte_readers::{ReadError, read_byte, read_eight, read_four, read_name, refused};
+use byte_readers::{ReadError, not_canonical, read_byte, read_eight, read_four, read_name};
 use mj_tree::{Exp, MOST_LEVELS};
 use std::alloc::Global;
 
 /// Reads an expression of level 1.
 #[tactic(auto, unfolding(crate::specs::Reading::top_exp_at))]
 pub fn read_top_exp(alloc: Global, bytes: &[u8]) -> Result<(Exp, &[u8]), ReadError>
-    ensures { Decodes (λ x. (exp_view x.0, x.1.now)) result (top_exp_at bytes.now) }
+    ensures { Decodes exp_view result (top_exp_at bytes.now) }
 {
     read_exp(alloc, bytes, MOST_LEVELS)
 }
@@ -23,14 +23,14 @@ pub fn read_top_exp(alloc: Global, bytes: &[u8]) -> Result<(Exp, &[u8]), ReadErr
 #[tactic(auto, unfolding(crate::specs::Reading::exp_at))]
 #[inline(never)]
 pub fn read_exp(alloc: Global, bytes: &[u8], room: usize) -> Result<(Exp, &[u8]), ReadError>
-    ensures { Decodes (λ x. (exp_view x.0, x.1.now)) result (exp_at room bytes.now) }
+    ensures { Decodes exp_view result (exp_at room bytes.now) }
 {
     let (tag, rest) = read_byte(bytes)?;
     if room == 0 {
-        return Err(refused(bytes));
+        return Err(not_canonical(bytes));
     }
     let Some(tag) = exp_tag_of(tag) else {
-        return Err(refused(bytes));
+        return Err(not_canonical(bytes));
     };
     let (mark, rest) = read_four(rest)?;
     read_exp_body(alloc, tag, mark as usize, rest, room - 1)
@@ -45,7 +45,7 @@ fn read_exp_body(
     bytes: &[u8],
     room: usize,
 ) -> Result<(Exp, &[u8]), ReadError>
-    ensures { Decodes (λ x. (exp_view x.0, x.1.now)) result
+    ensures { Decodes exp_view result
         (exp_body_at (exp_at room) tag mark bytes.now) }
 {
     match tag {
@@ -63,7 +63,7 @@ fn read_exp_body(
 #[cycle(expressions)]
 #[inline(never)]
 fn read_boxed(alloc: Global, bytes: &[u8], room: usize) -> Result<(Box<Exp>, &[u8]), ReadError>
-    ensures { Decodes (λ x. (exp_view x.0.value, x.1.now)) result (exp_at room bytes.now) }
+    ensures { Decodes (λ x. exp_view x.value) result (exp_at room bytes.now) }
 {
     let (part, rest) = read_exp(alloc, bytes, room)?;
     Ok((Box::new(alloc, part)?, rest))
@@ -78,7 +78,7 @@ fn read_two_parts(
     bytes: &[u8],
     room: usize,
 ) -> Result<(Exp, &[u8]), ReadError>
-    ensures { Decodes (λ x. (exp_view x.0, x.1.now)) result
+    ensures { Decodes exp_view result
         (exp_body_at (exp_at room) (ExpTag.Two two) mark bytes.now) }
 {
     let (first, rest) = read_boxed(alloc, bytes, room)?;
@@ -95,7 +95,7 @@ fn read_one_part(
     bytes: &[u8],
     room: usize,
 ) -> Result<(Exp, &[u8]), ReadError>
-    ensures { Decodes (λ x. (exp_view x.0, x.1.now)) result
+    ensures { Decodes exp_view result
         (exp_body_at (exp_at room) (ExpTag.One one) mark bytes.now) }
 {
     let (part, rest) = read_boxed(alloc, bytes, room)?;
@@ -110,7 +110,7 @@ fn read_call(
     bytes: &[u8],
     room: usize,
 ) -> Result<(Exp, &[u8]), ReadError>
-    ensures { Decodes (λ x. (exp_view x.0, x.1.now)) result
+    ensures { Decodes exp_view result
         (exp_body_at (exp_at room) ExpTag.Call mark bytes.now) }
 {
     let (receiver, rest) = read_boxed(alloc, bytes, room)?;
@@ -131,7 +131,7 @@ fn read_call(
 #[tactic(auto, unfolding(byte_readers::specs::Reading::list_at))]
 #[inline(never)]
 fn read_exps(alloc: Global, bytes: &[u8], room: usize) -> Result<(Vec<Exp>, &[u8]), ReadError>
-    ensures { Decodes (λ x. (exps_view x.0.items, x.1.now)) result
+    ensures { Decodes (λ x. exps_view x.items) result
         (exps_at (exp_at room) bytes.now) }
 {
     let (count, rest) = read_eight(bytes)?;
@@ -146,7 +146,7 @@ fn read_all_exps(
     bytes: &[u8],
     room: usize,
 ) -> Result<(Vec<Exp>, &[u8]), ReadError>
-    ensures { Decodes (λ x. (map exp_view x.0.items, x.1.now)) result
+    ensures { Decodes (λ x. map exp_view x.items) result
         (list_from (exp_at room) any [] count bytes.now) }
 {
     let mut items = Vec::new(alloc);
@@ -193,18 +193,18 @@ fn of_one(one: OnePart, mark: usize, part: Box<Exp>) -> Exp
 
 #[tactic(auto, unfolding(crate::specs::Reading::literal_at))]
 fn read_literal(mark: usize, bytes: &[u8]) -> Result<(Exp, &[u8]), ReadError>
-    ensures { Decodes (λ x. (exp_view x.0, x.1.now)) result
+    ensures { Decodes exp_view result
         (made_at (Literal mark) literal_at bytes.now) }
 {
     let (value, rest) = read_four(bytes)?;
     if value > 2147483648 {
-        return Err(refused(bytes));
+        return Err(not_canonical(bytes));
     }
     Ok((Exp::Literal { mark, value }, rest))
 }
 
 fn read_variable(alloc: Global, mark: usize, bytes: &[u8]) -> Result<(Exp, &[u8]), ReadError>
-    ensures { Decodes (λ x. (exp_view x.0, x.1.now)) result
+    ensures { Decodes exp_view result
         (made_at (Named mark) name_at bytes.now) }
 {
     let (name, rest) = read_name(alloc, bytes)?;
@@ -212,7 +212,7 @@ fn read_variable(alloc: Global, mark: usize, bytes: &[u8]) -> Result<(Exp, &[u8]
 }
 
 fn read_new_object(alloc: Global, mark: usize, bytes: &[u8]) -> Result<(Exp, &[u8]), ReadError>
-    ensures { Decodes (λ x. (exp_view x.0, x.1.now)) result
+    ensures { Decodes exp_view result
         (made_at (NewObject mark) name_at bytes.now) }
 {
     let (class, rest) = read_name(alloc, bytes)?;

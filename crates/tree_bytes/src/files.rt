@@ -8,14 +8,14 @@ use crate::methods::read_methods;
 use crate::statements::read_top_stmt;
 use crate::types::FieldFormat;
 use byte_readers::{
-    Breach, NameFormat, ReadError, read_eight, read_list, read_name, read_option, refused,
+    Breach, NameFormat, ReadError, not_canonical, read_eight, read_list, read_name, read_option,
 };
 use mj_tree::{ClassTree, FileTree, MainTree};
 use std::alloc::Global;
 
 #[tactic(auto, unfolding(crate::specs::Reading::main_at))]
 fn read_main(alloc: Global, bytes: &[u8]) -> Result<(MainTree, &[u8]), ReadError>
-    ensures { Decodes (λ x. (main_view x.0, x.1.now)) result (main_at bytes.now) }
+    ensures { Decodes main_view result (main_at bytes.now) }
 {
     let (name, rest) = read_name(alloc, bytes)?;
     let (statement, rest) = read_top_stmt(alloc, rest)?;
@@ -24,7 +24,7 @@ fn read_main(alloc: Global, bytes: &[u8]) -> Result<(MainTree, &[u8]), ReadError
 
 #[tactic(auto, unfolding(byte_readers::specs::Reading::option_at))]
 fn read_perhaps_main(alloc: Global, bytes: &[u8]) -> Result<(Option<MainTree>, &[u8]), ReadError>
-    ensures { Decodes (λ x. (option_map main_view x.0, x.1.now)) result
+    ensures { Decodes (option_map main_view) result
         (option_at main_at bytes.now) }
 {
     match bytes {
@@ -34,13 +34,13 @@ fn read_perhaps_main(alloc: Global, bytes: &[u8]) -> Result<(Option<MainTree>, &
             let (main, rest) = read_main(alloc, rest)?;
             Ok((Some(main), rest))
         }
-        [_, ..] => Err(refused(bytes)),
+        [_, ..] => Err(not_canonical(bytes)),
     }
 }
 
 #[tactic(auto, unfolding(crate::specs::Reading::class_at))]
 fn read_class(alloc: Global, bytes: &[u8]) -> Result<(ClassTree, &[u8]), ReadError>
-    ensures { Decodes (λ x. (class_view x.0, x.1.now)) result (class_at bytes.now) }
+    ensures { Decodes class_view result (class_at bytes.now) }
 {
     let (name, rest) = read_name(alloc, bytes)?;
     let (superclass, rest) = read_option::<NameFormat>(alloc, rest)?;
@@ -59,7 +59,7 @@ fn read_class(alloc: Global, bytes: &[u8]) -> Result<(ClassTree, &[u8]), ReadErr
 
 #[tactic(auto, unfolding(byte_readers::specs::Reading::list_at))]
 fn read_classes(alloc: Global, bytes: &[u8]) -> Result<(Vec<ClassTree>, &[u8]), ReadError>
-    ensures { Decodes (λ x. (map class_view x.0.items, x.1.now)) result
+    ensures { Decodes (λ x. map class_view x.items) result
         (list_at class_at any bytes.now) }
 {
     let (count, rest) = read_eight(bytes)?;
@@ -71,7 +71,7 @@ fn read_all_classes(
     count: u64,
     bytes: &[u8],
 ) -> Result<(Vec<ClassTree>, &[u8]), ReadError>
-    ensures { Decodes (λ x. (map class_view x.0.items, x.1.now)) result
+    ensures { Decodes (λ x. map class_view x.items) result
         (list_from class_at any [] count bytes.now) }
 {
     let mut items = Vec::new(alloc);
@@ -87,7 +87,7 @@ fn read_all_classes(
 /// Reads a file.
 #[tactic(auto, unfolding(crate::specs::Reading::file_at))]
 pub fn read_file(alloc: Global, bytes: &[u8]) -> Result<(FileTree, &[u8]), ReadError>
-    ensures { Decodes (λ x. (file_view x.0, x.1.now)) result (file_at bytes.now) }
+    ensures { Decodes file_view result (file_at bytes.now) }
 {
     let (main, rest) = read_perhaps_main(alloc, bytes)?;
     read_classes(alloc, rest).map(|(classes, rest)| (FileTree { main, classes }, rest))

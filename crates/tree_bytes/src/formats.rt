@@ -6,7 +6,7 @@ use crate::methods::read_method;
 use crate::statements::read_top_stmt;
 use crate::tree::{Body, MainOrMethod, Tree};
 use crate::writing::{put_file, put_method, put_top_stmt};
-use byte_readers::{Breach, Format, ReadError, refused};
+use byte_readers::{Breach, Format, ReadError, not_canonical};
 use std::alloc::{AllocError, Global};
 
 /// Trees of files.
@@ -93,7 +93,7 @@ impl Format for BodyFormat {
                 let (method, rest) = read_method(alloc, rest)?;
                 Ok((Body::new(MainOrMethod::Method(method)), rest))
             }
-            [_, ..] => Err(refused(bytes)),
+            [_, ..] => Err(not_canonical(bytes)),
         }
     }
 }

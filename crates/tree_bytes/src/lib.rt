@@ -5,6 +5,7 @@ mod expressions;
 mod files;
 mod formats;
 mod methods;
+mod named;
 mod statements;
 mod tag;
 mod tree;

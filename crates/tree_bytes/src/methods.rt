@@ -8,14 +8,14 @@ use crate::expressions::read_top_exp;
 use crate::statements::read_top_stmts;
 use crate::types::read_ty;
 use crate::variables::VariableFormat;
-use byte_readers::{Breach, ReadError, read_eight, read_four, read_list, read_name, refused};
+use byte_readers::{Breach, ReadError, not_canonical, read_eight, read_four, read_list, read_name};
 use mj_tree::MethodTree;
 use std::alloc::Global;
 
 /// Reads a method.
 #[tactic(auto, unfolding(crate::specs::Reading::method_at))]
 pub fn read_method(alloc: Global, bytes: &[u8]) -> Result<(MethodTree, &[u8]), ReadError>
-    ensures { Decodes (λ x. (method_view x.0, x.1.now)) result (method_at bytes.now) }
+    ensures { Decodes method_view result (method_at bytes.now) }
 {
     let (name, rest) = read_name(alloc, bytes)?;
     let (returns, rest) = read_ty(alloc, rest)?;
@@ -41,19 +41,19 @@ pub fn read_method(alloc: Global, bytes: &[u8]) -> Result<(MethodTree, &[u8]), R
 /// Reads a method of a class, behind its tag.
 #[tactic(auto, unfolding(crate::specs::Reading::tagged_method_at))]
 fn read_tagged_method(alloc: Global, bytes: &[u8]) -> Result<(MethodTree, &[u8]), ReadError>
-    ensures { Decodes (λ x. (method_view x.0, x.1.now)) result (tagged_method_at bytes.now) }
+    ensures { Decodes method_view result (tagged_method_at bytes.now) }
 {
     match bytes {
         [] => Err(ReadError::Breach(Breach::Short)),
         [0x01, rest @ ..] => read_method(alloc, rest),
-        [_, ..] => Err(refused(bytes)),
+        [_, ..] => Err(not_canonical(bytes)),
     }
 }
 
 /// Reads the methods of a class.
 #[tactic(auto, unfolding(byte_readers::specs::Reading::list_at))]
 pub fn read_methods(alloc: Global, bytes: &[u8]) -> Result<(Vec<MethodTree>, &[u8]), ReadError>
-    ensures { Decodes (λ x. (map method_view x.0.items, x.1.now)) result
+    ensures { Decodes (λ x. map method_view x.items) result
         (list_at tagged_method_at any bytes.now) }
 {
     let (count, rest) = read_eight(bytes)?;
@@ -65,7 +65,7 @@ fn read_all_methods(
     count: u64,
     bytes: &[u8],
 ) -> Result<(Vec<MethodTree>, &[u8]), ReadError>
-    ensures { Decodes (λ x. (map method_view x.0.items, x.1.now)) result
+    ensures { Decodes (λ x. map method_view x.items) result
         (list_from tagged_method_at any [] count bytes.now) }
 {
     let mut items = Vec::new(alloc);

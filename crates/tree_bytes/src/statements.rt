@@ -6,14 +6,14 @@ ghost use Rattle.tree_bytes.specs.Reading.{exp_at, stmt_at, stmt_body_at, stmts_
 
 use crate::expressions::read_exp;
 use crate::tag::{StmtTag, stmt_tag_of};
-use byte_readers::{ReadError, read_byte, read_eight, read_four, read_name, refused};
+use byte_readers::{ReadError, not_canonical, read_byte, read_eight, read_four, read_name};
 use mj_tree::{MOST_LEVELS, Stmt};
 use std::alloc::Global;
 
 /// Reads a statement of level 1.
 #[tactic(auto, unfolding(crate::specs::Reading::top_stmt_at))]
 pub fn read_top_stmt(alloc: Global, bytes: &[u8]) -> Result<(Stmt, &[u8]), ReadError>
-    ensures { Decodes (λ x. (stmt_view x.0, x.1.now)) result (top_stmt_at bytes.now) }
+    ensures { Decodes stmt_view result (top_stmt_at bytes.now) }
 {
     read_stmt(alloc, bytes, MOST_LEVELS)
 }
@@ -21,7 +21,7 @@ pub fn read_top_stmt(alloc: Global, bytes: &[u8]) -> Result<(Stmt, &[u8]), ReadE
 /// Reads the statements of a body.
 #[tactic(auto, unfolding(crate::specs::Reading::top_stmts_at))]
 pub fn read_top_stmts(alloc: Global, bytes: &[u8]) -> Result<(Vec<Stmt>, &[u8]), ReadError>
-    ensures { Decodes (λ x. (stmts_view x.0.items, x.1.now)) result (top_stmts_at bytes.now) }
+    ensures { Decodes (λ x. stmts_view x.items) result (top_stmts_at bytes.now) }
 {
     read_stmts(alloc, bytes, MOST_LEVELS)
 }
@@ -31,14 +31,14 @@ pub fn read_top_stmts(alloc: Global, bytes: &[u8]) -> Result<(Vec<Stmt>, &[u8]),
 #[tactic(auto, unfolding(crate::specs::Reading::stmt_at))]
 #[inline(never)]
 fn read_stmt(alloc: Global, bytes: &[u8], room: usize) -> Result<(Stmt, &[u8]), ReadError>
-    ensures { Decodes (λ x. (stmt_view x.0, x.1.now)) result (stmt_at room bytes.now) }
+    ensures { Decodes stmt_view result (stmt_at room bytes.now) }
 {
     let (tag, rest) = read_byte(bytes)?;
     if room == 0 {
-        return Err(refused(bytes));
+        return Err(not_canonical(bytes));
     }
     let Some(tag) = stmt_tag_of(tag) else {
-        return Err(refused(bytes));
+        return Err(not_canonical(bytes));
     };
     let (mark, rest) = read_four(rest)?;
     read_stmt_body(alloc, tag, mark as usize, rest, room - 1)
@@ -53,7 +53,7 @@ fn read_stmt_body(
     bytes: &[u8],
     room: usize,
 ) -> Result<(Stmt, &[u8]), ReadError>
-    ensures { Decodes (λ x. (stmt_view x.0, x.1.now)) result
+    ensures { Decodes stmt_view result
         (stmt_body_at (exp_at room) (stmt_at room) tag mark bytes.now) }
 {
     match tag {
@@ -74,7 +74,7 @@ fn read_block(
     bytes: &[u8],
     room: usize,
 ) -> Result<(Stmt, &[u8]), ReadError>
-    ensures { Decodes (λ x. (stmt_view x.0, x.1.now)) result
+    ensures { Decodes stmt_view result
         (stmt_body_at (exp_at room) (stmt_at room) StmtTag.Block mark bytes.now) }
 {
     let (body, rest) = read_stmts(alloc, bytes, room)?;
@@ -85,7 +85,7 @@ fn read_block(
 #[tactic(auto, unfolding(byte_readers::specs::Reading::list_at))]
 #[inline(never)]
 fn read_stmts(alloc: Global, bytes: &[u8], room: usize) -> Result<(Vec<Stmt>, &[u8]), ReadError>
-    ensures { Decodes (λ x. (stmts_view x.0.items, x.1.now)) result
+    ensures { Decodes (λ x. stmts_view x.items) result
         (stmts_at (stmt_at room) bytes.now) }
 {
     let (count, rest) = read_eight(bytes)?;
@@ -100,7 +100,7 @@ fn read_all_stmts(
     bytes: &[u8],
     room: usize,
 ) -> Result<(Vec<Stmt>, &[u8]), ReadError>
-    ensures { Decodes (λ x. (map stmt_view x.0.items, x.1.now)) result
+    ensures { Decodes (λ x. map stmt_view x.items) result
         (list_from (stmt_at room) any [] count bytes.now) }
 {
     let mut items = Vec::new(alloc);
@@ -121,7 +121,7 @@ fn read_if(
     bytes: &[u8],
     room: usize,
 ) -> Result<(Stmt, &[u8]), ReadError>
-    ensures { Decodes (λ x. (stmt_view x.0, x.1.now)) result
+    ensures { Decodes stmt_view result
         (stmt_body_at (exp_at room) (stmt_at room) StmtTag.If mark bytes.now) }
 {
     let (condition, rest) = read_exp(alloc, bytes, room)?;
@@ -146,7 +146,7 @@ fn read_while(
     bytes: &[u8],
     room: usize,
 ) -> Result<(Stmt, &[u8]), ReadError>
-    ensures { Decodes (λ x. (stmt_view x.0, x.1.now)) result
+    ensures { Decodes stmt_view result
         (stmt_body_at (exp_at room) (stmt_at room) StmtTag.While mark bytes.now) }
 {
     let (condition, rest) = read_exp(alloc, bytes, room)?;
@@ -164,7 +164,7 @@ fn read_while(
 #[cycle(statements)]
 #[inline(never)]
 fn read_boxed(alloc: Global, bytes: &[u8], room: usize) -> Result<(Box<Stmt>, &[u8]), ReadError>
-    ensures { Decodes (λ x. (stmt_view x.0.value, x.1.now)) result (stmt_at room bytes.now) }
+    ensures { Decodes (λ x. stmt_view x.value) result (stmt_at room bytes.now) }
 {
     let (part, rest) = read_stmt(alloc, bytes, room)?;
     Ok((Box::new(alloc, part)?, rest))
@@ -177,7 +177,7 @@ fn read_print(
     bytes: &[u8],
     room: usize,
 ) -> Result<(Stmt, &[u8]), ReadError>
-    ensures { Decodes (λ x. (stmt_view x.0, x.1.now)) result
+    ensures { Decodes stmt_view result
         (stmt_body_at (exp_at room) (stmt_at room) StmtTag.Print mark bytes.now) }
 {
     let (value, rest) = read_exp(alloc, bytes, room)?;
@@ -191,7 +191,7 @@ fn read_assign(
     bytes: &[u8],
     room: usize,
 ) -> Result<(Stmt, &[u8]), ReadError>
-    ensures { Decodes (λ x. (stmt_view x.0, x.1.now)) result
+    ensures { Decodes stmt_view result
         (stmt_body_at (exp_at room) (stmt_at room) StmtTag.Assign mark bytes.now) }
 {
     let (name, rest) = read_name(alloc, bytes)?;
@@ -215,7 +215,7 @@ fn read_store(
     bytes: &[u8],
     room: usize,
 ) -> Result<(Stmt, &[u8]), ReadError>
-    ensures { Decodes (λ x. (stmt_view x.0, x.1.now)) result
+    ensures { Decodes stmt_view result
         (stmt_body_at (exp_at room) (stmt_at room) StmtTag.Store mark bytes.now) }
 {
     let (name, rest) = read_name(alloc, bytes)?;

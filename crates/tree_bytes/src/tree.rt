@@ -1,9 +1,10 @@
 //! Trees that have a spelling.
-ghost use Rattle.std.specs.Prelude.{◌≡◌};
+ghost use Rattle.std.specs.Prelude.{◌≡◌, IfOk};
 ghost use Rattle.mj_tree.specs.Views.{file_view};
 ghost use Rattle.tree_bytes.specs.Storable.{FileFits};
 
 use mj_tree::{FileTree, MethodTree, Stmt};
+use std::alloc::{AllocError, Global};
 use std::marker::Model;
 
 /// The tree of a file, with tokens in four bytes and at most 500 levels. Contracts see it without where it lies in
@@ -96,5 +97,21 @@ impl Body {
         ensures fits { BodyFits self.now }
     {
         &self.root
+    }
+
+    /// An equal body.
+    pub fn copy(&self, alloc: Global) -> Result<Body, AllocError>
+        ensures { IfOk result (λ body. body ≡ self.now) }
+    {
+        match self.root() {
+            MainOrMethod::Main(statement) => {
+                let statement = statement.copy(alloc)?;
+                Ok(Body::new(MainOrMethod::Main(statement)))
+            }
+            MainOrMethod::Method(method) => {
+                let method = method.copy(alloc)?;
+                Ok(Body::new(MainOrMethod::Method(method)))
+            }
+        }
     }
 }

@@ -5,7 +5,7 @@ ghost use Rattle.tree_bytes.specs.Spelling.{ty};
 ghost use Rattle.tree_bytes.specs.Storable.{TyFits};
 ghost use Rattle.tree_bytes.specs.Reading.{ty_at};
 
-use byte_readers::{Breach, Format, ReadError, check_name, put_name, read_name, refused};
+use byte_readers::{Breach, Format, ReadError, check_name, not_canonical, put_name, read_name};
 use mj_tree::{Field, Ty};
 use std::alloc::{AllocError, Global};
 
@@ -37,7 +37,7 @@ pub fn put_ty(out: &mut Vec<u8>, item: &Ty) -> Result<(), AllocError>
 /// Reads a type.
 #[tactic(auto, unfolding(crate::specs::Reading::ty_at))]
 pub fn read_ty(alloc: Global, bytes: &[u8]) -> Result<(Ty, &[u8]), ReadError>
-    ensures { Decodes (λ x. (x.0, x.1.now)) result (ty_at bytes.now) }
+    ensures { Decodes (λ x. x) result (ty_at bytes.now) }
 {
     match bytes {
         [] => Err(ReadError::Breach(Breach::Short)),
@@ -48,7 +48,7 @@ pub fn read_ty(alloc: Global, bytes: &[u8]) -> Result<(Ty, &[u8]), ReadError>
             let (class, rest) = read_name(alloc, rest)?;
             Ok((Ty::Class(class), rest))
         }
-        [_, ..] => Err(refused(bytes)),
+        [_, ..] => Err(not_canonical(bytes)),
     }
 }
 

@@ -16,4 +16,4 @@ pub returns : goal.returns
 returns g c = is_done g.F.Format.reading (is_after g.F.Ordered.precedes) c.loop.items.items c.args.count c.loop.counter c.loop.rest.now _ c.loop-test.false c.loop.invariant
 
 pub returns-then-not-admitted : goal.returns-then-not-admitted
-returns-then-not-admitted g c = rw c.refused.ensures (is_refused g.F.Format.reading (is_after g.F.Ordered.precedes) c.loop.items.items c.args.count c.loop.counter c.loop.rest.now c.in_ok-item.item c.in_ok-item.after.now _ c.loop-test.true c.in_ok-item.ensures (sym (rw c.deref.ensures.value at c.is_after-admitted.ensures) ∙ c.if-not-admitted.true) c.loop.invariant)
+returns-then-not-admitted g c = rw c.not_canonical.ensures (is_refused g.F.Format.reading (is_after g.F.Ordered.precedes) c.loop.items.items c.args.count c.loop.counter c.loop.rest.now c.in_ok-item.item c.in_ok-item.after.now _ c.loop-test.true c.in_ok-item.ensures (sym (rw c.deref.ensures.value at c.is_after-admitted.ensures) ∙ c.if-not-admitted.true) c.loop.invariant)

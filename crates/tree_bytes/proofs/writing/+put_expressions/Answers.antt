@@ -1,5 +1,6 @@
 use Rattle.std.proofs.lemmas.Result.{on_ok_weaker}
-use Rattle.tree_bytes.proofs.Written.{count_exps_view, one_more, seen_call}
+use Rattle.mj_tree.proofs.Calls.{seen_call}
+use Rattle.tree_bytes.proofs.Written.{count_exps_view, one_more}
 use Rattle.tree_bytes.proofs.writing.+put_expressions.Goals as goal
 
 pub put_arguments-returns : goal.put_arguments-returns
