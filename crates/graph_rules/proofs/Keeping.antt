@@ -1,20 +1,20 @@
 -- What is done stays done, and every step keeps what is known of each key.
-use Rattle.std.proofs.Common.{◌≡◌, ℕ, zero, suc, ◌<◌, List, [], ◌∷◌, ◌++◌, refl, sym, ap, ◌∙◌, subst, Bool, true, false, Option, Some, None, option_map, inl, inr, ◌⊎◌}
+use Rattle.std.proofs.Common.{◌≡◌, ◌≢◌, ℕ, zero, suc, ◌<◌, List, [], ◌∷◌, ◌++◌, refl, sym, ap, ◌∙◌, subst, Bool, true, false, Option, Some, None, option_map, inl, inr, ◌⊎◌}
 use Rattle.std.specs.Prelude.{if◌then◌else◌}
 use Rattle.std.specs.List.{AllByRecursion}
 use Rattle.item_ids.specs.declared.key.Key.{Key}
 use Rattle.result_bytes.specs.declared.value.Value.{Value}
 use Rattle.recorder.specs.Projects.{Project}
-use Rattle.recorder.specs.Backed.{Meaning, ReadLists, ReadValue, rank, keys, IsOfKind, AreLower}
+use Rattle.recorder.specs.Backed.{Meaning, ReadLists, Told, rank, keys, IsOfKind, AreLower, NoneTwice}
 use Rattle.sessions.specs.declared.mark.Mark.{Mark}
 use Rattle.sessions.specs.declared.mark.Mark.TheVariants.{Input, Green, Executed}
 use Rattle.sessions.specs.Sessions.{Entry}
 use Rattle.graph_rules.specs.Keys.{same_key, input_of}
 use Rattle.graph_rules.specs.Pasts.{Past, IsGraph, print_in}
 use Rattle.graph_rules.specs.Steps.{Status, Unknown, Claimed, Running, Done, State, Event, Claim, MarkGreen, Begin, Finish, Fail, at_opening, opening, with_status, IsDone, IsDoneWith, EdgeState, Open, Unchanged, Changed, edge_at, edge_of, Walk, AllUnchanged, OpenAt, ChangedAt, later, walk_on, walk, past_walk, MayRun, AreHeld, MayStep, green, after, after_all, AreSteps, Legal, replayed}
-use Rattle.graph_rules.specs.Sound.{IsBacked, AreBacked, IsGreen, IsExecuted, IsSoundAt, IsSound, IsInOrderAt, IsInOrder}
+use Rattle.graph_rules.specs.Sound.{IsBacked, AreBacked, IsGreen, IsExecuted, IsSoundAt, IsSound, IsDoneInOrder, IsInOrderAt, IsInOrder}
 use Rattle.graph_rules.specs.Histories.{Keeps}
-use Rattle.graph_rules.proofs.KeyRules.{same_refl, same_is, same_sym, above, input_kind}
+use Rattle.graph_rules.proofs.KeyRules.{same_refl, same_is, same_sym, above, input_kind, marked_input, marked_other}
 
 -- the edge is open, or stays as it is
 edge_keeps : (pr : Option (List ℕ)) (x y : Status) → ((v : Value) (es : List Key) (m : Mark) → x ≡ Done v es m → y ≡ Done v es m)
@@ -54,7 +54,7 @@ done_keeps v (Claimed w) y h d = elim d [ ]
 done_keeps v (Running w) y h d = elim d [ ]
 done_keeps v (Done u es m) y h d = rw (h u es m refl) d
 
-pub held_keeps : (s t : State) → Keeps s t → (told : List ReadValue) → AreHeld s told → AreHeld t told
+pub held_keeps : (s t : State) → Keeps s t → (told : List Told) → AreHeld s told → AreHeld t told
 held_keeps s t keeps [] h = tt
 held_keeps s t keeps (r ∷ rs) h = (done_keeps r.value (s.at r.key) (t.at r.key) (keeps r.key) h.0, held_keeps s t keeps rs h.1)
 
@@ -210,28 +210,48 @@ done_with v (Claimed w) h = h
 done_with v (Running w) h = h
 done_with v (Done u es m) h = tt
 
-pub held_done : (s : State) (told : List ReadValue) → AreHeld s told → AllByRecursion (λ e. IsDone (s.at e)) (keys told)
+pub held_done : (s : State) (told : List Told) → AreHeld s told → AllByRecursion (λ e. IsDone (s.at e)) (keys told)
 held_done s [] h = tt
 held_done s (r ∷ rs) h = (done_with r.value (s.at r.key) h.0, held_done s rs h.1)
+
+others_read : (q : Key) (told : List Told) → AllByRecursion (λ t. t.key ≢ q) told → AllByRecursion (λ k. k ≢ q) (keys told)
+others_read q [] h = tt
+others_read q (t ∷ told) h = (h.0, others_read q told h.1)
+
+once_keys : (told : List Told) → NoneTwice (λ t. t.key) told → NoneTwice (λ k. k) (keys told)
+once_keys [] h = tt
+once_keys (t ∷ told) h = (others_read t.key told h.0, once_keys told h.1)
 
 module _ (mean : Meaning) (reads : ReadLists) (past : Past) (p : Project) (graph : IsGraph past) (s : State) where
   in_order_at : (q : Key) (x : Status) → IsSoundAt mean reads past p s q x → IsInOrderAt s q x
   in_order_at q Unknown so = tt
   in_order_at q (Claimed w) so = tt
   in_order_at q (Running w) so = tt
-  in_order_at q (Done v es Input) so = (input_kind p q v so.0, rw so.1 tt, rw so.1 tt)
+  in_order_at q (Done v es Input) so = record {
+    kind = input_kind p q v so.0;
+    marked = marked_input p q v so.0;
+    lower = rw so.1 tt;
+    once = rw so.1 tt;
+    done = rw so.1 tt;
+  }
   in_order_at q (Done v es Green) so =
-      let g = so.1 in (
-        subst (IsOfKind q) g.value (graph.kind q g.had g.past_has),
-        subst (AreLower q) g.edges (graph.lower q g.had g.past_has),
-        walked_done past s es g.unchanged,
-      )
+      let g = so.1 in
+      record {
+        kind = subst (IsOfKind q) g.value (graph.kind q g.had g.past_has);
+        marked = marked_other q so.0;
+        lower = subst (AreLower q) g.edges (graph.lower q g.had g.past_has);
+        once = subst (NoneTwice (λ k. k)) g.edges (graph.once q g.had g.past_has);
+        done = walked_done past s es g.unchanged;
+      }
   in_order_at q (Done v es Executed) so =
-      let x = so.1 in (
-        x.outcome.kind,
-        subst (AreLower q) x.edges x.outcome.lower,
-        subst (AllByRecursion (λ e. IsDone (s.at e))) x.edges (held_done s x.told x.held),
-      )
+      let x = so.1 in
+      record {
+        kind = x.outcome.kind;
+        marked = marked_other q so.0;
+        lower = subst (AreLower q) x.edges x.outcome.lower;
+        once = subst (NoneTwice (λ k. k)) x.edges (once_keys x.told x.outcome.once);
+        done = subst (AllByRecursion (λ e. IsDone (s.at e))) x.edges (held_done s x.told x.held);
+      }
 
   pub in_order : IsSound mean reads past p s → IsInOrder s
   in_order sound = λ q. in_order_at q (s.at q) (sound q)

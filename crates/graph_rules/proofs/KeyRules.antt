@@ -6,12 +6,13 @@ use Rattle.std.specs.declared.cmp.Ordering.TheVariants.{Less, Equal, Greater}
 use Rattle.std.proofs.lemmas.Option.{none-some, same_Some}
 use Rattle.item_ids.specs.declared.key.Key.{Key}
 use Rattle.item_ids.specs.declared.key.Key.TheVariants.{Files, Source, Tree, Index, Header, Method, Sig, Supers, Members, CheckClass, CheckBody, Diags, Answer}
-use Rattle.item_ids.specs.Keys.{key_cmp}
+use Rattle.item_ids.specs.Keys.{key_cmp, kind_of}
 use Rattle.item_ids.proofs.Apart.{key_exact, key_itself}
 use Rattle.result_bytes.specs.declared.value.Value.{Value}
 use Rattle.mj_project.specs.Projects.{IsProject}
 use Rattle.recorder.specs.Projects.{Project}
 use Rattle.recorder.specs.Backed.{Meaning, ReadLists, RunnerLaws, rank, IsOfKind}
+use Rattle.sessions.specs.Marks.{is_input}
 use Rattle.graph_rules.specs.Keys.{same_key, input_of}
 
 equal_from : (o : Ordering) → is_eq o ≡ true → o ≡ Equal
@@ -121,3 +122,36 @@ input_means mean reads laws p is (CheckClass c) v e = absurd (none-some v e)
 input_means mean reads laws p is (CheckBody c m) v e = absurd (none-some v e)
 input_means mean reads laws p is (Diags c) v e = absurd (none-some v e)
 input_means mean reads laws p is Answer v e = absurd (none-some v e)
+
+-- ---- which marks keys have
+
+pub marked_input : (p : Project) (q : Key) (v : Value) → input_of p q ≡ Some v → true ≡ is_input (kind_of q)
+unfolding input_of
+marked_input p Files v e = refl
+marked_input p (Source file) v e = refl
+marked_input p (Tree file) v e = absurd (none-some v e)
+marked_input p Index v e = absurd (none-some v e)
+marked_input p (Header c) v e = absurd (none-some v e)
+marked_input p (Method c m) v e = absurd (none-some v e)
+marked_input p (Sig c m) v e = absurd (none-some v e)
+marked_input p (Supers c) v e = absurd (none-some v e)
+marked_input p (Members c) v e = absurd (none-some v e)
+marked_input p (CheckClass c) v e = absurd (none-some v e)
+marked_input p (CheckBody c m) v e = absurd (none-some v e)
+marked_input p (Diags c) v e = absurd (none-some v e)
+marked_input p Answer v e = absurd (none-some v e)
+
+pub marked_other : (q : Key) → 0 < rank q → false ≡ is_input (kind_of q)
+marked_other Files lt = absurd (omega arith)
+marked_other (Source file) lt = absurd (omega arith)
+marked_other (Tree file) lt = refl
+marked_other Index lt = refl
+marked_other (Header c) lt = refl
+marked_other (Method c m) lt = refl
+marked_other (Sig c m) lt = refl
+marked_other (Supers c) lt = refl
+marked_other (Members c) lt = refl
+marked_other (CheckClass c) lt = refl
+marked_other (CheckBody c m) lt = refl
+marked_other (Diags c) lt = refl
+marked_other Answer lt = refl

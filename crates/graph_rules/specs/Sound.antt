@@ -2,11 +2,14 @@
 use Rattle.std.specs.Prelude.{◌≡◌, ℕ, ◌<◌, List, [], ◌∷◌, Option, Some}
 use Rattle.std.specs.List.{AllByRecursion}
 use Rattle.item_ids.specs.declared.key.Key.{Key}
+use Rattle.item_ids.specs.Keys.{kind_of}
 use Rattle.result_bytes.specs.declared.value.Value.{Value}
 use Rattle.recorder.specs.Projects.{Project}
-use Rattle.recorder.specs.Backed.{Meaning, ReadLists, ReadValue, rank, keys, AreLower, IsOfKind}
-use Rattle.recorder.specs.Runs.{OutcomeValue, IsOutcome}
+use Rattle.recorder.specs.Backed.{Meaning, ReadLists, Told, rank, keys, AreLower, NoneTwice, IsOfKind}
+use Rattle.recorder.specs.Runs.{Ran, IsOutcome}
+use Rattle.sessions.specs.declared.mark.Mark.{Mark}
 use Rattle.sessions.specs.declared.mark.Mark.TheVariants.{Input, Green, Executed}
+use Rattle.sessions.specs.Marks.{is_input, is_input_mark}
 use Rattle.sessions.specs.Sessions.{Entry}
 use Rattle.graph_rules.specs.Keys.{input_of}
 use Rattle.graph_rules.specs.Pasts.{Past}
@@ -30,7 +33,7 @@ pub record IsGreen (past : Past) (s : State) (q : Key) (v : Value) (es : List Ke
 
 -- An executed key had to run, and its value follows from answers that are the values of its edges.
 pub record IsExecuted (mean : Meaning) (reads : ReadLists) (past : Past) (s : State) (q : Key) (v : Value) (es : List Key) : Type 0 where
-  pub told : List ReadValue
+  pub told : List Told
   pub outcome : IsOutcome mean reads (record { key = q; told = told; value = v })
   pub edges : keys told ≡ es
   pub held : AreHeld s told
@@ -48,9 +51,17 @@ IsSoundAt mean reads past p s q (Done v es Executed) = (0 < rank q) × IsExecute
 abbrev pub IsSound : Meaning → ReadLists → Past → Project → State → Type 0
 IsSound mean reads past p s = (q : Key) → IsSoundAt mean reads past p s q (s.at q)
 
--- a done key's value is of its kind, and its edges are done and of lower rank
+-- a done key's value is of its kind, its mark is Input just where it is an input, and its edges are done and of lower
+-- rank, and none is there twice
+pub record IsDoneInOrder (s : State) (q : Key) (v : Value) (es : List Key) (m : Mark) : Type 0 where
+  pub kind : IsOfKind q v
+  pub marked : is_input_mark m ≡ is_input (kind_of q)
+  pub lower : AreLower q es
+  pub once : NoneTwice (λ k. k) es
+  pub done : AllByRecursion (λ e. IsDone (s.at e)) es
+
 abbrev pub IsInOrderAt : State → Key → Status → Type 0
-IsInOrderAt s q (Done v es m) = IsOfKind q v × AreLower q es × AllByRecursion (λ e. IsDone (s.at e)) es
+IsInOrderAt s q (Done v es m) = IsDoneInOrder s q v es m
 IsInOrderAt s q _ = Unit {0}
 
 abbrev pub IsInOrder : State → Type 0

@@ -47,3 +47,23 @@ pub enum OpenFault {
     /// Memory ran out.
     OutOfMemory,
 }
+
+/// Why an event isn't done.
+#[derive(Clone, Copy, Debug, PartialEq, Eq)]
+pub(crate) enum StepFault {
+    /// It is no step.
+    NoStep,
+    /// Memory ran out.
+    OutOfMemory,
+}
+
+/// Why a list of events isn't replayed.
+#[derive(Clone, Copy, Debug, PartialEq, Eq)]
+pub enum ReplayFault {
+    /// The past has the number 9,999, behind which there is no session.
+    ChainFull,
+    /// This event is the first that is no step.
+    Illegal(usize),
+    /// Memory ran out.
+    OutOfMemory,
+}

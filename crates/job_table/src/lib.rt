@@ -5,9 +5,12 @@ mod event;
 mod fault;
 mod inputs;
 mod nodes;
+mod reads;
+mod replay;
 mod room;
 mod table;
+mod walks;
 
 pub use event::Event;
-pub use fault::{Asked, OpenFault, TableFault};
+pub use fault::{Asked, OpenFault, ReplayFault, TableFault};
 pub use table::Table;

@@ -1,10 +1,11 @@
 //! How each key stands that was asked for, as a plain list.
-ghost use Rattle.std.specs.Prelude.{◌≡◌, ◌↔◌, ◌<◌, IsTrue, IfSome, IfNone, vec_len};
+ghost use Rattle.std.specs.Prelude.{◌≡◌, ◌↔◌, ◌<◌, IsTrue, IfSome, IfNone, vec_len, if◌then◌else◌};
 ghost use Rattle.std.specs.Arc.{arc_value};
 ghost use Rattle.recorder.specs.Backed.{rank};
 ghost use Rattle.graph_rules.specs.Keys.{same_key};
-ghost use Rattle.graph_rules.specs.Steps.{Unknown, IsHeldBy, IsDoneWith, IsNotDone};
-ghost use Rattle.job_table.specs.Nodes.{status_of, status_in, status_at, IsFirst, AllAbove};
+ghost use Rattle.item_ids.specs.declared.key.Key.{Key};
+ghost use Rattle.graph_rules.specs.Steps.{Unknown, Claimed, Running, IsHeldBy, IsDoneWith, IsNotDone};
+ghost use Rattle.job_table.specs.Nodes.{status_of, status_in, status_at, AreApart, IsFirst, AllAbove};
 
 use crate::inputs::Inputs;
 use fingerprint::Sealed;
@@ -85,4 +86,62 @@ pub fn result_of<'a>(inputs: &'a Inputs, nodes: &'a Vec<Node>, key: &Key) -> Opt
         Standing::Claimed(_) => None,
         Standing::Running(_) => None,
     }
+}
+
+/// Where a key is that the worker has claimed.
+pub fn claimed_by(nodes: &Vec<Node>, w: u32, key: &Key) -> Option<usize>
+    ensures none { IfNone result (status_in nodes.now.items key.now ≡ Claimed w → ⊥) }
+    ensures some { IfSome result (λ i. IsFirst nodes.now.items key.now i × (i < vec_len nodes.now)) }
+    ensures claimed { IfSome result (λ _. status_in nodes.now.items key.now ≡ Claimed w) }
+{
+    let at = find(nodes, key)?;
+    if is_claimed(&nodes[at], w) {
+        Some(at)
+    } else {
+        None
+    }
+}
+
+fn is_claimed(node: &Node, w: u32) -> bool
+    ensures { IsTrue result ↔ (status_of node.now.standing ≡ Claimed w) }
+{
+    match &node.standing {
+        Standing::Claimed(by) => *by == w,
+        Standing::Running(_) => false,
+        Standing::Done(_, _, _) => false,
+    }
+}
+
+/// Where a key is that the worker runs.
+pub fn run_by(nodes: &Vec<Node>, w: u32, key: &Key) -> Option<usize>
+    ensures none { IfNone result (status_in nodes.now.items key.now ≡ Running w → ⊥) }
+    ensures some { IfSome result (λ i. IsFirst nodes.now.items key.now i × (i < vec_len nodes.now)) }
+    ensures running { IfSome result (λ _. status_in nodes.now.items key.now ≡ Running w) }
+{
+    let at = find(nodes, key)?;
+    if is_running(&nodes[at], w) {
+        Some(at)
+    } else {
+        None
+    }
+}
+
+fn is_running(node: &Node, w: u32) -> bool
+    ensures { IsTrue result ↔ (status_of node.now.standing ≡ Running w) }
+{
+    match &node.standing {
+        Standing::Claimed(_) => false,
+        Standing::Running(by) => *by == w,
+        Standing::Done(_, _, _) => false,
+    }
+}
+
+/// Writes how the key at a place stands.
+pub fn put(nodes: &mut Vec<Node>, at: usize, standing: Standing)
+    requires { at < vec_len nodes.old }
+    ensures written { (q k : Key) → IsFirst nodes.old.items q at → status_in nodes.new.items k ≡ (if same_key q k then status_of standing else status_in nodes.old.items k) }
+    ensures apart { AreApart nodes.old.items → AreApart nodes.new.items }
+{
+    let node = &mut nodes[at];
+    node.standing = standing;
 }

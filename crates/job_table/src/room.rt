@@ -1,15 +1,22 @@
 //! Room for what a call adds: all growths of a call, before it changes anything.
-ghost use Rattle.std.specs.Prelude.{◌≡◌, ◌+◌, ◌<◌, ◌≤◌, ◌++◌, ◌∷◌, [], IfSome, map, vec_len, vec_capacity};
+ghost use Rattle.std.specs.Prelude.{◌≡◌, ◌+◌, ◌<◌, ◌≤◌, ◌++◌, ◌∷◌, [], IfOk, IfSome, map, vec_len, vec_capacity};
+ghost use Rattle.std.specs.Arc.{arc_value};
 ghost use Rattle.mj_project.specs.Projects.{IsProject};
+ghost use Rattle.recorder.specs.Backed.{keys};
+ghost use Rattle.recorder.specs.Runs.{IsOutcome};
+ghost use Rattle.sessions.specs.Sessions.{AreInside, key_at};
 ghost use Rattle.job_table.specs.Kept.{event_of};
 
 use crate::event::Event;
 use crate::inputs::Inputs;
 use crate::nodes::Node;
+use fingerprint::Sealed;
 use item_ids::Key;
 use mj_project::Project;
-use recorder::Runner;
-use std::alloc::Global;
+use recorder::{Outcome, Read, Runner};
+use sessions::{Record, Session};
+use std::alloc::{AllocError, Global};
+use std::sync::Arc;
 
 /// Room for one more node and two more events, and two copies of the key.
 pub fn room_for_claim<R: Runner>(
@@ -53,4 +60,106 @@ pub fn room_for_opening<R: Runner>(
     let mut history = Vec::new(alloc);
     history.reserve(1).ok()?;
     Some((inputs, history))
+}
+
+/// Room for two more events, and a copy of the key.
+pub fn room_for_begin<R: Runner>(
+    alloc: Global,
+    history: &mut Vec<Event<R>>,
+    key: &Key,
+) -> Option<Key>
+    ensures history { (history.new.items ≡ history.old.items) × (vec_len history.new ≡ vec_len history.old) × (vec_capacity history.old ≤ vec_capacity history.new) }
+    ensures key { IfSome result (λ k. k ≡ key.now) }
+    ensures room { IfSome result (λ _. vec_len history.new + 1 < vec_capacity history.new) }
+{
+    let noted = key.copy(alloc).ok()?;
+    history.reserve(2).ok()?;
+    Some(noted)
+}
+
+/// What a key needs that is marked: a copy of it, the keys of its past edges, and its past result twice.
+#[derive(Drop)]
+pub struct MarkParts {
+    pub noted: Key,
+    pub edges: Vec<Key>,
+    pub sealed: Arc<Sealed>,
+    pub answer: Arc<Sealed>,
+}
+
+/// Room for two more events, and what a key needs that is marked.
+pub fn room_for_mark<R: Runner>(
+    alloc: Global,
+    history: &mut Vec<Event<R>>,
+    key: &Key,
+    past: &Session,
+    record: &Record,
+) -> Option<MarkParts>
+    requires { AreInside past.now.records record.now.edges }
+    ensures history { (history.new.items ≡ history.old.items) × (vec_len history.new ≡ vec_len history.old) × (vec_capacity history.old ≤ vec_capacity history.new) }
+    ensures key { IfSome result (λ parts. parts.noted ≡ key.now) }
+    ensures edges { IfSome result (λ parts. parts.edges.items ≡ map (key_at past.now.records) record.now.edges) }
+    ensures results { IfSome result (λ parts. (arc_value parts.sealed ≡ record.now.value) × (arc_value parts.answer ≡ record.now.value)) }
+    ensures room { IfSome result (λ _. vec_len history.new + 1 < vec_capacity history.new) }
+{
+    let noted = key.copy(alloc).ok()?;
+    let edges = edge_keys(alloc, past, record.edges()).ok()?;
+    let sealed = Arc::try_clone(record.sealed()).ok()?;
+    let answer = Arc::try_clone(record.sealed()).ok()?;
+    history.reserve(2).ok()?;
+    Some(MarkParts {
+        noted,
+        edges,
+        sealed,
+        answer,
+    })
+}
+
+/// The keys of past edges.
+fn edge_keys(alloc: Global, past: &Session, edges: &[usize]) -> Result<Vec<Key>, AllocError>
+    requires { AreInside past.now.records edges.now }
+    ensures { IfOk result (λ v. v.items ≡ map (key_at past.now.records) edges.now) }
+{
+    let mut copies = Vec::new(alloc);
+    let records = past.records();
+    for at in edges {
+        copies.push(records[*at].key().copy(alloc)?)?;
+    }
+    Ok(copies)
+}
+
+/// What a key needs that was run: the keys that were read, and its result.
+#[derive(Drop)]
+pub struct FinishParts {
+    pub edges: Vec<Key>,
+    pub sealed: Arc<Sealed>,
+}
+
+/// Room for two more events, and what a key needs that was run.
+pub fn room_for_finish<R: Runner>(
+    alloc: Global,
+    history: &mut Vec<Event<R>>,
+    outcome: &Outcome<R>,
+) -> Option<FinishParts>
+    ensures history { (history.new.items ≡ history.old.items) × (vec_len history.new ≡ vec_len history.old) × (vec_capacity history.old ≤ vec_capacity history.new) }
+    ensures edges { IfSome result (λ parts. parts.edges.items ≡ keys outcome.now.told) }
+    ensures value { IfSome result (λ parts. arc_value parts.sealed ≡ outcome.now.value) }
+    ensures outcome { IsOutcome R.mean R.reads outcome.now }
+    ensures room { IfSome result (λ _. vec_len history.new + 1 < vec_capacity history.new) }
+{
+    let result = outcome.sealed();
+    let edges = read_keys(alloc, outcome.reads()).ok()?;
+    let sealed = Arc::try_clone(result).ok()?;
+    history.reserve(2).ok()?;
+    Some(FinishParts { edges, sealed })
+}
+
+/// The keys that were read.
+fn read_keys(alloc: Global, reads: &[Read]) -> Result<Vec<Key>, AllocError>
+    ensures { IfOk result (λ v. v.items ≡ keys reads.now) }
+{
+    let mut copies = Vec::new(alloc);
+    for read in reads {
+        copies.push(read.key().copy(alloc)?)?;
+    }
+    Ok(copies)
 }

@@ -1,17 +1,24 @@
 //! Tables.
 ghost use Rattle.std.specs.Prelude.{◌≡◌, ◌↔◌, map, length, IfOk, IsTrue};
+ghost use Rattle.std.specs.Arc.{arc_value};
 ghost use Rattle.job_table.specs.Tables.{session_in, IsFull};
 ghost use Rattle.job_table.specs.Kept.{event_of};
 
 use crate::event::Event;
 use crate::fault::{Asked, OpenFault, TableFault};
 use crate::inputs::Inputs;
-use crate::nodes::{Node, Standing, find, is_below, result_of};
-use crate::room::{note, room_for_claim, room_for_opening};
+use crate::nodes::{Node, Standing, claimed_by, find, is_below, put, result_of, run_by};
+use crate::reads::first_stale;
+use crate::room::{
+    FinishParts, MarkParts, note, room_for_begin, room_for_claim, room_for_finish, room_for_mark,
+    room_for_opening,
+};
+use crate::walks::{Walked, walk_edges, why_not};
+use fingerprint::Sealed;
 use item_ids::Key;
 use mj_project::Project;
-use recorder::Runner;
-use sessions::Session;
+use recorder::{Outcome, Runner};
+use sessions::{Mark, Session};
 use std::alloc::{AllocError, Global};
 use std::marker::Model;
 use std::sync::Arc;
@@ -51,7 +58,7 @@ impl<R: Runner> Table<R> {
     ghost use Rattle.graph_rules.specs.Sound.{AreBacked};
     ghost use Rattle.mj_project.specs.Projects.{IsProject};
     ghost use Rattle.job_table.specs.Tables.{past_of};
-    ghost use Rattle.job_table.specs.Answers.{OpenGives, AskGives, FailGives};
+    ghost use Rattle.job_table.specs.Answers.{OpenGives, AskGives, MarkGives, BeginGives, FinishGives, FailGives};
 
     /// Opens the table of a session of the project, over the session before it.
     pub fn open(
@@ -106,6 +113,97 @@ impl<R: Runner> Table<R> {
         });
         note(&mut self.history, Event::Claim(w, noted));
         Ok(Asked::Yours)
+    }
+
+    /// Takes over the past's result for a key that the worker has claimed, where all past edges are unchanged.
+    pub fn mark(&mut self, w: u32, key: &Key) -> Result<Arc<Sealed>, TableFault>
+        ensures { MarkGives self.old w key.now result self.new }
+    {
+        if self.failed {
+            return Err(TableFault::Failed);
+        }
+        let Some(at) = claimed_by(&self.nodes, w, key) else {
+            return Err(TableFault::NotYours);
+        };
+        let Some(past) = &self.past else {
+            return Err(TableFault::NotInPast);
+        };
+        let Some(record) = past.find(key) else {
+            return Err(TableFault::NotInPast);
+        };
+        match walk_edges(&self.inputs, &self.nodes, past, record.edges()) {
+            Walked::Open(i) => return Err(TableFault::EdgeOpen(i)),
+            Walked::Changed(i) => return Err(TableFault::EdgeChanged(i)),
+            Walked::AllUnchanged => {}
+        }
+        let Some(
+            MarkParts {
+                noted,
+                edges,
+                sealed,
+                answer,
+            },
+        ) = room_for_mark(self.alloc, &mut self.history, key, past, record)
+        else {
+            return Err(TableFault::OutOfMemory);
+        };
+        put(
+            &mut self.nodes,
+            at,
+            Standing::Done(sealed, edges, Mark::Green),
+        );
+        note(&mut self.history, Event::Mark(w, noted));
+        Ok(answer)
+    }
+
+    /// Begins the run of a key that the worker has claimed, where the past hasn't it or a past edge is changed.
+    pub fn begin_run(&mut self, w: u32, key: &Key) -> Result<(), TableFault>
+        ensures { BeginGives self.old w key.now result self.new }
+    {
+        if self.failed {
+            return Err(TableFault::Failed);
+        }
+        let Some(at) = claimed_by(&self.nodes, w, key) else {
+            return Err(TableFault::NotYours);
+        };
+        if let Some(fault) = why_not(&self.inputs, &self.nodes, &self.past, key) {
+            return Err(fault);
+        }
+        let Some(noted) = room_for_begin(self.alloc, &mut self.history, key) else {
+            return Err(TableFault::OutOfMemory);
+        };
+        put(&mut self.nodes, at, Standing::Running(w));
+        note(&mut self.history, Event::Begin(w, noted));
+        Ok(())
+    }
+
+    /// Ends the run of a key by its outcome, where all that was read is still so in the table.
+    pub fn finish(&mut self, w: u32, outcome: Arc<Outcome<R>>) -> Result<(), TableFault>
+        ensures { FinishGives self.old w (arc_value outcome) result self.new }
+    {
+        if self.failed {
+            return Err(TableFault::Failed);
+        }
+        let Some(at) = run_by(&self.nodes, w, outcome.key()) else {
+            return Err(TableFault::NotYours);
+        };
+        if let Some(i) = first_stale(&self.inputs, &self.nodes, outcome.reads()) {
+            return Err(TableFault::StaleRead(i));
+        }
+        let Some(FinishParts { edges, sealed }) = room_for_finish(
+            self.alloc,
+            &mut self.history,
+            &*outcome,
+        ) else {
+            return Err(TableFault::OutOfMemory);
+        };
+        put(
+            &mut self.nodes,
+            at,
+            Standing::Done(sealed, edges, Mark::Executed),
+        );
+        note(&mut self.history, Event::Finish(w, outcome));
+        Ok(())
     }
 
     /// Notes that the worker gives up. This takes no memory.

@@ -1,3 +1,4 @@
 pub mod Lists
 pub mod EdgeLaws
 pub mod RecordLaws
+pub mod EntryRules

@@ -102,6 +102,19 @@ entries s = map (entry_of s.records) s.records
 abbrev pub entry_at : SessionValue → Key → Option Entry
 entry_at s key = find (λ e. is_eq (key_cmp e.key key)) (entries s)
 
+-- each is the index of a record
+abbrev pub AreInside : List RecordValue → List ℕ → Type 0
+AreInside records edges = AllByRecursion (λ e. e < length records) edges
+
+-- each of the keys is of lower rank than the key
+abbrev pub AreBelow : Key → List Key → Type 0
+AreBelow key reads = AllByRecursion (λ e. rank e < rank key) reads
+
+-- no key is there twice
+abbrev pub AreOnce : List Key → Type 0
+AreOnce [] = Unit {0}
+AreOnce (key ∷ keys) = AllByRecursion (λ e. e ≢ key) keys × AreOnce keys
+
 -- what a session before, where there is one, tells of a key
 abbrev pub past_entry : Option SessionValue → Key → Option Entry
 past_entry None key = None

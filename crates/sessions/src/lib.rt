@@ -3,6 +3,7 @@
 
 mod checks;
 mod fault;
+mod laws;
 mod mark;
 mod record;
 mod seen;
@@ -10,6 +11,7 @@ mod session;
 
 pub use checks::{check_kept, check_key, is_above, is_marked};
 pub use fault::SessionFault;
+pub use laws::edges_are_below;
 pub use mark::Mark;
 pub use record::Record;
 pub use seen::SeenEdges;

@@ -1,11 +1,12 @@
 //! Sessions.
-ghost use Rattle.std.specs.Prelude.{◌≡◌, ◌≤◌, IfOk, IfErr};
-ghost use Rattle.sessions.specs.Sessions.{AreRecords, IsSession};
+ghost use Rattle.std.specs.Prelude.{◌≡◌, ◌≢◌, ◌≤◌, ◌<◌, Some, None, IfOk, IfErr, IfSome, IfNone, MatchOption, All, HoldsAt, length};
+ghost use Rattle.sessions.specs.Sessions.{AreRecords, AreInside, IsSession, entry_at, entry_of};
 ghost use Rattle.sessions.specs.Refusals.{IsRefused};
 
 use crate::checks::check_records;
 use crate::fault::SessionFault;
 use crate::record::Record;
+use item_ids::Key;
 use std::alloc::Global;
 use std::marker::Model;
 
@@ -92,5 +93,30 @@ impl Session {
         ensures session { IsSession self.now }
     {
         self.records.as_slice()
+    }
+
+    /// The record of a key.
+    pub fn find(&self, key: &Key) -> Option<&Record>
+        ensures found { MatchOption result (entry_at self.now key.now ≡ None) (λ r. entry_at self.now key.now ≡ Some (entry_of self.now.records r.now)) }
+        ensures edges { IfSome result (λ r. AreInside self.now.records r.now.edges) }
+    {
+        let records = self.records();
+        match place_of(records, key) {
+            Some(at) => Some(&records[at]),
+            None => None,
+        }
+    }
+}
+
+/// The index of the record of a key, by halves, since the keys ascend.
+fn place_of(records: &[Record], key: &Key) -> Option<usize>
+    requires { AreRecords records.now }
+    ensures within { IfSome result (λ i. i < length records.now) }
+    ensures found { IfSome result (HoldsAt (λ r. r.key ≡ key.now) records.now) }
+    ensures none { IfNone result (All (λ r. r.key ≢ key.now) records.now) }
+{
+    match records.binary_search_by(|record| record.key().cmp(key)) {
+        Ok(at) => Some(at),
+        Err(_) => None,
     }
 }

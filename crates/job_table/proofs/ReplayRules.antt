@@ -1,0 +1,77 @@
+-- Events in turn.
+use Rattle.std.proofs.Common.{◌≡◌, ◌<◌, ℕ, List, [], ◌∷◌, ◌++◌, take, drop, map, length, get_or, suc, zero, sym, ap, ◌∙◌, subst, refl, Bool, true, false, arith}
+use Rattle.std.specs.Prelude.{Result, Ok, Err}
+use Rattle.recorder.specs.Projects.{Project}
+use Rattle.recorder.specs.Backed.{Told}
+use Rattle.recorder.specs.Runs.{Ran}
+use Rattle.sessions.specs.Sessions.{SessionValue, past_entry}
+use Rattle.graph_rules.specs.Pasts.{Past}
+use Rattle.graph_rules.specs.Steps.{State, Event, Finish, Fail, AreHeld, IsDoneWith, MayStep, Legal}
+use Rattle.job_table.specs.declared.event.Event.{Event as Stored}
+use Rattle.job_table.specs.declared.fault.TableFault.{TableFault}
+use Rattle.job_table.specs.declared.fault.TableFault.TheVariants as fault
+use Rattle.job_table.specs.Kept.{event_of}
+use Rattle.job_table.specs.Tables.{TableValue, past_of, state_of, IsStep}
+use Rattle.job_table.specs.Answers.{FinishGives, FailGives, IsFirstStale}
+use Rattle.job_table.specs.Replays.{StepGives, step_of_call, IsFirstIllegal}
+use Rattle.std.specs.Prelude.{Option}
+
+-- a list of events is those before a place, the one there, and the others
+pub parted : {R : Type 0} (es : List (Stored R)) (i : ℕ) (e : Stored R) → i < length es → e ≡ get_or es i e
+    → map event_of es ≡ map event_of (take i es) ++ event_of e ∷ map event_of (drop (suc i) es)
+parted [] i e lt is = absurd (omega arith)
+parted (x ∷ es) zero e lt is = rw is refl
+parted (x ∷ es) (suc i) e lt is = ap (λ (zs : List Event). event_of x ∷ zs) (parted es i e (omega arith) is)
+
+pub length_front : {R : Type 0} (es : List (Stored R)) (i : ℕ) → i < length es → length (map event_of (take i es)) ≡ i
+length_front [] i lt = absurd (omega arith)
+length_front (x ∷ es) zero lt = refl
+length_front (x ∷ es) (suc i) lt = ap suc (length_front es i (omega arith))
+
+-- the event behind a legal front that is no step is the first one
+pub first_illegal : (so : Option SessionValue) (p : Project) (events front : List Event) (e : Event) (rest : List Event) (i : ℕ) (t : TableValue)
+    → events ≡ front ++ e ∷ rest → length front ≡ i → t ≡ record { past = so; project = p; history = front } → Legal (past_entry so) p front
+    → (IsStep t e → ⊥) → IsFirstIllegal (past_entry so) p events i
+first_illegal so p events front e rest i t whole place te legal stuck = record {
+  front = front;
+  event = e;
+  rest = rest;
+  whole = whole;
+  place = place;
+  legal = legal;
+  illegal = subst (λ (u : TableValue). IsStep u e → ⊥) te stuck;
+}
+
+stale_not : (s : State) (rs : List Told) (i : ℕ) → IsFirstStale s rs i → AreHeld s rs → ⊥
+stale_not s [] i h a = h
+stale_not s (r ∷ rs) zero h a = h a.0
+stale_not s (r ∷ rs) (suc i) h a = stale_not s rs i h.1 a.1
+
+not_both : (b : Bool) → b ≡ true → b ≡ false → ⊥
+not_both b t f = cc
+
+-- what an answer of finish says of its event
+pub finish_step : (t u : TableValue) (w : ℕ) (o : Ran) (r : Result (Unit {0}) TableFault) → FinishGives t w o r u → StepGives t (Finish w o) (step_of_call r) u
+finish_step t u w o (Ok x) h = h
+finish_step t u w o (Err fault.Failed) h = ((λ m. not_both _ h.0 m.0), h.1)
+finish_step t u w o (Err fault.NotYours) h = ((λ m. h.1 m.1), h.2)
+finish_step t u w o (Err (fault.StaleRead i)) h = ((λ m. stale_not (state_of t) o.told i h.1 m.2), h.2)
+finish_step t u w o (Err fault.OutOfMemory) h = h.1
+finish_step t u w o (Err fault.OutOfRank) h = absurd h
+finish_step t u w o (Err fault.NotInPast) h = absurd h
+finish_step t u w o (Err fault.NothingChanged) h = absurd h
+finish_step t u w o (Err (fault.EdgeOpen i)) h = absurd h
+finish_step t u w o (Err (fault.EdgeChanged i)) h = absurd h
+
+-- what an answer of fail says of its event
+pub fail_step : (t u : TableValue) (w : ℕ) (r : Result (Unit {0}) TableFault) → FailGives t w r u → StepGives t (Fail w) (step_of_call r) u
+fail_step t u w (Ok x) h = h
+fail_step t u w (Err fault.Failed) h = ((λ m. not_both _ h.0 m), h.1)
+fail_step t u w (Err fault.NotYours) h = absurd h
+fail_step t u w (Err fault.OutOfRank) h = absurd h
+fail_step t u w (Err fault.NotInPast) h = absurd h
+fail_step t u w (Err fault.NothingChanged) h = absurd h
+fail_step t u w (Err (fault.EdgeOpen i)) h = absurd h
+fail_step t u w (Err (fault.EdgeChanged i)) h = absurd h
+fail_step t u w (Err (fault.StaleRead i)) h = absurd h
+fail_step t u w (Err fault.OutOfMemory) h = absurd h

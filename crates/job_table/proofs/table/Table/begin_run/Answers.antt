@@ -1,0 +1,47 @@
+use Rattle.std.proofs.Common.{◌≡◌, ◌<◌, [], ◌∷◌, ◌++◌, map, true, false, arith, sym, ◌∙◌, refl}
+use Rattle.graph_rules.specs.Steps.{Claimed, Begin}
+use Rattle.job_table.specs.Kept.{event_of}
+use Rattle.job_table.specs.Tables.{session_in}
+use Rattle.job_table.proofs.StepRules.{backed_last}
+use Rattle.job_table.proofs.CallRules.{not_standing, begin_at, begin_kept, begin_refused}
+use Rattle.job_table.proofs.table.Table.begin_run.Given.{Over}
+use Rattle.job_table.proofs.table.Table.begin_run.Goals as goal
+
+pub returns-in_default : goal.returns-in_default
+returns-in_default g c =
+    let kept = c.self.invariant.0 in
+    rw (← c.self.view_is) (
+      sym kept.failed_is ∙ c.if-self.false,
+      not_standing _ _ _ _ _ kept c.args.key.now (Claimed c.args.w) tt c.in_default.ensures.none,
+      refl,
+    )
+
+pub returns-in-Some-why_not : goal.returns-in-Some-why_not
+returns-in-Some-why_not g c =
+    begin_refused (session_in c.self.inside.past) _ _ _ _ c.self.invariant.0 c.args.key.now c.args.w c.in-Some-why_not.fault c.if-self.false c.in-Some.ensures.claimed c.in-Some-why_not.ensures _ c.self.view_is
+
+pub returns-in_default-room_for_begin : goal.returns-in_default-room_for_begin
+returns-in_default-room_for_begin g c = (
+  begin_at (session_in c.self.inside.past) _ _ _ _ c.self.invariant.0 c.args.key.now c.args.w c.if-self.false c.in-Some.ensures.claimed c.in_default-why_not.ensures _ c.self.view_is,
+  rw (← c.self.view_is, c.room_for_begin.ensures.history.0) refl,
+)
+
+-- the history after the event
+events_after : (g : Over) (c : goal.After-note g) → map event_of c.note.new.history.items ≡ map event_of c.self.inside.history.items ++ Begin c.args.w c.args.key.now ∷ []
+events_after g c = rw (c.note.ensures.events, c.room_for_begin.ensures.history.0, c.in-Some-room_for_begin.ensures.key) refl
+
+pub invariant_of-self-2 : goal.invariant_of-self-2
+invariant_of-self-2 g c =
+    let i = c.self.inside in
+    rw (events_after g c) (
+      begin_kept _ _ _ _ _ _ c.self.invariant.0 c.args.key.now c.args.w c.if-self.false c.in-Some.ensures.claimed c.in_default-why_not.ensures c.put.ensures.apart
+          (λ k. c.put.ensures.written c.args.key.now k c.in-Some.ensures.some.0),
+      backed_last g.R.Runner.mean g.R.Runner.reads (map event_of i.history.items) (Begin c.args.w c.args.key.now) c.self.invariant.1 tt,
+      (λ _. omega (arith, c.note.ensures.len, c.note.ensures.capacity, c.in-Some-room_for_begin.ensures.room, c.room_for_begin.ensures.history.1)),
+    )
+
+pub returns : goal.returns
+returns g c = (
+  begin_at (session_in c.self.inside.past) _ _ _ _ c.self.invariant.0 c.args.key.now c.args.w c.if-self.false c.in-Some.ensures.claimed c.in_default-why_not.ensures _ c.self.view_is,
+  rw (← c.self.view_is, events_after g c) refl,
+)

@@ -1,0 +1,57 @@
+use Rattle.std.proofs.Common.{◌≡◌, ◌<◌, [], ◌∷◌, ◌++◌, map, true, false, arith, sym, ◌∙◌, ap, refl, Some}
+use Rattle.std.specs.Arc.{arc_value}
+use Rattle.sessions.specs.Sessions.{Entry, entry_of, entry_at}
+use Rattle.graph_rules.specs.Steps.{Claimed, MarkGreen, AllUnchanged, walk}
+use Rattle.job_table.specs.Nodes.{status_in, held}
+use Rattle.job_table.specs.Kept.{event_of}
+use Rattle.job_table.specs.Tables.{session_in}
+use Rattle.job_table.proofs.StepRules.{backed_last}
+use Rattle.job_table.proofs.CallRules.{not_standing, mark_gives, mark_kept}
+use Rattle.job_table.proofs.table.Table.mark.Given.{Over}
+use Rattle.job_table.proofs.table.Table.mark.Goals as goal
+use Rattle.job_table.proofs.table.Table.mark.Goals.{After-note}
+
+pub returns-in_default : goal.returns-in_default
+returns-in_default g c =
+    let kept = c.self.invariant.0 in
+    rw (← c.self.view_is) (
+      sym kept.failed_is ∙ c.if-self.false,
+      not_standing _ _ _ _ _ kept c.args.key.now (Claimed c.args.w) tt c.in_default.ensures.none,
+      refl,
+    )
+
+-- the history after the event
+events_after : (g : Over) (c : After-note g) → map event_of c.note.new.history.items ≡ map event_of c.self.inside.history.items ++ MarkGreen c.args.w c.args.key.now ∷ []
+events_after g c = rw (c.note.ensures.events, c.room_for_mark.ensures.history.0, c.in-Some-room_for_mark.ensures.key) refl
+
+-- what the past has of the key
+abbrev had : (g : Over) (c : After-note g) → Entry
+had g c = entry_of (arc_value c.in-Some-past.past).records c.in-Some-find.record.now
+
+found : (g : Over) (c : After-note g) → entry_at (arc_value c.in-Some-past.past) c.args.key.now ≡ Some (had g c)
+found g c = let e = c.in-Some-find.ensures.found in rw c.deref.ensures at e
+
+walked : (g : Over) (c : After-note g) → AllUnchanged ≡ walk (entry_at (arc_value c.in-Some-past.past)) (held c.self.inside.inputs c.self.inside.nodes.items false) (had g c).reads
+walked g c = let e = c.in-AllUnchanged.ensures in rw (c.deref-2.ensures, c.edges.ensures) at e
+
+edges_same : (g : Over) (c : After-note g) → c.in-Some-room_for_mark.field-0.edges.items ≡ (had g c).reads
+edges_same g c = let e = c.in-Some-room_for_mark.ensures.edges in rw c.deref-3.ensures at e
+
+pub invariant_of-self-2 : goal.invariant_of-self-2
+invariant_of-self-2 g c =
+    let i = c.self.inside in
+    let kept = rw c.in-Some-past.is at c.self.invariant.0 in
+    let r = c.in-Some-room_for_mark.ensures in
+    rw (c.in-Some-past.is, events_after g c) (
+      mark_kept (entry_at (arc_value c.in-Some-past.past)) _ _ _ _ _ kept c.args.key.now c.args.w (had g c) _ (found g c) c.if-self.false c.in-Some.ensures.claimed (walked g c) (rw (r.results.0, edges_same g c) refl) c.put.ensures.apart
+          (λ k. c.put.ensures.written c.args.key.now k c.in-Some.ensures.some.0),
+      backed_last g.R.Runner.mean g.R.Runner.reads (map event_of i.history.items) (MarkGreen c.args.w c.args.key.now) c.self.invariant.1 tt,
+      (λ _. omega (arith, c.note.ensures.len, c.note.ensures.capacity, r.room, c.room_for_mark.ensures.history.1)),
+    )
+
+pub returns : goal.returns
+returns g c =
+    let kept = rw c.in-Some-past.is at c.self.invariant.0 in
+    let te = rw c.in-Some-past.is at c.self.view_is in
+    mark_gives (Some (arc_value c.in-Some-past.past)) _ _ _ _ kept c.args.key.now c.args.w (had g c) (found g c) c.if-self.false c.in-Some.ensures.claimed (walked g c) _ _ _ (sym te)
+    (rw (c.in-Some-past.is, events_after g c) refl) (sym c.in-Some-room_for_mark.ensures.results.1)

@@ -1,0 +1,59 @@
+-- What a replay answers.
+use Rattle.std.specs.Prelude.{◌≡◌, ℕ, Result, Ok, Err, Option, List, ◌∷◌, ◌++◌, length}
+use Rattle.std.specs.declared.alloc.Global.{Global}
+use Rattle.std.specs.declared.sync.Arc.{Arc}
+use Rattle.result_bytes.specs.declared.value.Value.{Value}
+use Rattle.recorder.specs.Projects.{Project}
+use Rattle.sessions.specs.Sessions.{SessionValue, past_entry}
+use Rattle.graph_rules.specs.Pasts.{Past}
+use Rattle.graph_rules.specs.Steps.{Event, MayStep, Legal, replayed}
+use Rattle.job_table.specs.Tables.{TableValue, IsStep, adds, IsFull}
+use Rattle.job_table.specs.declared.fault.Asked.{Asked}
+use Rattle.job_table.specs.declared.fault.Asked.TheVariants as asked
+use Rattle.job_table.specs.declared.fault.TableFault.{TableFault}
+use Rattle.job_table.specs.declared.fault.TableFault.TheVariants as fault
+use Rattle.job_table.specs.declared.fault.StepFault.{StepFault}
+use Rattle.job_table.specs.declared.fault.StepFault.TheVariants as step
+use Rattle.job_table.specs.declared.fault.ReplayFault.{ReplayFault}
+use Rattle.job_table.specs.declared.fault.ReplayFault.TheVariants as replay
+
+-- what the answer of a call says of its event
+abbrev pub refusal_of : TableFault → StepFault
+refusal_of fault.OutOfMemory = step.OutOfMemory
+refusal_of _ = step.NoStep
+
+abbrev pub step_of_ask : Result Asked TableFault → Result (Unit {0}) StepFault
+step_of_ask (Ok asked.Yours) = Ok tt
+step_of_ask (Ok _) = Err step.NoStep
+step_of_ask (Err f) = Err (refusal_of f)
+
+abbrev pub step_of_mark : Result (Arc Value Global) TableFault → Result (Unit {0}) StepFault
+step_of_mark (Ok v) = Ok tt
+step_of_mark (Err f) = Err (refusal_of f)
+
+abbrev pub step_of_call : Result (Unit {0}) TableFault → Result (Unit {0}) StepFault
+step_of_call (Ok v) = Ok tt
+step_of_call (Err f) = Err (refusal_of f)
+
+-- an event is done just where it is a step, want of memory aside
+abbrev pub StepGives : TableValue → Event → Result (Unit {0}) StepFault → TableValue → Type 0
+StepGives t e (Ok _) u = IsStep t e × (u ≡ adds t e)
+StepGives t e (Err step.NoStep) u = ¬ IsStep t e × (u ≡ t)
+StepGives t e (Err step.OutOfMemory) u = u ≡ t
+
+-- the event at this place is the first that is no step
+pub record IsFirstIllegal (past : Past) (p : Project) (events : List Event) (i : ℕ) : Type 0 where
+  pub front : List Event
+  pub event : Event
+  pub rest : List Event
+  pub whole : events ≡ front ++ event ∷ rest
+  pub place : length front ≡ i
+  pub legal : Legal past p front
+  pub illegal : ¬ MayStep past (replayed past p front) event
+
+-- replay: a table of just these events where they are legal, else the first that is no step
+abbrev pub ReplayGives : Option SessionValue → Project → List Event → Result TableValue ReplayFault → Type 0
+ReplayGives past p events (Ok t) = ¬ IsFull past × Legal (past_entry past) p events × (t ≡ record { past = past; project = p; history = events })
+ReplayGives past p events (Err (replay.Illegal i)) = ¬ IsFull past × IsFirstIllegal (past_entry past) p events i
+ReplayGives past p events (Err replay.ChainFull) = IsFull past
+ReplayGives past p events (Err replay.OutOfMemory) = ¬ IsFull past

@@ -1,0 +1,26 @@
+-- How walks over past edges end, as calls see them.
+use Rattle.std.specs.Prelude.{◌≡◌, Option, Some, None}
+use Rattle.graph_rules.specs.Steps.{EdgeState, Open, Unchanged, Changed, Walk, AllUnchanged, OpenAt, ChangedAt, MayRun}
+use Rattle.job_table.specs.declared.walks.Edge.{Edge}
+use Rattle.job_table.specs.declared.walks.Edge.TheVariants as edge
+use Rattle.job_table.specs.declared.walks.Walked.{Walked}
+use Rattle.job_table.specs.declared.walks.Walked.TheVariants as walked
+use Rattle.job_table.specs.declared.fault.TableFault.{TableFault}
+use Rattle.job_table.specs.declared.fault.TableFault.TheVariants as fault
+
+abbrev pub edge_of : Edge → EdgeState
+edge_of edge.Open = Open
+edge_of edge.Unchanged = Unchanged
+edge_of edge.Changed = Changed
+
+abbrev pub walk_of : Walked → Walk
+walk_of walked.AllUnchanged = AllUnchanged
+walk_of (walked.Open i) = OpenAt i
+walk_of (walked.Changed i) = ChangedAt i
+
+-- why a claimed key may not run, by the walk over its past edges
+abbrev pub IsWhyNot : Option Walk → Option TableFault → Type 0
+IsWhyNot o None = MayRun o
+IsWhyNot o (Some (fault.EdgeOpen i)) = o ≡ Some (OpenAt i)
+IsWhyNot o (Some fault.NothingChanged) = o ≡ Some AllUnchanged
+IsWhyNot o (Some _) = ⊥

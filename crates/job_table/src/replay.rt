@@ -1,0 +1,102 @@
+//! Tables by their events.
+ghost use Rattle.std.specs.Prelude.{◌≡◌, map};
+ghost use Rattle.job_table.specs.Tables.{session_in};
+ghost use Rattle.job_table.specs.Kept.{event_of};
+ghost use Rattle.job_table.specs.Replays.{step_of_ask, step_of_mark, step_of_call, refusal_of};
+
+use crate::event::Event;
+use crate::fault::{Asked, OpenFault, ReplayFault, StepFault, TableFault};
+use crate::table::Table;
+use fingerprint::Sealed;
+use mj_project::Project;
+use recorder::Runner;
+use sessions::Session;
+use std::alloc::Global;
+use std::sync::Arc;
+
+impl<R: Runner> Table<R> {
+    ghost use Rattle.job_table.specs.Replays.{StepGives, ReplayGives};
+
+    /// The table to which these events lead, or the first of them that is no step.
+    pub fn replay(
+        alloc: Global,
+        past: Option<Arc<Session>>,
+        project: &Project,
+        events: &[Event<R>],
+    ) -> Result<Self, ReplayFault>
+        ensures { ReplayGives (session_in past) project.now (map event_of events.now) result }
+    {
+        let mut table: Table<R> = match Table::open(alloc, past, project) {
+            Ok(table) => table,
+            Err(OpenFault::ChainFull) => return Err(ReplayFault::ChainFull),
+            Err(OpenFault::OutOfMemory) => return Err(ReplayFault::OutOfMemory),
+        };
+        for (i, event) in events.iter().enumerate() {
+            match table.step(event) {
+                Ok(()) => {}
+                Err(StepFault::NoStep) => return Err(ReplayFault::Illegal(i)),
+                Err(StepFault::OutOfMemory) => return Err(ReplayFault::OutOfMemory),
+            }
+        }
+        table.laws();
+        Ok(table)
+    }
+
+    /// Does what the event says, where it is a step.
+    fn step(&mut self, event: &Event<R>) -> Result<(), StepFault>
+        ensures { StepGives self.old (event_of event.now) result self.new }
+    {
+        match event {
+            Event::Claim(w, key) => by_ask(self.ask(*w, key)),
+            Event::Mark(w, key) => by_mark(self.mark(*w, key)),
+            Event::Begin(w, key) => by_call(self.begin_run(*w, key)),
+            Event::Finish(w, outcome) => match Arc::try_clone(outcome) {
+                Ok(own) => by_call(self.finish(*w, own)),
+                Err(_) => Err(StepFault::OutOfMemory),
+            },
+            Event::Fail(w) => by_call(self.fail(*w)),
+        }
+    }
+}
+
+/// What the answer to a claim says of the event.
+fn by_ask(asked: Result<Asked, TableFault>) -> Result<(), StepFault>
+    ensures { result ≡ step_of_ask asked }
+{
+    match asked {
+        Ok(Asked::Yours) => Ok(()),
+        Ok(Asked::Done(_)) => Err(StepFault::NoStep),
+        Ok(Asked::Busy) => Err(StepFault::NoStep),
+        Ok(Asked::Stopped) => Err(StepFault::NoStep),
+        Err(fault) => Err(refusal(fault)),
+    }
+}
+
+/// What the answer to a mark says of the event.
+fn by_mark(marked: Result<Arc<Sealed>, TableFault>) -> Result<(), StepFault>
+    ensures { result ≡ step_of_mark marked }
+{
+    match marked {
+        Ok(_) => Ok(()),
+        Err(fault) => Err(refusal(fault)),
+    }
+}
+
+/// What any other answer says of the event.
+fn by_call(called: Result<(), TableFault>) -> Result<(), StepFault>
+    ensures { result ≡ step_of_call called }
+{
+    match called {
+        Ok(()) => Ok(()),
+        Err(fault) => Err(refusal(fault)),
+    }
+}
+
+fn refusal(fault: TableFault) -> StepFault
+    ensures { result ≡ refusal_of fault }
+{
+    match fault {
+        TableFault::OutOfMemory => StepFault::OutOfMemory,
+        _ => StepFault::NoStep,
+    }
+}

@@ -1,0 +1,97 @@
+//! Walks over past edges.
+ghost use Rattle.std.specs.Prelude.{◌≡◌, ◌<◌, Some, false, map, length, option_map};
+ghost use Rattle.sessions.specs.Sessions.{AreInside, key_at, past_entry};
+ghost use Rattle.graph_rules.specs.Pasts.{print_in};
+ghost use Rattle.graph_rules.specs.Steps.{edge_at, walk, past_walk, MayRun, AllUnchanged};
+ghost use Rattle.job_table.specs.Tables.{session_in};
+ghost use Rattle.job_table.specs.Nodes.{status_at, held};
+ghost use Rattle.job_table.specs.Walks.{edge_of, walk_of, IsWhyNot};
+
+use crate::fault::TableFault;
+use crate::inputs::Inputs;
+use crate::nodes::{Node, result_of};
+use item_ids::Key;
+use sessions::Session;
+use std::sync::Arc;
+
+/// How a past edge stands.
+#[derive(Clone, Copy)]
+pub enum Edge {
+    Open,
+    Unchanged,
+    Changed,
+}
+
+/// How a walk over past edges ends: all are unchanged, or the first that isn't, by its place.
+#[derive(Clone, Copy)]
+pub enum Walked {
+    AllUnchanged,
+    Open(usize),
+    Changed(usize),
+}
+
+/// How the past edge stands that leads to a record.
+fn past_edge(inputs: &Inputs, nodes: &Vec<Node>, past: &Session, at: usize) -> Edge
+    requires { at < length past.now.records }
+    ensures { edge_of result ≡ edge_at (print_in (past_entry (Some past.now)) (key_at past.now.records at)) (status_at inputs.now nodes.now.items (key_at past.now.records at)) }
+{
+    let record = &past.records()[at];
+    let Some(sealed) = result_of(inputs, nodes, record.key()) else {
+        return Edge::Open;
+    };
+    if record.sealed().same_print(sealed) {
+        Edge::Unchanged
+    } else {
+        Edge::Changed
+    }
+}
+
+/// How the walk over past edges ends.
+pub fn walk_edges(inputs: &Inputs, nodes: &Vec<Node>, past: &Session, edges: &[usize]) -> Walked
+    requires { AreInside past.now.records edges.now }
+    ensures { walk_of result ≡ walk (past_entry (Some past.now)) (held inputs.now nodes.now.items false) (map (key_at past.now.records) edges.now) }
+{
+    for (i, at) in edges.iter().enumerate() {
+        match past_edge(inputs, nodes, past, *at) {
+            Edge::Open => return Walked::Open(i),
+            Edge::Changed => return Walked::Changed(i),
+            Edge::Unchanged => {}
+        }
+    }
+    Walked::AllUnchanged
+}
+
+/// How the walk over a key's past edges ends, where the past has the key.
+fn past_walked(
+    inputs: &Inputs,
+    nodes: &Vec<Node>,
+    past: &Option<Arc<Session>>,
+    key: &Key,
+) -> Option<Walked>
+    ensures { option_map walk_of result ≡ past_walk (past_entry (session_in past.now)) (held inputs.now nodes.now.items false) key.now }
+{
+    let Some(past) = past else {
+        return None;
+    };
+    let Some(record) = past.find(key) else {
+        return None;
+    };
+    Some(walk_edges(inputs, nodes, past, record.edges()))
+}
+
+/// Why a key that the worker has claimed may not run.
+pub fn why_not(
+    inputs: &Inputs,
+    nodes: &Vec<Node>,
+    past: &Option<Arc<Session>>,
+    key: &Key,
+) -> Option<TableFault>
+    ensures { IsWhyNot (past_walk (past_entry (session_in past.now)) (held inputs.now nodes.now.items false) key.now) result }
+{
+    match past_walked(inputs, nodes, past, key) {
+        Some(Walked::Open(i)) => Some(TableFault::EdgeOpen(i)),
+        Some(Walked::AllUnchanged) => Some(TableFault::NothingChanged),
+        Some(Walked::Changed(_)) => None,
+        None => None,
+    }
+}
