@@ -1,0 +1,12 @@
+//! The files of sessions: writing one to a device, and reading it.
+#![tactic(auto)]
+
+mod device;
+mod fault;
+mod hashing;
+mod memory;
+mod putting;
+
+pub use device::{DeviceFault, Feed, Sink};
+pub use fault::FileFault;
+pub use memory::{MemoryFeed, MemorySink};
