@@ -1,5 +1,5 @@
 //! A sink that keeps the SHA-256 of its bytes alone.
-ghost use Rattle.std.specs.Prelude.{◌≡◌, ℕ, List, []};
+ghost use Rattle.std.specs.Prelude.{◌≡◌, ◌++◌, ℕ, List, []};
 ghost use Rattle.sha2.specs.Sha256.{sha256};
 ghost use Rattle.sha2.specs.Hashers.{Holds256};
 
@@ -19,6 +19,19 @@ impl HashingSink {
     {
         HashingSink {
             hasher: Sha256::new(),
+        }
+    }
+
+    /// Appends the SHA-256 of the bytes that it holds.
+    pub(crate) fn close(&mut self)
+        ensures { (bytes : List ℕ) → Holds256 self.old.hasher bytes → Holds256 self.new.hasher (bytes ++ sha256 bytes) }
+    {
+        match self.hasher.clone() {
+            Ok(copy) => {
+                let end = copy.finalize();
+                self.hasher.update(end.as_slice());
+            }
+            Err(_) => unreachable!(),
         }
     }
 

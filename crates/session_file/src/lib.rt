@@ -6,7 +6,9 @@ mod fault;
 mod hashing;
 mod memory;
 mod putting;
+mod writing;
 
 pub use device::{DeviceFault, Feed, Sink};
 pub use fault::FileFault;
 pub use memory::{MemoryFeed, MemorySink};
+pub use writing::{digest, write};
