@@ -1,0 +1,173 @@
+-- Edges: what is read is spelled so, and what is spelled so is read.
+use Rattle.std.proofs.Common.{◌≡◌, ◌≢◌, ℕ, zero, suc, ◌+◌, ◌-◌, ◌<◌, ◌≤◌, ◌^◌, ◌&&◌, ◌||◌, Bool, true, false, not, cond, eqb, ltb, List, [], ◌∷◌, ◌++◌, length, get_or, Result, Ok, Err, refl, sym, ap, subst, ◌∙◌, append_assoc, arith}
+use Rattle.std.specs.Prelude.{◌↔◌, IsTrue}
+use Rattle.std.specs.List.{AllByRecursion, flat_map}
+use Rattle.std.proofs.lemmas.Bool.{eqb-false, ne_eqb, ltb-true, lt-ltb}
+use Rattle.std.proofs.lemmas.List.{append-nil}
+use Rattle.std.proofs.lemmas.List.Concat.{flat_map-cons}
+use Rattle.item_ids.specs.declared.key.Key.{Key}
+use Rattle.byte_readers.specs.Lawful.{IsBytes, Takes}
+use Rattle.byte_readers.specs.Laws.{Takes-then, lawful_eight}
+use Rattle.byte_readers.specs.Spelling.{eight}
+use Rattle.byte_readers.specs.Reading.{eight_at}
+use Rattle.sessions.specs.Sessions.{RecordValue, rank, key_at, IsEdge, AreDistinct}
+use Rattle.sessions.specs.Edges.{IsNewEdge, AreEdges, IsNoneOf}
+use Rattle.sessions.proofs.Lists.{all_push, all_last, distinct_push, distinct_last}
+use Rattle.sessions.proofs.EdgeLaws.{SoFar}
+use Rattle.session_file.specs.declared.fault.FileFault.{FileFault}
+use Rattle.session_file.specs.declared.fault.FileFault.TheVariants.{BadEdge}
+use Rattle.session_file.specs.declared.stop.Stop.{Stop}
+use Rattle.session_file.specs.declared.stop.Stop.TheVariants as stops
+use Rattle.session_file.specs.Reading.{Stops, whole, is_among, is_next_edge, edges_from}
+use Rattle.session_file.proofs.ReadLaws.{done, ok_is, bind_ok, bind_is, guard_so, number_takes, number_again}
+
+both : (a b : Bool) → (a && b) ≡ true → (a ≡ true) × (b ≡ true)
+both true b e = (refl, e)
+both false b e = absurd cc
+
+of_both : (a b : Bool) → a ≡ true → b ≡ true → (a && b) ≡ true
+of_both true b e f = f
+of_both false b e f = absurd cc
+
+not_so : (b : Bool) → not b ≡ true → b ≡ false
+not_so true e = absurd cc
+not_so false e = refl
+
+so_not : (b : Bool) → b ≡ false → not b ≡ true
+so_not true e = absurd cc
+so_not false e = refl
+
+neither : (a b : Bool) → (a || b) ≡ false → (a ≡ false) × (b ≡ false)
+neither true b e = absurd cc
+neither false b e = (refl, e)
+
+of_neither : (a b : Bool) → a ≡ false → b ≡ false → (a || b) ≡ false
+of_neither true b e f = absurd cc
+of_neither false b e f = f
+
+bool_same : (a b : Bool) → (a ≡ true → b ≡ true) → (b ≡ true → a ≡ true) → a ≡ b
+bool_same true b f g = sym (f refl)
+bool_same false true f g = g refl
+bool_same false false f g = refl
+
+none_among : (ds : List ℕ) (e : ℕ) → is_among ds e ≡ false → IsNoneOf ds e
+none_among [] e h = tt
+none_among (d ∷ ds) e h = let n = neither (eqb d e) (is_among ds e) h in (eqb-false d e n.0, none_among ds e n.1)
+
+among_none : (ds : List ℕ) (e : ℕ) → IsNoneOf ds e → is_among ds e ≡ false
+among_none [] e h = refl
+among_none (d ∷ ds) e h = of_neither (eqb d e) (is_among ds e) (ne_eqb d e h.0) (among_none ds e h.1)
+
+pub next_edge : (front : List RecordValue) (key : Key) (edges : List ℕ) (e : ℕ) → is_next_edge front key edges e ≡ true → IsEdge front key e × IsNoneOf edges e
+next_edge front key edges e h =
+    let a = both (ltb e (length front)) (ltb (rank (key_at front e)) (rank key) && not (is_among edges e)) h in
+    let b = both (ltb (rank (key_at front e)) (rank key)) (not (is_among edges e)) a.1 in
+    ((ltb-true _ _ a.0, ltb-true _ _ b.0), none_among edges e (not_so _ b.1))
+
+pub is_next : (front : List RecordValue) (key : Key) (edges : List ℕ) (e : ℕ) → IsEdge front key e → IsNoneOf edges e → is_next_edge front key edges e ≡ true
+is_next front key edges e h none =
+    of_both (ltb e (length front)) (ltb (rank (key_at front e)) (rank key) && not (is_among edges e)) (lt-ltb _ _ h.0) (of_both (ltb (rank (key_at front e)) (rank key)) (not (is_among edges e)) (lt-ltb _ _ h.1) (so_not _ (among_none edges e none)))
+
+not_seen : (seen : List Bool) (e : ℕ) (b : Bool) → get_or seen e false ≡ b → (get_or seen e false ≡ true → ⊥) → get_or seen e false ≡ false
+not_seen seen e true is h = absurd (h is)
+not_seen seen e false is h = is
+
+-- the test of an edge, by what was seen
+pub admitted_is : (seen : List Bool) (front : List RecordValue) (key : Key) (edges : List ℕ) (e : ℕ) (admitted : Bool) → SoFar seen front key edges → IsTrue admitted ↔ IsNewEdge seen front key e → admitted ≡ is_next_edge front key edges e
+admitted_is seen front key edges e admitted h is =
+    bool_same admitted (is_next_edge front key edges e)
+    (λ t. let new = is.0 t in is_next front key edges e new.0 (h.tells.unseen e (omega (arith, h.same, new.0.0)) new.1))
+    (λ t. let next = next_edge front key edges e t in
+    is.1 (next.0, not_seen seen e (get_or seen e false) refl (λ one. h.tells.seen_one e (omega (arith, h.same, next.0.0)) one next.1)))
+
+-- ---- one edge after the other
+
+pub record EdgesRead (front : List RecordValue) (key : Key) (edges : List ℕ) (n : ℕ) (bytes all rest : List ℕ) : Type 0 where
+  pub items : List ℕ
+  pub whole_is : edges ++ items ≡ all
+  pub count_is : length items ≡ n
+  pub takes : Takes bytes (flat_map eight items) rest
+  pub are : AreEdges front key all
+
+pub edges_take : (front : List RecordValue) (key : Key) (n : ℕ) (edges bytes all rest : List ℕ) → AreEdges front key edges → IsBytes bytes → edges_from front key edges n bytes ≡ Ok (all, rest) → EdgesRead front key edges n bytes all rest
+unfolding edges_from
+edges_take front key zero edges bytes all rest are fits e =
+    let is = ok_is (edges, bytes) (all, rest) e in
+    record {
+      items = [];
+      whole_is = append-nil edges ∙ ap (λ (x : List ℕ × List ℕ). x.0) is;
+      count_is = refl;
+      takes = record { parts = ap (λ (x : List ℕ × List ℕ). x.1) is; rest_fits = subst IsBytes (ap (λ (x : List ℕ × List ℕ). x.1) is) fits };
+      are = subst (λ (x : List ℕ × List ℕ). AreEdges front key x.0) is are;
+    }
+edges_take front key (suc n) edges bytes all rest are fits e =
+    let a = bind_ok (whole (eight_at bytes)) (λ e. cond (is_next_edge front key edges e.0) (edges_from front key (edges ++ e.0 ∷ []) n e.1) (Err (BadEdge (length front) (length edges)))) (all, rest) e in
+    let g = guard_so (is_next_edge front key edges a.0.0) (BadEdge (length front) (length edges)) (edges_from front key (edges ++ a.0.0 ∷ []) n a.0.1) (all, rest) a.2 in
+    let next = next_edge front key edges a.0.0 g.0 in
+    let t = number_takes lawful_eight bytes a.0.0 a.0.1 fits a.1 in
+    let more : AreEdges front key (edges ++ a.0.0 ∷ []) = (all_push (IsEdge front key) edges a.0.0 are.0 next.0, distinct_push edges a.0.0 are.1 next.1) in
+    let u = edges_take front key n (edges ++ a.0.0 ∷ []) a.0.1 all rest more t.0.rest_fits g.1 in
+    record {
+      items = a.0.0 ∷ u.items;
+      whole_is = sym (append_assoc edges (a.0.0 ∷ []) u.items) ∙ u.whole_is;
+      count_is = ap (λ (k : ℕ). suc k) u.count_is;
+      takes = rw flat_map-cons (Takes-then bytes (eight a.0.0) a.0.1 (flat_map eight u.items) rest t.0 u.takes);
+      are = u.are;
+    }
+
+all_prefix : {A : Type 0} (P : A → Type 0) (xs ys : List A) → AllByRecursion P (xs ++ ys) → AllByRecursion P xs
+all_prefix P [] ys h = tt
+all_prefix P (x ∷ xs) ys h = (h.0, all_prefix P xs ys h.1)
+
+distinct_prefix : (xs ys : List ℕ) → AreDistinct (xs ++ ys) → AreDistinct xs
+distinct_prefix [] ys h = tt
+distinct_prefix (x ∷ xs) ys h = (all_prefix (λ m. m ≢ x) xs ys h.0, distinct_prefix xs ys h.1)
+
+pub edges_again : (front : List RecordValue) (key : Key) (items edges rest : List ℕ) → length front < 2 ^ 64 → AreEdges front key (edges ++ items) → edges_from front key edges (length items) (flat_map eight items ++ rest) ≡ Ok (edges ++ items, rest)
+unfolding edges_from
+edges_again front key [] edges rest few are = ap (λ (x : List ℕ). done (x, rest)) (sym (append-nil edges))
+edges_again front key (e ∷ items) edges rest few are =
+    let regrouped : flat_map eight (e ∷ items) ++ rest ≡ eight e ++ (flat_map eight items ++ rest) = ap (λ (x : List ℕ). x ++ rest) (flat_map-cons eight e items) ∙ append_assoc (eight e) (flat_map eight items) rest in
+    let longer : AreEdges front key ((edges ++ e ∷ []) ++ items) = subst (AreEdges front key) (sym (append_assoc edges (e ∷ []) items)) are in
+    let here_all : AllByRecursion (IsEdge front key) (edges ++ e ∷ []) = all_prefix (IsEdge front key) (edges ++ e ∷ []) items longer.0 in
+    let here_distinct : AreDistinct (edges ++ e ∷ []) = distinct_prefix (edges ++ e ∷ []) items longer.1 in
+    let edge : IsEdge front key e = all_last (IsEdge front key) edges e here_all in
+    let next : is_next_edge front key edges e ≡ true = is_next front key edges e edge (distinct_last edges e here_distinct) in
+    let small : e < 2 ^ 64 = omega (arith, edge.0, few) in
+    ap (edges_from front key edges (suc (length items))) regrouped
+    ∙ bind_is (whole (eight_at (eight e ++ (flat_map eight items ++ rest)))) (λ e. cond (is_next_edge front key edges e.0) (edges_from front key (edges ++ e.0 ∷ []) (length items) e.1) (Err (BadEdge (length front) (length edges)))) (e, flat_map eight items ++ rest) (number_again lawful_eight e (flat_map eight items ++ rest) small)
+    ∙ rw next (edges_again front key items (edges ++ e ∷ []) rest few longer)
+    ∙ ap (λ (x : List ℕ). done (x, rest)) (append_assoc edges (e ∷ []) items)
+
+-- ---- the loop
+
+pub edges_go_on : (front : List RecordValue) (key : Key) (edges : List ℕ) (count i : ℕ) (bytes : List ℕ) (e : ℕ) (after : List ℕ) (total : Result (List ℕ × List ℕ) FileFault) → i < count → whole (eight_at bytes) ≡ Ok (e, after) → is_next_edge front key edges e ≡ true → edges_from front key edges (count - i) bytes ≡ total
+    → edges_from front key (edges ++ e ∷ []) (count - (i + 1)) after ≡ total
+unfolding edges_from
+edges_go_on front key edges count i bytes e after total lt h next so_far =
+    let k : count - i ≡ suc (count - (i + 1)) = omega arith in
+    let one : edges_from front key edges (count - i) bytes ≡ edges_from front key (edges ++ e ∷ []) (count - (i + 1)) after = rw (k, h, next) refl in
+    sym one ∙ so_far
+
+pub edges_refused : (front : List RecordValue) (key : Key) (edges : List ℕ) (count i : ℕ) (bytes : List ℕ) (e : ℕ) (after : List ℕ) (total : Result (List ℕ × List ℕ) FileFault) → i < count → whole (eight_at bytes) ≡ Ok (e, after) → is_next_edge front key edges e ≡ false → edges_from front key edges (count - i) bytes ≡ total
+    → total ≡ Err (BadEdge (length front) (length edges))
+unfolding edges_from
+edges_refused front key edges count i bytes e after total lt h not_next so_far =
+    let k : count - i ≡ suc (count - (i + 1)) = omega arith in
+    let one : edges_from front key edges (count - i) bytes ≡ Err (BadEdge (length front) (length edges)) = rw (k, h, not_next) refl in
+    sym so_far ∙ one
+
+pub edges_end : (stop : Stop) (front : List RecordValue) (key : Key) (edges : List ℕ) (count i : ℕ) (bytes : List ℕ) (total : Result (List ℕ × List ℕ) FileFault) → i < count → Stops stop (whole (eight_at bytes)) → edges_from front key edges (count - i) bytes ≡ total → Stops stop total
+unfolding edges_from
+edges_end stops.Memory front key edges count i bytes total lt h so_far = tt
+edges_end (stops.Breach fault) front key edges count i bytes total lt h so_far =
+    let k : count - i ≡ suc (count - (i + 1)) = omega arith in
+    let one : edges_from front key edges (count - i) bytes ≡ Err fault = rw (k, h) refl in
+    sym so_far ∙ one
+
+pub edges_done : (front : List RecordValue) (key : Key) (edges : List ℕ) (count i : ℕ) (bytes : List ℕ) (total : Result (List ℕ × List ℕ) FileFault) → count ≤ i → edges_from front key edges (count - i) bytes ≡ total → total ≡ Ok (edges, bytes)
+unfolding edges_from
+edges_done front key edges count i bytes total le so_far =
+    let k : count - i ≡ 0 = omega arith in
+    let one : edges_from front key edges (count - i) bytes ≡ Ok (edges, bytes) = rw k refl in
+    sym so_far ∙ one

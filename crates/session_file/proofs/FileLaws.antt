@@ -1,0 +1,160 @@
+-- The file: what is read is spelled so, and what is spelled so is read.
+use Rattle.std.proofs.Common.{◌≡◌, ℕ, ◌-◌, ◌<◌, ◌≤◌, ◌^◌, Bool, true, false, cond, eqb, ltb, leb, List, [], ◌++◌, length, take, drop, Ok, Err, refl, sym, ap, subst, ◌∙◌, append_assoc, arith}
+use Rattle.std.specs.Prelude.{bytes_eq}
+use Rattle.std.specs.List.{flat_map}
+use Rattle.std.proofs.lemmas.Bool.{eqb-true, leb-true, le-leb, le-ltb}
+use Rattle.std.proofs.lemmas.List.{append-nil, length-append, take_at, nil_from_length, take-append-drop}
+use Rattle.std.proofs.lemmas.Slice.Eq.{bytes_eq-Decides}
+use Rattle.sha2.specs.Sha256.{sha256}
+use Rattle.sha2.proofs.Facts256.{length-sha256}
+use Rattle.byte_readers.specs.Lawful.{IsBytes, Takes}
+use Rattle.byte_readers.specs.Laws.{IsBytes-drop, Takes-then, lawful_two, lawful_four, lawful_eight}
+use Rattle.byte_readers.specs.Spelling.{two, four, eight}
+use Rattle.byte_readers.specs.Reading.{two_at, four_at, eight_at}
+use Rattle.sessions.specs.Sessions.{RecordValue, SessionValue, AreRecords, IsSession}
+use Rattle.sessions.specs.Spelling.{start, record_bytes, head_bytes, body_bytes, file_of}
+use Rattle.session_file.specs.declared.fault.FileFault.TheVariants.{BadMagic, Version, Number, BadDigest}
+use Rattle.session_file.specs.Reading.{whole, bytes_at, tested, HeadValue, magic, magic_at, head_at, end_at, records_from, file_at}
+use Rattle.session_file.proofs.ReadLaws.{done, ok_is, bind_ok, bind_is, guard_ok, guard_so, tested_ok, tested_is, number_takes, number_again, bytes_takes, bytes_again}
+use Rattle.session_file.proofs.RecordsReadLaws.{records_take, records_again}
+
+magic_takes : (bytes rest : List ℕ) → IsBytes bytes → magic_at bytes ≡ Ok rest → Takes bytes magic rest
+unfolding magic_at
+magic_takes bytes rest fits e =
+    let a = guard_ok (ltb (length bytes) 4) BadMagic (cond (bytes_eq (take 4 bytes) magic) (done (drop 4 bytes)) (Err BadMagic)) rest e in
+    let b = guard_so (bytes_eq (take 4 bytes) magic) BadMagic (done (drop 4 bytes)) rest a.1 in
+    let is = ok_is (drop 4 bytes) rest b.1 in
+    let front : take 4 bytes ≡ magic = (bytes_eq-Decides (take 4 bytes) magic).0 b.0 in
+    subst (λ (xs : List ℕ). Takes bytes magic xs) is (record { parts = sym (take-append-drop 4 bytes) ∙ ap (λ (xs : List ℕ). xs ++ drop 4 bytes) front; rest_fits = IsBytes-drop 4 bytes fits })
+
+magic_again : (rest : List ℕ) → magic_at (magic ++ rest) ≡ Ok rest
+unfolding magic_at
+magic_again rest =
+    let long : ltb (length (magic ++ rest)) 4 ≡ false = le-ltb _ _ (omega arith) in
+    ap (λ (b : Bool). cond b (Err BadMagic) (done rest)) long
+
+version_is : magic ++ two 1 ≡ start
+unfolding two
+version_is = refl
+
+abbrev head_of : HeadValue → List ℕ
+head_of h = magic ++ (two 1 ++ (four h.number ++ (h.link ++ eight h.count)))
+
+pub record HeadFits (h : HeadValue) : Type 0 where
+  pub number : h.number ≤ 9999
+  pub link : length h.link ≡ 32
+  pub count : h.count < 2 ^ 64
+
+pub head_takes : (bytes : List ℕ) (h : HeadValue) (rest : List ℕ) → IsBytes bytes → head_at bytes ≡ Ok (h, rest) → Takes bytes (head_of h) rest × HeadFits h
+unfolding head_at
+head_takes bytes h rest fits e =
+    let a = bind_ok (magic_at bytes) _ (h, rest) e in
+    let b = bind_ok (whole (two_at a.0)) _ (h, rest) a.2 in
+    let c = bind_ok (tested (eqb b.0.0 1) Version) _ (h, rest) b.2 in
+    let d = bind_ok (whole (four_at b.0.1)) _ (h, rest) c.2 in
+    let s = bind_ok (tested (leb d.0.0 9999) Number) _ (h, rest) d.2 in
+    let l = bind_ok (bytes_at 32 d.0.1) _ (h, rest) s.2 in
+    let n = bind_ok (whole (eight_at l.0.1)) _ (h, rest) l.2 in
+    let ta = magic_takes bytes a.0 fits a.1 in
+    let tb = number_takes lawful_two a.0 b.0.0 b.0.1 ta.rest_fits b.1 in
+    let td = number_takes lawful_four b.0.1 d.0.0 d.0.1 tb.0.rest_fits d.1 in
+    let tl = bytes_takes 32 d.0.1 l.0.0 l.0.1 td.0.rest_fits l.1 in
+    let tn = number_takes lawful_eight l.0.1 n.0.0 n.0.1 tl.0.rest_fits n.1 in
+    let version : b.0.0 ≡ 1 = eqb-true _ _ (tested_ok _ _ c.0 c.1) in
+    let number : d.0.0 ≤ 9999 = leb-true _ _ (tested_ok _ _ s.0 s.1) in
+    let tv : Takes a.0 (two 1) b.0.1 = subst (λ (k : ℕ). Takes a.0 (two k) b.0.1) version tb.0 in
+    let all = Takes-then bytes magic a.0 (two 1 ++ (four d.0.0 ++ (l.0.0 ++ eight n.0.0))) n.0.1 ta (Takes-then a.0 (two 1) b.0.1 (four d.0.0 ++ (l.0.0 ++ eight n.0.0)) n.0.1 tv (Takes-then b.0.1 (four d.0.0) d.0.1 (l.0.0 ++ eight n.0.0) n.0.1 td.0 (Takes-then d.0.1 l.0.0 l.0.1 (eight n.0.0) n.0.1 tl.0 tn.0))) in
+    subst (λ (x : HeadValue × List ℕ). Takes bytes (head_of x.0) x.1 × HeadFits x.0) (ok_is (record { number = d.0.0; link = l.0.0; count = n.0.0 }, n.0.1) (h, rest) n.2)
+    (all, record { number = number; link = tl.1; count = tn.1 })
+
+head_regrouped : (h : HeadValue) (rest : List ℕ) → head_of h ++ rest ≡ magic ++ (two 1 ++ (four h.number ++ (h.link ++ (eight h.count ++ rest))))
+head_regrouped h rest =
+    append_assoc magic (two 1 ++ (four h.number ++ (h.link ++ eight h.count))) rest
+    ∙ ap (λ (xs : List ℕ). magic ++ xs) (append_assoc (two 1) (four h.number ++ (h.link ++ eight h.count)) rest
+    ∙ ap (λ (xs : List ℕ). two 1 ++ xs) (append_assoc (four h.number) (h.link ++ eight h.count) rest
+    ∙ ap (λ (xs : List ℕ). four h.number ++ xs) (append_assoc h.link (eight h.count) rest)))
+
+pub head_again : (h : HeadValue) (rest : List ℕ) → HeadFits h → head_at (head_of h ++ rest) ≡ Ok (h, rest)
+unfolding head_at
+head_again h rest fits =
+    let e = eight h.count ++ rest in
+    let l = h.link ++ e in
+    let n = four h.number ++ l in
+    ap head_at (head_regrouped h rest)
+    ∙ bind_is (magic_at (magic ++ (two 1 ++ n))) _ (two 1 ++ n) (magic_again (two 1 ++ n))
+    ∙ bind_is (whole (two_at (two 1 ++ n))) _ (1, n) (number_again lawful_two 1 n (omega arith))
+    ∙ bind_is (whole (four_at n)) _ (h.number, l) (number_again lawful_four h.number l (omega (arith, fits.number)))
+    ∙ bind_is (tested (leb h.number 9999) Number) _ tt (tested_is _ _ (le-leb _ _ fits.number))
+    ∙ bind_is (bytes_at 32 l) _ (h.link, e) (bytes_again 32 h.link e fits.link)
+    ∙ bind_is (whole (eight_at e)) _ (h.count, rest) (number_again lawful_eight h.count rest fits.count)
+
+-- ---- the end
+
+pub end_takes : (body bytes : List ℕ) (u : Unit {0}) → IsBytes bytes → end_at body bytes ≡ Ok u → bytes ≡ sha256 body
+unfolding end_at
+end_takes body bytes u fits e =
+    let a = bind_ok (bytes_at 32 bytes) _ u e in
+    let b = bind_ok (tested (bytes_eq a.0.0 (sha256 body)) BadDigest) _ u a.2 in
+    let t = bytes_takes 32 bytes a.0.0 a.0.1 fits a.1 in
+    let digest : a.0.0 ≡ sha256 body = (bytes_eq-Decides a.0.0 (sha256 body)).0 (tested_ok _ _ b.0 b.1) in
+    let none : a.0.1 ≡ [] = nil_from_length a.0.1 (eqb-true _ _ (tested_ok _ _ u b.2)) in
+    t.0.parts ∙ ap (λ (xs : List ℕ). a.0.0 ++ xs) none ∙ append-nil a.0.0 ∙ digest
+
+pub end_again : (body : List ℕ) → end_at body (sha256 body) ≡ Ok tt
+unfolding end_at
+end_again body =
+    let same : bytes_eq (sha256 body) (sha256 body) ≡ true = (bytes_eq-Decides (sha256 body) (sha256 body)).1 refl in
+    ap (end_at body) (sym (append-nil (sha256 body)))
+    ∙ bind_is (bytes_at 32 (sha256 body ++ [])) _ (sha256 body, []) (bytes_again 32 (sha256 body) [] (length-sha256 body))
+    ∙ bind_is (tested (bytes_eq (sha256 body) (sha256 body)) BadDigest) _ tt (tested_is _ _ same)
+
+-- ---- the file
+
+body_parts : (h : HeadValue) (records : List RecordValue) → h.count ≡ length records → head_of h ++ flat_map record_bytes records ≡ body_bytes (record { number = h.number; link = h.link; records = records })
+unfolding body_bytes head_bytes two
+body_parts h records is = ap (λ (n : ℕ). (magic ++ (two 1 ++ (four h.number ++ (h.link ++ eight n)))) ++ flat_map record_bytes records) is
+
+-- what stands in front of the rest
+front_is : (bytes body rest : List ℕ) → bytes ≡ body ++ rest → take (length bytes - length rest) bytes ≡ body
+front_is bytes body rest is =
+    let n : length bytes - length rest ≡ length body = omega (arith, ap (λ (xs : List ℕ). length xs) is, length-append body rest) in
+    ap (λ (k : ℕ). take k bytes) n ∙ ap (λ (xs : List ℕ). take (length body) xs) is ∙ take_at body rest (length body) refl
+
+file_parts : (s : SessionValue) (body rest : List ℕ) → body ≡ body_bytes s → rest ≡ sha256 body → body ++ rest ≡ file_of s
+unfolding file_of
+file_parts s body rest eb er = ap (λ (xs : List ℕ). body ++ xs) er ∙ ap (λ (xs : List ℕ). xs ++ sha256 xs) eb
+
+pub no_records : AreRecords []
+no_records i r lt = absurd (omega (arith, lt))
+
+pub file_takes : (bytes : List ℕ) (s : SessionValue) → IsBytes bytes → file_at bytes ≡ Ok s → IsSession s × (bytes ≡ file_of s)
+unfolding file_at
+file_takes bytes s fits e =
+    let a = bind_ok (head_at bytes) _ s e in
+    let b = bind_ok (records_from [] a.0.0.count a.0.1) _ s a.2 in
+    let d = bind_ok (end_at (take (length bytes - length b.0.1) bytes) b.0.1) _ s b.2 in
+    let ta = head_takes bytes a.0.0 a.0.1 fits a.1 in
+    let tb = records_take a.0.0.count [] a.0.1 b.0.0 b.0.1 no_records ta.0.rest_fits b.1 in
+    let td = end_takes (take (length bytes - length b.0.1) bytes) b.0.1 d.0 tb.takes.rest_fits d.1 in
+    let count : a.0.0.count ≡ length b.0.0 = sym tb.count_is ∙ ap (λ (xs : List RecordValue). length xs) tb.whole_is in
+    let records : Takes a.0.1 (flat_map record_bytes b.0.0) b.0.1 = subst (λ (xs : List RecordValue). Takes a.0.1 (flat_map record_bytes xs) b.0.1) tb.whole_is tb.takes in
+    let body = head_of a.0.0 ++ flat_map record_bytes b.0.0 in
+    let all : Takes bytes body b.0.1 = Takes-then bytes (head_of a.0.0) a.0.1 (flat_map record_bytes b.0.0) b.0.1 ta.0 records in
+    let front : take (length bytes - length b.0.1) bytes ≡ body = front_is bytes body b.0.1 all.parts in
+    let made : SessionValue = record { number = a.0.0.number; link = a.0.0.link; records = b.0.0 } in
+    subst (λ (x : SessionValue). IsSession x × (bytes ≡ file_of x)) (ok_is made s d.2)
+    (record { number = ta.1.number; link = ta.1.link; few = omega (arith, count, ta.1.count); records = tb.are }, all.parts ∙ file_parts made body b.0.1 (body_parts a.0.0 b.0.0 count) (td ∙ ap sha256 front))
+
+pub file_again : (s : SessionValue) → IsSession s → file_at (file_of s) ≡ Ok s
+unfolding file_at file_of
+file_again s h =
+    let head : HeadValue = record { number = s.number; link = s.link; count = length s.records } in
+    let records = flat_map record_bytes s.records in
+    let rest = sha256 (body_bytes s) in
+    let body : head_of head ++ records ≡ body_bytes s = body_parts head s.records refl in
+    let regrouped : body_bytes s ++ rest ≡ head_of head ++ (records ++ rest) = ap (λ (xs : List ℕ). xs ++ rest) (sym body) ∙ append_assoc (head_of head) records rest in
+    let front : take (length (body_bytes s ++ rest) - length rest) (body_bytes s ++ rest) ≡ body_bytes s = front_is (body_bytes s ++ rest) (body_bytes s) rest refl in
+    let one : head_at (body_bytes s ++ rest) ≡ Ok (head, records ++ rest) = ap head_at regrouped ∙ head_again head (records ++ rest) (record { number = h.number; link = h.link; count = h.few }) in
+    bind_is (head_at (body_bytes s ++ rest)) _ (head, records ++ rest) one
+    ∙ bind_is (records_from [] (length s.records) (records ++ rest)) _ (s.records, rest) (records_again s.records [] rest h.few h.records)
+    ∙ bind_is (end_at (take (length (body_bytes s ++ rest) - length rest) (body_bytes s ++ rest)) rest) _ tt (ap (λ (xs : List ℕ). end_at xs rest) front ∙ end_again (body_bytes s))

@@ -1,0 +1,9 @@
+pub mod PutLaws
+pub mod PartLaws
+pub mod KeyLaws
+pub mod NamedLaws
+pub mod ReadLaws
+pub mod EdgeReadLaws
+pub mod RecordReadLaws
+pub mod RecordsReadLaws
+pub mod FileLaws

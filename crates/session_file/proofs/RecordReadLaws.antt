@@ -1,0 +1,277 @@
+-- Records: what is read is spelled so, and what is spelled so is read.
+use Rattle.std.proofs.Common.{◌≡◌, ◌≢◌, ℕ, ◌-◌, ◌<◌, ◌^◌, Bool, true, false, cond, List, [], ◌∷◌, ◌++◌, length, Option, Some, None, Result, Ok, Err, refl, sym, ap, subst, ◌∙◌, append_assoc, arith}
+use Rattle.std.specs.Prelude.{slice_get, bytes_eq}
+use Rattle.std.specs.List.{flat_map}
+use Rattle.std.proofs.lemmas.Slice.Eq.{bytes_eq-Decides}
+use Rattle.sha2.proofs.Facts256.{length-sha256}
+use Rattle.item_ids.specs.declared.kind.Kind.{Kind}
+use Rattle.item_ids.specs.declared.key.Key.{Key}
+use Rattle.item_ids.specs.Kinds.{number_of}
+use Rattle.item_ids.specs.Keys.{kind_of, class_text, member_text, key_cmp}
+use Rattle.byte_readers.specs.Lawful.{IsBytes, Takes}
+use Rattle.byte_readers.specs.Laws.{Takes-then, lawful_eight}
+use Rattle.byte_readers.specs.Spelling.{eight, name, list}
+use Rattle.byte_readers.specs.Reading.{byte_at, eight_at}
+use Rattle.result_bytes.specs.declared.refusal.Refusal.{Refusal}
+use Rattle.result_bytes.specs.declared.value.Value.{Value}
+use Rattle.result_bytes.specs.Values.{IsValue, canon, decoded, kind_of as kind_of_value}
+use Rattle.result_bytes.proofs.ValueLaws.{decoded_takes, decoded_at}
+use Rattle.fingerprint.specs.Prints.{print_of}
+use Rattle.sessions.specs.declared.mark.Mark.{Mark}
+use Rattle.sessions.specs.Marks.{is_input, is_input_mark, number_of as mark_number}
+use Rattle.sessions.specs.Keys.{HasNames}
+use Rattle.sessions.specs.Sessions.{RecordValue, IsAbove, FitsBehind, AreRecords}
+use Rattle.sessions.specs.Edges.{AreEdges}
+use Rattle.sessions.specs.Spelling.{key_bytes, result_bytes, record_bytes}
+use Rattle.sessions.proofs.RecordLaws.{above_last, last_below, less_of_test, test_of_less}
+use Rattle.session_file.specs.declared.fault.FileFault.TheVariants.{BadKey, KeyOrder, Result as BadResult}
+use Rattle.session_file.specs.Keys.{same, key_with, mark_with}
+use Rattle.session_file.specs.Reading.{whole, bytes_at, text_at, there, tested, ItemValue, item_with, item_at, is_behind, placed, edges_from, edges_at, printed, result_at, RestValue, rest_at, record_at}
+use Rattle.session_file.proofs.ReadLaws.{ok_is, bind_ok, bind_is, tested_ok, tested_is, there_ok, number_takes, number_again, byte_takes, bytes_takes, bytes_again, text_takes, text_again}
+use Rattle.session_file.proofs.KeyLaws.{mark_again}
+use Rattle.session_file.proofs.NamedLaws.{key_takes, mark_takes, key_again}
+use Rattle.session_file.proofs.EdgeReadLaws.{edges_take, edges_again}
+
+-- ---- a key and its mark
+
+abbrev item_bytes : ItemValue → List ℕ
+item_bytes item = key_bytes item.key ++ (mark_number item.mark ∷ [])
+
+record Named (k : Option Key) (t : Option Mark) (item : ItemValue) : Type 0 where
+  pub key : k ≡ Some item.key
+  pub mark : t ≡ Some item.mark
+
+item_named : (key : Option Key) (mark : Option Mark) (item : ItemValue) → item_with key mark ≡ Some item → Named key mark item
+item_named (Some key) (Some mark) item e = record { key = cc; mark = cc }
+item_named (Some key) None item e = absurd cc
+item_named None (Some mark) item e = absurd cc
+item_named None None item e = absurd cc
+
+item_parts : (n t : ℕ) (c m : List ℕ) (key : Key) (mark : Mark) → number_of (kind_of key) ≡ n → class_text key ≡ c → member_text key ≡ m → mark_number mark ≡ t → (n ∷ []) ++ (name c ++ (name m ++ (t ∷ []))) ≡ key_bytes key ++ (mark_number mark ∷ [])
+unfolding key_bytes
+item_parts n t c m key mark en ec em et = rw (← en, ← ec, ← em, ← et) (ap (λ (xs : List ℕ). number_of (kind_of key) ∷ (length (class_text key) ∷ xs)) (sym (append_assoc (class_text key) (name (member_text key)) (mark_number mark ∷ []))))
+
+pub item_takes : (i : ℕ) (bytes : List ℕ) (item : ItemValue) (rest : List ℕ) → IsBytes bytes → item_at i bytes ≡ Ok (item, rest) → Takes bytes (item_bytes item) rest × HasNames item.key
+unfolding item_at
+item_takes i bytes item rest fits e =
+    let a = bind_ok (whole (byte_at bytes)) _ (item, rest) e in
+    let b = bind_ok (text_at a.0.1) _ (item, rest) a.2 in
+    let c = bind_ok (text_at b.0.1) _ (item, rest) b.2 in
+    let d = bind_ok (whole (byte_at c.0.1)) _ (item, rest) c.2 in
+    let t = there_ok (BadKey i) (item_with (key_with a.0.0 b.0.0 c.0.0) (mark_with d.0.0)) d.0.1 item rest d.2 in
+    let ta = byte_takes bytes a.0.0 a.0.1 fits a.1 in
+    let tb = text_takes a.0.1 b.0.0 b.0.1 ta.0.rest_fits b.1 in
+    let tc = text_takes b.0.1 c.0.0 c.0.1 tb.0.rest_fits c.1 in
+    let td = byte_takes c.0.1 d.0.0 d.0.1 tc.0.rest_fits d.1 in
+    let n = item_named (key_with a.0.0 b.0.0 c.0.0) (mark_with d.0.0) item t.0 in
+    let k = key_takes a.0.0 b.0.0 c.0.0 item.key tb.1 tc.1 n.key in
+    let all = Takes-then bytes (a.0.0 ∷ []) a.0.1 (name b.0.0 ++ (name c.0.0 ++ (d.0.0 ∷ []))) d.0.1 ta.0 (Takes-then a.0.1 (name b.0.0) b.0.1 (name c.0.0 ++ (d.0.0 ∷ [])) d.0.1 tb.0 (Takes-then b.0.1 (name c.0.0) c.0.1 (d.0.0 ∷ []) d.0.1 tc.0 td.0)) in
+    let spelled = item_parts a.0.0 d.0.0 b.0.0 c.0.0 item.key item.mark k.kind k.class k.member (mark_takes d.0.0 item.mark n.mark) in
+    (subst (λ (xs : List ℕ). Takes bytes xs rest) spelled (subst (λ (xs : List ℕ). Takes bytes ((a.0.0 ∷ []) ++ (name b.0.0 ++ (name c.0.0 ++ (d.0.0 ∷ [])))) xs) t.1 all), k.names)
+
+item_regrouped : (item : ItemValue) (rest : List ℕ) → item_bytes item ++ rest ≡ number_of (kind_of item.key) ∷ (name (class_text item.key) ++ (name (member_text item.key) ++ (mark_number item.mark ∷ rest)))
+item_regrouped item rest =
+    ap (λ (xs : List ℕ). xs ++ rest) (sym (item_parts (number_of (kind_of item.key)) (mark_number item.mark) (class_text item.key) (member_text item.key) item.key item.mark refl refl refl refl))
+    ∙ ap (λ (xs : List ℕ). number_of (kind_of item.key) ∷ xs) (append_assoc (name (class_text item.key)) (name (member_text item.key) ++ (mark_number item.mark ∷ [])) rest
+    ∙ ap (λ (xs : List ℕ). name (class_text item.key) ++ xs) (append_assoc (name (member_text item.key)) (mark_number item.mark ∷ []) rest))
+
+pub item_again : (i : ℕ) (item : ItemValue) (rest : List ℕ) → HasNames item.key → item_at i (item_bytes item ++ rest) ≡ Ok (item, rest)
+unfolding item_at
+item_again i item rest h =
+    let k = key_again item.key h in
+    let m = mark_again item.mark in
+    ap (item_at i) (item_regrouped item rest)
+    ∙ bind_is (text_at (name (class_text item.key) ++ (name (member_text item.key) ++ (mark_number item.mark ∷ rest)))) _ (class_text item.key, name (member_text item.key) ++ (mark_number item.mark ∷ rest)) (text_again (class_text item.key) (name (member_text item.key) ++ (mark_number item.mark ∷ rest)))
+    ∙ bind_is (text_at (name (member_text item.key) ++ (mark_number item.mark ∷ rest))) _ (member_text item.key, mark_number item.mark ∷ rest) (text_again (member_text item.key) (mark_number item.mark ∷ rest))
+    ∙ rw (k, m) refl
+
+-- ---- the place
+
+get_last : (r : RecordValue) (front : List RecordValue) → None ≢ slice_get (r ∷ front) (length front)
+get_last r [] e = cc
+get_last r (s ∷ front) e = get_last s front e
+
+no_last : (front : List RecordValue) → None ≡ slice_get front (length front - 1) → front ≡ []
+no_last [] e = refl
+no_last (r ∷ front) e =
+    let n : length (r ∷ front) - 1 ≡ length front = omega arith in
+    absurd (get_last r front (e ∙ ap (slice_get (r ∷ front)) n))
+
+behind : (front : List RecordValue) (key : Key) (last : Option RecordValue) → AreRecords front → last ≡ slice_get front (length front - 1) → (is_behind last key ≡ true → IsAbove front key) × (IsAbove front key → is_behind last key ≡ true)
+behind front key None are is = (λ t. subst (λ (xs : List RecordValue). IsAbove xs key) (sym (no_last front is)) tt, λ above. refl)
+behind front key (Some last) are is = (
+  λ t. above_last front (length front - 1) last key are refl is (less_of_test (key_cmp last.key key) t),
+  λ above. test_of_less (key_cmp last.key key) (last_below front (length front - 1) last key refl is above),
+)
+
+same_is : (a b : Bool) → same a b ≡ true → a ≡ b
+same_is true true e = refl
+same_is true false e = absurd cc
+same_is false true e = absurd cc
+same_is false false e = refl
+
+is_same : (a b : Bool) → a ≡ b → same a b ≡ true
+is_same true true e = refl
+is_same true false e = absurd cc
+is_same false true e = absurd cc
+is_same false false e = refl
+
+pub record IsPlaced (front : List RecordValue) (item : ItemValue) : Type 0 where
+  pub above : IsAbove front item.key
+  pub marked : is_input_mark item.mark ≡ is_input (kind_of item.key)
+
+pub placed_ok : (front : List RecordValue) (item : ItemValue) (u : Unit {0}) → AreRecords front → placed front item ≡ Ok u → IsPlaced front item
+unfolding placed
+placed_ok front item u are e =
+    let a = bind_ok (tested (is_behind (slice_get front (length front - 1)) item.key) (KeyOrder (length front))) _ u e in
+    record {
+      above = (behind front item.key (slice_get front (length front - 1)) are refl).0 (tested_ok _ _ a.0 a.1);
+      marked = same_is _ _ (tested_ok _ _ u a.2);
+    }
+
+pub placed_is : (front : List RecordValue) (item : ItemValue) → AreRecords front → IsPlaced front item → placed front item ≡ Ok tt
+unfolding placed
+placed_is front item are h =
+    bind_is (tested (is_behind (slice_get front (length front - 1)) item.key) (KeyOrder (length front))) _ tt (tested_is _ _ ((behind front item.key (slice_get front (length front - 1)) are refl).1 h.above))
+    ∙ tested_is _ _ (is_same (is_input_mark item.mark) (is_input (kind_of item.key)) h.marked)
+
+-- ---- the result
+
+pub record ResultFits (wanted : Kind) (v : Value) : Type 0 where
+  pub value : IsValue v
+  pub kind : kind_of_value v ≡ wanted
+  pub size : length (canon v) < 2 ^ 64
+
+kept : {A : Type 0} (b : Bool) (x : Option A) (y : A) → cond b x None ≡ Some y → (b ≡ true) × (x ≡ Some y)
+kept true x y e = (refl, e)
+kept false x y e = absurd cc
+
+some_is : {A : Type 0} (x y : A) → Some x ≡ Some y → x ≡ y
+some_is x y e = cc
+
+record Printed (p : List ℕ) (r : Result Value Refusal) (v : Value) : Type 0 where
+  pub value : r ≡ Ok v
+  pub print : p ≡ print_of v
+
+printed_is : (print : List ℕ) (r : Result Value Refusal) (v : Value) → printed print r ≡ Some v → Printed print r v
+printed_is print (Ok w) v e =
+    let k = kept (bytes_eq print (print_of w)) (Some w) v e in
+    let is = some_is w v k.1 in
+    record { value = cc; print = (bytes_eq-Decides print (print_of w)).0 k.0 ∙ ap print_of is }
+printed_is print (Err refusal) v e = absurd cc
+
+result_parts : (v : Value) (p n t : List ℕ) → p ≡ print_of v → n ≡ eight (length (canon v)) → t ≡ canon v → p ++ (n ++ t) ≡ result_bytes v
+unfolding result_bytes
+result_parts v p n t ep en et = rw (ep, en, et) refl
+
+pub result_takes : (i : ℕ) (kind : Kind) (bytes : List ℕ) (v : Value) (rest : List ℕ) → IsBytes bytes → result_at i kind bytes ≡ Ok (v, rest) → Takes bytes (result_bytes v) rest × ResultFits kind v
+unfolding result_at
+result_takes i kind bytes v rest fits e =
+    let a = bind_ok (bytes_at 32 bytes) _ (v, rest) e in
+    let b = bind_ok (whole (eight_at a.0.1)) _ (v, rest) a.2 in
+    let c = bind_ok (bytes_at b.0.0 b.0.1) _ (v, rest) b.2 in
+    let t = there_ok (BadResult i) (printed a.0.0 (decoded kind c.0.0)) c.0.1 v rest c.2 in
+    let ta = bytes_takes 32 bytes a.0.0 a.0.1 fits a.1 in
+    let tb = number_takes lawful_eight a.0.1 b.0.0 b.0.1 ta.0.rest_fits b.1 in
+    let tc = bytes_takes b.0.0 b.0.1 c.0.0 c.0.1 tb.0.rest_fits c.1 in
+    let p = printed_is a.0.0 (decoded kind c.0.0) v t.0 in
+    let d = decoded_takes kind c.0.0 v tc.2 p.value in
+    let size : length (canon v) ≡ b.0.0 = ap (λ (xs : List ℕ). length xs) (sym d.2) ∙ tc.1 in
+    let all = Takes-then bytes a.0.0 a.0.1 (eight b.0.0 ++ c.0.0) c.0.1 ta.0 (Takes-then a.0.1 (eight b.0.0) b.0.1 c.0.0 c.0.1 tb.0 tc.0) in
+    let spelled = result_parts v a.0.0 (eight b.0.0) c.0.0 p.print (ap eight (sym size)) d.2 in (
+      subst (λ (xs : List ℕ). Takes bytes xs rest) spelled (subst (λ (xs : List ℕ). Takes bytes (a.0.0 ++ (eight b.0.0 ++ c.0.0)) xs) t.1 all),
+      record { value = d.0; kind = d.1; size = omega (arith, size, tb.1) },
+    )
+
+result_regrouped : (v : Value) (rest : List ℕ) → result_bytes v ++ rest ≡ print_of v ++ (eight (length (canon v)) ++ (canon v ++ rest))
+unfolding result_bytes
+result_regrouped v rest = append_assoc (print_of v) (eight (length (canon v)) ++ canon v) rest ∙ ap (λ (xs : List ℕ). print_of v ++ xs) (append_assoc (eight (length (canon v))) (canon v) rest)
+
+print_length : (v : Value) → length (print_of v) ≡ 32
+unfolding print_of
+print_length v = length-sha256 (canon v)
+
+is_printed : (v : Value) (r : Result Value Refusal) → r ≡ Ok v → printed (print_of v) r ≡ Some v
+is_printed v r e =
+    let same : bytes_eq (print_of v) (print_of v) ≡ true = (bytes_eq-Decides (print_of v) (print_of v)).1 refl in
+    ap (printed (print_of v)) e ∙ rw same refl
+
+pub result_again : (i : ℕ) (kind : Kind) (v : Value) (rest : List ℕ) → ResultFits kind v → result_at i kind (result_bytes v ++ rest) ≡ Ok (v, rest)
+unfolding result_at
+result_again i kind v rest h =
+    ap (result_at i kind) (result_regrouped v rest)
+    ∙ bind_is (bytes_at 32 (print_of v ++ (eight (length (canon v)) ++ (canon v ++ rest)))) _ (print_of v, eight (length (canon v)) ++ (canon v ++ rest)) (bytes_again 32 (print_of v) _ (print_length v))
+    ∙ bind_is (whole (eight_at (eight (length (canon v)) ++ (canon v ++ rest)))) _ (length (canon v), canon v ++ rest) (number_again lawful_eight (length (canon v)) (canon v ++ rest) h.size)
+    ∙ bind_is (bytes_at (length (canon v)) (canon v ++ rest)) _ (canon v, rest) (bytes_again (length (canon v)) (canon v) rest refl)
+    ∙ ap (λ (o : Option Value). there (BadResult i) o rest) (is_printed v (decoded kind (canon v)) (decoded_at kind (canon v) v h.value h.kind refl))
+
+-- ---- a record
+
+abbrev rest_bytes : List ℕ → Value → List ℕ
+rest_bytes edges v = list eight edges ++ result_bytes v
+
+pub record RestFits (front : List RecordValue) (key : Key) (r : RestValue) : Type 0 where
+  pub edges : AreEdges front key r.edges
+  pub few : length r.edges < 2 ^ 64
+  pub result : ResultFits (kind_of key) r.value
+
+pub rest_takes : (front : List RecordValue) (key : Key) (bytes : List ℕ) (r : RestValue) (rest : List ℕ) → IsBytes bytes → rest_at front key bytes ≡ Ok (r, rest) → Takes bytes (rest_bytes r.edges r.value) rest × RestFits front key r
+unfolding rest_at edges_at
+rest_takes front key bytes r rest fits e =
+    let a = bind_ok (edges_at front key bytes) _ (r, rest) e in
+    let b = bind_ok (result_at (length front) (kind_of key) a.0.1) _ (r, rest) a.2 in
+    let c = bind_ok (whole (eight_at bytes)) (λ n. edges_from front key [] n.0 n.1) a.0 a.1 in
+    let tc = number_takes lawful_eight bytes c.0.0 c.0.1 fits c.1 in
+    let ta = edges_take front key c.0.0 [] c.0.1 a.0.0 a.0.1 (tt, tt) tc.0.rest_fits c.2 in
+    let tb = result_takes (length front) (kind_of key) a.0.1 b.0.0 b.0.1 ta.takes.rest_fits b.1 in
+    let count : length a.0.0 ≡ c.0.0 = ap (λ (xs : List ℕ). length xs) (sym ta.whole_is) ∙ ta.count_is in
+    let edges : Takes c.0.1 (flat_map eight a.0.0) a.0.1 = subst (λ (xs : List ℕ). Takes c.0.1 (flat_map eight xs) a.0.1) ta.whole_is ta.takes in
+    let listed : Takes bytes (list eight a.0.0) a.0.1 = subst (λ (n : ℕ). Takes bytes (eight n ++ flat_map eight a.0.0) a.0.1) (sym count) (Takes-then bytes (eight c.0.0) c.0.1 (flat_map eight a.0.0) a.0.1 tc.0 edges) in
+    subst (λ (x : RestValue × List ℕ). Takes bytes (rest_bytes x.0.edges x.0.value) x.1 × RestFits front key x.0) (ok_is (record { edges = a.0.0; value = b.0.0 }, b.0.1) (r, rest) b.2)
+    (Takes-then bytes (list eight a.0.0) a.0.1 (result_bytes b.0.0) b.0.1 listed tb.0, record { edges = ta.are; few = omega (arith, count, tc.1); result = tb.1 })
+
+pub rest_again : (front : List RecordValue) (key : Key) (r : RestValue) (rest : List ℕ) → length front < 2 ^ 64 → RestFits front key r → rest_at front key (rest_bytes r.edges r.value ++ rest) ≡ Ok (r, rest)
+unfolding rest_at edges_at
+rest_again front key r rest few h =
+    let regrouped : rest_bytes r.edges r.value ++ rest ≡ eight (length r.edges) ++ (flat_map eight r.edges ++ (result_bytes r.value ++ rest)) = append_assoc (list eight r.edges) (result_bytes r.value) rest ∙ append_assoc (eight (length r.edges)) (flat_map eight r.edges) (result_bytes r.value ++ rest) in
+    let edges : edges_at front key (eight (length r.edges) ++ (flat_map eight r.edges ++ (result_bytes r.value ++ rest))) ≡ Ok (r.edges, result_bytes r.value ++ rest) = bind_is (whole (eight_at (eight (length r.edges) ++ (flat_map eight r.edges ++ (result_bytes r.value ++ rest))))) (λ n. edges_from front key [] n.0 n.1) (length r.edges, flat_map eight r.edges ++ (result_bytes r.value ++ rest)) (number_again lawful_eight (length r.edges) _ h.few) ∙ edges_again front key r.edges [] (result_bytes r.value ++ rest) few h.edges in
+    ap (rest_at front key) regrouped
+    ∙ bind_is (edges_at front key (eight (length r.edges) ++ (flat_map eight r.edges ++ (result_bytes r.value ++ rest)))) _ (r.edges, result_bytes r.value ++ rest) edges
+    ∙ bind_is (result_at (length front) (kind_of key) (result_bytes r.value ++ rest)) _ (r.value, rest) (result_again (length front) (kind_of key) r.value rest h.result)
+
+record_parts : (key : Key) (mark : Mark) (edges : List ℕ) (v : Value) → item_bytes (record { key = key; mark = mark }) ++ rest_bytes edges v ≡ record_bytes (record { key = key; mark = mark; edges = edges; value = v })
+unfolding record_bytes
+record_parts key mark edges v = append_assoc (key_bytes key) (mark_number mark ∷ []) (rest_bytes edges v)
+
+pub record_takes : (front : List RecordValue) (bytes : List ℕ) (r : RecordValue) (rest : List ℕ) → AreRecords front → IsBytes bytes → record_at front bytes ≡ Ok (r, rest) → Takes bytes (record_bytes r) rest × FitsBehind front r
+unfolding record_at
+record_takes front bytes r rest are fits e =
+    let a = bind_ok (item_at (length front) bytes) _ (r, rest) e in
+    let p = bind_ok (placed front a.0.0) _ (r, rest) a.2 in
+    let b = bind_ok (rest_at front a.0.0.key a.0.1) _ (r, rest) p.2 in
+    let ta = item_takes (length front) bytes a.0.0 a.0.1 fits a.1 in
+    let tp = placed_ok front a.0.0 p.0 are p.1 in
+    let tb = rest_takes front a.0.0.key a.0.1 b.0.0 b.0.1 ta.0.rest_fits b.1 in
+    let all = Takes-then bytes (item_bytes a.0.0) a.0.1 (rest_bytes b.0.0.edges b.0.0.value) b.0.1 ta.0 tb.0 in
+    subst (λ (x : RecordValue × List ℕ). Takes bytes (record_bytes x.0) x.1 × FitsBehind front x.0) (ok_is (record { key = a.0.0.key; mark = a.0.0.mark; edges = b.0.0.edges; value = b.0.0.value }, b.0.1) (r, rest) b.2) (
+      subst (λ (xs : List ℕ). Takes bytes xs b.0.1) (record_parts a.0.0.key a.0.0.mark b.0.0.edges b.0.0.value) all,
+      record {
+        above = tp.above;
+        marked = tp.marked;
+        edges = tb.1.edges.0;
+        once = tb.1.edges.1;
+        kind = tb.1.result.kind;
+        kept = record { names = ta.1; value = tb.1.result.value; size = tb.1.result.size; few = tb.1.few };
+      },
+    )
+
+pub record_again : (front : List RecordValue) (r : RecordValue) (rest : List ℕ) → length front < 2 ^ 64 → AreRecords front → FitsBehind front r → record_at front (record_bytes r ++ rest) ≡ Ok (r, rest)
+unfolding record_at
+record_again front r rest few are h =
+    let item : ItemValue = record { key = r.key; mark = r.mark } in
+    let tail : RestValue = record { edges = r.edges; value = r.value } in
+    let regrouped : record_bytes r ++ rest ≡ item_bytes item ++ (rest_bytes r.edges r.value ++ rest) = ap (λ (xs : List ℕ). xs ++ rest) (sym (record_parts r.key r.mark r.edges r.value)) ∙ append_assoc (item_bytes item) (rest_bytes r.edges r.value) rest in
+    ap (record_at front) regrouped
+    ∙ bind_is (item_at (length front) (item_bytes item ++ (rest_bytes r.edges r.value ++ rest))) _ (item, rest_bytes r.edges r.value ++ rest) (item_again (length front) item (rest_bytes r.edges r.value ++ rest) h.kept.names)
+    ∙ bind_is (placed front item) _ tt (placed_is front item are (record { above = h.above; marked = h.marked }))
+    ∙ bind_is (rest_at front r.key (rest_bytes r.edges r.value ++ rest)) _ (tail, rest) (rest_again front r.key tail rest few (record { edges = (h.edges, h.once); few = h.kept.few; result = record { value = h.kept.value; kind = h.kind; size = h.kept.size } }))

@@ -1,0 +1,119 @@
+-- Records one after the other, and the file: what is read is spelled so, and what is spelled so is read.
+use Rattle.std.proofs.Common.{◌≡◌, ℕ, zero, suc, ◌+◌, ◌-◌, ◌<◌, ◌≤◌, ◌^◌, inl, inr, List, [], ◌∷◌, ◌++◌, length, take, get_or, Result, Ok, Err, refl, sym, ap, subst, ◌∙◌, append_assoc, arith}
+use Rattle.std.specs.List.{flat_map}
+use Rattle.std.proofs.lemmas.Bool.{cases_eq}
+use Rattle.std.proofs.lemmas.List.{append-nil, length-append, take-append-le, take_at, length_push}
+use Rattle.std.proofs.lemmas.List.Concat.{flat_map-cons}
+use Rattle.std.proofs.Math.ListN.{get_or-append}
+use Rattle.std.proofs.Math.Seq.{get_or-append_seam}
+use Rattle.byte_readers.specs.Lawful.{IsBytes, Takes}
+use Rattle.byte_readers.specs.Laws.{Takes-then}
+use Rattle.sessions.specs.Sessions.{RecordValue, FitsBehind, AreRecords}
+use Rattle.sessions.specs.Spelling.{record_bytes}
+use Rattle.session_file.specs.declared.fault.FileFault.{FileFault}
+use Rattle.session_file.specs.declared.stop.Stop.{Stop}
+use Rattle.session_file.specs.declared.stop.Stop.TheVariants as stops
+use Rattle.session_file.specs.Reading.{Stops, record_at, records_from}
+use Rattle.session_file.proofs.ReadLaws.{done, ok_is, bind_ok, bind_is}
+use Rattle.session_file.proofs.RecordReadLaws.{record_takes, record_again}
+
+-- ---- the loop
+
+pub records_go_on : (front : List RecordValue) (count i : ℕ) (bytes : List ℕ) (r : RecordValue) (after : List ℕ) (total : Result (List RecordValue × List ℕ) FileFault) → i < count → record_at front bytes ≡ Ok (r, after) → records_from front (count - i) bytes ≡ total → records_from (front ++ r ∷ []) (count - (i + 1)) after ≡ total
+unfolding records_from
+records_go_on front count i bytes r after total lt h so_far =
+    let k : count - i ≡ suc (count - (i + 1)) = omega arith in
+    let one : records_from front (count - i) bytes ≡ records_from (front ++ r ∷ []) (count - (i + 1)) after = rw (k, h) refl in
+    sym one ∙ so_far
+
+pub records_end : (stop : Stop) (front : List RecordValue) (count i : ℕ) (bytes : List ℕ) (total : Result (List RecordValue × List ℕ) FileFault) → i < count → Stops stop (record_at front bytes) → records_from front (count - i) bytes ≡ total → Stops stop total
+unfolding records_from
+records_end stops.Memory front count i bytes total lt h so_far = tt
+records_end (stops.Breach fault) front count i bytes total lt h so_far =
+    let k : count - i ≡ suc (count - (i + 1)) = omega arith in
+    let one : records_from front (count - i) bytes ≡ Err fault = rw (k, h) refl in
+    sym so_far ∙ one
+
+pub records_done : (front : List RecordValue) (count i : ℕ) (bytes : List ℕ) (total : Result (List RecordValue × List ℕ) FileFault) → count ≤ i → records_from front (count - i) bytes ≡ total → total ≡ Ok (front, bytes)
+unfolding records_from
+records_done front count i bytes total le so_far =
+    let k : count - i ≡ 0 = omega arith in
+    let one : records_from front (count - i) bytes ≡ Ok (front, bytes) = rw k refl in
+    sym so_far ∙ one
+
+-- ---- records one after the other
+
+at_push : (front : List RecordValue) (r : RecordValue) (i : ℕ) (d : RecordValue) → AreRecords front → FitsBehind front r → i < length front + 1 → FitsBehind (take i (front ++ r ∷ [])) (get_or (front ++ r ∷ []) i d)
+at_push front r i d are fits lt =
+    elim (cases_eq i (length front)) [
+      | inl is ↦
+          let one : take (length front) (front ++ r ∷ []) ≡ front = take_at front (r ∷ []) (length front) refl in
+          let two : get_or (front ++ r ∷ []) (length front) d ≡ r = get_or-append_seam front r [] d in
+          subst (λ (n : ℕ). FitsBehind (take n (front ++ r ∷ [])) (get_or (front ++ r ∷ []) n d)) (sym is) (subst (λ (xs : List RecordValue). FitsBehind xs (get_or (front ++ r ∷ []) (length front) d)) (sym one) (subst (FitsBehind front) (sym two) fits))
+      | inr other ↦
+          let small : i < length front = omega (arith, lt, other) in
+          let le : i ≤ length front = omega (arith, small) in
+          let one : take i (front ++ r ∷ []) ≡ take i front = take-append-le i front (r ∷ []) le in
+          let two : get_or (front ++ r ∷ []) i d ≡ get_or front i d = get_or-append front (r ∷ []) d i small in
+          subst (λ (xs : List RecordValue). FitsBehind xs (get_or (front ++ r ∷ []) i d)) (sym one) (subst (FitsBehind (take i front)) (sym two) (are i d small))
+    ]
+
+are_push : (front : List RecordValue) (r : RecordValue) → AreRecords front → FitsBehind front r → AreRecords (front ++ r ∷ [])
+are_push front r are fits i d lt = at_push front r i d are fits (omega (arith, lt, length_push front r))
+
+are_front : (front items : List RecordValue) → AreRecords (front ++ items) → AreRecords front
+are_front front items are i d lt =
+    let le : i ≤ length front = omega (arith, lt) in
+    let long : i < length (front ++ items) = omega (arith, lt, length-append front items) in
+    let one : take i (front ++ items) ≡ take i front = take-append-le i front items le in
+    let two : get_or (front ++ items) i d ≡ get_or front i d = get_or-append front items d i lt in
+    subst (λ (xs : List RecordValue). FitsBehind xs (get_or front i d)) one (subst (FitsBehind (take i (front ++ items))) two (are i d long))
+
+next_fits : (front items : List RecordValue) (r : RecordValue) → AreRecords (front ++ r ∷ items) → FitsBehind front r
+next_fits front items r are =
+    let long : length front < length (front ++ r ∷ items) = omega (arith, length-append front (r ∷ items)) in
+    let one : take (length front) (front ++ r ∷ items) ≡ front = take_at front (r ∷ items) (length front) refl in
+    let two : get_or (front ++ r ∷ items) (length front) r ≡ r = get_or-append_seam front r items r in
+    subst (λ (xs : List RecordValue). FitsBehind xs r) one (subst (FitsBehind (take (length front) (front ++ r ∷ items))) two (are (length front) r long))
+
+pub record RecordsRead (front : List RecordValue) (n : ℕ) (bytes : List ℕ) (all : List RecordValue) (rest : List ℕ) : Type 0 where
+  pub items : List RecordValue
+  pub whole_is : front ++ items ≡ all
+  pub count_is : length items ≡ n
+  pub takes : Takes bytes (flat_map record_bytes items) rest
+  pub are : AreRecords all
+
+pub records_take : (n : ℕ) (front : List RecordValue) (bytes : List ℕ) (all : List RecordValue) (rest : List ℕ) → AreRecords front → IsBytes bytes → records_from front n bytes ≡ Ok (all, rest) → RecordsRead front n bytes all rest
+unfolding records_from
+records_take zero front bytes all rest are fits e =
+    let is = ok_is (front, bytes) (all, rest) e in
+    record {
+      items = [];
+      whole_is = append-nil front ∙ ap (λ (x : List RecordValue × List ℕ). x.0) is;
+      count_is = refl;
+      takes = record { parts = ap (λ (x : List RecordValue × List ℕ). x.1) is; rest_fits = subst IsBytes (ap (λ (x : List RecordValue × List ℕ). x.1) is) fits };
+      are = subst (λ (x : List RecordValue × List ℕ). AreRecords x.0) is are;
+    }
+records_take (suc n) front bytes all rest are fits e =
+    let a = bind_ok (record_at front bytes) (λ r. records_from (front ++ r.0 ∷ []) n r.1) (all, rest) e in
+    let t = record_takes front bytes a.0.0 a.0.1 are fits a.1 in
+    let u = records_take n (front ++ a.0.0 ∷ []) a.0.1 all rest (are_push front a.0.0 are t.1) t.0.rest_fits a.2 in
+    record {
+      items = a.0.0 ∷ u.items;
+      whole_is = sym (append_assoc front (a.0.0 ∷ []) u.items) ∙ u.whole_is;
+      count_is = ap (λ (k : ℕ). suc k) u.count_is;
+      takes = rw flat_map-cons (Takes-then bytes (record_bytes a.0.0) a.0.1 (flat_map record_bytes u.items) rest t.0 u.takes);
+      are = u.are;
+    }
+
+pub records_again : (items front : List RecordValue) (rest : List ℕ) → length (front ++ items) < 2 ^ 64 → AreRecords (front ++ items) → records_from front (length items) (flat_map record_bytes items ++ rest) ≡ Ok (front ++ items, rest)
+unfolding records_from
+records_again [] front rest few are = ap (λ (x : List RecordValue). done (x, rest)) (sym (append-nil front))
+records_again (r ∷ items) front rest few are =
+    let regrouped : flat_map record_bytes (r ∷ items) ++ rest ≡ record_bytes r ++ (flat_map record_bytes items ++ rest) = ap (λ (x : List ℕ). x ++ rest) (flat_map-cons record_bytes r items) ∙ append_assoc (record_bytes r) (flat_map record_bytes items) rest in
+    let same : (front ++ r ∷ []) ++ items ≡ front ++ r ∷ items = append_assoc front (r ∷ []) items in
+    let short : length front < 2 ^ 64 = omega (arith, few, length-append front (r ∷ items)) in
+    ap (records_from front (suc (length items))) regrouped
+    ∙ bind_is (record_at front (record_bytes r ++ (flat_map record_bytes items ++ rest))) (λ x. records_from (front ++ x.0 ∷ []) (length items) x.1) (r, flat_map record_bytes items ++ rest) (record_again front r (flat_map record_bytes items ++ rest) short (are_front front (r ∷ items) are) (next_fits front items r are))
+    ∙ records_again items (front ++ r ∷ []) rest (subst (λ (xs : List RecordValue). length xs < 2 ^ 64) (sym same) few) (subst AreRecords (sym same) are)
+    ∙ ap (λ (x : List RecordValue). done (x, rest)) same

@@ -1,0 +1,63 @@
+-- Keys and marks by what stands for them in a file.
+use Rattle.std.specs.Prelude.{ℕ, Bool, true, false, List, [], ◌∷◌, Option, Some, None, is_some, find, ◌==◌, ◌&&◌, if◌then◌else◌}
+use Rattle.std.specs.Str.{is_utf8}
+use Rattle.item_ids.specs.declared.kind.Kind.{Kind}
+use Rattle.item_ids.specs.declared.kind.Kind.TheVariants as kinds
+use Rattle.item_ids.specs.Kinds.{number_of, has_class, has_member}
+use Rattle.item_ids.specs.declared.key.Key.{Key}
+use Rattle.item_ids.specs.declared.key.Key.TheVariants.{Files, Source, Tree, Index, Header, Method, Sig, Supers, Members, CheckClass, CheckBody, Diags, Answer}
+use Rattle.sessions.specs.declared.mark.Mark.{Mark}
+use Rattle.sessions.specs.declared.mark.Mark.TheVariants.{Input, Executed, Green}
+use Rattle.sessions.specs.Marks.{number_of as mark_number}
+
+abbrev pub all_kinds : List Kind
+all_kinds = kinds.Files ∷ kinds.Source ∷ kinds.Tree ∷ kinds.Index ∷ kinds.Header ∷ kinds.Method ∷ kinds.Sig ∷ kinds.Supers ∷ kinds.Members ∷ kinds.CheckClass ∷ kinds.CheckBody ∷ kinds.Diags ∷ kinds.Answer ∷ []
+
+-- the kind of this number
+unfoldable pub kind_with : ℕ → Option Kind
+kind_with n = find (λ kind. number_of kind == n) all_kinds
+
+-- the mark of this number
+unfoldable pub mark_with : ℕ → Option Mark
+mark_with n = find (λ mark. mark_number mark == n) (Input ∷ Executed ∷ Green ∷ [])
+
+-- the name that these bytes are; no bytes are no name
+abbrev pub name_with : List ℕ → Option (List ℕ)
+name_with [] = None
+name_with (b ∷ bytes) = Some (b ∷ bytes)
+
+abbrev pub same : Bool → Bool → Bool
+same true b = b
+same false true = false
+same false false = true
+
+-- a name is there just where the kind has one
+abbrev pub are_names : Kind → Option (List ℕ) → Option (List ℕ) → Bool
+are_names kind class member = same (is_some class) (has_class kind) && same (is_some member) (has_member kind)
+
+-- the key of a kind, with those of the names that the kind has
+abbrev pub named : Kind → List ℕ → List ℕ → Key
+named kinds.Files class member = Files
+named kinds.Source class member = Source class
+named kinds.Tree class member = Tree class
+named kinds.Index class member = Index
+named kinds.Header class member = Header class
+named kinds.Method class member = Method class member
+named kinds.Sig class member = Sig class member
+named kinds.Supers class member = Supers class
+named kinds.Members class member = Members class
+named kinds.CheckClass class member = CheckClass class
+named kinds.CheckBody class member = CheckBody class member
+named kinds.Diags class member = Diags class
+named kinds.Answer class member = Answer
+
+abbrev pub key_of_kind : Kind → List ℕ → List ℕ → Option Key
+key_of_kind kind class member = if are_names kind (name_with class) (name_with member) then Some (named kind class member) else None
+
+abbrev pub key_of_some : Option Kind → List ℕ → List ℕ → Option Key
+key_of_some None class member = None
+key_of_some (Some kind) class member = if is_utf8 class && is_utf8 member then key_of_kind kind class member else None
+
+-- the key of the kind of this number with these names, where no name is missing or one too many, and each is a text
+unfoldable pub key_with : ℕ → List ℕ → List ℕ → Option Key
+key_with n class member = key_of_some (kind_with n) class member

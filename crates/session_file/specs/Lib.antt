@@ -1,0 +1,4 @@
+pub mod Devices
+pub mod Parts
+pub mod Keys
+pub mod Reading

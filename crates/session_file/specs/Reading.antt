@@ -1,0 +1,198 @@
+-- Reading a session's file from left to right, with the first breach that is met.
+use Rattle.std.specs.Prelude.{◌≡◌, ℕ, zero, suc, ◌-◌, Bool, true, false, not, ◌&&◌, ◌||◌, List, [], ◌∷◌, ◌++◌, length, take, drop, slice_get, Option, Some, None, Result, Ok, Err, nat_lt, nat_le, bytes_eq, ◌==◌, if◌then◌else◌}
+use Rattle.std.specs.Ordering.{is_lt}
+use Rattle.sha2.specs.Sha256.{sha256}
+use Rattle.item_ids.specs.declared.kind.Kind.{Kind}
+use Rattle.item_ids.specs.declared.key.Key.{Key}
+use Rattle.item_ids.specs.Keys.{kind_of, key_cmp}
+use Rattle.byte_readers.specs.declared.breach.Breach.{Breach}
+use Rattle.byte_readers.specs.Reading.{byte_at, two_at, four_at, eight_at}
+use Rattle.result_bytes.specs.declared.refusal.Refusal.{Refusal}
+use Rattle.result_bytes.specs.declared.value.Value.{Value}
+use Rattle.result_bytes.specs.Values.{decoded}
+use Rattle.fingerprint.specs.Prints.{print_of}
+use Rattle.sessions.specs.declared.mark.Mark.{Mark}
+use Rattle.sessions.specs.Marks.{is_input, is_input_mark}
+use Rattle.sessions.specs.Sessions.{RecordValue, SessionValue, rank, key_at}
+use Rattle.session_file.specs.declared.fault.FileFault.{FileFault}
+use Rattle.session_file.specs.declared.fault.FileFault.TheVariants.{BadMagic, Version, Truncated, BadDigest, KeyOrder, BadEdge, Result as BadResult, InputKind, Trailing, BadKey, Number, OutOfMemory}
+use Rattle.session_file.specs.declared.stop.Stop.{Stop}
+use Rattle.session_file.specs.declared.stop.Stop.TheVariants as stops
+use Rattle.session_file.specs.Keys.{same, key_with, mark_with}
+
+infixl 10 ◌>>=◌
+abbrev pub ◌>>=◌ : {A B : Type 0} → Result A FileFault → (A → Result B FileFault) → Result B FileFault
+(Ok x) >>= f = f x
+(Err e) >>= f = Err e
+
+-- A reader answers a value and the bytes behind it.
+abbrev pub Reader : Type 0 → Type 0
+Reader A = List ℕ → Result (A × List ℕ) FileFault
+
+-- What a function returned, seen by view, is what reading gives, unless memory ran out.
+abbrev pub Stops : {Y : Type 0} → Stop → Result Y FileFault → Type 0
+Stops stops.Memory read = Unit {0}
+Stops (stops.Breach fault) read = read ≡ Err fault
+
+abbrev pub Gives : {X Y : Type 0} → (X → Y) → Result X Stop → Result Y FileFault → Type 0
+Gives view (Ok x) read = read ≡ Ok (view x)
+Gives view (Err stop) read = Stops stop read
+
+-- the answer, unless memory ran out
+abbrev pub IsUnlessMemory : {A : Type 0} → Result A FileFault → Result A FileFault → Type 0
+IsUnlessMemory (Err OutOfMemory) answer = Unit {0}
+IsUnlessMemory result answer = result ≡ answer
+
+-- ---- parts that have a length
+
+-- an item that the bytes end within
+abbrev pub whole : {A : Type 0} → Result A Breach → Result A FileFault
+whole (Ok x) = Ok x
+whole (Err breach) = Err Truncated
+
+-- so many bytes
+unfoldable pub bytes_at : ℕ → Reader (List ℕ)
+bytes_at n bytes = if nat_lt (length bytes) n then Err Truncated else Ok (take n bytes, drop n bytes)
+
+-- one byte of length, and so many bytes
+unfoldable pub text_at : Reader (List ℕ)
+text_at bytes = do
+  n ← whole (byte_at bytes)
+  bytes_at n.0 n.1
+
+-- what is there, else a fault
+abbrev pub there : {A : Type 0} → FileFault → Option A → List ℕ → Result (A × List ℕ) FileFault
+there fault None rest = Err fault
+there fault (Some a) rest = Ok (a, rest)
+
+-- a test, else a fault
+abbrev pub tested : Bool → FileFault → Result (Unit {0}) FileFault
+tested true fault = Ok tt
+tested false fault = Err fault
+
+-- ---- a record behind those in front of it
+
+pub record ItemValue : Type 0 where
+  pub key : Key
+  pub mark : Mark
+
+abbrev pub item_with : Option Key → Option Mark → Option ItemValue
+item_with (Some key) (Some mark) = Some (record { key = key; mark = mark })
+item_with _ _ = None
+
+-- a key and its mark
+unfoldable pub item_at : ℕ → Reader ItemValue
+item_at i bytes = do
+  kind ← whole (byte_at bytes)
+  class ← text_at kind.1
+  member ← text_at class.1
+  mark ← whole (byte_at member.1)
+  there (BadKey i) (item_with (key_with kind.0 class.0 member.0) (mark_with mark.0)) mark.1
+
+abbrev pub is_behind : Option RecordValue → Key → Bool
+is_behind None key = true
+is_behind (Some last) key = is_lt (key_cmp last.key key)
+
+-- the key is greater than the one before, and it is an input just where it is marked so
+unfoldable pub placed : List RecordValue → ItemValue → Result (Unit {0}) FileFault
+placed front item = do
+  order ← tested (is_behind (slice_get front (length front - 1)) item.key) (KeyOrder (length front))
+  tested (same (is_input_mark item.mark) (is_input (kind_of item.key))) (InputKind (length front))
+
+abbrev pub is_among : List ℕ → ℕ → Bool
+is_among [] e = false
+is_among (d ∷ ds) e = (d == e) || is_among ds e
+
+-- e is the index of a record in front whose key has a lower rank, and none of those before it
+abbrev pub is_next_edge : List RecordValue → Key → List ℕ → ℕ → Bool
+is_next_edge front key edges e = nat_lt e (length front) && (nat_lt (rank (key_at front e)) (rank key) && not (is_among edges e))
+
+-- so many edges, behind those before them
+unfoldable pub edges_from : List RecordValue → Key → List ℕ → ℕ → Reader (List ℕ)
+edges_from front key edges zero bytes = Ok (edges, bytes)
+edges_from front key edges (suc n) bytes = do
+  e ← whole (eight_at bytes)
+  if is_next_edge front key edges e.0 then edges_from front key (edges ++ e.0 ∷ []) n e.1 else Err (BadEdge (length front) (length edges))
+
+unfoldable pub edges_at : List RecordValue → Key → Reader (List ℕ)
+edges_at front key bytes = do
+  n ← whole (eight_at bytes)
+  edges_from front key [] n.0 n.1
+
+abbrev pub printed : List ℕ → Result Value Refusal → Option Value
+printed print (Ok v) = if bytes_eq print (print_of v) then Some v else None
+printed print (Err refusal) = None
+
+-- a value of a kind that has the print in front of it
+unfoldable pub result_at : ℕ → Kind → Reader Value
+result_at i kind bytes = do
+  print ← bytes_at 32 bytes
+  n ← whole (eight_at print.1)
+  text ← bytes_at n.0 n.1
+  there (BadResult i) (printed print.0 (decoded kind text.0)) text.1
+
+pub record RestValue : Type 0 where
+  pub edges : List ℕ
+  pub value : Value
+
+-- what stands behind a key and its mark
+unfoldable pub rest_at : List RecordValue → Key → Reader RestValue
+rest_at front key bytes = do
+  edges ← edges_at front key bytes
+  value ← result_at (length front) (kind_of key) edges.1
+  Ok (record { edges = edges.0; value = value.0 }, value.1)
+
+unfoldable pub record_at : List RecordValue → Reader RecordValue
+record_at front bytes = do
+  item ← item_at (length front) bytes
+  place ← placed front item.0
+  rest ← rest_at front item.0.key item.1
+  Ok (record { key = item.0.key; mark = item.0.mark; edges = rest.0.edges; value = rest.0.value }, rest.1)
+
+-- ---- the file
+
+-- so many records, behind those in front of them
+unfoldable pub records_from : List RecordValue → ℕ → Reader (List RecordValue)
+records_from front zero bytes = Ok (front, bytes)
+records_from front (suc n) bytes = do
+  r ← record_at front bytes
+  records_from (front ++ r.0 ∷ []) n r.1
+
+-- what stands before the records
+pub record HeadValue : Type 0 where
+  pub number : ℕ
+  pub link : List ℕ
+  pub count : ℕ
+
+abbrev pub magic : List ℕ
+magic = 0x4d ∷ 0x4a ∷ 0x52 ∷ 0x47 ∷ []
+
+-- what stands behind the first four bytes
+unfoldable pub magic_at : List ℕ → Result (List ℕ) FileFault
+magic_at bytes = if nat_lt (length bytes) 4 then Err BadMagic else (if bytes_eq (take 4 bytes) magic then Ok (drop 4 bytes) else Err BadMagic)
+
+unfoldable pub head_at : Reader HeadValue
+head_at bytes = do
+  rest ← magic_at bytes
+  version ← whole (two_at rest)
+  known ← tested (version.0 == 1) Version
+  number ← whole (four_at version.1)
+  small ← tested (nat_le number.0 9999) Number
+  link ← bytes_at 32 number.1
+  count ← whole (eight_at link.1)
+  Ok (record { number = number.0; link = link.0; count = count.0 }, count.1)
+
+-- the digest of all before it, and nothing behind
+unfoldable pub end_at : List ℕ → List ℕ → Result (Unit {0}) FileFault
+end_at body bytes = do
+  digest ← bytes_at 32 bytes
+  right ← tested (bytes_eq digest.0 (sha256 body)) BadDigest
+  tested (length digest.1 == 0) Trailing
+
+-- the session whose file the bytes are, or the first breach
+unfoldable pub file_at : List ℕ → Result SessionValue FileFault
+file_at bytes = do
+  head ← head_at bytes
+  records ← records_from [] head.0.count head.1
+  end ← end_at (take (length bytes - length records.1) bytes) records.1
+  Ok (record { number = head.0.number; link = head.0.link; records = records.0 })

@@ -1,0 +1,122 @@
+//! Keys and marks of records.
+ghost use Rattle.std.specs.Prelude.{◌≡◌, ◌≤◌, length, IfOk, IfSome, is_some};
+ghost use Rattle.std.specs.Str.{is_utf8};
+ghost use Rattle.session_file.specs.Keys.{key_of_kind, key_with, kind_with, mark_with};
+ghost use Rattle.session_file.specs.Reading.{Gives, item_at, item_with};
+
+use crate::fault::FileFault;
+use crate::parts::{byte, text};
+use crate::stop::Stop;
+use item_ids::{Key, Kind};
+use mj_lexer::Name;
+use sessions::Mark;
+use std::alloc::{AllocError, Global};
+use std::marker::Model;
+
+/// A key, and how it became done.
+#[derive(Drop)]
+pub(crate) struct Item {
+    pub(crate) key: Key,
+    pub(crate) mark: Mark,
+}
+
+impl Model for Item {
+    ghost use Rattle.session_file.specs.Reading.{ItemValue};
+
+    ghost Value = { ItemValue };
+
+    ghost view = { λ s. record { key = s.key; mark = s.mark } };
+}
+
+/// Reads the key and the mark of the record at an index.
+#[tactic(auto, unfolding(crate::specs::Reading::item_at))]
+pub(crate) fn read_item(alloc: Global, index: usize, bytes: &[u8]) -> Result<(Item, &[u8]), Stop>
+    ensures { Gives (λ x. (x.0, x.1.now)) result (item_at index bytes.now) }
+{
+    let (kind, rest) = byte(bytes)?;
+    let (class, rest) = text(rest)?;
+    let (member, rest) = text(rest)?;
+    let (mark, rest) = byte(rest)?;
+    match item_of(alloc, kind, class, member, mark)? {
+        Some(item) => Ok((item, rest)),
+        None => Err(Stop::Breach(FileFault::BadKey(index))),
+    }
+}
+
+/// The key and the mark for what stands for them.
+fn item_of(
+    alloc: Global,
+    kind: u8,
+    class: &[u8],
+    member: &[u8],
+    mark: u8,
+) -> Result<Option<Item>, AllocError>
+    requires class { length class.now ≤ 255 }
+    requires member { length member.now ≤ 255 }
+    ensures { IfOk result (λ item. item ≡ item_with (key_with kind class.now member.now) (mark_with mark)) }
+{
+    let Some(key) = key_of(alloc, kind, class, member)? else {
+        return Ok(None);
+    };
+    match mark_of(mark) {
+        Some(mark) => Ok(Some(Item { key, mark })),
+        None => Ok(None),
+    }
+}
+
+/// The mark of this number.
+fn mark_of(number: u8) -> Option<Mark>
+    ensures { result ≡ mark_with number }
+{
+    Mark::from_number(number)
+}
+
+/// The kind of this number.
+fn kind_of_number(number: u8) -> Option<Kind>
+    ensures { result ≡ kind_with number }
+{
+    Kind::from_number(number)
+}
+
+/// The key of the kind of this number, with the names that there are.
+#[tactic(auto, unfolding(crate::specs::Keys::key_with))]
+fn key_of(alloc: Global, kind: u8, class: &[u8], member: &[u8]) -> Result<Option<Key>, AllocError>
+    requires class { length class.now ≤ 255 }
+    requires member { length member.now ≤ 255 }
+    ensures { IfOk result (λ key. key ≡ key_with kind class.now member.now) }
+{
+    let Some(kind) = kind_of_number(kind) else {
+        return Ok(None);
+    };
+    let (Some(class), Some(member)) = (as_text(class), as_text(member)) else {
+        return Ok(None);
+    };
+    key_named(alloc, kind, class, member)
+}
+
+/// The key of a kind with these names, of which one that is missing has no bytes.
+fn key_named(
+    alloc: Global,
+    kind: Kind,
+    class: &str,
+    member: &str,
+) -> Result<Option<Key>, AllocError>
+    requires class { length class.now ≤ 255 }
+    requires member { length member.now ≤ 255 }
+    ensures { IfOk result (λ key. key ≡ key_of_kind kind class.now member.now) }
+{
+    let class = Name::try_new(alloc, class)?;
+    let member = Name::try_new(alloc, member)?;
+    Ok(Key::new(kind, class, member))
+}
+
+/// The bytes as a text, where they are UTF-8.
+fn as_text(bytes: &[u8]) -> Option<&str>
+    ensures same { IfSome result (λ text. text.now ≡ bytes.now) }
+    ensures is_text { is_some result ≡ is_utf8 bytes.now }
+{
+    match std::str::from_utf8(bytes) {
+        Ok(text) => Some(text),
+        Err(_) => None,
+    }
+}

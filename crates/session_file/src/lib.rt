@@ -1,0 +1,22 @@
+//! The files of sessions: writing one to a device, and reading it.
+#![tactic(auto)]
+
+mod device;
+mod edges;
+mod fault;
+mod files;
+mod hashing;
+mod items;
+mod memory;
+mod parts;
+mod putting;
+mod records;
+mod results;
+mod stop;
+mod writing;
+
+pub use device::{DeviceFault, Feed, Sink};
+pub use fault::FileFault;
+pub use files::read;
+pub use memory::{MemoryFeed, MemorySink};
+pub use writing::{digest, write};

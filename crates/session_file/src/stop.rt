@@ -1,0 +1,31 @@
+//! Why reading stops.
+ghost use Rattle.std.specs.Prelude.{◌≡◌};
+ghost use Rattle.session_file.specs.declared.stop.Stop.TheVariants.{Memory};
+
+use crate::fault::FileFault;
+use std::alloc::{AllocError, AllocFailed};
+
+/// Why nothing was read.
+#[derive(Debug, Drop)]
+pub enum Stop {
+    /// Memory ran out.
+    Memory,
+    /// The bytes have this breach.
+    Breach(FileFault),
+}
+
+impl From<AllocError> for Stop {
+    ghost from_gives = { λ _ e. e ≡ Memory };
+
+    fn from(_error: AllocError) -> Stop {
+        Stop::Memory
+    }
+}
+
+impl<T: Drop> From<AllocFailed<T>> for Stop {
+    ghost from_gives = { λ _ e. e ≡ Memory };
+
+    fn from(_error: AllocFailed<T>) -> Stop {
+        Stop::Memory
+    }
+}

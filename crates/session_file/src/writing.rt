@@ -1,0 +1,188 @@
+//! Sessions to files.
+ghost use Rattle.std.specs.Prelude.{◌≡◌, ◌≤◌, ◌++◌, length, flat_map, IfErr};
+ghost use Rattle.std.specs.Option.{option_copied};
+ghost use Rattle.sha2.specs.Hashers.{Holds256};
+ghost use Rattle.item_ids.specs.Kinds.{text_of};
+ghost use Rattle.byte_readers.specs.Spelling.{eight};
+ghost use Rattle.sessions.specs.Spelling.{body_bytes, digest_of, file_of, head_bytes, record_bytes, result_bytes};
+ghost use Rattle.session_file.specs.Devices.{Counts, Puts};
+ghost use Rattle.session_file.specs.Parts.{front_bytes};
+
+use crate::device::{DeviceFault, Sink};
+use crate::fault::FileFault;
+use crate::hashing::HashingSink;
+use crate::putting::{put_all, put_parts};
+use fingerprint::Sealed;
+use mj_lexer::Name;
+use sessions::{Record, Session};
+
+/// What each session's file begins with: `MJRG`, and version 1.
+const START: [u8; 6] = [0x4d, 0x4a, 0x52, 0x47, 0, 1];
+
+/// Appends the session's file; where the sink fails it has a beginning of the file. Only the sink takes memory.
+pub fn write<W: Sink>(session: &Session, sink: &mut W) -> Result<(), FileFault>
+    ensures holds { Puts (W.holds sink.old) (W.holds sink.new) (file_of session.now) result }
+    ensures device { IfErr result (λ fault. fault ≡ FileFault.Device) }
+    ensures counted { Counts result (W.failed sink.old) (W.failed sink.new) }
+{
+    let end = hashed_body(session).digest();
+    match put_file(sink, session, &end) {
+        Ok(()) => Ok(()),
+        Err(_) => Err(FileFault::Device),
+    }
+}
+
+/// The SHA-256 of the session's file. It takes no memory.
+pub fn digest(session: &Session) -> [u8; 32]
+    ensures { result ≡ digest_of session.now }
+{
+    let mut hash = hashed_body(session);
+    hash.close();
+    hash.digest()
+}
+
+/// The hash of all but the digest at the end.
+fn hashed_body(session: &Session) -> HashingSink
+    ensures { Holds256 result.hasher (body_bytes session.now) }
+{
+    let mut hash = HashingSink::new();
+    match put_body(&mut hash, session) {
+        Ok(()) => hash,
+        Err(_) => unreachable!(),
+    }
+}
+
+/// Appends the body, and the digest at the end.
+fn put_file<W: Sink>(sink: &mut W, session: &Session, end: &[u8; 32]) -> Result<(), DeviceFault>
+    ensures holds { Puts (W.holds sink.old) (W.holds sink.new) (body_bytes session.now ++ end.now) result }
+    ensures counted { Counts result (W.failed sink.old) (W.failed sink.new) }
+{
+    match put_body(sink, session) {
+        Ok(()) => put_all(sink, end.as_slice()),
+        Err(fault) => Err(fault),
+    }
+}
+
+/// Appends all but the digest at the end.
+fn put_body<W: Sink>(sink: &mut W, session: &Session) -> Result<(), DeviceFault>
+    ensures holds { Puts (W.holds sink.old) (W.holds sink.new) (body_bytes session.now) result }
+    ensures counted { Counts result (W.failed sink.old) (W.failed sink.new) }
+{
+    match put_head(sink, session) {
+        Ok(()) => put_records(sink, session.records()),
+        Err(fault) => Err(fault),
+    }
+}
+
+/// Appends what stands before the records.
+fn put_head<W: Sink>(sink: &mut W, session: &Session) -> Result<(), DeviceFault>
+    ensures holds { Puts (W.holds sink.old) (W.holds sink.new) (head_bytes session.now) result }
+    ensures counted { Counts result (W.failed sink.old) (W.failed sink.new) }
+{
+    let number = session.number().to_be_bytes();
+    let count = (session.records().len() as u64).to_be_bytes();
+    put_parts(
+        sink,
+        &[
+            START.as_slice(),
+            number.as_slice(),
+            session.link().as_slice(),
+            count.as_slice(),
+        ],
+    )
+}
+
+/// Appends the records.
+fn put_records<W: Sink>(sink: &mut W, records: &[Record]) -> Result<(), DeviceFault>
+    ensures holds { Puts (W.holds sink.old) (W.holds sink.new) (flat_map record_bytes records.now) result }
+    ensures counted { Counts result (W.failed sink.old) (W.failed sink.new) }
+{
+    for item in records {
+        match put_record(sink, item) {
+            Ok(()) => {}
+            Err(fault) => return Err(fault),
+        }
+    }
+    Ok(())
+}
+
+/// Appends a record.
+fn put_record<W: Sink>(sink: &mut W, item: &Record) -> Result<(), DeviceFault>
+    ensures holds { Puts (W.holds sink.old) (W.holds sink.new) (record_bytes item.now) result }
+    ensures counted { Counts result (W.failed sink.old) (W.failed sink.new) }
+{
+    match put_front(sink, item) {
+        Ok(()) => put_rest(sink, item),
+        Err(fault) => Err(fault),
+    }
+}
+
+/// Appends the key, the mark and the number of edges.
+fn put_front<W: Sink>(sink: &mut W, item: &Record) -> Result<(), DeviceFault>
+    ensures holds { Puts (W.holds sink.old) (W.holds sink.new) (front_bytes item.now) result }
+    ensures counted { Counts result (W.failed sink.old) (W.failed sink.new) }
+{
+    let class = text(item.key().class());
+    let member = text(item.key().member());
+    let count = (item.edges().len() as u64).to_be_bytes();
+    put_parts(
+        sink,
+        &[
+            [item.key().kind().number()].as_slice(),
+            [class.len() as u8].as_slice(),
+            class,
+            [member.len() as u8].as_slice(),
+            member,
+            [item.mark().number()].as_slice(),
+            count.as_slice(),
+        ],
+    )
+}
+
+/// The bytes of a name that may be missing.
+fn text(name: Option<&Name>) -> &[u8]
+    ensures value { result.now ≡ text_of (option_copied name.entry) }
+    ensures short { length result.now ≤ 255 }
+{
+    match name {
+        Some(name) => name.bytes(),
+        None => &[],
+    }
+}
+
+/// Appends the edges and the result.
+fn put_rest<W: Sink>(sink: &mut W, item: &Record) -> Result<(), DeviceFault>
+    ensures holds { Puts (W.holds sink.old) (W.holds sink.new)
+        (flat_map eight item.now.edges ++ result_bytes item.now.value) result }
+    ensures counted { Counts result (W.failed sink.old) (W.failed sink.new) }
+{
+    match put_edges(sink, item.edges()) {
+        Ok(()) => put_result(sink, item.sealed()),
+        Err(fault) => Err(fault),
+    }
+}
+
+/// Appends the edges.
+fn put_edges<W: Sink>(sink: &mut W, edges: &[usize]) -> Result<(), DeviceFault>
+    ensures holds { Puts (W.holds sink.old) (W.holds sink.new) (flat_map eight edges.now) result }
+    ensures counted { Counts result (W.failed sink.old) (W.failed sink.new) }
+{
+    for edge in edges {
+        let bytes = (*edge as u64).to_be_bytes();
+        match put_all(sink, bytes.as_slice()) {
+            Ok(()) => {}
+            Err(fault) => return Err(fault),
+        }
+    }
+    Ok(())
+}
+
+/// Appends the print of a result, the number of its bytes, and its bytes.
+fn put_result<W: Sink>(sink: &mut W, sealed: &Sealed) -> Result<(), DeviceFault>
+    ensures holds { Puts (W.holds sink.old) (W.holds sink.new) (result_bytes sealed.now) result }
+    ensures counted { Counts result (W.failed sink.old) (W.failed sink.new) }
+{
+    let print = sealed.print().0;
+    let len = (sealed.bytes().len() as u64).to_be_bytes();
+    put_parts(sink, &[print.as_slice(), len.as_slice(), sealed.bytes()])
+}
