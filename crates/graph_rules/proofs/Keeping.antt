@@ -5,7 +5,7 @@ use Rattle.std.specs.List.{AllByRecursion}
 use Rattle.item_ids.specs.declared.key.Key.{Key}
 use Rattle.result_bytes.specs.declared.value.Value.{Value}
 use Rattle.recorder.specs.Projects.{Project}
-use Rattle.recorder.specs.Backed.{Meaning, ReadLists, Told, rank, keys, IsOfKind, AreLower, NoneTwice}
+use Rattle.recorder.specs.Backed.{Meaning, ReadLists, ReadValue, rank, keys, IsOfKind, AreLower, NoneTwice}
 use Rattle.sessions.specs.declared.mark.Mark.{Mark}
 use Rattle.sessions.specs.declared.mark.Mark.TheVariants.{Input, Green, Executed}
 use Rattle.sessions.specs.Sessions.{Entry}
@@ -54,7 +54,7 @@ done_keeps v (Claimed w) y h d = elim d [ ]
 done_keeps v (Running w) y h d = elim d [ ]
 done_keeps v (Done u es m) y h d = rw (h u es m refl) d
 
-pub held_keeps : (s t : State) → Keeps s t → (told : List Told) → AreHeld s told → AreHeld t told
+pub held_keeps : (s t : State) → Keeps s t → (told : List ReadValue) → AreHeld s told → AreHeld t told
 held_keeps s t keeps [] h = tt
 held_keeps s t keeps (r ∷ rs) h = (done_keeps r.value (s.at r.key) (t.at r.key) (keeps r.key) h.0, held_keeps s t keeps rs h.1)
 
@@ -210,15 +210,15 @@ done_with v (Claimed w) h = h
 done_with v (Running w) h = h
 done_with v (Done u es m) h = tt
 
-pub held_done : (s : State) (told : List Told) → AreHeld s told → AllByRecursion (λ e. IsDone (s.at e)) (keys told)
+pub held_done : (s : State) (told : List ReadValue) → AreHeld s told → AllByRecursion (λ e. IsDone (s.at e)) (keys told)
 held_done s [] h = tt
 held_done s (r ∷ rs) h = (done_with r.value (s.at r.key) h.0, held_done s rs h.1)
 
-others_read : (q : Key) (told : List Told) → AllByRecursion (λ t. t.key ≢ q) told → AllByRecursion (λ k. k ≢ q) (keys told)
+others_read : (q : Key) (told : List ReadValue) → AllByRecursion (λ t. t.key ≢ q) told → AllByRecursion (λ k. k ≢ q) (keys told)
 others_read q [] h = tt
 others_read q (t ∷ told) h = (h.0, others_read q told h.1)
 
-once_keys : (told : List Told) → NoneTwice (λ t. t.key) told → NoneTwice (λ k. k) (keys told)
+once_keys : (told : List ReadValue) → NoneTwice (λ t. t.key) told → NoneTwice (λ k. k) (keys told)
 once_keys [] h = tt
 once_keys (t ∷ told) h = (others_read t.key told h.0, once_keys told h.1)
 

@@ -5,8 +5,8 @@ use Rattle.item_ids.specs.declared.key.Key.{Key}
 use Rattle.item_ids.specs.Keys.{kind_of}
 use Rattle.result_bytes.specs.declared.value.Value.{Value}
 use Rattle.recorder.specs.Projects.{Project}
-use Rattle.recorder.specs.Backed.{Meaning, ReadLists, Told, rank, keys, AreLower, NoneTwice, IsOfKind}
-use Rattle.recorder.specs.Runs.{Ran, IsOutcome}
+use Rattle.recorder.specs.Backed.{Meaning, ReadLists, ReadValue, rank, keys, AreLower, NoneTwice, IsOfKind}
+use Rattle.recorder.specs.Runs.{OutcomeValue, IsOutcome}
 use Rattle.sessions.specs.declared.mark.Mark.{Mark}
 use Rattle.sessions.specs.declared.mark.Mark.TheVariants.{Input, Green, Executed}
 use Rattle.sessions.specs.Marks.{is_input, is_input_mark}
@@ -33,7 +33,7 @@ pub record IsGreen (past : Past) (s : State) (q : Key) (v : Value) (es : List Ke
 
 -- An executed key had to run, and its value follows from answers that are the values of its edges.
 pub record IsExecuted (mean : Meaning) (reads : ReadLists) (past : Past) (s : State) (q : Key) (v : Value) (es : List Key) : Type 0 where
-  pub told : List Told
+  pub told : List ReadValue
   pub outcome : IsOutcome mean reads (record { key = q; told = told; value = v })
   pub edges : keys told ≡ es
   pub held : AreHeld s told

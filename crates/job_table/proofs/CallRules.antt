@@ -5,8 +5,8 @@ use Rattle.std.specs.Arc.{arc_value}
 use Rattle.item_ids.specs.declared.key.Key.{Key}
 use Rattle.result_bytes.specs.declared.value.Value.{Value}
 use Rattle.recorder.specs.Projects.{Project}
-use Rattle.recorder.specs.Backed.{Told, keys}
-use Rattle.recorder.specs.Runs.{Ran}
+use Rattle.recorder.specs.Backed.{ReadValue, keys}
+use Rattle.recorder.specs.Runs.{OutcomeValue}
 use Rattle.sessions.specs.Sessions.{Entry, SessionValue, past_entry}
 use Rattle.sessions.specs.declared.mark.Mark.TheVariants.{Green, Executed}
 use Rattle.graph_rules.specs.Keys.{same_key, input_of}
@@ -113,12 +113,12 @@ begin_refused so p ns b h kept q w f nf stands why t te =
 
 -- ---- finish
 
-pub finish_may : (past : Past) (p : Project) (ns : List Node) (b : Bool) (h : List Event) → IsKept past p ns b h → (o : Ran) (w : ℕ)
+pub finish_may : (past : Past) (p : Project) (ns : List Node) (b : Bool) (h : List Event) → IsKept past p ns b h → (o : OutcomeValue) (w : ℕ)
     → b ≡ false → status_in ns o.key ≡ Running w → AreHeld (held p ns false) o.told → MayStep past (replayed past p h) (Finish w o)
 finish_may past p ns b h kept o w nf stands all =
     (sym kept.failed_is ∙ nf, (is_standing past p ns b h kept o.key (Running w) stands (λ e. cc)).1, are_held past p ns b h kept false o.told all)
 
-pub finish_kept : (past : Past) (p : Project) (ns ms : List Node) (b : Bool) (h : List Event) → IsKept past p ns b h → (o : Ran) (w : ℕ) (x : Status)
+pub finish_kept : (past : Past) (p : Project) (ns ms : List Node) (b : Bool) (h : List Event) → IsKept past p ns b h → (o : OutcomeValue) (w : ℕ) (x : Status)
     → b ≡ false → status_in ns o.key ≡ Running w → AreHeld (held p ns false) o.told
     → x ≡ Done o.value (keys o.told) Executed → (AreApart ns → AreApart ms) → ((k : Key) → status_in ms k ≡ (if same_key o.key k then x else status_in ns k))
     → IsKept past p ms b (h ++ Finish w o ∷ [])
@@ -127,18 +127,18 @@ finish_kept past p ns ms b h kept o w x nf stands all xis apart put =
     (λ st. ap (λ (y : Status). with_status st o.key y) (sym xis))
     (is_standing past p ns b h kept o.key (Running w) stands (λ e. cc)).0 apart put
 
-pub finish_at : (so : Option SessionValue) (p : Project) (ns : List Node) (b : Bool) (h : List Event) → IsKept (past_entry so) p ns b h → (o : Ran) (w : ℕ)
+pub finish_at : (so : Option SessionValue) (p : Project) (ns : List Node) (b : Bool) (h : List Event) → IsKept (past_entry so) p ns b h → (o : OutcomeValue) (w : ℕ)
     → b ≡ false → status_in ns o.key ≡ Running w → AreHeld (held p ns false) o.told
     → (t : TableValue) → record { past = so; project = p; history = h } ≡ t → IsStep t (Finish w o)
 finish_at so p ns b h kept o w nf stands all t te = subst (λ (u : TableValue). IsStep u (Finish w o)) te (finish_may (past_entry so) p ns b h kept o w nf stands all)
 
-stale_same : (s t : State) → ((k : Key) → s.at k ≡ t.at k) → (rs : List Told) (i : ℕ) → IsFirstStale s rs i → IsFirstStale t rs i
+stale_same : (s t : State) → ((k : Key) → s.at k ≡ t.at k) → (rs : List ReadValue) (i : ℕ) → IsFirstStale s rs i → IsFirstStale t rs i
 stale_same s t e [] i h = h
 stale_same s t e (r ∷ rs) zero h = λ d. h (subst (λ (x : Status). IsDoneWith r.value x) (sym (e r.key)) d)
 stale_same s t e (r ∷ rs) (suc i) h = (subst (λ (x : Status). IsDoneWith r.value x) (e r.key) h.0, stale_same s t e rs i h.1)
 
 -- a running key whose reads are stale
-pub finish_stale : (so : Option SessionValue) (p : Project) (ns : List Node) (b : Bool) (h : List Event) → IsKept (past_entry so) p ns b h → (o : Ran) (w i : ℕ)
+pub finish_stale : (so : Option SessionValue) (p : Project) (ns : List Node) (b : Bool) (h : List Event) → IsKept (past_entry so) p ns b h → (o : OutcomeValue) (w i : ℕ)
     → b ≡ false → status_in ns o.key ≡ Running w → IsFirstStale (held p ns false) o.told i
     → (t : TableValue) → record { past = so; project = p; history = h } ≡ t → FinishGives t w o (Err (fault.StaleRead i)) t
 finish_stale so p ns b h kept o w i nf stands stale t te =

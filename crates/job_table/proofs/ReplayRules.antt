@@ -2,8 +2,8 @@
 use Rattle.std.proofs.Common.{◌≡◌, ◌<◌, ℕ, List, [], ◌∷◌, ◌++◌, take, drop, map, length, get_or, suc, zero, sym, ap, ◌∙◌, subst, refl, Bool, true, false, arith}
 use Rattle.std.specs.Prelude.{Result, Ok, Err}
 use Rattle.recorder.specs.Projects.{Project}
-use Rattle.recorder.specs.Backed.{Told}
-use Rattle.recorder.specs.Runs.{Ran}
+use Rattle.recorder.specs.Backed.{ReadValue}
+use Rattle.recorder.specs.Runs.{OutcomeValue}
 use Rattle.sessions.specs.Sessions.{SessionValue, past_entry}
 use Rattle.graph_rules.specs.Pasts.{Past}
 use Rattle.graph_rules.specs.Steps.{State, Event, Finish, Fail, AreHeld, IsDoneWith, MayStep, Legal}
@@ -42,7 +42,7 @@ first_illegal so p events front e rest i t whole place te legal stuck = record {
   illegal = subst (λ (u : TableValue). IsStep u e → ⊥) te stuck;
 }
 
-stale_not : (s : State) (rs : List Told) (i : ℕ) → IsFirstStale s rs i → AreHeld s rs → ⊥
+stale_not : (s : State) (rs : List ReadValue) (i : ℕ) → IsFirstStale s rs i → AreHeld s rs → ⊥
 stale_not s [] i h a = h
 stale_not s (r ∷ rs) zero h a = h a.0
 stale_not s (r ∷ rs) (suc i) h a = stale_not s rs i h.1 a.1
@@ -51,7 +51,7 @@ not_both : (b : Bool) → b ≡ true → b ≡ false → ⊥
 not_both b t f = cc
 
 -- what an answer of finish says of its event
-pub finish_step : (t u : TableValue) (w : ℕ) (o : Ran) (r : Result (Unit {0}) TableFault) → FinishGives t w o r u → StepGives t (Finish w o) (step_of_call r) u
+pub finish_step : (t u : TableValue) (w : ℕ) (o : OutcomeValue) (r : Result (Unit {0}) TableFault) → FinishGives t w o r u → StepGives t (Finish w o) (step_of_call r) u
 finish_step t u w o (Ok x) h = h
 finish_step t u w o (Err fault.Failed) h = ((λ m. not_both _ h.0 m.0), h.1)
 finish_step t u w o (Err fault.NotYours) h = ((λ m. h.1 m.1), h.2)

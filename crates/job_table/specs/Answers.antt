@@ -73,13 +73,13 @@ BeginGives t w q (Err fault.OutOfMemory) u = IsStep t (Begin w q) × (u ≡ t)
 BeginGives t w q (Err _) u = ⊥
 
 -- the read at this place is the first whose key isn't done with the value that was read
-abbrev pub IsFirstStale : State → List Told → ℕ → Type 0
+abbrev pub IsFirstStale : State → List ReadValue → ℕ → Type 0
 IsFirstStale s [] i = ⊥
 IsFirstStale s (r ∷ rs) zero = ¬ IsDoneWith r.value (s.at r.key)
 IsFirstStale s (r ∷ rs) (suc i) = IsDoneWith r.value (s.at r.key) × IsFirstStale s rs i
 
 -- finish
-abbrev pub FinishGives : TableValue → ℕ → Ran → Result (Unit {0}) TableFault → TableValue → Type 0
+abbrev pub FinishGives : TableValue → ℕ → OutcomeValue → Result (Unit {0}) TableFault → TableValue → Type 0
 FinishGives t w o (Ok _) u = IsStep t (Finish w o) × (u ≡ adds t (Finish w o))
 FinishGives t w o (Err fault.Failed) u = ((state_of t).failed ≡ true) × (u ≡ t)
 FinishGives t w o (Err fault.NotYours) u = ((state_of t).failed ≡ false) × ((state_of t).at o.key ≡ Running w → ⊥) × (u ≡ t)

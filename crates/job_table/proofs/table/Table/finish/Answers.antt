@@ -1,7 +1,7 @@
 use Rattle.std.proofs.Common.{◌≡◌, ◌<◌, [], ◌∷◌, ◌++◌, map, true, false, arith, sym, ◌∙◌, ap, refl}
 use Rattle.std.specs.Arc.{arc_value}
-use Rattle.recorder.specs.Runs.{Ran}
-use Rattle.recorder.specs.Backed.{Told}
+use Rattle.recorder.specs.Runs.{OutcomeValue}
+use Rattle.recorder.specs.Backed.{ReadValue}
 use Rattle.graph_rules.specs.Steps.{Running, Finish, AreHeld}
 use Rattle.job_table.specs.Nodes.{status_in, held}
 use Rattle.job_table.specs.Kept.{event_of}
@@ -14,7 +14,7 @@ use Rattle.job_table.proofs.table.Table.finish.Goals as goal
 pub returns-in_default : goal.returns-in_default
 returns-in_default g c =
     let kept = c.self.invariant.0 in
-    let ke = c.key.ensures ∙ ap (λ (o : Ran). o.key) c.deref.ensures in
+    let ke = c.key.ensures ∙ ap (λ (o : OutcomeValue). o.key) c.deref.ensures in
     rw (← c.self.view_is) (
       sym kept.failed_is ∙ c.if-self.false,
       not_standing _ _ _ _ _ kept (arc_value c.args.outcome).key (Running c.args.w) tt (rw ke at c.in_default.ensures.none),
@@ -23,14 +23,14 @@ returns-in_default g c =
 
 pub returns-in-Some-first_stale : goal.returns-in-Some-first_stale
 returns-in-Some-first_stale g c =
-    let ke = c.key.ensures ∙ ap (λ (o : Ran). o.key) c.deref.ensures in
-    let re = c.reads.ensures ∙ ap (λ (o : Ran). o.told) c.deref-2.ensures in
+    let ke = c.key.ensures ∙ ap (λ (o : OutcomeValue). o.key) c.deref.ensures in
+    let re = c.reads.ensures ∙ ap (λ (o : OutcomeValue). o.told) c.deref-2.ensures in
     finish_stale (session_in c.self.inside.past) _ _ _ _ c.self.invariant.0 (arc_value c.args.outcome) c.args.w c.in-Some-first_stale.i c.if-self.false (rw ke at c.in-Some.ensures.running) (rw re at c.in-Some-first_stale.ensures) _ c.self.view_is
 
 pub returns-in_default-room_for_finish : goal.returns-in_default-room_for_finish
 returns-in_default-room_for_finish g c =
-    let ke = c.key.ensures ∙ ap (λ (o : Ran). o.key) c.deref.ensures in
-    let re = c.reads.ensures ∙ ap (λ (o : Ran). o.told) c.deref-2.ensures in (
+    let ke = c.key.ensures ∙ ap (λ (o : OutcomeValue). o.key) c.deref.ensures in
+    let re = c.reads.ensures ∙ ap (λ (o : OutcomeValue). o.told) c.deref-2.ensures in (
       finish_at (session_in c.self.inside.past) _ _ _ _ c.self.invariant.0 (arc_value c.args.outcome) c.args.w c.if-self.false (rw ke at c.in-Some.ensures.running) (rw re at c.in_default-first_stale.ensures) _ c.self.view_is,
       rw (← c.self.view_is, c.room_for_finish.ensures.history.0) refl,
     )
@@ -43,8 +43,8 @@ pub invariant_of-self-2 : goal.invariant_of-self-2
 invariant_of-self-2 g c =
     let i = c.self.inside in
     let o = arc_value c.args.outcome in
-    let ke = c.key.ensures ∙ ap (λ (o : Ran). o.key) c.deref.ensures in
-    let re = c.reads.ensures ∙ ap (λ (o : Ran). o.told) c.deref-2.ensures in
+    let ke = c.key.ensures ∙ ap (λ (o : OutcomeValue). o.key) c.deref.ensures in
+    let re = c.reads.ensures ∙ ap (λ (o : OutcomeValue). o.told) c.deref-2.ensures in
     let r = c.in-Some-room_for_finish.ensures in
     let edges = rw c.deref-3.ensures at r.edges in
     let value = rw c.deref-3.ensures at r.value in
@@ -57,8 +57,8 @@ invariant_of-self-2 g c =
 
 pub returns : goal.returns
 returns g c =
-    let ke = c.key.ensures ∙ ap (λ (o : Ran). o.key) c.deref.ensures in
-    let re = c.reads.ensures ∙ ap (λ (o : Ran). o.told) c.deref-2.ensures in (
+    let ke = c.key.ensures ∙ ap (λ (o : OutcomeValue). o.key) c.deref.ensures in
+    let re = c.reads.ensures ∙ ap (λ (o : OutcomeValue). o.told) c.deref-2.ensures in (
       finish_at (session_in c.self.inside.past) _ _ _ _ c.self.invariant.0 (arc_value c.args.outcome) c.args.w c.if-self.false (rw ke at c.in-Some.ensures.running) (rw re at c.in_default-first_stale.ensures) _ c.self.view_is,
       rw (← c.self.view_is, events_after g c) refl,
     )

@@ -1,0 +1,123 @@
+-- The marks of mistakes in a project have four bytes.
+use Rattle.std.proofs.Common.{◌≡◌, ℕ, suc, ◌<◌, ◌≤◌, ◌^◌, Bool, true, false, List, [], ◌∷◌, length, Option, Some, None, option_map, option_and_then, Contains, bytes_eq, refl, subst, arith, if◌then◌else◌}
+use Rattle.std.specs.Prelude.{IfSome}
+use Rattle.std.specs.List.{AllByRecursion}
+use Rattle.std.proofs.lemmas.List.{length-drop}
+use Rattle.std.proofs.lemmas.List.Elements.{All-contains}
+use Rattle.std.proofs.lemmas.Option.{none-some}
+use Rattle.std.proofs.lemmas.List.Elements.{at_from_Contains}
+use Rattle.mj_lexer.specs.declared.token.Token.{Token}
+use Rattle.mj_lexer.specs.declared.front.Front.TheVariants.{Word}
+use Rattle.mj_lexer.specs.Fronts.{IsWithin}
+use Rattle.mj_lexer.specs.Lexes.{limit, Cuts, here, blank, word}
+use Rattle.mj_lexer.specs.Lexing.{tokens_of}
+use Rattle.mj_lexer.proofs.Only.{front_is}
+use Rattle.mj_lexer.proofs.Within.{front_within}
+use Rattle.mj_lexer.proofs.Lexings.{Lexes-tokens_of}
+use Rattle.mj_tree.specs.Trees.{Name, Statement, Method, Main, Class, File}
+use Rattle.mj_parser.specs.FileReading.{tree_of}
+use Rattle.mj_parser.specs.MarkBounds.{StmtMarksBelow, MethodMarksBelow, ClassMarksBelow, MainMarksBelow, FileMarksBelow}
+use Rattle.mj_parser.proofs.FileFound.{file_found}
+use Rattle.mj_parser.proofs.Bounds.{marks_below}
+use Rattle.mj_classes.specs.Declarations.{ClassDecl, numbered, main_first, classes_of, declared_from, decl}
+use Rattle.mj_classes.specs.Members.{own_method}
+use Rattle.mj_answer.proofs.Alike.{Contains-first, Contains-later}
+use Rattle.mj_typing.specs.declared.verdict.Mistake.{Mistake}
+use Rattle.mj_typing.specs.Inquiries.{World}
+use Rattle.mj_project.specs.Projects.{SourceFile}
+use Rattle.mj_rules.specs.Sentences.{file_of, trees_of, classes_in}
+use Rattle.mj_rules.specs.ClassFaults.{main_word}
+use Rattle.mj_rules.proofs.RowLemmas.{found_stands}
+use Rattle.tree_bytes.specs.Bodies.{OfMain, OfMethod}
+use Rattle.recorder.specs.Projects.{Project}
+use Rattle.recorder.proofs.Recorded.{all_at}
+use Rattle.query_rules.specs.Items.{class_at, body_by, body_in, body_at, mistakes_in}
+use Rattle.query_rules.proofs.Firsts.{all_append}
+use Rattle.body_query.proofs.Marks.{method_small, main_small}
+
+nowhere : (x : Method) → Contains [] x → ⊥
+nowhere x e = let a = at_from_Contains [] x e in absurd (omega (arith, a.1))
+
+-- ---- a text has no more tokens than bytes
+
+few_cut : {at : ℕ} {text : List ℕ} {tokens : List Token} {till : ℕ} {rest : List ℕ} → Cuts at text tokens till rest → length tokens ≤ length text
+few_cut here = omega arith
+few_cut {text = text} (blank n stands c) = omega (arith, few_cut c, length-drop n text)
+few_cut {text = text} (word kind n stands c) =
+    let w = subst (IsWithin (length text)) (front_is text (Word kind n) stands) (front_within text) in
+    omega (arith, few_cut c, length-drop n text, w.0, w.1)
+
+few_tokens : (text : List ℕ) (tokens : List Token) → tokens_of text ≡ Some tokens → length tokens ≤ limit
+few_tokens text tokens e = let l = (Lexes-tokens_of text tokens).1 e in omega (arith, few_cut l.cut, l.short)
+
+-- ---- the marks of a project's trees
+
+abbrev pub FileFits : File → Type 0
+FileFits f = (n : ℕ) × (n ≤ limit) × FileMarksBelow n f
+
+by_tokens : (bytes : List ℕ) (f : File) (o : Option (List Token)) → tokens_of bytes ≡ o → option_and_then tree_of o ≡ Some f → FileFits f
+by_tokens bytes f None t e = absurd (none-some f e)
+by_tokens bytes f (Some tokens) t e = (length tokens, few_tokens bytes tokens t, marks_below tokens f (file_found tokens f e))
+
+pub file_fits : (bytes : List ℕ) (f : File) → file_of bytes ≡ Some f → FileFits f
+unfolding file_of
+file_fits bytes f e = by_tokens bytes f (tokens_of bytes) refl e
+
+pub record DeclBelow (n : ℕ) (k : ClassDecl) : Type 0 where
+  pub main : IfSome k.main (λ statement. StmtMarksBelow n statement)
+  pub methods : (m : Method) → Contains k.methods m → MethodMarksBelow n m
+
+abbrev pub DeclFits : ClassDecl → Type 0
+DeclFits k = (n : ℕ) × (n ≤ limit) × DeclBelow n k
+
+module _ (n : ℕ) (few : n ≤ limit) where
+  numbered_fit : (file number : ℕ) (cs : List Class) → ((c : Class) → Contains cs c → ClassMarksBelow n c) → AllByRecursion DeclFits (numbered file number cs)
+  numbered_fit file number [] h = tt
+  numbered_fit file number (c ∷ cs) h = (
+    (n, few, record { main = tt; methods = λ m e. All-contains (MethodMarksBelow n) c.methods m (h c (Contains-first c cs)) e }),
+    numbered_fit file (suc number) cs (λ d e. h d (Contains-later c cs d e)),
+  )
+
+  main_first_fit : (file : ℕ) (o : Option Main) (cs : List Class) → MainMarksBelow n o → ((c : Class) → Contains cs c → ClassMarksBelow n c) → AllByRecursion DeclFits (main_first file o cs)
+  main_first_fit file None cs m h = numbered_fit file 0 cs h
+  main_first_fit file (Some main) cs m h = ((n, few, record { main = m; methods = λ x e. absurd (nowhere x e) }), numbered_fit file 1 cs h)
+
+  classes_fit : (file : ℕ) (f : File) → FileMarksBelow n f → AllByRecursion DeclFits (classes_of file f)
+  classes_fit file f h = main_first_fit file f.main f.classes h.main (λ c e. All-contains (ClassMarksBelow n) f.classes c h.classes e)
+
+declared_fit : (file : ℕ) (files : List SourceFile) → AllByRecursion DeclFits (declared_from file (trees_of files))
+declared_fit file [] = tt
+declared_fit file (f ∷ files) = by_tree (file_of f.bytes) refl (declared_fit (suc file) files)
+  where
+    by_tree : (o : Option File) → file_of f.bytes ≡ o → AllByRecursion DeclFits (declared_from (suc file) (trees_of files)) → AllByRecursion DeclFits (declared_from file (o ∷ trees_of files))
+    by_tree None e h = h
+    by_tree (Some tree) e h = let w = file_fits f.bytes tree e in all_append DeclFits (classes_of file tree) (declared_from (suc file) (trees_of files)) (classes_fit w.0 w.1 file tree w.2) h
+
+pub class_fits : (p : Project) (c : Name) (k : ClassDecl) → class_at p c ≡ Some k → DeclFits k
+unfolding decl
+class_fits p c k e = all_at DeclFits (classes_in p) k (found_stands (λ (d : ClassDecl). bytes_eq d.name c) (classes_in p) k e).0 (declared_fit 0 p)
+
+-- ---- the mistakes in a body
+
+abbrev pub Small : List Mistake → Type 0
+Small mistakes = AllByRecursion (λ x. x.mark < 2 ^ 32) mistakes
+
+module _ (w : World) (c m : Name) (k : ClassDecl) (n : ℕ) (few : n ≤ limit) where
+  main_body : (statement : Statement) (t : Bool) → StmtMarksBelow n statement → Small (mistakes_in w c (if t then Some (OfMain statement) else None))
+  main_body statement true h = main_small n (2 ^ 32) (omega (arith, few)) w (record { name = c; statement = statement }) h
+  main_body statement false h = tt
+
+  method_body : (o : Option Method) → own_method m k ≡ o → ((x : Method) → Contains k.methods x → MethodMarksBelow n x) → Small (mistakes_in w c (option_map OfMethod o))
+  method_body None e h = tt
+  method_body (Some x) e h = method_small n (2 ^ 32) (omega (arith, few)) w c x (omega arith) (h x (found_stands (λ (f : Method). bytes_eq f.name m) k.methods x e).0)
+
+  any_body : (o : Option Statement) → IfSome o (λ statement. StmtMarksBelow n statement) → ((x : Method) → Contains k.methods x → MethodMarksBelow n x) → Small (mistakes_in w c (body_by o m k))
+  any_body (Some statement) s h = main_body statement (bytes_eq m main_word) s
+  any_body None s h = method_body (own_method m k) refl h
+
+pub small_mistakes : (w : World) (p : Project) (c m : Name) → Small (mistakes_in w c (body_at p c m))
+small_mistakes w p c m = by_class (class_at p c) refl
+  where
+    by_class : (o : Option ClassDecl) → class_at p c ≡ o → Small (mistakes_in w c (option_and_then (body_in m) o))
+    by_class None e = tt
+    by_class (Some k) e = let h = class_fits p c k e in any_body w c m k h.0 h.1 k.main h.2.main h.2.methods

@@ -1,0 +1,11 @@
+pub mod Steps
+pub mod Asked
+pub mod Rows
+pub mod Texts
+pub mod Bounds
+pub mod Sets
+pub mod FieldRows
+pub mod Marks
+pub mod Few
+pub mod Worlds
+pub mod Ties

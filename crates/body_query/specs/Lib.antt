@@ -1,0 +1,6 @@
+pub mod Told
+pub mod Programs
+pub mod Steps
+pub mod Bounds
+pub mod Body
+pub mod Laws

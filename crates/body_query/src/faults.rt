@@ -1,0 +1,70 @@
+//! Lists of faults whose places have numbers in four bytes.
+ghost use Rattle.std.specs.Prelude.{◌≡◌, ◌++◌, ◌∷◌, [], IfOk, OnOk};
+ghost use Rattle.answer_bytes.specs.Storable.{AreClassFaults};
+ghost use Rattle.query_rules.specs.Items.{fault_set as fault_set_of};
+ghost use Rattle.body_query.specs.Bounds.{bounded, bounded_place};
+ghost use Rattle.body_query.specs.Body.{faults_in};
+
+use answer_bytes::Faults;
+use mj_answer::{Code, Diagnostic, fault_set};
+use mj_lexer::Name;
+use mj_tree::Place;
+use mj_typing::Mistake;
+use std::alloc::{AllocError, Global};
+
+/// The number in four bytes.
+fn bounded(number: usize) -> usize
+    ensures { result ≡ bounded number }
+{
+    number.min(0xffff_ffff)
+}
+
+/// The place with its number in four bytes.
+fn bounded_place(place: Place) -> Place
+    ensures { result ≡ bounded_place place }
+{
+    match place {
+        Place::ClassOf(file, number) => Place::ClassOf(file, bounded(number)),
+        Place::Field(number) => Place::Field(bounded(number)),
+        Place::Method(number) => Place::Method(bounded(number)),
+        Place::Inside(method, token) => Place::Inside(method, bounded(token)),
+        other => other,
+    }
+}
+
+/// One more fault. A number in its place that hasn't four bytes is written as the greatest that has.
+pub fn note_fault(faults: &mut Vec<Diagnostic>, place: Place, code: Code) -> Result<(), AllocError>
+    ensures { OnOk result
+        (faults.new.items ≡ faults.old.items ++ record { place = bounded_place place; code = code } ∷ []) }
+{
+    faults.push(Diagnostic {
+        place: bounded_place(place),
+        code,
+    })?;
+    Ok(())
+}
+
+/// The faults for mistakes in a method.
+pub(crate) fn faults_in(
+    alloc: Global,
+    method: &Name,
+    mistakes: &[Mistake],
+) -> Result<Vec<Diagnostic>, AllocError>
+    ensures value { IfOk result (λ faults. faults.items ≡ faults_in method.now mistakes.now) }
+    ensures places { IfOk result (λ faults. AreClassFaults faults.items) }
+{
+    let mut faults = Vec::new(alloc);
+    for mistake in mistakes {
+        let place = Place::Inside(method.copy(alloc)?, mistake.mark);
+        note_fault(&mut faults, place, mistake.code)?;
+    }
+    Ok(faults)
+}
+
+/// These faults of a class as a set.
+pub fn class_faults(faults: Vec<Diagnostic>) -> Faults
+    requires { AreClassFaults faults.items }
+    ensures { result ≡ fault_set_of faults.items }
+{
+    Faults::new(fault_set(faults))
+}

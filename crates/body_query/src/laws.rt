@@ -1,0 +1,14 @@
+//! What holds of the query.
+ghost use Rattle.body_query.specs.Bounds.{BoundsLaw};
+ghost use Rattle.body_query.specs.Laws.{BodyTies};
+
+/// In every project the program of a body's mistakes gives the value of the query and asks what it reads; whatever the
+/// answers, it asks keys of lower rank and gives faults.
+pub fn body_ties()
+    ensures { BodyTies }
+{}
+
+/// Faults whose numbers have four bytes are noted as they are.
+pub fn bounds_law()
+    ensures { BoundsLaw }
+{}

@@ -1,0 +1,13 @@
+//! The query of a body's mistakes: the check of a body that gets what it asks by reads.
+#![tactic(auto)]
+
+mod faults;
+mod laws;
+mod query;
+mod reads;
+mod told;
+
+pub use faults::{class_faults, note_fault};
+pub use laws::{body_ties, bounds_law};
+pub use query::{body_in, check_body, check_body_steps};
+pub use told::copy_type;

@@ -1,0 +1,93 @@
+//! The query.
+ghost use Rattle.std.specs.Prelude.{◌≡◌, [], None, IfOk, IfErr, option_copied};
+ghost use Rattle.item_ids.specs.Keys.{kind_of};
+ghost use Rattle.item_ids.specs.declared.kind.Kind.TheVariants as kinds;
+ghost use Rattle.recorder.specs.Programs.{Goes, GivesUp, Performs};
+ghost use Rattle.query_rules.specs.Items.{fault_set};
+ghost use Rattle.body_query.specs.Programs.{reads_of};
+ghost use Rattle.body_query.specs.Body.{faults_in as faults_told, check_of, body_steps, body_prog};
+ghost use Rattle.body_query.specs.Told.{body_in as body_told};
+
+use crate::faults::{class_faults, faults_in};
+use crate::reads::{check_main_by_reads, check_method_by_reads};
+use answer_bytes::Faults;
+use item_ids::Key;
+use mj_lexer::Name;
+use mj_typing::Mistake;
+use recorder::{Reader, Recorder, RunFault, ask_key};
+use result_bytes::Value;
+use std::alloc::{AllocError, AllocFailed, Global};
+use tree_bytes::{Body, MainOrMethod};
+
+/// The body that an answer tells.
+pub fn body_in(value: &Value) -> Option<&Body>
+    ensures { option_copied result ≡ body_told value.now }
+{
+    match value {
+        Value::Method(body) => body.as_ref(),
+        _ => None,
+    }
+}
+
+/// The mistakes in the body that an answer tells.
+fn check_told<D: Reader>(
+    alloc: Global,
+    recorder: &mut Recorder<D>,
+    class: &Name,
+    value: &Value,
+) -> Result<Vec<Mistake>, RunFault>
+    ensures ok { IfOk result (λ mistakes. Goes (reads_of (check_of class.now (body_told value.now))) recorder.old mistakes.items recorder.new) }
+    ensures err { IfErr result (λ e. GivesUp (reads_of (check_of class.now (body_told value.now))) recorder.old e recorder.new) }
+    ensures follows { D.follows recorder.old.inner recorder.new.inner }
+{
+    match body_in(value) {
+        None => Ok(Vec::new(alloc)),
+        Some(body) => match body.root() {
+            MainOrMethod::Main(statement) => check_main_by_reads(alloc, recorder, statement),
+            MainOrMethod::Method(method) => check_method_by_reads(alloc, recorder, class, method),
+        },
+    }
+}
+
+/// The faults for mistakes in a method, as a set.
+fn faults_for(alloc: Global, method: &Name, mistakes: &[Mistake]) -> Result<Faults, AllocError>
+    ensures { IfOk result (λ faults. faults ≡ fault_set (faults_told method.now mistakes.now)) }
+{
+    Ok(class_faults(faults_in(alloc, method, mistakes)?))
+}
+
+/// The mistakes in a method of a class.
+pub fn check_body_steps<D: Reader>(
+    alloc: Global,
+    recorder: &mut Recorder<D>,
+    class: &Name,
+    method: &Name,
+) -> Result<Value, RunFault>
+    ensures ok { IfOk result (λ v. Goes (body_steps class.now method.now) recorder.old v recorder.new) }
+    ensures err { IfErr result (λ e. GivesUp (body_steps class.now method.now) recorder.old e recorder.new) }
+    ensures follows { D.follows recorder.old.inner recorder.new.inner }
+{
+    let key = Key::Method(class.copy(alloc)?, method.copy(alloc)?);
+    let sealed = ask_key(recorder, &key)?;
+    let mistakes = check_told(alloc, recorder, class, sealed.value())?;
+    let faults = faults_for(alloc, method, &mistakes)?;
+    Ok(Value::CheckBody(faults))
+}
+
+/// Runs a query of this kind, with a recorder that hasn't read.
+pub fn check_body<D: Reader>(
+    alloc: Global,
+    key: &Key,
+    recorder: &mut Recorder<D>,
+) -> Result<Value, RunFault>
+    requires kind { kind_of key.now ≡ kinds.CheckBody }
+    requires unread { recorder.old.told ≡ [] }
+    requires unrefused { recorder.old.refused ≡ None }
+    ensures performs { Performs (body_prog key.now) recorder.old result recorder.new }
+    ensures follows { D.follows recorder.old.inner recorder.new.inner }
+{
+    match key {
+        Key::CheckBody(class, method) => check_body_steps(alloc, recorder, class, method),
+        _ => unreachable!(),
+    }
+}

@@ -1,0 +1,281 @@
+//! A check that gets what it asks by reads.
+ghost use Rattle.std.specs.Prelude.{◌≡◌, List, [], Option, IfOk, IfErr, option_copied, option_map};
+ghost use Rattle.std.specs.Arc.{arc_value};
+ghost use Rattle.item_ids.specs.declared.key.Key.TheVariants as keys;
+ghost use Rattle.mj_tree.specs.Views.{method_view, stmt_view};
+ghost use Rattle.mj_typing.specs.Bodies.{method_check, statement_step};
+ghost use Rattle.mj_typing.specs.Inquiries.{Concludes};
+ghost use Rattle.mj_typing.specs.Table.{main_scope};
+ghost use Rattle.recorder.specs.Programs.{Goes, GivesUp};
+ghost use Rattle.body_query.specs.Programs.{reads_of, declared_step, descends_step, field_step, method_step};
+
+use crate::told::{MethodTypes, descends_in, field_in, is_declared_in, method_in};
+use item_ids::Key;
+use mj_lexer::Name;
+use mj_tree::{MethodTree, Stmt, Ty};
+use mj_typing::{Asking, Mistake, Signature, Stop, check_main_statement, check_method};
+use recorder::{Reader, Recorder, RunFault, ask_key};
+use std::alloc::{AllocError, Global};
+use std::marker::{Brand, PhantomData};
+
+/// Whether a class is declared, by its header.
+fn ask_declared<D: Reader>(
+    alloc: Global,
+    recorder: &mut Recorder<D>,
+    class: &Name,
+) -> Result<bool, RunFault>
+    ensures ok { IfOk result (λ answer. Goes (declared_step class.now) recorder.old answer recorder.new) }
+    ensures err { IfErr result (λ e. GivesUp (declared_step class.now) recorder.old e recorder.new) }
+    ensures follows { D.follows recorder.old.inner recorder.new.inner }
+{
+    let key = Key::Header(class.copy(alloc)?);
+    let header = ask_key(recorder, &key)?;
+    Ok(is_declared_in(header.value()))
+}
+
+/// Whether a class stands in the chain of another.
+fn ask_descends<D: Reader>(
+    alloc: Global,
+    recorder: &mut Recorder<D>,
+    class: &Name,
+    ancestor: &Name,
+) -> Result<bool, RunFault>
+    ensures ok { IfOk result (λ answer. Goes (descends_step class.now ancestor.now) recorder.old answer recorder.new) }
+    ensures err { IfErr result (λ e. GivesUp (descends_step class.now ancestor.now) recorder.old e recorder.new) }
+    ensures follows { D.follows recorder.old.inner recorder.new.inner }
+{
+    let key = Key::Supers(class.copy(alloc)?);
+    let chain = ask_key(recorder, &key)?;
+    Ok(descends_in(chain.value(), ancestor))
+}
+
+/// The type of a field.
+fn ask_field<D: Reader>(
+    alloc: Global,
+    recorder: &mut Recorder<D>,
+    class: &Name,
+    name: &Name,
+) -> Result<Option<Ty>, RunFault>
+    ensures ok { IfOk result (λ answer. Goes (field_step class.now name.now) recorder.old answer recorder.new) }
+    ensures err { IfErr result (λ e. GivesUp (field_step class.now name.now) recorder.old e recorder.new) }
+    ensures follows { D.follows recorder.old.inner recorder.new.inner }
+{
+    let key = Key::Members(class.copy(alloc)?);
+    let fields = ask_key(recorder, &key)?;
+    let ty = field_in(alloc, fields.value(), name)?;
+    Ok(ty)
+}
+
+/// The types of a method.
+fn ask_method<D: Reader>(
+    alloc: Global,
+    recorder: &mut Recorder<D>,
+    class: &Name,
+    name: &Name,
+) -> Result<Option<MethodTypes>, RunFault>
+    ensures ok { IfOk result (λ answer. Goes (method_step class.now name.now) recorder.old (option_map ⟦<MethodTypes as Signature>⟧.sig answer) recorder.new) }
+    ensures err { IfErr result (λ e. GivesUp (method_step class.now name.now) recorder.old e recorder.new) }
+    ensures follows { D.follows recorder.old.inner recorder.new.inner }
+{
+    let key = Key::Members(class.copy(alloc)?);
+    let methods = ask_key(recorder, &key)?;
+    let types = method_in(alloc, methods.value(), name)?;
+    Ok(types)
+}
+
+/// What a recorder had read when a check began. Each call of a check picks it.
+trait Began {
+    ghost use Rattle.std.specs.Prelude.{List, Option};
+    ghost use Rattle.recorder.specs.Backed.{ReadValue};
+    ghost use Rattle.recorder.specs.declared.refused.Refused.{Refused};
+
+    ghost told: { List ReadValue };
+
+    ghost refused: { Option Refused };
+}
+
+impl Began for Brand {
+    ghost use Rattle.std.specs.Prelude.{None, []};
+
+    ghost told = { [] };
+
+    ghost refused = { None };
+}
+
+/// Asks by reads.
+#[derive(Drop)]
+struct Reads<'a, D: Reader, B: Began> {
+    recorder: &'a mut Recorder<D>,
+    began: PhantomData<B>,
+}
+
+impl<'a, D: Reader, B: Began> Asking for Reads<'a, D, B> {
+    ghost use Rattle.std.proofs.Common.{◌≡◌, ◌∙◌, refl};
+    ghost use Rattle.body_query.specs.Steps.{Comes, Ends, wants};
+
+    type Refusal = RunFault;
+
+    type Method = MethodTypes;
+
+    ghost stands = { λ s start now. Comes B.told B.refused start now s.recorder.now };
+
+    ghost halts = { λ s start e. Ends B.told B.refused start e s.recorder.now };
+
+    ghost follows = { λ s t. (t.recorder.ghost_name ≡ s.recorder.ghost_name) × D.follows s.recorder.now.inner t.recorder.now.inner };
+
+    ghost reflexive = { λ s. (refl, D.reflexive s.recorder.now.inner) };
+
+    ghost transitive = { λ s t u f g. (g.0 ∙ f.0, D.transitive s.recorder.now.inner t.recorder.now.inner u.recorder.now.inner f.1 g.1) };
+
+    ghost wanting = { λ s start now h. wants B.told B.refused start now s.recorder.now h };
+
+    fn descends(
+        &mut self,
+        alloc: Global,
+        class: &Name,
+        ancestor: &Name,
+    ) -> Result<bool, Stop<RunFault>> {
+        match ask_descends(alloc, self.recorder, class, ancestor) {
+            Ok(answer) => Ok(answer),
+            Err(fault) => Err(Stop::Refused(fault)),
+        }
+    }
+
+    fn field(
+        &mut self,
+        alloc: Global,
+        class: &Name,
+        name: &Name,
+    ) -> Result<Option<Ty>, Stop<RunFault>> {
+        match ask_field(alloc, self.recorder, class, name) {
+            Ok(answer) => Ok(answer),
+            Err(fault) => Err(Stop::Refused(fault)),
+        }
+    }
+
+    fn method(
+        &mut self,
+        alloc: Global,
+        class: &Name,
+        name: &Name,
+    ) -> Result<Option<MethodTypes>, Stop<RunFault>> {
+        match ask_method(alloc, self.recorder, class, name) {
+            Ok(answer) => Ok(answer),
+            Err(fault) => Err(Stop::Refused(fault)),
+        }
+    }
+
+    fn is_declared(&mut self, alloc: Global, class: &Name) -> Result<bool, Stop<RunFault>> {
+        match ask_declared(alloc, self.recorder, class) {
+            Ok(answer) => Ok(answer),
+            Err(fault) => Err(Stop::Refused(fault)),
+        }
+    }
+}
+
+/// The mistakes in a method of the class, by reads that begin here.
+fn check_through<D: Reader, B: Began>(
+    alloc: Global,
+    reads: &mut Reads<'_, D, B>,
+    class: &Name,
+    method: &MethodTree,
+) -> Result<Vec<Mistake>, RunFault>
+    requires told { reads.old.recorder.now.told ≡ B.told }
+    requires refused { reads.old.recorder.now.refused ≡ B.refused }
+    ensures ok { IfOk result (λ mistakes. Goes (reads_of (method_check class.now (method_view method.now))) reads.old.recorder.now mistakes.items reads.new.recorder.now) }
+    ensures err { IfErr result (λ e. GivesUp (reads_of (method_check class.now (method_view method.now))) reads.old.recorder.now e reads.new.recorder.now) }
+    ensures same_reference { reads.new.recorder.ghost_name ≡ reads.old.recorder.ghost_name }
+    ensures follows { D.follows reads.old.recorder.now.inner reads.new.recorder.now.inner }
+{
+    match check_method(alloc, reads, class, method) {
+        Ok(mistakes) => Ok(mistakes),
+        Err(Stop::OutOfMemory) => Err(RunFault::OutOfMemory),
+        Err(Stop::Refused(fault)) => Err(fault),
+    }
+}
+
+/// The mistakes in a method of the class, by reads of a recorder that stands where the check began.
+fn check_method_since<D: Reader, B: Began>(
+    alloc: Global,
+    recorder: &mut Recorder<D>,
+    class: &Name,
+    method: &MethodTree,
+) -> Result<Vec<Mistake>, RunFault>
+    requires told { recorder.old.told ≡ B.told }
+    requires refused { recorder.old.refused ≡ B.refused }
+    ensures ok { IfOk result (λ mistakes. Goes (reads_of (method_check class.now (method_view method.now))) recorder.old mistakes.items recorder.new) }
+    ensures err { IfErr result (λ e. GivesUp (reads_of (method_check class.now (method_view method.now))) recorder.old e recorder.new) }
+    ensures follows { D.follows recorder.old.inner recorder.new.inner }
+{
+    let mut reads = Reads::<D, B> {
+        recorder,
+        began: PhantomData,
+    };
+    check_through(alloc, &mut reads, class, method)
+}
+
+/// The mistakes in a method of the class, unordered and with repeats.
+pub fn check_method_by_reads<D: Reader>(
+    alloc: Global,
+    recorder: &mut Recorder<D>,
+    class: &Name,
+    method: &MethodTree,
+) -> Result<Vec<Mistake>, RunFault>
+    ensures ok { IfOk result (λ mistakes. Goes (reads_of (method_check class.now (method_view method.now))) recorder.old mistakes.items recorder.new) }
+    ensures err { IfErr result (λ e. GivesUp (reads_of (method_check class.now (method_view method.now))) recorder.old e recorder.new) }
+    ensures follows { D.follows recorder.old.inner recorder.new.inner }
+{
+    check_method_since::<D, Brand>(alloc, recorder, class, method)
+}
+
+/// The mistakes in the statement of main, by reads that begin here.
+fn check_main_through<D: Reader, B: Began>(
+    alloc: Global,
+    reads: &mut Reads<'_, D, B>,
+    statement: &Stmt,
+) -> Result<Vec<Mistake>, RunFault>
+    requires told { reads.old.recorder.now.told ≡ B.told }
+    requires refused { reads.old.recorder.now.refused ≡ B.refused }
+    ensures ok { IfOk result (λ mistakes. Goes (reads_of (statement_step main_scope (stmt_view statement.now) [] (λ mistakes. Concludes mistakes))) reads.old.recorder.now mistakes.items reads.new.recorder.now) }
+    ensures err { IfErr result (λ e. GivesUp (reads_of (statement_step main_scope (stmt_view statement.now) [] (λ mistakes. Concludes mistakes))) reads.old.recorder.now e reads.new.recorder.now) }
+    ensures same_reference { reads.new.recorder.ghost_name ≡ reads.old.recorder.ghost_name }
+    ensures follows { D.follows reads.old.recorder.now.inner reads.new.recorder.now.inner }
+{
+    match check_main_statement(alloc, reads, statement) {
+        Ok(mistakes) => Ok(mistakes),
+        Err(Stop::OutOfMemory) => Err(RunFault::OutOfMemory),
+        Err(Stop::Refused(fault)) => Err(fault),
+    }
+}
+
+/// The mistakes in the statement of main, by reads of a recorder that stands where the check began.
+fn check_main_since<D: Reader, B: Began>(
+    alloc: Global,
+    recorder: &mut Recorder<D>,
+    statement: &Stmt,
+) -> Result<Vec<Mistake>, RunFault>
+    requires told { recorder.old.told ≡ B.told }
+    requires refused { recorder.old.refused ≡ B.refused }
+    ensures ok { IfOk result (λ mistakes. Goes (reads_of (statement_step main_scope (stmt_view statement.now) [] (λ mistakes. Concludes mistakes))) recorder.old mistakes.items recorder.new) }
+    ensures err { IfErr result (λ e. GivesUp (reads_of (statement_step main_scope (stmt_view statement.now) [] (λ mistakes. Concludes mistakes))) recorder.old e recorder.new) }
+    ensures follows { D.follows recorder.old.inner recorder.new.inner }
+{
+    let mut reads = Reads::<D, B> {
+        recorder,
+        began: PhantomData,
+    };
+    check_main_through(alloc, &mut reads, statement)
+}
+
+/// The mistakes in the statement of main, unordered and with repeats.
+pub fn check_main_by_reads<D: Reader>(
+    alloc: Global,
+    recorder: &mut Recorder<D>,
+    statement: &Stmt,
+) -> Result<Vec<Mistake>, RunFault>
+    ensures ok { IfOk result (λ mistakes. Goes (reads_of (statement_step main_scope (stmt_view statement.now) [] (λ mistakes. Concludes mistakes))) recorder.old mistakes.items recorder.new) }
+    ensures err { IfErr result (λ e. GivesUp (reads_of (statement_step main_scope (stmt_view statement.now) [] (λ mistakes. Concludes mistakes))) recorder.old e recorder.new) }
+    ensures follows { D.follows recorder.old.inner recorder.new.inner }
+{
+    check_main_since::<D, Brand>(alloc, recorder, statement)
+}
