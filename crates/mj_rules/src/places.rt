@@ -2,10 +2,11 @@
 ghost use Rattle.std.specs.Prelude.{◌≡◌, ◌++◌, map, IfOk, OnOk};
 ghost use Rattle.mj_rules.specs.FaultCodes.{codes_of, answer_codes};
 
+use file_index::{LinedText, TokenIndex};
 use mj_answer::{Answer, ClassAnswer, Code, Diagnostic};
 use mj_classes::Declarations;
-use mj_lexer::{LexFault, Name, Token, lex, line_col};
-use mj_parser::{ParseFault, locate, parse};
+use mj_lexer::{LexFault, Name, Token, lex};
+use mj_parser::{ParseFault, parse};
 use mj_project::Project;
 use mj_tree::{FileTree, Place};
 use std::alloc::{AllocError, Global};
@@ -28,11 +29,19 @@ struct FileTokens {
     stopped: Option<usize>,
 }
 
-/// The text of a file with its tokens.
+/// A file by its lines and its tokens.
 #[derive(Drop)]
-struct Texts<'a> {
+struct FileText<'a, 't> {
+    lines: LinedText<'a>,
+    tokens: TokenIndex<'t>,
+    stopped: Option<usize>,
+}
+
+/// The files of a project, by their names too.
+#[derive(Drop)]
+struct Texts<'a, 't> {
     files: &'a [(String, Vec<u8>)],
-    tokens: Vec<FileTokens>,
+    texts: Vec<FileText<'a, 't>>,
     numbers: BTreeMap<&'a str, usize>,
 }
 
@@ -65,21 +74,19 @@ fn read(alloc: Global, bytes: &[u8]) -> Result<(FileTokens, Option<FileTree>), A
     Ok((FileTokens { tokens, stopped }, tree))
 }
 
-impl<'a> Texts<'a> {
+impl<'a, 't> Texts<'a, 't> {
     /// The line and the column of a place in a class of a file.
     fn spot(&self, file: usize, class: usize, place: &Place) -> Option<(usize, usize)> {
-        let (_, bytes) = self.files.get(file)?;
-        let tokens = &self.tokens.get(file)?.tokens;
-        let class = u32::try_from(class).ok()?;
-        let token = tokens.get(locate(tokens, class, place)?)?;
-        Some(line_col(bytes, token.start))
+        let text = self.texts.get(file)?;
+        let at = text.tokens.locate(u32::try_from(class).ok()?, place)?;
+        let token = text.tokens.tokens().get(at)?;
+        Some(text.lines.line_col(token.start))
     }
 
     /// Where reading a file stopped.
     fn stop(&self, file: usize) -> Option<(usize, usize)> {
-        let (_, bytes) = self.files.get(file)?;
-        let at = self.tokens.get(file)?.stopped?;
-        Some(line_col(bytes, at))
+        let text = self.texts.get(file)?;
+        Some(text.lines.line_col(text.stopped?))
     }
 
     /// A fault of a file: where reading it stopped, or a class of it.
@@ -157,25 +164,42 @@ impl<'a> Texts<'a> {
 fn read_again(
     alloc: Global,
     project: &Project,
-) -> Result<(Texts<'_>, Vec<Option<FileTree>>), AllocError> {
-    let mut texts = Texts {
-        files: project.files(),
-        tokens: Vec::new(alloc),
-        numbers: BTreeMap::new(alloc),
-    };
+) -> Result<(Vec<FileTokens>, Vec<Option<FileTree>>), AllocError> {
+    let mut files = Vec::new(alloc);
     let mut trees = Vec::new(alloc);
-    for (number, (name, bytes)) in project.files().iter().enumerate() {
+    for (_, bytes) in project.files() {
         let (tokens, tree) = read(alloc, bytes)?;
-        texts.tokens.push(tokens)?;
-        texts.numbers.insert(name.as_str(), number)?;
+        files.push(tokens)?;
         trees.push(tree)?;
     }
-    Ok((texts, trees))
+    Ok((files, trees))
+}
+
+/// The files by their names, lines and tokens.
+fn index_files<'a, 't>(
+    alloc: Global,
+    files: &'a [(String, Vec<u8>)],
+    tokens: &'t [FileTokens],
+) -> Result<Texts<'a, 't>, AllocError> {
+    let mut texts = Texts {
+        files,
+        texts: Vec::new(alloc),
+        numbers: BTreeMap::new(alloc),
+    };
+    for (number, ((name, bytes), read)) in files.iter().zip(tokens).enumerate() {
+        texts.texts.push(FileText {
+            lines: LinedText::new(alloc, bytes)?,
+            tokens: TokenIndex::new(alloc, &read.tokens)?,
+            stopped: read.stopped,
+        })?;
+        texts.numbers.insert(name.as_str(), number)?;
+    }
+    Ok(texts)
 }
 
 fn add_project_lines<'a>(
     lines: &mut Vec<FaultLine<'a>>,
-    texts: &Texts<'a>,
+    texts: &Texts<'a, '_>,
     faults: &[Diagnostic],
 ) -> Result<(), AllocError>
     ensures { OnOk result
@@ -190,7 +214,7 @@ fn add_project_lines<'a>(
 
 fn add_class_lines<'a>(
     lines: &mut Vec<FaultLine<'a>>,
-    texts: &Texts<'a>,
+    texts: &Texts<'a, '_>,
     declarations: &Declarations,
     class: &ClassAnswer,
 ) -> Result<(), AllocError>
@@ -212,7 +236,8 @@ pub fn fault_lines<'a>(
 ) -> Result<Vec<FaultLine<'a>>, AllocError>
     ensures { IfOk result (λ lines. codes_of lines.items ≡ answer_codes answer.now) }
 {
-    let (texts, trees) = read_again(alloc, project)?;
+    let (tokens, trees) = read_again(alloc, project)?;
+    let texts = index_files(alloc, project.files(), &tokens)?;
     let declarations = Declarations::new(alloc, &trees)?;
     let mut lines = Vec::new(alloc);
     add_project_lines(&mut lines, &texts, answer.faults())?;

@@ -1,0 +1,175 @@
+//! The tokens of places, found by search.
+ghost use Rattle.std.specs.Prelude.{◌≡◌, ◌<◌, ◌≤◌, length, find, IfOk, IfSome, map};
+ghost use Rattle.std.specs.List.{AllWithin};
+ghost use Rattle.mj_parser.specs.Locations.{existing, class_start, class_end, class_name, field_name, method_start, name_of_method, token_of};
+ghost use Rattle.file_index.specs.Standing.{is_named};
+
+use crate::terminals::TerminalPlaces;
+use mj_lexer::{Name, Terminal, Token};
+use mj_parser::{method_name, name};
+use mj_tree::Place;
+use std::alloc::{AllocError, Global};
+use std::marker::Model;
+
+/// The tokens of a file with the places of the words and symbols by which its parts are found. Contracts see the
+/// tokens.
+#[derive(Drop)]
+pub struct TokenIndex<'a> {
+    tokens: &'a [Token],
+    classes: TerminalPlaces<'a>,
+    semicolons: TerminalPlaces<'a>,
+    publics: TerminalPlaces<'a>,
+}
+
+impl<'a> Model for TokenIndex<'a> {
+    ghost use Rattle.std.specs.Prelude.{◌≡◌, List};
+    ghost use Rattle.mj_lexer.specs.declared.token.Token.{Token};
+    ghost use Rattle.mj_lexer.specs.declared.token.Terminal.TheVariants as terminals;
+    ghost use Rattle.file_index.specs.Standing.{Standing, standing};
+
+    ghost Value = { List Token };
+
+    ghost view = { λ t. t.tokens.now };
+
+    ghost invariant = { λ t.
+        (t.classes ≡ standing t.tokens.now terminals.Class)
+        × (t.semicolons ≡ standing t.tokens.now terminals.Semicolon)
+        × (t.publics ≡ standing t.tokens.now terminals.Public) };
+}
+
+impl<'a> TokenIndex<'a> {
+    /// The tokens with their index.
+    pub fn new(alloc: Global, tokens: &'a [Token]) -> Result<Self, AllocError>
+        ensures { IfOk result (λ t. t ≡ tokens.now) }
+    {
+        Ok(TokenIndex {
+            tokens,
+            classes: TerminalPlaces::new(alloc, tokens, Terminal::Class)?,
+            semicolons: TerminalPlaces::new(alloc, tokens, Terminal::Semicolon)?,
+            publics: TerminalPlaces::new(alloc, tokens, Terminal::Public)?,
+        })
+    }
+
+    /// The tokens.
+    pub fn tokens(&self) -> &'a [Token]
+        ensures { result.now ≡ self.now }
+    {
+        self.tokens
+    }
+
+    /// The place of a class's word `class`.
+    fn class_start(&self, class: usize) -> Option<usize>
+        ensures value { result ≡ class_start self.now class }
+        ensures within { IfSome result (λ at. at < length self.now) }
+    {
+        self.classes.nth(0, self.tokens.len(), class)
+    }
+
+    /// The place after the class that begins at a place.
+    fn class_end(&self, start: usize) -> usize
+        requires { start < length self.now }
+        ensures value { result ≡ class_end self.now start }
+        ensures after { start ≤ result }
+        ensures within { result ≤ length self.now }
+    {
+        match self.classes.nth(start + 1, self.tokens.len(), 0) {
+            Some(next) => next,
+            None => self.tokens.len(),
+        }
+    }
+
+    /// The place of a class's name.
+    fn class_name(&self, class: usize) -> Option<usize>
+        ensures value { result ≡ class_name self.now class }
+        ensures within { IfSome result (λ at. at < length self.now) }
+    {
+        let tokens = self.tokens;
+        let start = self.class_start(class)?;
+        existing(tokens, start + 1)
+    }
+
+    /// The place of a field's name, which stands before its semicolon.
+    fn field_name(&self, class: usize, number: usize) -> Option<usize>
+        ensures value { result ≡ field_name self.now class number }
+        ensures within { IfSome result (λ at. at < length self.now) }
+    {
+        let start = self.class_start(class)?;
+        let end = self.class_end(start);
+        let semicolon = self.semicolons.nth(start, end, number)?;
+        semicolon.checked_sub(1)
+    }
+
+    /// The place of the `public` of a class's first method of a name, or of its `main`.
+    fn method_start(&self, class: usize, method: &Name) -> Option<usize>
+        ensures value { result ≡ method_start self.now class method.now }
+        ensures within { IfSome result (λ at. at < length self.now) }
+    {
+        let start = self.class_start(class)?;
+        let end = self.class_end(start);
+        first_named(self.tokens, self.publics.within(start, end), method)
+    }
+
+    /// The place of the name of a class's method, or of `main`.
+    fn name_of_method(&self, class: usize, number: usize) -> Option<usize>
+        ensures value { result ≡ name_of_method self.now class number }
+        ensures within { IfSome result (λ at. at < length self.now) }
+    {
+        let start = self.class_start(class)?;
+        let end = self.class_end(start);
+        let method = self.publics.nth(start, end, number)?;
+        existing(self.tokens, method_name(self.tokens, method))
+    }
+
+    /// The token of a place in the class with this number; that of a whole file or project is none. Classes are
+    /// numbered from 0, the main class first. The tokens are those of a file.
+    pub fn locate(&self, class: u32, place: &Place) -> Option<usize>
+        ensures value { result ≡ token_of self.now class place.now }
+        ensures within { IfSome result (λ at. at < length self.now) }
+    {
+        let class = class as usize;
+        match place {
+            Place::Project | Place::File(_) => None,
+            Place::ClassOf(_, number) => self.class_name(*number),
+            Place::Class => self.class_name(class),
+            Place::Field(number) => self.field_name(class, *number),
+            Place::Method(number) => self.name_of_method(class, *number),
+            Place::Inside(method, token) => {
+                let start = self.method_start(class, method)?;
+                existing(self.tokens, start.checked_add(*token)?)
+            }
+        }
+    }
+}
+
+/// A place, if a token stands there.
+fn existing(tokens: &[Token], at: usize) -> Option<usize>
+    ensures value { result ≡ existing tokens.now at }
+    ensures within { IfSome result (λ place. place < length tokens.now) }
+{
+    if at < tokens.len() { Some(at) } else { None }
+}
+
+/// The first of these places of `public` behind which a method of this name is declared.
+fn first_named(tokens: &[Token], publics: &[usize], method: &Name) -> Option<usize>
+    requires { AllWithin (λ at. at < length tokens.now) publics.now 0 (length publics.now) }
+    ensures value { result ≡ find (is_named tokens.now method.now) publics.now }
+    ensures within { IfSome result (λ at. at < length tokens.now) }
+{
+    for at in publics {
+        if is_named(tokens, *at, method) {
+            return Some(*at);
+        }
+    }
+    None
+}
+
+/// Whether the method that begins at a place has this name.
+fn is_named(tokens: &[Token], at: usize, method: &Name) -> bool
+    requires { at < length tokens.now }
+    ensures { result ≡ is_named tokens.now method.now at }
+{
+    match name(tokens, method_name(tokens, at)) {
+        Some(found) => found == method,
+        None => false,
+    }
+}

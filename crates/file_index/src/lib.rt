@@ -1,0 +1,10 @@
+//! A file's lines and parts, found by search: indexes over its text and its tokens.
+#![tactic(auto)]
+
+mod index;
+mod places;
+mod terminals;
+mod text;
+
+pub use index::TokenIndex;
+pub use text::LinedText;
