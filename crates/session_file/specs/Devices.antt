@@ -43,7 +43,7 @@ pub record Moves (new : List ℕ → Type 0) (bytes before after : List ℕ) (n 
   pub left : new (drop n bytes)
   pub end : 0 < length before → n ≡ 0 → bytes ≡ []
 
--- the room has the first of the bytes in front of what it had, and none only at the end; or nothing was moved
+-- the room has the first of the bytes at its front, and none only at the end; or nothing was moved
 abbrev pub Takes : {E : Type 0} → (List ℕ → Type 0) → (List ℕ → Type 0) → List ℕ → List ℕ → Result ℕ E → Type 0
-Takes old new before after (Ok n) = (n ≤ length before) × (drop n after ≡ drop n before) × ((bytes : List ℕ) → old bytes → Moves new bytes before after n)
+Takes old new before after (Ok n) = (n ≤ length before) × ((bytes : List ℕ) → old bytes → Moves new bytes before after n)
 Takes old new before after (Err e) = (bytes : List ℕ) → old bytes → new bytes

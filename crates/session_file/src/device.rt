@@ -38,7 +38,7 @@ pub trait Feed {
     ghost failed: { Self → ℕ };
 
     /// Moves bytes to the front of the room and answers how many: none where there is room only at the end. A failure
-    /// moves none.
+    /// moves none. What the room has behind them is open.
     fn take(&mut self, room: &mut [u8]) -> Result<usize, DeviceFault>
         ensures taken { Takes (holds self.old) (holds self.new) room.old room.new result }
         ensures counted { Counts result (failed self.old) (failed self.new) }

@@ -13,10 +13,12 @@ mod putting;
 mod records;
 mod results;
 mod stop;
+mod streams;
 mod writing;
 
 pub use device::{DeviceFault, Feed, Sink};
 pub use fault::FileFault;
 pub use files::read;
 pub use memory::{MemoryFeed, MemorySink};
+pub use streams::{ReaderFeed, WriterSink};
 pub use writing::{digest, write};

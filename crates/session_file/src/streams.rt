@@ -1,0 +1,89 @@
+//! Writers and readers as devices, as files are.
+ghost use Rattle.std.specs.Prelude.{◌≡◌};
+
+use crate::device::{DeviceFault, Feed, Sink};
+use std::io::{Read, Write};
+
+/// A writer, as a file, as a sink. A write of no bytes where there are some is a failure.
+#[derive(Drop)]
+pub struct WriterSink<W: Write> {
+    writer: W,
+    failed: u64,
+}
+
+impl<W: Write> WriterSink<W> {
+    /// The sink that hands its bytes to this writer.
+    pub fn new(writer: W) -> Self
+        ensures writer { result.writer ≡ writer }
+        ensures failed { result.failed ≡ 0 }
+    {
+        WriterSink { writer, failed: 0 }
+    }
+}
+
+impl<W: Write> Sink for WriterSink<W> {
+    ghost use Rattle.std.specs.Prelude.{◌≡◌, Some};
+
+    ghost holds = { λ s bytes. W.contents s.writer ≡ Some bytes };
+
+    ghost failed = { λ s. s.failed };
+
+    fn put(&mut self, bytes: &[u8]) -> Result<usize, DeviceFault> {
+        if bytes.is_empty() {
+            return Ok(0);
+        }
+        match self.writer.write(bytes) {
+            Ok(count) if count > 0 => Ok(count),
+            _ => {
+                self.failed = self.failed.saturating_add(1);
+                Err(DeviceFault)
+            }
+        }
+    }
+
+    fn failures(&self) -> u64 {
+        self.failed
+    }
+}
+
+/// A reader, as a file, as a feed.
+#[derive(Drop)]
+pub struct ReaderFeed<R: Read> {
+    reader: R,
+    failed: u64,
+}
+
+impl<R: Read> ReaderFeed<R> {
+    /// The feed that has its bytes from this reader.
+    pub fn new(reader: R) -> Self
+        ensures reader { result.reader ≡ reader }
+        ensures failed { result.failed ≡ 0 }
+    {
+        ReaderFeed { reader, failed: 0 }
+    }
+}
+
+impl<R: Read> Feed for ReaderFeed<R> {
+    ghost use Rattle.std.specs.Prelude.{◌≡◌, Some};
+
+    ghost holds = { λ s bytes. R.remaining s.reader ≡ Some bytes };
+
+    ghost failed = { λ s. s.failed };
+
+    fn take(&mut self, room: &mut [u8]) -> Result<usize, DeviceFault> {
+        if room.is_empty() {
+            return Ok(0);
+        }
+        match self.reader.read(room) {
+            Ok(count) => Ok(count),
+            Err(_) => {
+                self.failed = self.failed.saturating_add(1);
+                Err(DeviceFault)
+            }
+        }
+    }
+
+    fn failures(&self) -> u64 {
+        self.failed
+    }
+}

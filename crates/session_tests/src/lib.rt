@@ -1,0 +1,11 @@
+//! Tests of session files: their expected values are from the format and from another program.
+#![tactic(auto)]
+
+#[cfg(test)]
+mod devices;
+#[cfg(test)]
+mod given;
+#[cfg(test)]
+mod reading;
+#[cfg(test)]
+mod writing;
