@@ -1,0 +1,7 @@
+//! Tests of the queries: expected reads and results are worked by hand from the rules, their bytes from the formats.
+#![tactic(auto)]
+
+#[cfg(test)]
+mod bodies;
+#[cfg(test)]
+mod given;
