@@ -246,12 +246,7 @@ fn is_new_array(exp: &Exp) -> bool
 #[cycle(expressions)]
 #[tactic(auto, unfolding(crate::specs::ExpressionReading::index_at))]
 #[inline(never)]
-fn index(
-    alloc: Global,
-    tokens: &[Token],
-    left: ExpPart,
-    room: usize,
-) -> Result<ExpPart, ParseFault>
+fn index(alloc: Global, tokens: &[Token], left: ExpPart, room: usize) -> Result<ExpPart, ParseFault>
     requires deep { room ≤ most_levels }
     requires within { left.after < length tokens.now }
     requires height { left.height ≡ height (exp_view left.exp) }

@@ -72,11 +72,7 @@ fn method_at(alloc: Global, tokens: &[Token], at: usize) -> Result<Part<MethodTr
 }
 
 /// The methods of a class.
-fn methods(
-    alloc: Global,
-    tokens: &[Token],
-    at: usize,
-) -> Result<Part<Vec<MethodTree>>, ParseFault>
+fn methods(alloc: Global, tokens: &[Token], at: usize) -> Result<Part<Vec<MethodTree>>, ParseFault>
     requires { at ≤ length tokens.now }
     ensures exact { Finds (λ x. (map method_view x.tree.items, x.after)) result
         (items_from (suc (length tokens.now)) (method_from tokens.now) (at_public tokens.now)
@@ -95,11 +91,7 @@ fn methods(
 
 /// `extends` and a name, or nothing.
 #[tactic(auto, unfolding(crate::specs::FileReading::superclass_at))]
-fn superclass(
-    alloc: Global,
-    tokens: &[Token],
-    at: usize,
-) -> Result<Part<Option<Name>>, ParseFault>
+fn superclass(alloc: Global, tokens: &[Token], at: usize) -> Result<Part<Option<Name>>, ParseFault>
     requires { at ≤ length tokens.now }
     ensures exact { Finds (λ x. (x.tree, x.after)) result (superclass_at tokens.now at) }
     ensures within { IfOk result (λ x. (at ≤ x.after) × (x.after ≤ length tokens.now)) }

@@ -21,12 +21,7 @@ use std::alloc::Global;
 
 /// An expression between `if` or `while` and the statement.
 #[tactic(auto, unfolding(crate::specs::StatementReading::condition_at))]
-fn condition(
-    alloc: Global,
-    tokens: &[Token],
-    at: usize,
-    room: usize,
-) -> Result<ExpPart, ParseFault>
+fn condition(alloc: Global, tokens: &[Token], at: usize, room: usize) -> Result<ExpPart, ParseFault>
     requires deep { room ≤ most_levels }
     requires within { at ≤ length tokens.now }
     ensures exact { Finds (λ x. (exp_view x.exp, x.after)) result
@@ -58,12 +53,7 @@ fn print_opening(tokens: &[Token], at: usize) -> Result<usize, ParseFault>
 }
 
 #[tactic(auto, unfolding(crate::specs::StatementReading::print_at))]
-fn print(
-    alloc: Global,
-    tokens: &[Token],
-    at: usize,
-    room: usize,
-) -> Result<Part<Stmt>, ParseFault>
+fn print(alloc: Global, tokens: &[Token], at: usize, room: usize) -> Result<Part<Stmt>, ParseFault>
     requires deep { room ≤ most_levels }
     requires within { at < length tokens.now }
     ensures exact { Finds (λ x. (stmt_view x.tree, x.after)) result
@@ -207,12 +197,7 @@ fn read_block(
 #[cycle(statements)]
 #[tactic(auto, unfolding(crate::specs::StatementReading::block_at))]
 #[inline(never)]
-fn block(
-    alloc: Global,
-    tokens: &[Token],
-    at: usize,
-    room: usize,
-) -> Result<Part<Stmt>, ParseFault>
+fn block(alloc: Global, tokens: &[Token], at: usize, room: usize) -> Result<Part<Stmt>, ParseFault>
     requires deep { room ≤ most_levels }
     requires within { at < length tokens.now }
     ensures exact { Finds (λ x. (stmt_view x.tree, x.after)) result
@@ -229,12 +214,7 @@ fn block(
 #[cycle(statements)]
 #[tactic(auto, unfolding(crate::specs::StatementReading::if_at))]
 #[inline(never)]
-fn choice(
-    alloc: Global,
-    tokens: &[Token],
-    at: usize,
-    room: usize,
-) -> Result<Part<Stmt>, ParseFault>
+fn choice(alloc: Global, tokens: &[Token], at: usize, room: usize) -> Result<Part<Stmt>, ParseFault>
     requires deep { room ≤ most_levels }
     requires within { at < length tokens.now }
     ensures exact { Finds (λ x. (stmt_view x.tree, x.after)) result

@@ -118,12 +118,7 @@ const PLACED: &str =
     "class /* c */ M { public static void main(String[] a) { System.out.println(1); } } class A extends M { int[] x; A y; public /* d */ int[] f(int z) { return x; } public A g() { return y; } public A f() { return y; } }";
 
 /// Whether the token of the place starts at this byte.
-fn is_at(
-    alloc: Global,
-    class: u32,
-    place: &Place,
-    want: Option<usize>,
-) -> Result<bool, LexFault> {
+fn is_at(alloc: Global, class: u32, place: &Place, want: Option<usize>) -> Result<bool, LexFault> {
     let tokens = lex(alloc, PLACED.as_bytes())?;
     Ok(start_of(&tokens, locate(&tokens, class, place)) == want)
 }
