@@ -1,10 +1,13 @@
-//! Does one thing with the canonical bytes of a tree again and again, for `bench/codec.py`: its words are what is done,
-//! how often, and a file of such bytes. It ends with status 2 where the words or the bytes are no good.
+//! Does one thing with the canonical bytes of a tree, or with those of a session's file, again and again, for
+//! `bench/codec.py` and `bench/sessions.py`: its words are what is done, how often, and a file of such bytes. It ends
+//! with status 2 where the words or the bytes are no good.
 #![tactic(auto)]
 
 use fingerprint::seal;
 use item_ids::Kind;
 use result_bytes::{Value, decode, encode};
+use session_file::{MemorySink, write};
+use sessions::Session;
 use std::alloc::Global;
 use std::io::ErrorKind;
 use std::process::ExitCode;
@@ -41,8 +44,35 @@ fn repeat<R: Env + Files + AllocGlobal>(rt: &R) -> io::Result<()> {
     Ok(())
 }
 
-/// The bytes are read; then their value is spelled or sealed where the step says so.
 fn once(alloc: Global, step: &str, bytes: &[u8]) -> io::Result<()> {
+    match step {
+        "read-session" => {
+            read_session(alloc, bytes)?;
+            Ok(())
+        }
+        "write-session" => write_session(alloc, &read_session(alloc, bytes)?),
+        _ => tree_once(alloc, step, bytes),
+    }
+}
+
+fn read_session(alloc: Global, bytes: &[u8]) -> io::Result<Session> {
+    match session_file::read(alloc, bytes) {
+        Ok(session) => Ok(session),
+        Err(_) => Err(invalid()),
+    }
+}
+
+/// The session's file is written into memory.
+fn write_session(alloc: Global, session: &Session) -> io::Result<()> {
+    let mut sink = MemorySink::new(alloc);
+    match write(session, &mut sink) {
+        Ok(()) => Ok(()),
+        Err(_) => Err(invalid()),
+    }
+}
+
+/// The bytes are read; then their value is spelled or sealed where the step says so.
+fn tree_once(alloc: Global, step: &str, bytes: &[u8]) -> io::Result<()> {
     let value = read(alloc, bytes)?;
     match step {
         "decode" => Ok(()),

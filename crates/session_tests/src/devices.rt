@@ -3,7 +3,7 @@ ghost use Rattle.std.specs.Prelude.{◌≡◌};
 ghost use Rattle.session_file.specs.Devices.{one_more};
 
 use crate::given::{FIRST, file_of, session_of};
-use session_file::{DeviceFault, Feed, FileFault, MemoryFeed, Sink, write};
+use session_file::{DeviceFault, Feed, FileFault, MemoryFeed, ReaderFeed, Sink, WriterSink, write};
 use std::alloc::Global;
 use std::test::*;
 
@@ -140,4 +140,25 @@ fn memory_is_a_feed(rt: HostRuntime) {
         assert!(rt; is_given(&mut feed, want));
     }
     assert!(rt; feed.rest().is_empty());
+}
+
+fn is_handed_on(rt: HostRuntime, bytes: &mut Vec<u8>) -> Result<bool, Fail> {
+    let session = session_of(rt, FIRST)?;
+    let mut sink = WriterSink::new(bytes);
+    Ok(write(&session, &mut sink) == Ok(()) && sink.failures() == 0)
+}
+
+fn is_fed(bytes: &[u8]) -> bool {
+    let mut feed = ReaderFeed::new(bytes);
+    let mut room = [0; 2000];
+    let moved = feed.take(&mut room);
+    moved == Ok(1192) && room.get(..1192) == Some(bytes) && feed.failures() == 0
+}
+
+#[test]
+fn writers_and_readers_are_devices(rt: HostRuntime) -> Result<(), Fail> {
+    let mut bytes = Vec::new(rt.alloc());
+    assert!(rt; is_handed_on(rt, &mut bytes)?);
+    assert!(rt; is_fed(&bytes));
+    Ok(())
 }
