@@ -1,0 +1,9 @@
+//! Tests of sessions and tables: the answers of each call, worked by hand from the rules.
+#![tactic(auto)]
+
+#[cfg(test)]
+mod calls;
+#[cfg(test)]
+mod given;
+#[cfg(test)]
+mod runs;
