@@ -6,7 +6,7 @@ ghost use Rattle.body_query.specs.Told.{is_declared_in as declared_told, descend
 
 use mj_answer::{FieldRow, MethodRow, find_by_name};
 use mj_lexer::Name;
-use mj_tree::Ty;
+use mj_tree::{Ty, copy_types};
 use mj_typing::Signature;
 use result_bytes::Value;
 use std::alloc::{AllocError, Global};
@@ -77,35 +77,12 @@ impl Signature for MethodTypes {
     }
 }
 
-/// An equal type.
-pub fn copy_type(alloc: Global, ty: &Ty) -> Result<Ty, AllocError>
-    ensures { IfOk result (λ t. t ≡ ty.now) }
-{
-    match ty {
-        Ty::Int => Ok(Ty::Int),
-        Ty::Boolean => Ok(Ty::Boolean),
-        Ty::IntArray => Ok(Ty::IntArray),
-        Ty::Class(class) => Ok(Ty::Class(class.copy(alloc)?)),
-    }
-}
-
-/// Equal types.
-fn copy_types(alloc: Global, types: &[Ty]) -> Result<Vec<Ty>, AllocError>
-    ensures { IfOk result (λ copies. copies.items ≡ types.now) }
-{
-    let mut copies = Vec::new(alloc);
-    for ty in types {
-        copies.push(copy_type(alloc, ty)?)?;
-    }
-    Ok(copies)
-}
-
 /// The types in a method's row.
 fn types_in(alloc: Global, row: &MethodRow) -> Result<MethodTypes, AllocError>
     ensures { IfOk result (λ types. (types.formals.items ≡ row.now.formals) × (types.returns ≡ row.now.returns)) }
 {
     let formals = copy_types(alloc, row.formals())?;
-    let returns = copy_type(alloc, row.returns())?;
+    let returns = row.returns().copy(alloc)?;
     Ok(MethodTypes { formals, returns })
 }
 
@@ -114,7 +91,7 @@ pub fn field_in(alloc: Global, value: &Value, name: &Name) -> Result<Option<Ty>,
     ensures { IfOk result (λ ty. ty ≡ field_told value.now name.now) }
 {
     match field_row(value, name) {
-        Some(row) => Ok(Some(copy_type(alloc, &row.ty)?)),
+        Some(row) => Ok(Some(row.ty.copy(alloc)?)),
         None => Ok(None),
     }
 }
