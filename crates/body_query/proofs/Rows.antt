@@ -13,7 +13,7 @@ use Rattle.mj_typing.specs.declared.verdict.Verdict.{Verdict}
 use Rattle.mj_typing.specs.Types.{is_same, is_int, is_boolean, is_int_array}
 use Rattle.mj_typing.specs.Inquiries.{World, Sig, Inquiry, Concludes, AsksDescent, conclusion}
 use Rattle.mj_typing.specs.Phrases.{demand, demand_asked, given, is, fine}
-use Rattle.mj_typing.specs.Table.{Scope, local_of, accepts, accepts_all, literal, local_or_field, named, this, negation, binary, index, array_length, called, call, new_array, new_object, condition, print, assign, store, returned}
+use Rattle.mj_typing.specs.Table.{Scope, local_of, accepts, accepts_all, literal, local_or_field, variable, this, negation, binary, index, array_length, arguments, call, new_array, new_object, condition, print, assign, store, return_value}
 use Rattle.query_rules.specs.BodyReads.{field_reads, accept_reads, arguments_reads, called_reads, call_reads}
 use Rattle.body_query.proofs.Asked.{asked_in, asked-and_then}
 
@@ -63,8 +63,8 @@ module _ (w : World) where
       ∙ ap (λ ks. asked_in w i ++ ks) (demand_none (conclusion w i) code next h)
       ∙ append-nil (asked_in w i)
 
-  called_asked : (ts : List Ty) (s : Sig) → asked_in w (called s ts) ≡ (if nat_eq (length ts) (length s.formals) then arguments_reads w ts s.formals else [])
-  unfolding called
+  called_asked : (ts : List Ty) (s : Sig) → asked_in w (arguments s ts) ≡ (if nat_eq (length ts) (length s.formals) then arguments_reads w ts s.formals else [])
+  unfolding arguments
   called_asked ts s = by_count (nat_eq (length ts) (length s.formals))
     where
       by_count : (b : Bool) → asked_in w (demand b E312 (demand_asked (accepts_all ts s.formals) E313 (is s.returns))) ≡ (if b then arguments_reads w ts s.formals else [])
@@ -78,7 +78,7 @@ module _ (w : World) where
   call_asked m types.IntArray ts = refl
   call_asked m (types.Class d) ts = ap (λ ks. keys.Members d ∷ ks) (found (w.method d m))
     where
-      found : (o : Option Sig) → asked_in w (given o E311 (λ s. called s ts)) ≡ called_reads w ts o
+      found : (o : Option Sig) → asked_in w (given o E311 (λ s. arguments s ts)) ≡ called_reads w ts o
       found None = refl
       found (Some s) = called_asked ts s
 
@@ -94,8 +94,8 @@ module _ (w : World) where
   binary_asked Minus a b = demand_none (is_int a && is_int b) E304 (is types.Int) refl
   binary_asked Times a b = demand_none (is_int a && is_int b) E304 (is types.Int) refl
 
-  pub named_asked : (s : Scope) (x : Name) → asked_in w (named s x) ≡ field_reads (local_of s.variables x) s.class
-  unfolding named
+  pub named_asked : (s : Scope) (x : Name) → asked_in w (variable s x) ≡ field_reads (local_of s.variables x) s.class
+  unfolding variable
   named_asked s x = named_asked_by (local_of s.variables x) s.class x
 
   pub this_asked : (s : Scope) → asked_in w (this s) ≡ []
@@ -110,8 +110,8 @@ module _ (w : World) where
   unfolding assign
   assign_asked x a = asked_alone (accepts a x) E318 fine refl ∙ accept_asked a x
 
-  pub returned_asked : (wanted a : Ty) → asked_in w (returned wanted a) ≡ accept_reads a wanted
-  unfolding returned
+  pub returned_asked : (wanted a : Ty) → asked_in w (return_value wanted a) ≡ accept_reads a wanted
+  unfolding return_value
   returned_asked wanted a = asked_alone (accepts a wanted) E319 fine refl ∙ accept_asked a wanted
 
   -- the others ask nothing

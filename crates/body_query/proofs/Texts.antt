@@ -7,7 +7,7 @@ use Rattle.mj_tree.specs.declared.tree.Ty.TheVariants as types
 use Rattle.mj_typing.specs.declared.verdict.Verdict.{Verdict}
 use Rattle.mj_typing.specs.Inquiries.{World, Inquiry}
 use Rattle.mj_typing.specs.Phrases.{Phrase, phrase, nothing, part, type_of, types_of, and_type}
-use Rattle.mj_typing.specs.Table.{Scope, method_scope, parenthesized, negation, binary, index, array_length, call, new_array, condition, print, assign, store, returned, one_part, two_parts, three_parts, some_parts, name_phrase, phrase_of, phrases_of, statement_phrases, statements_phrases, return_phrase}
+use Rattle.mj_typing.specs.Table.{Scope, method_scope, parenthesized, negation, binary, index, array_length, call, new_array, condition, print, assign, store, return_value, one_part, two_parts, three_parts, some_parts, name_phrase, phrase_of, phrases_of, statement_phrases, statements_phrases, return_phrase}
 use Rattle.query_rules.specs.BodyReads.{type_reads, types_reads, name_reads, value_reads, call_reads, exp_reads, exps_reads, statement_reads, statements_reads, return_reads, method_reads}
 use Rattle.body_query.proofs.Asked.{asked_in, own_reads, phrase_reads, parts_reads, each_reads, each_reads-append, method_keys}
 use Rattle.body_query.proofs.Rows.{named_asked, this_asked, new_object_asked, assign_asked, returned_asked, call_asked, binary_asked, literal_asked, negation_asked, index_asked, array_length_asked, new_array_asked, condition_asked, print_asked, store_asked}
@@ -74,7 +74,7 @@ module _ (w : World) where
   assign_own (Some x) None = refl
   assign_own (Some x) (Some a) = assign_asked w x a
 
-  return_own : (wanted : Ty) (a : Option Ty) → own_reads w (one_part (returned wanted)) (and_type a (Some [])) ≡ value_reads a (Some wanted)
+  return_own : (wanted : Ty) (a : Option Ty) → own_reads w (one_part (return_value wanted)) (and_type a (Some [])) ≡ value_reads a (Some wanted)
   return_own wanted None = refl
   return_own wanted (Some a) = returned_asked w wanted a
 
