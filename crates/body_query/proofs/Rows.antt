@@ -12,7 +12,7 @@ use Rattle.mj_answer.specs.declared.code.Code.TheVariants.{E301, E302, E303, E30
 use Rattle.mj_typing.specs.declared.verdict.Verdict.{Verdict}
 use Rattle.mj_typing.specs.Types.{is_same, is_int, is_boolean, is_int_array}
 use Rattle.mj_typing.specs.Inquiries.{World, Sig, Inquiry, Concludes, AsksDescent, conclusion}
-use Rattle.mj_typing.specs.Phrases.{demand, demand_asked, given, is, fine}
+use Rattle.mj_typing.specs.Phrases.{demand, demand_asked, demand_some, is, fine}
 use Rattle.mj_typing.specs.Table.{Scope, local_of, accepts, accepts_all, literal, local_or_field, variable, this, negation, binary, index, array_length, arguments, call, new_array, new_object, condition, print, assign, store, return_value}
 use Rattle.query_rules.specs.BodyReads.{field_reads, accept_reads, arguments_reads, called_reads, call_reads}
 use Rattle.body_query.proofs.Asked.{asked_in, asked-and_then}
@@ -27,7 +27,7 @@ module _ (w : World) where
   named_asked_by None None x = refl
   named_asked_by None (Some c) x = ap (λ ks. keys.Members c ∷ ks) (found (w.field c x))
     where
-      found : (o : Option Ty) → asked_in w (given o E303 is) ≡ []
+      found : (o : Option Ty) → asked_in w (demand_some o E303 is) ≡ []
       found None = refl
       found (Some t) = refl
 
@@ -78,11 +78,11 @@ module _ (w : World) where
   call_asked m types.IntArray ts = refl
   call_asked m (types.Class d) ts = ap (λ ks. keys.Members d ∷ ks) (found (w.method d m))
     where
-      found : (o : Option Sig) → asked_in w (given o E311 (λ s. arguments s ts)) ≡ called_reads w ts o
+      found : (o : Option Sig) → asked_in w (demand_some o E311 (λ s. arguments s ts)) ≡ called_reads w ts o
       found None = refl
       found (Some s) = called_asked ts s
 
-  this_asked_by : (o : Option Name) → asked_in w (given o E306 (λ c. is (types.Class c))) ≡ []
+  this_asked_by : (o : Option Name) → asked_in w (demand_some o E306 (λ c. is (types.Class c))) ≡ []
   this_asked_by None = refl
   this_asked_by (Some c) = refl
 
