@@ -1,0 +1,6 @@
+pub mod Runs
+pub mod Quiet
+pub mod Classes
+pub mod MainClass
+pub mod Found
+pub mod Files
