@@ -1,21 +1,19 @@
 -- Where the words `class` and `public` stand in methods, classes and the main class, and semicolons in classes.
-use Rattle.std.proofs.Common.{◌≡◌, ℕ, zero, suc, ◌+◌, ◌<◌, ◌≤◌, Bool, true, false, ◌&&◌, is_some, List, [], ◌∷◌, ◌++◌, map, drop, length, Option, Some, None, refl, sym, ap, ◌∙◌, subst, append-nil, arith, codes}
+use Rattle.std.proofs.Common.{◌≡◌, ℕ, ◌+◌, true, List, [], ◌∷◌, ◌++◌, map, drop, Option, Some, None, refl, sym, ◌∙◌, subst, append-nil, arith}
 use Rattle.mj_lexer.specs.declared.token.Token.{Token}
 use Rattle.mj_lexer.specs.declared.token.Terminal.{Terminal}
 use Rattle.mj_lexer.specs.declared.token.Terminal.TheVariants as terminals
 use Rattle.mj_tree.specs.declared.tree.Field.{Field}
-use Rattle.mj_tree.specs.Trees.{Name, Method, Main, Class}
-use Rattle.mj_parser.specs.Tokens.{same_terminal, has, Stands, says, name_at}
+use Rattle.mj_tree.specs.Trees.{Name, Method, Class}
+use Rattle.mj_parser.specs.Tokens.{has}
 use Rattle.mj_parser.specs.Expressions.{any_tier, size}
-use Rattle.mj_parser.specs.Statements.{stmt_size}
-use Rattle.mj_parser.specs.Rows.{InRow, row_size}
-use Rattle.mj_parser.specs.Declarations.{type_size, formals_size, formals_place, locals_place, body_place, return_place, method_size, IsMethod, main_head, main_parameter, field_size, IsField, IsMethodAt, superclass_size, IsSuperclass, head_size, class_size, IsClass, IsMain, main_size}
-use Rattle.mj_parser.proofs.Binds.{and_both}
-use Rattle.mj_parser.proofs.Marks.{has_other, has_named, says_name}
-use Rattle.mj_parser.proofs.Stands.{has_is, stands}
-use Rattle.place_laws.specs.Parts.{Part, row_parts, field_parts, method_parts}
-use Rattle.place_laws.proofs.Runs.{Along, along_none, along_one, along_map, along_drop, upto, join, row_along, run, run_split, run_join, Lacks, lacks_run, front_run, row_run, has_drop}
-use Rattle.place_laws.proofs.Quiet.{IsQuiet, IsPlain, Quiet, sign, word, said, expression_quiet, statement_quiet, statements_quiet, plain_sign, plain_word, plain_quiet, type_plain, locals_quiet, formals_quiet}
+use Rattle.mj_parser.specs.Rows.{row_size}
+use Rattle.mj_parser.specs.Declarations.{type_size, formals_size, formals_place, locals_place, body_place, return_place, method_size, IsMethod, field_size, IsField, IsMethodAt, superclass_size, IsSuperclass, head_size, class_size, IsClass}
+use Rattle.mj_parser.proofs.Marks.{has_other}
+use Rattle.mj_parser.proofs.Stands.{has_is}
+use Rattle.place_laws.specs.Parts.{field_parts, method_parts}
+use Rattle.place_laws.proofs.Runs.{Along, along_none, along_one, along_map, along_drop, upto, join, row_along, run, run_join, Lacks, lacks_run, front_run, row_run, has_drop}
+use Rattle.place_laws.proofs.Quiet.{IsPlain, Quiet, sign, word, expression_quiet, statements_quiet, plain_sign, plain_word, plain_quiet, type_plain, locals_quiet, formals_quiet}
 
 -- ---- methods, whose tokens are numbered from `public`
 

@@ -1,23 +1,21 @@
 -- Where the classes of a file begin and end.
-use Rattle.std.proofs.Common.{◌≡◌, ℕ, zero, suc, ◌+◌, ◌-◌, ◌<◌, ◌≤◌, true, false, cond, List, [], ◌∷◌, ◌++◌, map, length, find, slice_get, Option, Some, None, unwrap_or, refl, sym, ap, ◌∙◌, subst, inl, inr, arith, codes}
+use Rattle.std.proofs.Common.{◌≡◌, ℕ, zero, suc, ◌+◌, ◌-◌, ◌<◌, cond, List, [], ◌∷◌, map, length, find, slice_get, Option, Some, None, unwrap_or, refl, ap, ◌∙◌, subst, inl, inr, arith, codes}
 use Rattle.std.specs.Str.{bytes_eq}
 use Rattle.std.proofs.lemmas.Bool.{cases_Bool}
 use Rattle.mj_lexer.specs.declared.token.Token.{Token}
 use Rattle.mj_lexer.specs.declared.token.Terminal.TheVariants as terminals
 use Rattle.mj_tree.specs.declared.place.Place.TheVariants as place
 use Rattle.mj_tree.specs.Trees.{Name, Main, Class, File}
-use Rattle.mj_parser.specs.Tokens.{has, name_at}
 use Rattle.mj_parser.specs.Steps.{◌>>=◌}
 use Rattle.mj_parser.specs.Rows.{InRow, row_size}
 use Rattle.mj_parser.specs.Declarations.{class_size, IsClass, IsMain, main_size, IsMainPart, main_part_size, Derives}
-use Rattle.mj_parser.specs.Locations.{all_of, existing, class_start, class_end, method_name, method_start, token_of}
+use Rattle.mj_parser.specs.Locations.{all_of, existing, class_start, class_end, method_name, token_of}
 use Rattle.mj_parser.proofs.Binds.{some_is}
-use Rattle.mj_parser.proofs.Marks.{has_other}
 use Rattle.place_laws.specs.Parts.{Part, row_parts, class_parts, class_number}
-use Rattle.place_laws.specs.Laws.{ClassTokens, MainTokens, FileTokens}
-use Rattle.place_laws.proofs.Runs.{Along, upto, run, all_run, run_join, Lacks, lacks_run, row_run}
-use Rattle.place_laws.proofs.Classes.{class_word, class_lacks, class_run}
-use Rattle.place_laws.proofs.MainClass.{main_public, main_static, main_word, main_lacks, main_run, main_publics}
+use Rattle.place_laws.specs.Laws.{MainTokens, FileTokens}
+use Rattle.place_laws.proofs.Runs.{upto, run, all_run, run_join, Lacks, lacks_run, row_run}
+use Rattle.place_laws.proofs.Classes.{class_lacks, class_run}
+use Rattle.place_laws.proofs.MainClass.{main_static, main_word, main_lacks, main_run, main_publics}
 use Rattle.place_laws.proofs.Found.{get_map, get_map_none, Reaches, class_found, method_found, no_method_found, start_found, has_name, class_tokens}
 
 module _ (ts : List Token) where

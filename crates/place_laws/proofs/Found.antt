@@ -1,5 +1,5 @@
 -- What is found in a class of which it is known where it begins and ends.
-use Rattle.std.proofs.Common.{◌≡◌, ℕ, zero, suc, ◌+◌, ◌-◌, ◌<◌, ◌≤◌, Bool, true, false, ◌&&◌, if◌then◌else◌, List, [], ◌∷◌, ◌++◌, map, drop, length, filter, find, slice_get, Option, Some, None, unwrap_or, refl, sym, ap, ◌∙◌, subst, inl, inr, arith}
+use Rattle.std.proofs.Common.{◌≡◌, ℕ, zero, suc, ◌+◌, ◌-◌, ◌<◌, Bool, ◌&&◌, List, [], ◌∷◌, ◌++◌, map, drop, length, filter, find, slice_get, Some, None, refl, sym, ap, ◌∙◌, subst, inl, inr, arith}
 use Rattle.std.specs.Str.{bytes_eq}
 use Rattle.std.specs.List.{range_with_len}
 use Rattle.std.proofs.lemmas.Bool.{cases_Bool, lt-ltb}
@@ -14,7 +14,7 @@ use Rattle.mj_parser.specs.Tokens.{has, name_at, is_word}
 use Rattle.mj_parser.specs.Steps.{◌>>=◌}
 use Rattle.mj_parser.specs.Rows.{InRow, row_size}
 use Rattle.mj_parser.specs.Declarations.{type_size, IsType, field_size, IsField, method_size, IsMethodAt, head_size, class_size, IsClass}
-use Rattle.mj_parser.specs.Locations.{all_of, numbers, existing, before, class_start, class_end, all_in_class, class_name, field_name, method_name, begins_method, method_start, name_of_method}
+use Rattle.mj_parser.specs.Locations.{all_of, existing, class_start, class_end, all_in_class, class_name, field_name, method_name, method_start, name_of_method}
 use Rattle.mj_parser.proofs.Binds.{some_is}
 use Rattle.mj_parser.proofs.Marks.{has_other, has_named, name_within}
 use Rattle.mj_parser.proofs.Stands.{has_is}

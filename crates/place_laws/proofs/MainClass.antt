@@ -1,5 +1,5 @@
 -- Where the words `class` and `public` stand in the main class.
-use Rattle.std.proofs.Common.{◌≡◌, ℕ, ◌+◌, ◌<◌, ◌≤◌, Bool, true, false, ◌&&◌, is_some, List, [], ◌∷◌, drop, Option, Some, None, refl, sym, ap, ◌∙◌, arith, codes}
+use Rattle.std.proofs.Common.{◌≡◌, ◌+◌, Bool, true, false, ◌&&◌, is_some, List, [], ◌∷◌, drop, Option, Some, None, refl, sym, ◌∙◌, arith, codes}
 use Rattle.mj_lexer.specs.declared.token.Token.{Token}
 use Rattle.mj_lexer.specs.declared.token.Terminal.TheVariants as terminals
 use Rattle.mj_tree.specs.Trees.{Name, Main}
@@ -8,7 +8,7 @@ use Rattle.mj_parser.specs.Statements.{stmt_size}
 use Rattle.mj_parser.specs.Declarations.{main_head, main_parameter, IsMain, main_size}
 use Rattle.mj_parser.proofs.Marks.{has_other, says_name}
 use Rattle.mj_parser.proofs.Stands.{has_is, stands}
-use Rattle.place_laws.proofs.Runs.{Along, along_one, along_map, upto, join, run, run_join, Lacks, lacks_run, front_run, has_drop, name_drop}
+use Rattle.place_laws.proofs.Runs.{along_one, along_map, upto, join, run, run_join, Lacks, lacks_run, front_run, has_drop, name_drop}
 use Rattle.place_laws.proofs.Quiet.{Quiet, sign, word, said, six_parts, statement_quiet}
 use Rattle.place_laws.proofs.Classes.{quiet_drop, front_drop}
 

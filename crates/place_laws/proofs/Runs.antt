@@ -1,5 +1,5 @@
 -- Where a terminal stands among tokens that follow each other.
-use Rattle.std.proofs.Common.{◌≡◌, ℕ, zero, suc, ◌+◌, ◌-◌, ◌<◌, ◌≤◌, true, false, List, [], ◌∷◌, ◌++◌, map, drop, filter, slice_get, Option, Some, None, refl, sym, ap, ◌∙◌, subst, inl, inr, arith}
+use Rattle.std.proofs.Common.{◌≡◌, ℕ, zero, suc, ◌+◌, ◌-◌, ◌<◌, ◌≤◌, true, false, List, [], ◌∷◌, ◌++◌, map, drop, filter, slice_get, refl, ap, ◌∙◌, subst, inl, inr, arith}
 use Rattle.std.specs.List.{range_with_len}
 use Rattle.std.proofs.lemmas.Bool.{cases_lt}
 use Rattle.std.proofs.lemmas.List.Elements.{filter-append}
@@ -8,7 +8,7 @@ use Rattle.mj_lexer.specs.declared.token.Terminal.{Terminal}
 use Rattle.mj_parser.specs.Tokens.{token_kind, kind_at, has, name_at}
 use Rattle.mj_parser.specs.Rows.{row_size, InRow}
 use Rattle.mj_parser.specs.Locations.{all_of}
-use Rattle.place_laws.specs.Parts.{Part, row_parts}
+use Rattle.place_laws.specs.Parts.{row_parts}
 
 -- something holds of each place from i to before j
 pub record Along (P : ℕ → Type 0) (i j : ℕ) : Type 0 where

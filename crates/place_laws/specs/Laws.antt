@@ -1,5 +1,5 @@
 -- The token of a place is one of the part that the place names.
-use Rattle.std.specs.Prelude.{◌≡◌, ℕ, suc, ◌+◌, ◌≤◌, List, length, Option, Some, None, if◌then◌else◌, slice_get, codes}
+use Rattle.std.specs.Prelude.{◌≡◌, ℕ, suc, ◌+◌, List, Option, Some, None, if◌then◌else◌, slice_get, codes}
 use Rattle.std.specs.Str.{bytes_eq}
 use Rattle.mj_lexer.specs.declared.token.Token.{Token}
 use Rattle.mj_tree.specs.declared.tree.Field.{Field}
@@ -28,7 +28,7 @@ pub record ClassTokens (ts : List Token) (number : ℕ) (c : Part Class) : Type 
       → token_of ts number (place.Method n) ≡ None
   pub inside : (name : Name) (n : ℕ)
       → token_of ts number (place.Inside name n)
-        ≡ (method_named name (method_parts c) >>= λ m. existing ts (m.at + n))
+      ≡ (method_named name (method_parts c) >>= λ m. existing ts (m.at + n))
 
 -- The main class has number 0 and its name at place 1. Its only method, `main`, begins at place 3 by
 -- `public static void main`.
@@ -38,7 +38,7 @@ pub record MainTokens (ts : List Token) (m : Main) : Type 0 where
   pub no_other_method : (n : ℕ) → token_of ts 0 (place.Method (suc n)) ≡ None
   pub inside : (name : Name) (n : ℕ)
       → token_of ts 0 (place.Inside name n)
-        ≡ (if bytes_eq (codes "main") name then existing ts (3 + n) else None)
+      ≡ (if bytes_eq (codes "main") name then existing ts (3 + n) else None)
 
 -- each class of a file, the main class first, and no other
 pub record FileTokens (ts : List Token) (f : File) : Type 0 where
