@@ -15,6 +15,7 @@ use Rattle.place_laws.specs.Parts.{Part, row_parts, class_parts, class_number}
 use Rattle.place_laws.specs.Laws.{MainTokens, FileTokens}
 use Rattle.place_laws.proofs.Runs.{upto, run, all_run, run_join, Lacks, lacks_run, row_run}
 use Rattle.place_laws.proofs.Classes.{class_lacks, class_run}
+use Rattle.place_laws.proofs.Inside.{main_within, main_marks}
 use Rattle.place_laws.proofs.MainClass.{main_static, main_word, main_lacks, main_run, main_publics}
 use Rattle.place_laws.proofs.Found.{get_map, get_map_none, Reaches, class_found, method_found, no_method_found, start_found, has_name, class_tokens}
 
@@ -87,6 +88,8 @@ module _ (ts : List Token) where
       method = (method_found ts 0 0 (main_size m) r 0 3 6 (codes "main") (ap (λ places. slice_get places 0) (main_publics ts m is)) main_name_is (main_word ts m is), main_word ts m is);
       no_other_method = λ n. no_method_found ts 0 0 (main_size m) r (suc n) (ap (λ places. slice_get places (suc n)) (main_publics ts m is));
       inside = main_inside;
+      within = main_within ts m is;
+      marks = main_marks ts m is;
     }
 
   main_of : (main : Option Main) (cs : List Class) (m : Main) → IsMainPart ts main → InRow (IsClass ts) class_size (main_part_size main) cs → main_part_size main + row_size class_size cs ≡ length ts → main ≡ Some m → MainTokens ts m

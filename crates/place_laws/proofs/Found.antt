@@ -21,6 +21,7 @@ use Rattle.mj_parser.proofs.Stands.{has_is}
 use Rattle.place_laws.specs.Laws.{IsNameFound, ClassTokens}
 use Rattle.place_laws.specs.Parts.{Part, row_parts, field_parts, method_parts, field_name_place, method_name_place, method_named}
 use Rattle.place_laws.proofs.Runs.{run, all_run, has_drop, name_drop}
+use Rattle.place_laws.proofs.Inside.{method_tokens}
 use Rattle.place_laws.proofs.Classes.{field_end, class_publics, class_semicolons}
 
 pub existing_is : (ts : List Token) (at : ℕ) → at < length ts → existing ts at ≡ Some at
@@ -156,6 +157,7 @@ module _ (ts : List Token) (number i : ℕ) (c : Class) (h : IsClass ts i c) (r 
     class = (class_found ts number i (class_size c) r c.name h.name, h.name);
     fields = field_place;
     methods = method_place;
+    method_tokens = λ n m e. method_tokens ts m (row_item (IsMethodAt ts) method_size (i + head_size c + row_size field_size c.fields) c.methods n m h.methods e);
     no_other_method = no_method_place;
     inside = inside_place;
   }
