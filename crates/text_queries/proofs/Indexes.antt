@@ -1,0 +1,30 @@
+-- What the index of a project tells.
+use Rattle.std.proofs.Common.{◌≡◌, Option, Some, None, option_map, find, refl, ap, ◌∙◌}
+use Rattle.std.specs.Str.{bytes_eq}
+use Rattle.item_ids.specs.declared.key.Key.TheVariants as keys
+use Rattle.mj_tree.specs.Trees.{Name}
+use Rattle.mj_classes.specs.Declarations.{ClassDecl, decl}
+use Rattle.mj_rules.specs.Sentences.{classes_in}
+use Rattle.mj_rules.specs.Answering.{first_classes}
+use Rattle.result_bytes.specs.declared.files.IndexRow.{IndexRow}
+use Rattle.recorder.specs.Projects.{Project}
+use Rattle.query_rules.specs.Items.{class_at, file_of_class, index_row}
+use Rattle.query_rules.specs.Meaning.{mean}
+use Rattle.text_queries.specs.Facts.{file_in}
+use Rattle.text_queries.proofs.Files.{find_seen}
+use Rattle.text_queries.proofs.Firsts.{found_first}
+
+file_told : (p : Project) (o : Option ClassDecl) → option_map (λ (row : IndexRow). row.file) (option_map (index_row p) o) ≡ option_map (file_of_class p) o
+file_told p None = refl
+file_told p (Some k) = refl
+
+class_found : (p : Project) (c : Name) → find (λ (k : ClassDecl). bytes_eq k.name c) (first_classes (classes_in p)) ≡ class_at p c
+unfolding decl
+class_found p c = found_first (λ (k : ClassDecl). k.name) (classes_in p) c
+
+-- the file that the index tells for a class is the one that declares it
+pub index_tells : (p : Project) (c : Name) → file_in (mean p keys.Index) c ≡ option_map (file_of_class p) (class_at p c)
+unfolding mean
+index_tells p c =
+    ap (option_map (λ (row : IndexRow). row.file)) (find_seen (index_row p) (λ (row : IndexRow). bytes_eq row.class c) (first_classes (classes_in p)) ∙ ap (option_map (index_row p)) (class_found p c))
+    ∙ file_told p (class_at p c)

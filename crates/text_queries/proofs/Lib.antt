@@ -1,0 +1,10 @@
+pub mod Sentences
+pub mod TreeTie
+pub mod SigTie
+pub mod Files
+pub mod Firsts
+pub mod Indexes
+pub mod ClassTrees
+pub mod HeaderTie
+pub mod MethodTie
+pub mod IndexTie

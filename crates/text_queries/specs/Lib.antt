@@ -1,0 +1,8 @@
+pub mod Facts
+pub mod Tree
+pub mod Index
+pub mod Sig
+pub mod ClassTrees
+pub mod Header
+pub mod Method
+pub mod Laws

@@ -1,0 +1,58 @@
+//! The tree of the file that declares a class.
+ghost use Rattle.std.specs.Prelude.{◌≡◌, IfOk, IfErr, option_copied, option_map, option_and_then};
+ghost use Rattle.std.specs.Arc.{arc_value};
+ghost use Rattle.recorder.specs.Programs.{Goes, GivesUp};
+ghost use Rattle.text_queries.specs.Facts.{tree_in as tree_told};
+ghost use Rattle.text_queries.specs.ClassTrees.{file_step, class_tree_step};
+
+use crate::facts::{file_in, tree_in};
+use fingerprint::Sealed;
+use item_ids::Key;
+use mj_lexer::Name;
+use recorder::{Reader, Recorder, RunFault, ask_key};
+use std::alloc::Global;
+use std::sync::Arc;
+use tree_bytes::Tree;
+
+/// The tree in an answer that is there.
+pub fn tree_of(answer: &Option<Arc<Sealed>>) -> Option<&Tree>
+    ensures { option_copied result ≡ option_and_then tree_told (option_map arc_value answer.now) }
+{
+    match answer {
+        Some(sealed) => tree_in(sealed.value()),
+        None => None,
+    }
+}
+
+/// Asks the tree of a file, where there is one.
+fn ask_file<D: Reader>(
+    alloc: Global,
+    recorder: &mut Recorder<D>,
+    file: Option<&Name>,
+) -> Result<Option<Arc<Sealed>>, RunFault>
+    ensures ok { IfOk result (λ a. Goes (file_step (option_copied file.entry)) recorder.old (option_and_then tree_told (option_map arc_value a)) recorder.new) }
+    ensures err { IfErr result (λ e. GivesUp (file_step (option_copied file.entry)) recorder.old e recorder.new) }
+    ensures follows { D.follows recorder.old.inner recorder.new.inner }
+{
+    match file {
+        Some(file) => {
+            let key = Key::Tree(file.copy(alloc)?);
+            Ok(Some(ask_key(recorder, &key)?))
+        }
+        None => Ok(None),
+    }
+}
+
+/// Asks the tree of the file that declares a class, by the index.
+pub fn ask_class_tree<D: Reader>(
+    alloc: Global,
+    recorder: &mut Recorder<D>,
+    class: &Name,
+) -> Result<Option<Arc<Sealed>>, RunFault>
+    ensures ok { IfOk result (λ a. Goes (class_tree_step class.now) recorder.old (option_and_then tree_told (option_map arc_value a)) recorder.new) }
+    ensures err { IfErr result (λ e. GivesUp (class_tree_step class.now) recorder.old e recorder.new) }
+    ensures follows { D.follows recorder.old.inner recorder.new.inner }
+{
+    let index = ask_key(recorder, &Key::Index)?;
+    ask_file(alloc, recorder, file_in(index.value(), class))
+}

@@ -1,0 +1,14 @@
+//! The queries of what one file's text and tree tell.
+#![tactic(auto)]
+
+mod class_trees;
+mod facts;
+mod laws;
+mod method;
+mod sig;
+mod tree;
+
+pub use laws::{header_ties, index_ties, method_ties, sig_ties, tree_ties};
+pub use method::run_method;
+pub use sig::run_sig;
+pub use tree::run_tree;
