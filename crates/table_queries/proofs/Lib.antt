@@ -1,0 +1,9 @@
+pub mod Passes
+pub mod Indexed
+pub mod SupersTie
+pub mod Declared
+pub mod Repeats
+pub mod FaultSets
+pub mod Tables
+pub mod MembersTie
+pub mod DiagsTie

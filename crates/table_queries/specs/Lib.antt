@@ -1,0 +1,5 @@
+pub mod Told
+pub mod Supers
+pub mod Members
+pub mod Diags
+pub mod Laws
