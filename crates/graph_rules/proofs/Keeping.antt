@@ -11,7 +11,7 @@ use Rattle.sessions.specs.declared.mark.Mark.TheVariants.{Input, Green, Executed
 use Rattle.sessions.specs.Sessions.{Entry}
 use Rattle.graph_rules.specs.Keys.{same_key, input_of}
 use Rattle.graph_rules.specs.Pasts.{Past, IsGraph, print_in}
-use Rattle.graph_rules.specs.Steps.{Status, Unknown, Claimed, Running, Done, State, Event, Claim, MarkGreen, Begin, Finish, Fail, at_opening, opening, with_status, IsDone, IsDoneWith, EdgeState, Open, Unchanged, Changed, edge_at, edge_of, Walk, AllUnchanged, OpenAt, ChangedAt, later, walk_on, walk, past_walk, MayRun, AreHeld, MayStep, green, after, after_all, AreSteps, Legal, replayed}
+use Rattle.graph_rules.specs.Steps.{Status, Unknown, Claimed, Running, Done, State, Event, Claim, MarkGreen, Begin, Finish, Fail, at_opening, opening, with_status, IsDone, IsDoneWith, EdgeState, Open, Unchanged, Changed, edge_at, edge_of, Walk, AllUnchanged, OpenAt, ChangedAt, later, walk_on, walk, past_walk, MayRun, AreHeld, MayStep, green, after, after_all, AreSteps, Legal, state_after}
 use Rattle.graph_rules.specs.Sound.{IsBacked, AreBacked, IsGreen, IsExecuted, IsSoundAt, IsSound, IsDoneInOrder, IsInOrderAt, IsInOrder}
 use Rattle.graph_rules.specs.Histories.{Keeps}
 use Rattle.graph_rules.proofs.KeyRules.{same_refl, same_is, same_sym, above, input_kind, marked_input, marked_other}
@@ -171,7 +171,7 @@ module _ (mean : Meaning) (reads : ReadLists) (past : Past) (p : Project) where
   opened_at q (Some v) is = (is, refl)
   opened_at q None is = above p q is
 
-  pub sound_history : (h : List Event) → Legal past p h → AreBacked mean reads h → IsSound mean reads past p (replayed past p h)
+  pub sound_history : (h : List Event) → Legal past p h → AreBacked mean reads h → IsSound mean reads past p (state_after past p h)
   sound_history h legal back = sound_all (opening p) h (λ q. opened_at q (input_of p q) refl) legal back
 
 -- ---- order

@@ -11,7 +11,7 @@ use Rattle.sessions.specs.declared.mark.Mark.TheVariants.{Executed}
 use Rattle.sessions.specs.Sessions.{Entry}
 use Rattle.graph_rules.specs.Keys.{same_key}
 use Rattle.graph_rules.specs.Pasts.{Past}
-use Rattle.graph_rules.specs.Steps.{Status, Unknown, Claimed, Running, Done, State, Event, Claim, MarkGreen, Begin, Finish, Fail, opening, with_status, IsDone, IsNotDone, AllUnchanged, walk, AreHeld, MayStep, green, after, after_all, AreSteps, Legal, replayed}
+use Rattle.graph_rules.specs.Steps.{Status, Unknown, Claimed, Running, Done, State, Event, Claim, MarkGreen, Begin, Finish, Fail, opening, with_status, IsDone, IsNotDone, AllUnchanged, walk, AreHeld, MayStep, green, after, after_all, AreSteps, Legal, state_after}
 use Rattle.graph_rules.specs.Histories.{Keeps, MakesDone, HasEdgesDone, IsOrderly}
 use Rattle.graph_rules.proofs.KeyRules.{same_refl}
 use Rattle.graph_rules.proofs.Keeping.{keeps_all, walked_done, held_done}
@@ -58,10 +58,10 @@ orderly past p h legal = record {
   stays = λ front rest is.
       let steps : AreSteps past (opening p) (front ++ rest) = subst (AreSteps past (opening p)) (sym is) legal in
       let keeps = keeps_all past (after_all past (opening p) front) rest (steps_rest past (opening p) front rest steps) in
-      subst (λ (t : State). Keeps (replayed past p front) t) (sym (after_all_append past (opening p) front rest) ∙ ap (after_all past (opening p)) is) keeps;
-  once = λ front e rest q is makes. not_yet past (replayed past p front) e q (may front e rest is) makes;
-  edges_first = λ front e rest q is makes. edges_done past (replayed past p front) e q (may front e rest is) makes;
+      subst (λ (t : State). Keeps (state_after past p front) t) (sym (after_all_append past (opening p) front rest) ∙ ap (after_all past (opening p)) is) keeps;
+  once = λ front e rest q is makes. not_yet past (state_after past p front) e q (may front e rest is) makes;
+  edges_first = λ front e rest q is makes. edges_done past (state_after past p front) e q (may front e rest is) makes;
 }
   where
-    may : (front : List Event) (e : Event) (rest : List Event) → front ++ e ∷ rest ≡ h → MayStep past (replayed past p front) e
+    may : (front : List Event) (e : Event) (rest : List Event) → front ++ e ∷ rest ≡ h → MayStep past (state_after past p front) e
     may front e rest is = (steps_rest past (opening p) front (e ∷ rest) (subst (AreSteps past (opening p)) (sym is) legal)).0

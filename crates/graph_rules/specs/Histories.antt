@@ -6,7 +6,7 @@ use Rattle.result_bytes.specs.declared.value.Value.{Value}
 use Rattle.recorder.specs.Projects.{Project}
 use Rattle.sessions.specs.declared.mark.Mark.{Mark}
 use Rattle.graph_rules.specs.Pasts.{Past}
-use Rattle.graph_rules.specs.Steps.{Status, Done, State, Event, Claim, MarkGreen, Begin, Finish, Fail, IsDone, IsNotDone, after, replayed}
+use Rattle.graph_rules.specs.Steps.{Status, Done, State, Event, Claim, MarkGreen, Begin, Finish, Fail, IsDone, IsNotDone, after, state_after}
 
 -- what is done stays done as it is
 abbrev pub Keeps : State → State → Type 0
@@ -25,6 +25,6 @@ HasEdgesDone s _ = ⊥
 
 -- No key becomes done twice, and none before its edges.
 pub record IsOrderly (past : Past) (p : Project) (history : List Event) : Type 0 where
-  pub stays : (front rest : List Event) → front ++ rest ≡ history → Keeps (replayed past p front) (replayed past p history)
-  pub once : (front : List Event) (e : Event) (rest : List Event) (q : Key) → front ++ e ∷ rest ≡ history → MakesDone e q → IsNotDone ((replayed past p front).at q)
-  pub edges_first : (front : List Event) (e : Event) (rest : List Event) (q : Key) → front ++ e ∷ rest ≡ history → MakesDone e q → HasEdgesDone (replayed past p front) ((after past (replayed past p front) e).at q)
+  pub stays : (front rest : List Event) → front ++ rest ≡ history → Keeps (state_after past p front) (state_after past p history)
+  pub once : (front : List Event) (e : Event) (rest : List Event) (q : Key) → front ++ e ∷ rest ≡ history → MakesDone e q → IsNotDone ((state_after past p front).at q)
+  pub edges_first : (front : List Event) (e : Event) (rest : List Event) (q : Key) → front ++ e ∷ rest ≡ history → MakesDone e q → HasEdgesDone (state_after past p front) ((after past (state_after past p front) e).at q)

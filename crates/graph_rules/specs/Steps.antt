@@ -159,5 +159,5 @@ abbrev pub Legal : Past → Project → List Event → Type 0
 Legal past p history = AreSteps past (opening p) history
 
 -- the state that a history leads to
-abbrev pub replayed : Past → Project → List Event → State
-replayed past p history = after_all past (opening p) history
+abbrev pub state_after : Past → Project → List Event → State
+state_after past p history = after_all past (opening p) history

@@ -7,7 +7,7 @@ ghost use Rattle.recorder.specs.Backed.{Meaning, ReadLists, RunnerLaws, rank};
 ghost use Rattle.sessions.specs.Sessions.{Entry, SessionValue, IsSession, entry_at};
 ghost use Rattle.graph_rules.specs.Keys.{same_key, input_of};
 ghost use Rattle.graph_rules.specs.Pasts.{Past, IsGraph};
-ghost use Rattle.graph_rules.specs.Steps.{State, Event, Legal, replayed};
+ghost use Rattle.graph_rules.specs.Steps.{State, Event, Legal, state_after};
 ghost use Rattle.graph_rules.specs.Sound.{AreBacked, IsSound, IsInOrder};
 ghost use Rattle.graph_rules.specs.Histories.{IsOrderly};
 ghost use Rattle.graph_rules.specs.Graphs.{AreClosed};
@@ -26,7 +26,7 @@ pub fn inputs_apart()
 /// In each state that a legal history reaches every key is as its status says: no key was marked over a changed or
 /// open edge, none was run where it could be marked, and each executed value follows from values in the state.
 pub fn histories_are_sound()
-    ensures { (mean : Meaning) (reads : ReadLists) (past : Past) (p : Project) (h : List Event) → Legal past p h → AreBacked mean reads h → IsSound mean reads past p (replayed past p h) }
+    ensures { (mean : Meaning) (reads : ReadLists) (past : Past) (p : Project) (h : List Event) → Legal past p h → AreBacked mean reads h → IsSound mean reads past p (state_after past p h) }
 {}
 
 /// In such a state a done key's value is of its kind, its mark is Input just where it is an input, and its edges are done

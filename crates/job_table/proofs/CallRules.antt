@@ -11,7 +11,7 @@ use Rattle.sessions.specs.Sessions.{Entry, SessionValue, past_entry}
 use Rattle.sessions.specs.declared.mark.Mark.TheVariants.{Green, Executed}
 use Rattle.graph_rules.specs.Keys.{same_key, input_of}
 use Rattle.graph_rules.specs.Pasts.{Past}
-use Rattle.graph_rules.specs.Steps.{Status, Unknown, Claimed, Running, Done, State, Event, MarkGreen, Begin, Finish, with_status, IsNotDone, IsDoneWith, MayStep, MayRun, Walk, AllUnchanged, walk, past_walk, AreHeld, green, after, replayed}
+use Rattle.graph_rules.specs.Steps.{Status, Unknown, Claimed, Running, Done, State, Event, MarkGreen, Begin, Finish, with_status, IsNotDone, IsDoneWith, MayStep, MayRun, Walk, AllUnchanged, walk, past_walk, AreHeld, green, after, state_after}
 use Rattle.job_table.specs.declared.nodes.Node.{Node}
 use Rattle.job_table.specs.declared.fault.TableFault.{TableFault}
 use Rattle.job_table.specs.declared.fault.TableFault.TheVariants as fault
@@ -28,18 +28,18 @@ standing_in : (o : Option Value) (x y : Status) → IsNotDone y → unless_input
 standing_in (Some v) x y other is = absurd (subst (λ (z : Status). IsNotDone z) (sym is) other)
 standing_in None x y other is = is
 
-pub not_standing : (past : Past) (p : Project) (ns : List Node) (b : Bool) (h : List Event) → IsKept past p ns b h → (q : Key) (y : Status) → IsNotDone y → (status_in ns q ≡ y → ⊥) → (replayed past p h).at q ≡ y → ⊥
+pub not_standing : (past : Past) (p : Project) (ns : List Node) (b : Bool) (h : List Event) → IsKept past p ns b h → (q : Key) (y : Status) → IsNotDone y → (status_in ns q ≡ y → ⊥) → (state_after past p h).at q ≡ y → ⊥
 not_standing past p ns b h kept q y other isnt is = isnt (standing_in (input_of p q) (status_in ns q) y other (kept.status q ∙ is))
 
 -- ---- mark
 
 pub mark_may : (past : Past) (p : Project) (ns : List Node) (b : Bool) (h : List Event) → IsKept past p ns b h → (q : Key) (w : ℕ) (r : Entry)
     → past q ≡ Some r → b ≡ false → status_in ns q ≡ Claimed w → AllUnchanged ≡ walk past (held p ns false) r.reads
-    → MayStep past (replayed past p h) (MarkGreen w q)
+    → MayStep past (state_after past p h) (MarkGreen w q)
 mark_may past p ns b h kept q w r found nf stands all = (
   sym kept.failed_is ∙ nf,
   (is_standing past p ns b h kept q (Claimed w) stands (λ e. cc)).1,
-  ap (option_map (λ (x : Entry). walk past (replayed past p h) x.reads)) found ∙ ap Some (sym (all ∙ is_walk past p ns b h kept false r.reads)),
+  ap (option_map (λ (x : Entry). walk past (state_after past p h) x.reads)) found ∙ ap Some (sym (all ∙ is_walk past p ns b h kept false r.reads)),
 )
 
 pub mark_kept : (past : Past) (p : Project) (ns ms : List Node) (b : Bool) (h : List Event) → IsKept past p ns b h → (q : Key) (w : ℕ) (r : Entry) (x : Status)
@@ -59,7 +59,7 @@ pub mark_gives : (so : Option SessionValue) (p : Project) (ns : List Node) (b : 
 mark_gives so p ns b h kept q w r found nf stands all t u v te ue ve =
     let past : Past = past_entry so in
     let x = Done r.value r.reads Green in
-    let done : (replayed past p (h ++ MarkGreen w q ∷ [])).at q ≡ x = at_written past p h (MarkGreen w q) q x (ap (λ (y : Status). with_status (replayed past p h) q y) (ap green found)) in
+    let done : (state_after past p (h ++ MarkGreen w q ∷ [])).at q ≡ x = at_written past p h (MarkGreen w q) q x (ap (λ (y : Status). with_status (state_after past p h) q y) (ap green found)) in
     rw (te, ue) (
       mark_may past p ns b h kept q w r found nf stands all,
       refl,
@@ -69,9 +69,9 @@ mark_gives so p ns b h kept q w r found nf stands all t u v te ue ve =
 -- ---- begin_run
 
 pub begin_may : (past : Past) (p : Project) (ns : List Node) (b : Bool) (h : List Event) → IsKept past p ns b h → (q : Key) (w : ℕ)
-    → b ≡ false → status_in ns q ≡ Claimed w → MayRun (past_walk past (held p ns false) q) → MayStep past (replayed past p h) (Begin w q)
+    → b ≡ false → status_in ns q ≡ Claimed w → MayRun (past_walk past (held p ns false) q) → MayStep past (state_after past p h) (Begin w q)
 begin_may past p ns b h kept q w nf stands may =
-    (sym kept.failed_is ∙ nf, (is_standing past p ns b h kept q (Claimed w) stands (λ e. cc)).1, subst MayRun (past_walk_same past (held p ns false) (replayed past p h) kept.status q) may)
+    (sym kept.failed_is ∙ nf, (is_standing past p ns b h kept q (Claimed w) stands (λ e. cc)).1, subst MayRun (past_walk_same past (held p ns false) (state_after past p h) kept.status q) may)
 
 pub begin_kept : (past : Past) (p : Project) (ns ms : List Node) (b : Bool) (h : List Event) → IsKept past p ns b h → (q : Key) (w : ℕ)
     → b ≡ false → status_in ns q ≡ Claimed w → MayRun (past_walk past (held p ns false) q)
@@ -94,11 +94,11 @@ pub begin_refused : (so : Option SessionValue) (p : Project) (ns : List Node) (b
 begin_refused so p ns b h kept q w f nf stands why t te =
     subst (λ (u : TableValue). BeginGives u w q (Err f) u) te (go f why)
   where
-    at : (replayed (past_entry so) p h).at q ≡ Claimed w
+    at : (state_after (past_entry so) p h).at q ≡ Claimed w
     at = (is_standing (past_entry so) p ns b h kept q (Claimed w) stands (λ e. cc)).1
 
-    same : past_walk (past_entry so) (held p ns false) q ≡ past_walk (past_entry so) (replayed (past_entry so) p h) q
-    same = past_walk_same (past_entry so) (held p ns false) (replayed (past_entry so) p h) kept.status q
+    same : past_walk (past_entry so) (held p ns false) q ≡ past_walk (past_entry so) (state_after (past_entry so) p h) q
+    same = past_walk_same (past_entry so) (held p ns false) (state_after (past_entry so) p h) kept.status q
 
     go : (f : TableFault) → IsWhyNot (past_walk (past_entry so) (held p ns false) q) (Some f) → BeginGives (record { past = so; project = p; history = h }) w q (Err f) (record { past = so; project = p; history = h })
     go (fault.EdgeOpen i) why = ((sym kept.failed_is ∙ nf, at), sym same ∙ why, refl)
@@ -114,7 +114,7 @@ begin_refused so p ns b h kept q w f nf stands why t te =
 -- ---- finish
 
 pub finish_may : (past : Past) (p : Project) (ns : List Node) (b : Bool) (h : List Event) → IsKept past p ns b h → (o : OutcomeValue) (w : ℕ)
-    → b ≡ false → status_in ns o.key ≡ Running w → AreHeld (held p ns false) o.told → MayStep past (replayed past p h) (Finish w o)
+    → b ≡ false → status_in ns o.key ≡ Running w → AreHeld (held p ns false) o.told → MayStep past (state_after past p h) (Finish w o)
 finish_may past p ns b h kept o w nf stands all =
     (sym kept.failed_is ∙ nf, (is_standing past p ns b h kept o.key (Running w) stands (λ e. cc)).1, are_held past p ns b h kept false o.told all)
 
@@ -144,6 +144,6 @@ pub finish_stale : (so : Option SessionValue) (p : Project) (ns : List Node) (b 
 finish_stale so p ns b h kept o w i nf stands stale t te =
     subst (λ (u : TableValue). FinishGives u w o (Err (fault.StaleRead i)) u) te (
       (sym kept.failed_is ∙ nf, (is_standing (past_entry so) p ns b h kept o.key (Running w) stands (λ e. cc)).1),
-      stale_same (held p ns false) (replayed (past_entry so) p h) kept.status o.told i stale,
+      stale_same (held p ns false) (state_after (past_entry so) p h) kept.status o.told i stale,
       refl,
     )

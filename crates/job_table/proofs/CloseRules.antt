@@ -10,7 +10,7 @@ use Rattle.recorder.specs.Backed.{Meaning, ReadLists}
 use Rattle.sessions.specs.Sessions.{SessionValue, past_entry, entries}
 use Rattle.graph_rules.specs.Keys.{same_key, input_of}
 use Rattle.graph_rules.specs.Pasts.{Past, IsGraph}
-use Rattle.graph_rules.specs.Steps.{Status, Unknown, Claimed, Running, Done, State, Event, IsDone, IsNotDone, IsDoneWith, replayed}
+use Rattle.graph_rules.specs.Steps.{Status, Unknown, Claimed, Running, Done, State, Event, IsDone, IsNotDone, IsDoneWith, state_after}
 use Rattle.graph_rules.specs.Sound.{AreBacked, IsDoneInOrder, IsInOrderAt, IsInOrder}
 use Rattle.graph_rules.specs.Graphs.{IsRoot, answer, files, source, IsReached, edge, AreClosed}
 use Rattle.graph_rules.specs.Graphs.IsReached.{root as starts}
@@ -117,11 +117,11 @@ done_of v (Done u es m) d = tt
 pub held_in_order : (mean : Meaning) (reads : ReadLists) (past : Past) (p : Project) (ns : List Node) (b c : Bool) (h : List Event)
     → IsKept past p ns b h → AreBacked mean reads h → IsGraph past → IsInOrder (held p ns c)
 held_in_order mean reads past p ns b c h kept backed graph =
-    order_same (replayed past p h) (held p ns c) (λ k. sym (kept.status k))
-    (in_order mean reads past p graph (replayed past p h) (sound_history mean reads past p h kept.legal backed))
+    order_same (state_after past p h) (held p ns c) (λ k. sym (kept.status k))
+    (in_order mean reads past p graph (state_after past p h) (sound_history mean reads past p h kept.legal backed))
 
 module _ (so : Option SessionValue) (p : Project) (ns : List Node) (b : Bool) (h : List Event) (kept : IsKept (past_entry so) p ns b h) (nf : b ≡ false) (t : TableValue) (is : record { past = so; project = p; history = h } ≡ t) where
-  quiet : AllQuiet ns → AreQuiet (replayed (past_entry so) p h)
+  quiet : AllQuiet ns → AreQuiet (state_after (past_entry so) p h)
   quiet all q = subst IsQuiet (kept.status q) (quiet_out (input_of p q) (status_in ns q) (quiet_at ns q all))
 
   pub gives_running : (AllQuiet ns → ⊥) → CloseGives t (Err fault.StillRunning)
@@ -139,5 +139,5 @@ module _ (so : Option SessionValue) (p : Project) (ns : List Node) (b : Bool) (h
   pub gives_session : AllQuiet ns → (v : Value) → IsDoneWith v (status_at p ns Answer) → (c : Bool) (session : SessionValue) → IsClosing so p (held p ns c) session → CloseGives t (Ok session)
   gives_session all v d c session closing = subst (λ (u : TableValue). CloseGives u (Ok session)) is (
     (sym kept.failed_is ∙ nf, quiet all, subst IsDone (kept.status Answer) (done_of v (status_at p ns Answer) d)),
-    closing_same so p (held p ns c) (replayed (past_entry so) p h) session kept.status closing,
+    closing_same so p (held p ns c) (state_after (past_entry so) p h) session kept.status closing,
   )

@@ -13,7 +13,7 @@ use Rattle.sessions.specs.Sessions.{Entry}
 use Rattle.sessions.specs.declared.mark.Mark.TheVariants.{Input, Green, Executed}
 use Rattle.graph_rules.specs.Keys.{same_key, input_of}
 use Rattle.graph_rules.specs.Pasts.{Past, print_in}
-use Rattle.graph_rules.specs.Steps.{Status, Unknown, Claimed, Running, Done, State, Event, Claim, MarkGreen, Begin, Finish, Fail, at_opening, opening, with_status, IsDone, IsNotDone, IsDoneWith, IsHeldBy, IsBelow, MayStep, MayRun, Walk, AllUnchanged, walk_on, walk, past_walk, edge_at, AreHeld, green, after, after_all, AreSteps, Legal, replayed}
+use Rattle.graph_rules.specs.Steps.{Status, Unknown, Claimed, Running, Done, State, Event, Claim, MarkGreen, Begin, Finish, Fail, at_opening, opening, with_status, IsDone, IsNotDone, IsDoneWith, IsHeldBy, IsBelow, MayStep, MayRun, Walk, AllUnchanged, walk_on, walk, past_walk, edge_at, AreHeld, green, after, after_all, AreSteps, Legal, state_after}
 use Rattle.graph_rules.specs.Sound.{IsBacked, AreBacked}
 use Rattle.graph_rules.proofs.KeyRules.{same_refl, same_is}
 use Rattle.graph_rules.proofs.Orders.{after_all_append, steps_append}
@@ -45,10 +45,10 @@ pub backed_last : (mean : Meaning) (reads : ReadLists) (h : List Event) (e : Eve
 backed_last mean reads [] e all one = (one, tt)
 backed_last mean reads (x ∷ h) e all one = (all.0, backed_last mean reads h e all.1 one)
 
-pub replayed_last : (past : Past) (p : Project) (h : List Event) (e : Event) → replayed past p (h ++ e ∷ []) ≡ after past (replayed past p h) e
+pub replayed_last : (past : Past) (p : Project) (h : List Event) (e : Event) → state_after past p (h ++ e ∷ []) ≡ after past (state_after past p h) e
 replayed_last past p h e = after_all_append past (opening p) h (e ∷ [])
 
-legal_last : (past : Past) (p : Project) (h : List Event) (e : Event) → Legal past p h → MayStep past (replayed past p h) e → Legal past p (h ++ e ∷ [])
+legal_last : (past : Past) (p : Project) (h : List Event) (e : Event) → Legal past p h → MayStep past (state_after past p h) e → Legal past p (h ++ e ∷ [])
 legal_last past p h e legal may = steps_append past (opening p) h (e ∷ []) legal (may, tt)
 
 -- how a key stands after one is written, in a table and in a state
@@ -69,11 +69,11 @@ put_inner p x y q k v none some unknown =
 
 -- a table in which one key stands otherwise, and its event
 pub kept_step : (past : Past) (p : Project) (ns ms : List Node) (b : Bool) (h : List Event) (e : Event) (q : Key) (x : Status)
-    → IsKept past p ns b h → MayStep past (replayed past p h) e → ((s : State) → after past s e ≡ with_status s q x) → input_of p q ≡ None → AreApart ms
+    → IsKept past p ns b h → MayStep past (state_after past p h) e → ((s : State) → after past s e ≡ with_status s q x) → input_of p q ≡ None → AreApart ms
     → ((k : Key) → status_in ms k ≡ (if same_key q k then x else status_in ns k))
     → IsKept past p ms b (h ++ e ∷ [])
 kept_step past p ns ms b h e q x kept may is none apart put =
-    let last : replayed past p (h ++ e ∷ []) ≡ with_status (replayed past p h) q x = replayed_last past p h e ∙ is (replayed past p h) in
+    let last : state_after past p (h ++ e ∷ []) ≡ with_status (state_after past p h) q x = replayed_last past p h e ∙ is (state_after past p h) in
     record {
       project = kept.project;
       legal = legal_last past p h e kept.legal may;
@@ -90,7 +90,7 @@ kept_step past p ns ms b h e q x kept may is none apart put =
 -- a table in which a worker failed
 pub kept_fail : (past : Past) (p : Project) (ns : List Node) (h : List Event) (w : ℕ) → IsKept past p ns false h → IsKept past p ns true (h ++ Fail w ∷ [])
 kept_fail past p ns h w kept =
-    let last : replayed past p (h ++ Fail w ∷ []) ≡ after past (replayed past p h) (Fail w) = replayed_last past p h (Fail w) in
+    let last : state_after past p (h ++ Fail w ∷ []) ≡ after past (state_after past p h) (Fail w) = replayed_last past p h (Fail w) in
     record {
       project = kept.project;
       legal = legal_last past p h (Fail w) kept.legal (sym kept.failed_is);
@@ -143,53 +143,53 @@ unknown_none (Some v) x e = absurd cc
 unknown_none None x e = refl
 
 module _ (past : Past) (p : Project) (ns : List Node) (b : Bool) (h : List Event) (kept : IsKept past p ns b h) where
-  pub is_not_done : (q : Key) → IsNotDone (status_at p ns q) → IsNotDone ((replayed past p h).at q)
+  pub is_not_done : (q : Key) → IsNotDone (status_at p ns q) → IsNotDone ((state_after past p h).at q)
   is_not_done q nd = subst (λ (x : Status). IsNotDone x) (kept.status q) nd
 
-  pub is_done : (q : Key) (v : Value) → IsDoneWith v (status_at p ns q) → IsDoneWith v ((replayed past p h).at q)
+  pub is_done : (q : Key) (v : Value) → IsDoneWith v (status_at p ns q) → IsDoneWith v ((state_after past p h).at q)
   is_done q v d = subst (λ (x : Status). IsDoneWith v x) (kept.status q) d
 
-  pub is_below : (w : ℕ) (q : Key) → AllAbove w (rank q) ns → IsBelow (replayed past p h) w q
+  pub is_below : (w : ℕ) (q : Key) → AllAbove w (rank q) ns → IsBelow (state_after past p h) w q
   is_below w q all = λ k held. above_held ns w (rank q) k all (held_in_at w (input_of p k) (status_in ns k) (subst (λ (x : Status). IsHeldBy w x) (sym (kept.status k)) held))
 
-  pub is_not_below : (w : ℕ) (q : Key) → (AllAbove w (rank q) ns → ⊥) → IsBelow (replayed past p h) w q → ⊥
+  pub is_not_below : (w : ℕ) (q : Key) → (AllAbove w (rank q) ns → ⊥) → IsBelow (state_after past p h) w q → ⊥
   is_not_below w q none below = none (held_above ns w (rank q) kept.apart (λ k held. below k (subst (λ (x : Status). IsHeldBy w x) (kept.status k) (held_out_at w (input_of p k) (status_in ns k) (kept.inner k) held))))
 
-  pub is_unknown : (q : Key) → IsNotDone (status_at p ns q) → status_in ns q ≡ Unknown → (replayed past p h).at q ≡ Unknown
+  pub is_unknown : (q : Key) → IsNotDone (status_at p ns q) → status_in ns q ≡ Unknown → (state_after past p h).at q ≡ Unknown
   is_unknown q nd u = sym (kept.status q) ∙ (not_done_at (input_of p q) (status_in ns q) nd ∙ u)
 
-  pub is_known : (q : Key) (i : ℕ) → IsNotDone (status_at p ns q) → IsFirst ns q i → (replayed past p h).at q ≡ Unknown → ⊥
+  pub is_known : (q : Key) (i : ℕ) → IsNotDone (status_at p ns q) → IsFirst ns q i → (state_after past p h).at q ≡ Unknown → ⊥
   is_known q i nd first unknown = first_known ns q i first (sym (not_done_at (input_of p q) (status_in ns q) nd) ∙ (kept.status q ∙ unknown))
 
   -- a claim
   pub kept_claim : (w : ℕ) (q : Key) (n : Node) → n.key ≡ q → status_of n.standing ≡ Claimed w → b ≡ false → IsNotDone (status_at p ns q) → status_in ns q ≡ Unknown → AllAbove w (rank q) ns
       → IsKept past p (ns ++ n ∷ []) b (h ++ Claim w q ∷ [])
   kept_claim w q n here stands nf nd u all =
-      let at : (replayed past p h).at q ≡ Unknown = is_unknown q nd u in
+      let at : (state_after past p h).at q ≡ Unknown = is_unknown q nd u in
       let absent : has_key q ns ≡ false = unknown_absent ns q u in
       kept_step past p ns (ns ++ n ∷ []) b h (Claim w q) q (Claimed w) kept (sym kept.failed_is ∙ nf, at, is_below w q all) (λ s. refl)
       (unknown_none (input_of p q) (status_in ns q) (kept.status q ∙ at))
       (apart_last ns n kept.apart (subst (λ (k : Key). has_key k ns ≡ false) (sym here) absent))
       (λ k. status_last ns n q k (Claimed w) here stands absent)
 
-  pub is_standing : (q : Key) (x : Status) → status_in ns q ≡ x → (x ≡ Unknown → ⊥) → (input_of p q ≡ None) × ((replayed past p h).at q ≡ x)
+  pub is_standing : (q : Key) (x : Status) → status_in ns q ≡ x → (x ≡ Unknown → ⊥) → (input_of p q ≡ None) × ((state_after past p h).at q ≡ x)
   is_standing q x is known =
       let none : input_of p q ≡ None = none_at (input_of p q) (status_in ns q) (kept.inner q) (λ u. known (sym is ∙ u)) in
       (none, sym (kept.status q) ∙ (ap (λ o. unless_input o (status_in ns q)) none ∙ is))
 
-  pub are_held : (c : Bool) (rs : List ReadValue) → AreHeld (held p ns c) rs → AreHeld (replayed past p h) rs
-  are_held c rs all = held_same (held p ns c) (replayed past p h) kept.status rs all
+  pub are_held : (c : Bool) (rs : List ReadValue) → AreHeld (held p ns c) rs → AreHeld (state_after past p h) rs
+  are_held c rs all = held_same (held p ns c) (state_after past p h) kept.status rs all
 
-  pub is_walk : (c : Bool) (es : List Key) → walk past (held p ns c) es ≡ walk past (replayed past p h) es
-  is_walk c es = walk_same past (held p ns c) (replayed past p h) kept.status es
+  pub is_walk : (c : Bool) (es : List Key) → walk past (held p ns c) es ≡ walk past (state_after past p h) es
+  is_walk c es = walk_same past (held p ns c) (state_after past p h) kept.status es
 
   -- a key that stands otherwise
-  pub kept_put : (ms : List Node) (e : Event) (q : Key) (x : Status) → MayStep past (replayed past p h) e → ((s : State) → after past s e ≡ with_status s q x)
+  pub kept_put : (ms : List Node) (e : Event) (q : Key) (x : Status) → MayStep past (state_after past p h) e → ((s : State) → after past s e ≡ with_status s q x)
       → input_of p q ≡ None → (AreApart ns → AreApart ms) → ((k : Key) → status_in ms k ≡ (if same_key q k then x else status_in ns k)) → IsKept past p ms b (h ++ e ∷ [])
   kept_put ms e q x may is none apart put = kept_step past p ns ms b h e q x kept may is none (apart kept.apart) put
 
 -- a state just after a key was written tells it
 pub at_written : (past : Past) (p : Project) (h : List Event) (e : Event) (q : Key) (x : Status)
-    → after past (replayed past p h) e ≡ with_status (replayed past p h) q x → (replayed past p (h ++ e ∷ [])).at q ≡ x
+    → after past (state_after past p h) e ≡ with_status (state_after past p h) q x → (state_after past p (h ++ e ∷ [])).at q ≡ x
 at_written past p h e q x is =
-    ap (λ (s : State). s.at q) (replayed_last past p h e ∙ is) ∙ ap (λ b. if b then x else (replayed past p h).at q) (same_refl q)
+    ap (λ (s : State). s.at q) (replayed_last past p h e ∙ is) ∙ ap (λ b. if b then x else (state_after past p h).at q) (same_refl q)

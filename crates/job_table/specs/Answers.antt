@@ -10,7 +10,7 @@ use Rattle.recorder.specs.Projects.{Project}
 use Rattle.recorder.specs.Backed.{ReadValue}
 use Rattle.recorder.specs.Runs.{OutcomeValue}
 use Rattle.sessions.specs.Sessions.{SessionValue, past_entry}
-use Rattle.graph_rules.specs.Steps.{Unknown, Claimed, Running, Event, Claim, MarkGreen, Begin, Finish, Fail, State, Walk, AllUnchanged, OpenAt, ChangedAt, IsDoneWith, IsNotDone, IsBelow, MayRun, past_walk, AreHeld, Legal, replayed, MayStep}
+use Rattle.graph_rules.specs.Steps.{Unknown, Claimed, Running, Event, Claim, MarkGreen, Begin, Finish, Fail, State, Walk, AllUnchanged, OpenAt, ChangedAt, IsDoneWith, IsNotDone, IsBelow, MayRun, past_walk, AreHeld, Legal, state_after, MayStep}
 use Rattle.job_table.specs.Tables.{TableValue, past_of, state_of, IsStep, adds, IsFull}
 use Rattle.job_table.specs.declared.fault.Asked.{Asked}
 use Rattle.job_table.specs.declared.fault.Asked.TheVariants as asked

@@ -7,7 +7,7 @@ use Rattle.mj_project.specs.Projects.{IsProject}
 use Rattle.recorder.specs.Projects.{Project}
 use Rattle.graph_rules.specs.Keys.{input_of}
 use Rattle.graph_rules.specs.Pasts.{Past}
-use Rattle.graph_rules.specs.Steps.{Status, Unknown, Event, Claim, MarkGreen, Begin, Finish, Fail, Legal, replayed}
+use Rattle.graph_rules.specs.Steps.{Status, Unknown, Event, Claim, MarkGreen, Begin, Finish, Fail, Legal, state_after}
 use Rattle.job_table.specs.declared.nodes.Node.{Node}
 use Rattle.job_table.specs.Nodes.{status_at, status_in, AreApart}
 use Rattle.job_table.specs.declared.event.Event.{Event as Stored}
@@ -25,7 +25,7 @@ event_of (stored.Fail w) = Fail w
 pub record IsKept (past : Past) (p : Project) (ns : List Node) (failed : Bool) (history : List Event) : Type 0 where
   pub project : IsProject p
   pub legal : Legal past p history
-  pub status : (q : Key) → status_at p ns q ≡ (replayed past p history).at q
-  pub failed_is : failed ≡ (replayed past p history).failed
+  pub status : (q : Key) → status_at p ns q ≡ (state_after past p history).at q
+  pub failed_is : failed ≡ (state_after past p history).failed
   pub apart : AreApart ns
   pub inner : (q : Key) (v : Value) → input_of p q ≡ Some v → status_in ns q ≡ Unknown

@@ -6,7 +6,7 @@ use Rattle.result_bytes.specs.declared.value.Value.{Value}
 use Rattle.recorder.specs.Projects.{Project}
 use Rattle.sessions.specs.Sessions.{SessionValue, past_entry}
 use Rattle.graph_rules.specs.Pasts.{Past}
-use Rattle.graph_rules.specs.Steps.{Event, MayStep, Legal, replayed}
+use Rattle.graph_rules.specs.Steps.{Event, MayStep, Legal, state_after}
 use Rattle.job_table.specs.Tables.{TableValue, IsStep, adds, IsFull}
 use Rattle.job_table.specs.declared.fault.Asked.{Asked}
 use Rattle.job_table.specs.declared.fault.Asked.TheVariants as asked
@@ -49,7 +49,7 @@ pub record IsFirstIllegal (past : Past) (p : Project) (events : List Event) (i :
   pub whole : events ≡ front ++ event ∷ rest
   pub place : length front ≡ i
   pub legal : Legal past p front
-  pub illegal : ¬ MayStep past (replayed past p front) event
+  pub illegal : ¬ MayStep past (state_after past p front) event
 
 -- replay: a table of just these events where they are legal, else the first that is no step
 abbrev pub ReplayGives : Option SessionValue → Project → List Event → Result TableValue ReplayFault → Type 0

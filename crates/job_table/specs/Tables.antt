@@ -6,7 +6,7 @@ use Rattle.std.specs.declared.sync.Arc.{Arc}
 use Rattle.recorder.specs.Projects.{Project}
 use Rattle.sessions.specs.Sessions.{SessionValue, most_number, past_entry}
 use Rattle.graph_rules.specs.Pasts.{Past}
-use Rattle.graph_rules.specs.Steps.{State, Event, MayStep, Legal, replayed}
+use Rattle.graph_rules.specs.Steps.{State, Event, MayStep, Legal, state_after}
 
 pub record TableValue : Type 0 where
   pub past : Option SessionValue
@@ -23,7 +23,7 @@ past_of t = past_entry t.past
 
 -- the state that its history leads to
 abbrev pub state_of : TableValue → State
-state_of t = replayed (past_of t) t.project t.history
+state_of t = state_after (past_of t) t.project t.history
 
 -- the event is a step in its state
 abbrev pub IsStep : TableValue → Event → Type 0
