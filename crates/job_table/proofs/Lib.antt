@@ -6,3 +6,6 @@ pub mod WalkRules
 pub mod CallRules
 pub mod ReplayRules
 pub mod StaleRules
+pub mod ReachRules
+pub mod RecordRules
+pub mod CloseRules

@@ -5,3 +5,5 @@ pub mod Kept
 pub mod Walks
 pub mod Answers
 pub mod Replays
+pub mod Closes
+pub mod Reached

@@ -48,6 +48,19 @@ pub enum OpenFault {
     OutOfMemory,
 }
 
+/// Why a table isn't closed.
+#[derive(Clone, Copy, Debug, PartialEq, Eq)]
+pub enum CloseFault {
+    /// A worker failed.
+    Failed,
+    /// A key is claimed or running.
+    StillRunning,
+    /// Answer isn't done.
+    NoAnswer,
+    /// Memory ran out.
+    OutOfMemory,
+}
+
 /// Why an event isn't done.
 #[derive(Clone, Copy, Debug, PartialEq, Eq)]
 pub(crate) enum StepFault {

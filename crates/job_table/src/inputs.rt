@@ -1,7 +1,8 @@
 //! The results of the keys that are inputs.
-ghost use Rattle.std.specs.Prelude.{◌≡◌, ◌<◌, ◌≤◌, IfOk, Some, None, MatchOption, length, map, find, bytes_eq, string_bytes};
+ghost use Rattle.std.specs.Prelude.{◌≡◌, ◌<◌, ◌≤◌, ◌∷◌, IfOk, Some, None, MatchOption, length, map, find, bytes_eq};
 ghost use Rattle.std.specs.Option.{option_copied};
 ghost use Rattle.std.specs.Arc.{arc_value};
+ghost use Rattle.item_ids.specs.declared.key.Key.TheVariants as keys;
 ghost use Rattle.result_bytes.specs.declared.value.Value.TheVariants as values;
 ghost use Rattle.mj_project.specs.Projects.{SourceFile, IsProject, names_of, source_view};
 ghost use Rattle.recorder.specs.Projects.{bytes_at};
@@ -119,6 +120,13 @@ impl Inputs {
         }
     }
 
+    /// The key of all files, and of each one.
+    pub fn keys(&self, alloc: Global) -> Result<Vec<Key>, AllocError>
+        ensures { IfOk result (λ v. v.items ≡ keys.Files ∷ map (λ f. keys.Source f.name) self.now) }
+    {
+        keys_of(alloc, &self.sources)
+    }
+
     /// What the type keeps.
     pub fn project(&self)
         ensures { IsProject self.now }
@@ -132,6 +140,18 @@ fn find_source<'a>(sources: &'a Vec<Source>, name: &Name) -> Option<&'a Source>
     ensures { option_copied result ≡ find (λ f. bytes_eq f.name name.now) sources.now.items }
 {
     sources.iter().find(|source| source.is_of(name))
+}
+
+/// The key of all files, and of each of these.
+fn keys_of(alloc: Global, sources: &Vec<Source>) -> Result<Vec<Key>, AllocError>
+    ensures { IfOk result (λ v. v.items ≡ keys.Files ∷ map (λ f. keys.Source f.name) sources.now.items) }
+{
+    let mut keys = Vec::new(alloc);
+    keys.push(Key::Files)?;
+    for source in sources {
+        keys.push(Key::Source(source.name.copy(alloc)?))?;
+    }
+    Ok(keys)
 }
 
 /// The value, sealed, to be shared.

@@ -1,6 +1,7 @@
 //! The table of one session: how each key stands, and the events that led there.
 #![tactic(auto)]
 
+mod closing;
 mod event;
 mod fault;
 mod inputs;
@@ -12,5 +13,5 @@ mod table;
 mod walks;
 
 pub use event::Event;
-pub use fault::{Asked, OpenFault, ReplayFault, TableFault};
+pub use fault::{Asked, CloseFault, OpenFault, ReplayFault, TableFault};
 pub use table::Table;

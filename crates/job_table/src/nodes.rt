@@ -4,8 +4,10 @@ ghost use Rattle.std.specs.Arc.{arc_value};
 ghost use Rattle.recorder.specs.Backed.{rank};
 ghost use Rattle.graph_rules.specs.Keys.{same_key};
 ghost use Rattle.item_ids.specs.declared.key.Key.{Key};
-ghost use Rattle.graph_rules.specs.Steps.{Unknown, Claimed, Running, IsHeldBy, IsDoneWith, IsNotDone};
+ghost use Rattle.graph_rules.specs.Steps.{Unknown, Claimed, Running, Done, IsHeldBy, IsDone, IsDoneWith, IsNotDone};
 ghost use Rattle.job_table.specs.Nodes.{status_of, status_in, status_at, AreApart, IsFirst, AllAbove};
+ghost use Rattle.job_table.specs.Closes.{IsQuiet};
+ghost use Rattle.job_table.specs.Reached.{AllQuiet};
 
 use crate::inputs::Inputs;
 use fingerprint::Sealed;
@@ -85,6 +87,57 @@ pub fn result_of<'a>(inputs: &'a Inputs, nodes: &'a Vec<Node>, key: &Key) -> Opt
         Standing::Done(sealed, _, _) => Some(sealed),
         Standing::Claimed(_) => None,
         Standing::Running(_) => None,
+    }
+}
+
+/// How a key is done: its result, the keys that were read for it, and its mark.
+#[derive(Clone, Copy)]
+pub struct Entry<'a> {
+    pub sealed: &'a Arc<Sealed>,
+    pub edges: &'a [Key],
+    pub mark: Mark,
+}
+
+/// How a key is done.
+pub fn entry_of<'a>(inputs: &'a Inputs, nodes: &'a Vec<Node>, key: &Key) -> Entry<'a>
+    requires { IsDone (status_at inputs.now nodes.now.items key.now) }
+    ensures { status_at inputs.now nodes.now.items key.now ≡ Done (arc_value result.sealed.now) result.edges.now result.mark }
+{
+    if let Some(sealed) = inputs.get(key) {
+        return Entry {
+            sealed,
+            edges: &[],
+            mark: Mark::Input,
+        };
+    }
+    let Some(at) = find(nodes, key) else {
+        unreachable!();
+    };
+    match &nodes[at].standing {
+        Standing::Done(sealed, edges, mark) => Entry {
+            sealed,
+            edges: edges.as_slice(),
+            mark: *mark,
+        },
+        Standing::Claimed(_) => unreachable!(),
+        Standing::Running(_) => unreachable!(),
+    }
+}
+
+/// Whether no node is claimed or running.
+pub fn are_quiet(nodes: &Vec<Node>) -> bool
+    ensures { IsTrue result ↔ AllQuiet nodes.now.items }
+{
+    nodes.iter().all(|node| is_quiet(node))
+}
+
+fn is_quiet(node: &Node) -> bool
+    ensures { IsTrue result ↔ IsQuiet (status_of node.now.standing) }
+{
+    match &node.standing {
+        Standing::Done(_, _, _) => true,
+        Standing::Claimed(_) => false,
+        Standing::Running(_) => false,
     }
 }
 

@@ -4,10 +4,11 @@ ghost use Rattle.std.specs.Arc.{arc_value};
 ghost use Rattle.job_table.specs.Tables.{session_in, IsFull};
 ghost use Rattle.job_table.specs.Kept.{event_of};
 
+use crate::closing::{check_past, session_of};
 use crate::event::Event;
-use crate::fault::{Asked, OpenFault, TableFault};
+use crate::fault::{Asked, CloseFault, OpenFault, TableFault};
 use crate::inputs::Inputs;
-use crate::nodes::{Node, Standing, claimed_by, find, is_below, put, result_of, run_by};
+use crate::nodes::{Node, Standing, are_quiet, claimed_by, find, is_below, put, result_of, run_by};
 use crate::reads::first_stale;
 use crate::room::{
     FinishParts, MarkParts, note, room_for_begin, room_for_claim, room_for_finish, room_for_mark,
@@ -41,7 +42,7 @@ impl<R: Runner> Model for Table<R> {
     ghost use Rattle.result_bytes.specs.contracts.value.Value as value_contracts;
     ghost use Rattle.sessions.specs.Sessions.{past_entry};
     ghost use Rattle.graph_rules.specs.Sound.{AreBacked};
-    ghost use Rattle.job_table.specs.Tables.{TableValue, session_in};
+    ghost use Rattle.job_table.specs.Tables.{TableValue, session_in, IsFull};
     ghost use Rattle.job_table.specs.Kept.{event_of, IsKept};
 
     ghost Value = { TableValue };
@@ -50,7 +51,7 @@ impl<R: Runner> Model for Table<R> {
 
     ghost view = { λ t. record { past = session_in t.past; project = t.inputs; history = map event_of t.history.items } };
 
-    ghost invariant = { λ t. IsKept (past_entry (session_in t.past)) t.inputs t.nodes.items t.failed (map event_of t.history.items) × AreBacked R.mean R.reads (map event_of t.history.items) × (t.failed ≡ false → vec_len t.history < vec_capacity t.history) };
+    ghost invariant = { λ t. IsKept (past_entry (session_in t.past)) t.inputs t.nodes.items t.failed (map event_of t.history.items) × AreBacked R.mean R.reads (map event_of t.history.items) × (t.failed ≡ false → vec_len t.history < vec_capacity t.history) × ¬ IsFull (session_in t.past) };
 }
 
 impl<R: Runner> Table<R> {
@@ -59,6 +60,7 @@ impl<R: Runner> Table<R> {
     ghost use Rattle.mj_project.specs.Projects.{IsProject};
     ghost use Rattle.job_table.specs.Tables.{past_of};
     ghost use Rattle.job_table.specs.Answers.{OpenGives, AskGives, MarkGives, BeginGives, FinishGives, FailGives};
+    ghost use Rattle.job_table.specs.Closes.{CloseGives};
 
     /// Opens the table of a session of the project, over the session before it.
     pub fn open(
@@ -218,6 +220,26 @@ impl<R: Runner> Table<R> {
         Ok(())
     }
 
+    /// The session that tells how the keys became done that Answer and the inputs lead to.
+    pub fn close(&self) -> Result<Session, CloseFault>
+        ensures { CloseGives self.now result }
+    {
+        if self.failed {
+            return Err(CloseFault::Failed);
+        }
+        if !are_quiet(&self.nodes) {
+            return Err(CloseFault::StillRunning);
+        }
+        let Some(_) = result_of(&self.inputs, &self.nodes, &Key::Answer) else {
+            return Err(CloseFault::NoAnswer);
+        };
+        check_past(&self.past);
+        match session_of(self.alloc, &self.past, &self.inputs, &self.nodes) {
+            Ok(session) => Ok(session),
+            Err(_) => Err(CloseFault::OutOfMemory),
+        }
+    }
+
     /// The session before, as it was handed in.
     pub fn past(&self) -> Result<Option<Arc<Session>>, AllocError>
         ensures { IfOk result (λ past. session_in past ≡ self.now.past) }
@@ -250,7 +272,7 @@ fn is_full(past: &Option<Arc<Session>>) -> bool
     ensures { IsTrue result ↔ IsFull (session_in past.now) }
 {
     match past {
-        Some(past) => past.number() >= 9999,
+        Some(past) => past.number() >= Session::MOST,
         None => false,
     }
 }

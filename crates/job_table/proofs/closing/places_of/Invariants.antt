@@ -1,0 +1,10 @@
+use Rattle.std.proofs.Common.{◌≡◌, ◌<◌, map, take, length}
+use Rattle.std.specs.List.{AllByRecursion}
+use Rattle.job_table.specs.Reached.{key_in}
+use Rattle.job_table.proofs.closing.places_of.Given as goal
+
+abbrev pub invariant-loop-edge : goal.invariant-loop-edge
+invariant-loop-edge l = record {
+  same : map (key_in l.keys) l.places.items ≡ take l.edge-index l.edges;
+  inside : AllByRecursion (λ e. e < length l.keys) l.places.items;
+}
