@@ -15,7 +15,7 @@ use Rattle.byte_readers.specs.Laws.{IsBytes-rest, bind_ok, ok_is, takes_nothing,
 use Rattle.tree_bytes.specs.TypeLaws.{lawful_ty}
 use Rattle.answer_bytes.specs.Canon.{field_row, method_row, table, project_place, class_place, project_fault, class_fault, class_answer, answer}
 use Rattle.answer_bytes.specs.Storable.{FieldRowFits, MethodRowFits, TableFits, IsProjectPlace, IsClassPlace, PlaceNameFits, ProjectFaultFits, ClassFaultFits, ProjectFaultsFit, ClassFaultsFit, ClassAnswerFits, AnswerFits}
-use Rattle.answer_bytes.specs.Reading.{field_row_of, field_row_at, method_row_of, method_row_at, table_of, table_at, class_of, project_place_at, inside_of, class_place_at, coded, code_at, fault_of, project_fault_at, class_fault_at, project_faults_at, class_faults_at, class_answer_of, class_answer_at, answer_of, answer_at}
+use Rattle.answer_bytes.specs.Reading.{field_row_of, field_row_at, method_row_of, method_row_at, table_of, table_at, class_of, project_place_at, inside_of, class_place_at, known_code, code_at, fault_of, project_fault_at, class_fault_at, project_faults_at, class_faults_at, class_answer_of, class_answer_at, answer_of, answer_at}
 use Rattle.answer_bytes.specs.OrderLaws.{lawful_by_name, lawful_by_place}
 
 abbrev done : {A : Type 0} → A → Result A Breach
@@ -103,14 +103,14 @@ number_small : (code : Code) → code_number code < 2 ^ 16
 number_small E101 = lit< tt
 number_small code = lit< tt
 
-coded_is : (bytes rest : List ℕ) (o : Option Code) (code : Code) (after : List ℕ) → coded bytes o rest ≡ Ok (code, after) → (o ≡ Some code) × (rest ≡ after)
+coded_is : (bytes rest : List ℕ) (o : Option Code) (code : Code) (after : List ℕ) → known_code bytes o rest ≡ Ok (code, after) → (o ≡ Some code) × (rest ≡ after)
 coded_is bytes rest None code after e = absurd cc
 coded_is bytes rest (Some c) code after e = let is = ok_is (c, rest) (code, after) e in (ap (λ (x : Code × List ℕ). Some x.0) is, ap (λ (x : Code × List ℕ). x.1) is)
 
 code_takes : (bytes : List ℕ) (code : Code) (rest : List ℕ) → IsBytes bytes → code_at bytes ≡ Ok (code, rest) → Takes bytes (two (code_number code)) rest × Unit {0}
 unfolding code_at
 code_takes bytes code rest fits e =
-    let n = bind_ok (two_at bytes) (λ n. coded bytes (code_of n.0) n.1) (code, rest) e in
+    let n = bind_ok (two_at bytes) (λ n. known_code bytes (code_of n.0) n.1) (code, rest) e in
     let t = lawful_two.takes bytes n.0.0 n.0.1 fits n.1 in
     let c = coded_is bytes n.0.1 (code_of n.0.0) code rest n.2 in
     let number : code_number code ≡ n.0.0 = eqb-true _ _ (found_passes (λ (c : Code). eqb (code_number c) n.0.0) all_codes code c.0) in
@@ -118,7 +118,7 @@ code_takes bytes code rest fits e =
 
 code_again : (code : Code) (rest : List ℕ) → Unit {0} → code_at (two (code_number code) ++ rest) ≡ Ok (code, rest)
 unfolding code_at
-code_again code rest h = rw (lawful_two.again (code_number code) rest (number_small code)) (ap (λ (o : Option Code). coded (two (code_number code) ++ rest) o rest) (code_back code))
+code_again code rest h = rw (lawful_two.again (code_number code) rest (number_small code)) (ap (λ (o : Option Code). known_code (two (code_number code) ++ rest) o rest) (code_back code))
 
 lawful_code : Lawful code_at (λ code. two (code_number code)) (λ _. Unit {0})
 lawful_code = record { takes = code_takes; again = code_again }

@@ -60,12 +60,12 @@ class_place_at (suc (suc (suc zero)) ∷ rest) = made_at inside_of (pair_at name
 class_place_at (suc (suc (suc (suc b))) ∷ rest) = not_canonical (suc (suc (suc (suc b))) ∷ rest)
 
 -- a number that is no code's is refused
-abbrev pub coded : List ℕ → Option Code → Decoder Code
-coded bytes None rest = not_canonical bytes
-coded bytes (Some code) rest = Ok (code, rest)
+abbrev pub known_code : List ℕ → Option Code → Decoder Code
+known_code bytes None rest = not_canonical bytes
+known_code bytes (Some code) rest = Ok (code, rest)
 
 unfoldable pub code_at : Decoder Code
-code_at bytes = two_at bytes >>= λ n. coded bytes (code_of n.0) n.1
+code_at bytes = two_at bytes >>= λ n. known_code bytes (code_of n.0) n.1
 
 abbrev pub fault_of : Place × Code → Diagnostic
 fault_of x = record { place = x.0; code = x.1 }

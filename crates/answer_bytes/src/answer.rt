@@ -166,8 +166,14 @@ impl Format for MembersFormat {
     ghost use Rattle.answer_bytes.specs.Storable.{TableFits};
     ghost use Rattle.answer_bytes.specs.Reading.{table_at};
     ghost use Rattle.answer_bytes.specs.AnswerLaws.{lawful_table};
+    ghost use Rattle.mj_answer.specs.AnswerValues.{ClassTableValue};
+    ghost use Rattle.byte_readers.specs.Views.{plain};
 
     type Item = Members;
+
+    ghost Seen = { ClassTableValue };
+
+    ghost view = { plain };
 
     ghost is_storable = { λ _. Unit {0} };
 
@@ -217,8 +223,14 @@ impl Format for ClassFormat {
     ghost use Rattle.answer_bytes.specs.Storable.{IsClassStorable, ClassAnswerFits};
     ghost use Rattle.answer_bytes.specs.Reading.{class_answer_at};
     ghost use Rattle.answer_bytes.specs.AnswerLaws.{lawful_class_answer};
+    ghost use Rattle.mj_answer.specs.AnswerValues.{ClassAnswerValue};
+    ghost use Rattle.byte_readers.specs.Views.{plain};
 
     type Item = ClassAnswer;
+
+    ghost Seen = { ClassAnswerValue };
+
+    ghost view = { plain };
 
     ghost is_storable = { IsClassStorable };
 
@@ -252,9 +264,14 @@ impl Format for ClassFormat {
 }
 
 impl Ordered for ClassFormat {
-    ghost use Rattle.answer_bytes.specs.Reading.{by_name};
+    ghost use Rattle.answer_bytes.specs.Reading.{by_name, class_answer_at};
+    ghost use Rattle.byte_readers.specs.Views.{tells_plain};
 
     ghost precedes = { by_name (λ class. class.name) };
+
+    ghost item_reading = { class_answer_at };
+
+    ghost tells = { tells_plain class_answer_at };
 
     fn precedes(item: &ClassAnswer, other: &ClassAnswer) -> bool {
         item.name().cmp(other.name()).is_lt()

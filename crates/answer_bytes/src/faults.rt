@@ -136,8 +136,14 @@ impl Format for ProjectFaultFormat {
     ghost use Rattle.answer_bytes.specs.Storable.{IsProjectPlace, ProjectFaultFits};
     ghost use Rattle.answer_bytes.specs.Reading.{project_fault_at};
     ghost use Rattle.answer_bytes.specs.AnswerLaws.{lawful_project_fault};
+    ghost use Rattle.mj_answer.specs.declared.diagnostic.Diagnostic.{Diagnostic};
+    ghost use Rattle.byte_readers.specs.Views.{plain};
 
     type Item = Diagnostic;
+
+    ghost Seen = { Diagnostic };
+
+    ghost view = { plain };
 
     ghost is_storable = { λ fault. IsProjectPlace fault.place };
 
@@ -166,9 +172,14 @@ impl Format for ProjectFaultFormat {
 }
 
 impl Ordered for ProjectFaultFormat {
-    ghost use Rattle.answer_bytes.specs.Reading.{by_place};
+    ghost use Rattle.answer_bytes.specs.Reading.{by_place, project_fault_at};
+    ghost use Rattle.byte_readers.specs.Views.{tells_plain};
 
     ghost precedes = { by_place };
+
+    ghost item_reading = { project_fault_at };
+
+    ghost tells = { tells_plain project_fault_at };
 
     fn precedes(item: &Diagnostic, other: &Diagnostic) -> bool {
         item.cmp(other).is_lt()
@@ -183,8 +194,14 @@ impl Format for ClassFaultFormat {
     ghost use Rattle.answer_bytes.specs.Storable.{IsClassPlace, ClassFaultFits};
     ghost use Rattle.answer_bytes.specs.Reading.{class_fault_at};
     ghost use Rattle.answer_bytes.specs.AnswerLaws.{lawful_class_fault};
+    ghost use Rattle.mj_answer.specs.declared.diagnostic.Diagnostic.{Diagnostic};
+    ghost use Rattle.byte_readers.specs.Views.{plain};
 
     type Item = Diagnostic;
+
+    ghost Seen = { Diagnostic };
+
+    ghost view = { plain };
 
     ghost is_storable = { λ fault. IsClassPlace fault.place };
 
@@ -213,9 +230,14 @@ impl Format for ClassFaultFormat {
 }
 
 impl Ordered for ClassFaultFormat {
-    ghost use Rattle.answer_bytes.specs.Reading.{by_place};
+    ghost use Rattle.answer_bytes.specs.Reading.{by_place, class_fault_at};
+    ghost use Rattle.byte_readers.specs.Views.{tells_plain};
 
     ghost precedes = { by_place };
+
+    ghost item_reading = { class_fault_at };
+
+    ghost tells = { tells_plain class_fault_at };
 
     fn precedes(item: &Diagnostic, other: &Diagnostic) -> bool {
         item.cmp(other).is_lt()

@@ -16,8 +16,14 @@ impl Format for FieldRowFormat {
     ghost use Rattle.answer_bytes.specs.Storable.{FieldRowFits};
     ghost use Rattle.answer_bytes.specs.Reading.{field_row_at};
     ghost use Rattle.answer_bytes.specs.AnswerLaws.{lawful_field_row};
+    ghost use Rattle.mj_answer.specs.declared.table.FieldRow.{FieldRow};
+    ghost use Rattle.byte_readers.specs.Views.{plain};
 
     type Item = FieldRow;
+
+    ghost Seen = { FieldRow };
+
+    ghost view = { plain };
 
     ghost is_storable = { λ _. Unit {0} };
 
@@ -50,9 +56,14 @@ impl Format for FieldRowFormat {
 }
 
 impl Ordered for FieldRowFormat {
-    ghost use Rattle.answer_bytes.specs.Reading.{by_name};
+    ghost use Rattle.answer_bytes.specs.Reading.{by_name, field_row_at};
+    ghost use Rattle.byte_readers.specs.Views.{tells_plain};
 
     ghost precedes = { by_name (λ row. row.name) };
+
+    ghost item_reading = { field_row_at };
+
+    ghost tells = { tells_plain field_row_at };
 
     fn precedes(item: &FieldRow, other: &FieldRow) -> bool {
         item.name.cmp(&other.name).is_lt()
@@ -67,8 +78,14 @@ impl Format for MethodRowFormat {
     ghost use Rattle.answer_bytes.specs.Storable.{MethodRowFits};
     ghost use Rattle.answer_bytes.specs.Reading.{method_row_at};
     ghost use Rattle.answer_bytes.specs.AnswerLaws.{lawful_method_row};
+    ghost use Rattle.mj_answer.specs.AnswerValues.{MethodRowValue};
+    ghost use Rattle.byte_readers.specs.Views.{plain};
 
     type Item = MethodRow;
+
+    ghost Seen = { MethodRowValue };
+
+    ghost view = { plain };
 
     ghost is_storable = { λ _. Unit {0} };
 
@@ -105,9 +122,14 @@ impl Format for MethodRowFormat {
 }
 
 impl Ordered for MethodRowFormat {
-    ghost use Rattle.answer_bytes.specs.Reading.{by_name};
+    ghost use Rattle.answer_bytes.specs.Reading.{by_name, method_row_at};
+    ghost use Rattle.byte_readers.specs.Views.{tells_plain};
 
     ghost precedes = { by_name (λ row. row.name) };
+
+    ghost item_reading = { method_row_at };
+
+    ghost tells = { tells_plain method_row_at };
 
     fn precedes(item: &MethodRow, other: &MethodRow) -> bool {
         item.name().cmp(other.name()).is_lt()

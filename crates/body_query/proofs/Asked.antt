@@ -10,7 +10,7 @@ use Rattle.mj_tree.specs.declared.tree.Variable.{Variable}
 use Rattle.mj_typing.specs.declared.verdict.Verdict.{Verdict}
 use Rattle.mj_typing.specs.declared.verdict.Mistake.{Mistake}
 use Rattle.mj_typing.specs.Inquiries.{World, Inquiry, Concludes, AsksDescent, AsksField, AsksMethod, AsksDeclared, conclusion, and_then}
-use Rattle.mj_typing.specs.Phrases.{Phrase, Phrases, phrase, nothing, part, Finding, noted, own_step, phrase_step, parts_step, type_of, types_of, verdict_by, and_type, add_faults, add_all, add_each}
+use Rattle.mj_typing.specs.Phrases.{Phrase, Phrases, phrase, nothing, part, Finding, finding_of, own_step, phrase_step, parts_step, type_of, types_of, verdict_by, and_type, add_faults, add_all, add_each}
 use Rattle.mj_typing.specs.Steps.{Check}
 use Rattle.mj_typing.specs.Table.{Scope, own_phrase, statement_phrases, statements_phrases, return_phrase, method_scope, main_scope, method_phrases, main_phrases}
 use Rattle.mj_typing.specs.Bodies.{return_type_mark, variables_of, add_undeclared, add_undeclared_each, add_repeated_each, type_step, types_step, mistakes_step, statement_step, statements_step, declared_step, method_step, main_step, method_check, main_check}
@@ -18,7 +18,7 @@ use Rattle.result_bytes.specs.declared.value.Value.{Value}
 use Rattle.recorder.specs.Programs.{Prog, Ret, runs, asks, is_seen}
 use Rattle.query_rules.specs.BodyReads.{type_reads, types_reads}
 use Rattle.query_rules.specs.Reads.{firsts}
-use Rattle.body_query.specs.Told.{is_declared_in, descends_in, field_in, method_in}
+use Rattle.body_query.specs.Facts.{is_declared_in, descends_in, field_in, method_in}
 use Rattle.body_query.specs.Programs.{reads_of}
 
 -- what the answers of a meaning say
@@ -95,9 +95,9 @@ asked-and_then w (AsksMethod c m k) f = ap (λ ks. keys.Members c ∷ ks) (asked
 asked-and_then w (AsksDeclared c k) f = ap (λ ks. keys.Header c ∷ ks) (asked-and_then w (k (w.is_declared c)) f)
 
 module _ (w : World) where
-  own_asked : (mark : ℕ) (row : List Ty → Inquiry Verdict) (types : Option (List Ty)) (mistakes : List Mistake) (k : Finding Ty → Check) → asked_in w (own_step mark row (record { type = types; mistakes = mistakes }) k) ≡ own_reads w row types ++ asked_in w (k (noted mistakes mark (verdict_by w row types)))
+  own_asked : (mark : ℕ) (row : List Ty → Inquiry Verdict) (types : Option (List Ty)) (mistakes : List Mistake) (k : Finding Ty → Check) → asked_in w (own_step mark row (record { type = types; mistakes = mistakes }) k) ≡ own_reads w row types ++ asked_in w (k (finding_of mistakes mark (verdict_by w row types)))
   own_asked mark row None mistakes k = refl
-  own_asked mark row (Some ts) mistakes k = asked-and_then w (row ts) (λ verdict. k (noted mistakes mark verdict))
+  own_asked mark row (Some ts) mistakes k = asked-and_then w (row ts) (λ verdict. k (finding_of mistakes mark verdict))
 
   mutual
     unfolding phrase_step parts_step
@@ -106,7 +106,7 @@ module _ (w : World) where
     phrase_asked (phrase mark row parts) mistakes k =
         parts_asked parts mistakes (λ found. own_step mark row found k)
         ∙ ap (λ ks. parts_reads w parts ++ ks) (own_asked mark row (types_of w parts) (add_all w mistakes parts) k)
-        ∙ sym (append_assoc (parts_reads w parts) (own_reads w row (types_of w parts)) (asked_in w (k (noted (add_all w mistakes parts) mark (verdict_by w row (types_of w parts))))))
+        ∙ sym (append_assoc (parts_reads w parts) (own_reads w row (types_of w parts)) (asked_in w (k (finding_of (add_all w mistakes parts) mark (verdict_by w row (types_of w parts))))))
 
     parts_asked : (ps : Phrases) (mistakes : List Mistake) (k : Finding (List Ty) → Check) → asked_in w (parts_step ps mistakes k) ≡ parts_reads w ps ++ asked_in w (k (record { type = types_of w ps; mistakes = add_all w mistakes ps }))
     parts_asked nothing mistakes k = refl

@@ -4,12 +4,12 @@ use Rattle.mj_tree.specs.declared.place.Place.{Place}
 use Rattle.mj_tree.specs.declared.place.Place.TheVariants.{Project, File, ClassOf, Class, Field, Method, Inside}
 use Rattle.mj_answer.specs.declared.diagnostic.Diagnostic.{Diagnostic}
 use Rattle.answer_bytes.specs.Storable.{IsClassPlace, IsProjectPlace, AreClassFaults, AreProjectFaults}
-use Rattle.body_query.specs.Bounds.{bounded, bounded_place, bounded_faults, BoundsLaw}
+use Rattle.body_query.specs.Bounds.{bound, bounded_place, bounded_faults, BoundsLaw}
 
-pub small : (n : ℕ) → bounded n < 2 ^ 32
+pub small : (n : ℕ) → bound n < 2 ^ 32
 small n = omega arith
 
-pub same_number : (n : ℕ) → n < 2 ^ 32 → bounded n ≡ n
+pub same_number : (n : ℕ) → n < 2 ^ 32 → bound n ≡ n
 same_number n h = omega (arith, h)
 
 class_place : (p : Place) → IsClassPlace p → bounded_place p ≡ p

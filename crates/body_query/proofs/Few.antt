@@ -19,7 +19,7 @@ use Rattle.mj_parser.specs.FileReading.{tree_of}
 use Rattle.mj_parser.specs.MarkBounds.{StmtMarksBelow, MethodMarksBelow, ClassMarksBelow, MainMarksBelow, FileMarksBelow}
 use Rattle.mj_parser.proofs.FileFound.{file_found}
 use Rattle.mj_parser.proofs.Bounds.{marks_below}
-use Rattle.mj_classes.specs.Declarations.{ClassDecl, numbered, main_first, classes_of, declared_from, decl}
+use Rattle.mj_classes.specs.Declarations.{ClassDecl, number_classes, main_first, classes_of, declared_from, decl}
 use Rattle.mj_classes.specs.Members.{own_method}
 use Rattle.mj_answer.proofs.Alike.{Contains-first, Contains-later}
 use Rattle.mj_typing.specs.declared.verdict.Mistake.{Mistake}
@@ -71,7 +71,7 @@ abbrev pub DeclFits : ClassDecl → Type 0
 DeclFits k = (n : ℕ) × (n ≤ limit) × DeclBelow n k
 
 module _ (n : ℕ) (few : n ≤ limit) where
-  numbered_fit : (file number : ℕ) (cs : List Class) → ((c : Class) → Contains cs c → ClassMarksBelow n c) → AllByRecursion DeclFits (numbered file number cs)
+  numbered_fit : (file number : ℕ) (cs : List Class) → ((c : Class) → Contains cs c → ClassMarksBelow n c) → AllByRecursion DeclFits (number_classes file number cs)
   numbered_fit file number [] h = tt
   numbered_fit file number (c ∷ cs) h = (
     (n, few, record { main = tt; methods = λ m e. All-contains (MethodMarksBelow n) c.methods m (h c (Contains-first c cs)) e }),

@@ -15,13 +15,13 @@ use Rattle.result_bytes.specs.declared.value.Value.{Value}
 use Rattle.result_bytes.specs.declared.value.Value.TheVariants as values
 use Rattle.recorder.specs.Programs.{Prog, Ret, Ask}
 use Rattle.query_rules.specs.Items.{fault_set}
-use Rattle.body_query.specs.Told.{body_in}
-use Rattle.body_query.specs.Bounds.{bounded}
+use Rattle.body_query.specs.Facts.{body_in}
+use Rattle.body_query.specs.Bounds.{bound}
 use Rattle.body_query.specs.Programs.{reads_of}
 
 -- a mistake as a fault in the method
 abbrev pub fault_in : Name → Mistake → Diagnostic
-fault_in m x = record { place = Inside m (bounded x.mark); code = x.code }
+fault_in m x = record { place = Inside m (bound x.mark); code = x.code }
 
 abbrev pub faults_in : Name → List Mistake → List Diagnostic
 faults_in m mistakes = map (fault_in m) mistakes

@@ -5,14 +5,14 @@ use Rattle.mj_tree.specs.declared.place.Place.TheVariants.{Project, File, ClassO
 use Rattle.mj_answer.specs.declared.diagnostic.Diagnostic.{Diagnostic}
 use Rattle.answer_bytes.specs.Storable.{AreClassFaults, AreProjectFaults}
 
-abbrev pub bounded : ℕ → ℕ
-bounded n = min n (2 ^ 32 - 1)
+abbrev pub bound : ℕ → ℕ
+bound n = min n (2 ^ 32 - 1)
 
 abbrev pub bounded_place : Place → Place
-bounded_place (ClassOf file number) = ClassOf file (bounded number)
-bounded_place (Field number) = Field (bounded number)
-bounded_place (Method number) = Method (bounded number)
-bounded_place (Inside method token) = Inside method (bounded token)
+bounded_place (ClassOf file number) = ClassOf file (bound number)
+bounded_place (Field number) = Field (bound number)
+bounded_place (Method number) = Method (bound number)
+bounded_place (Inside method token) = Inside method (bound token)
 bounded_place Project = Project
 bounded_place (File file) = File file
 bounded_place Class = Class

@@ -1,4 +1,4 @@
-pub mod Told
+pub mod Facts
 pub mod Programs
 pub mod Steps
 pub mod Bounds

@@ -7,7 +7,7 @@ use Rattle.mj_typing.specs.declared.verdict.Mistake.{Mistake}
 use Rattle.mj_typing.specs.Inquiries.{Sig, Concludes, AsksDescent, AsksField, AsksMethod, AsksDeclared}
 use Rattle.mj_typing.specs.Steps.{Check}
 use Rattle.recorder.specs.Programs.{Prog, Ask}
-use Rattle.body_query.specs.Told.{is_declared_in, descends_in, field_in, method_in}
+use Rattle.body_query.specs.Facts.{is_declared_in, descends_in, field_in, method_in}
 
 -- ---- one question each
 

@@ -2,7 +2,7 @@
 ghost use Rattle.std.specs.Prelude.{◌≡◌, ◌++◌, ◌∷◌, [], IfOk, OnOk};
 ghost use Rattle.answer_bytes.specs.Storable.{AreClassFaults};
 ghost use Rattle.query_rules.specs.Items.{fault_set as fault_set_of};
-ghost use Rattle.body_query.specs.Bounds.{bounded, bounded_place};
+ghost use Rattle.body_query.specs.Bounds.{bound, bounded_place};
 ghost use Rattle.body_query.specs.Body.{faults_in};
 
 use answer_bytes::Faults;
@@ -13,8 +13,8 @@ use mj_typing::Mistake;
 use std::alloc::{AllocError, Global};
 
 /// The number in four bytes.
-fn bounded(number: usize) -> usize
-    ensures { result ≡ bounded number }
+fn bound(number: usize) -> usize
+    ensures { result ≡ bound number }
 {
     number.min(0xffff_ffff)
 }
@@ -24,10 +24,10 @@ fn bounded_place(place: Place) -> Place
     ensures { result ≡ bounded_place place }
 {
     match place {
-        Place::ClassOf(file, number) => Place::ClassOf(file, bounded(number)),
-        Place::Field(number) => Place::Field(bounded(number)),
-        Place::Method(number) => Place::Method(bounded(number)),
-        Place::Inside(method, token) => Place::Inside(method, bounded(token)),
+        Place::ClassOf(file, number) => Place::ClassOf(file, bound(number)),
+        Place::Field(number) => Place::Field(bound(number)),
+        Place::Method(number) => Place::Method(bound(number)),
+        Place::Inside(method, token) => Place::Inside(method, bound(token)),
         other => other,
     }
 }

@@ -5,7 +5,7 @@ mod faults;
 mod laws;
 mod query;
 mod reads;
-mod told;
+mod facts;
 
 pub use faults::{class_faults, note_fault};
 pub use laws::{body_ties, bounds_law};

@@ -9,7 +9,7 @@ ghost use Rattle.mj_typing.specs.Table.{main_scope};
 ghost use Rattle.recorder.specs.Programs.{Goes, GivesUp};
 ghost use Rattle.body_query.specs.Programs.{reads_of, declared_step, descends_step, field_step, method_step};
 
-use crate::told::{MethodTypes, descends_in, field_in, is_declared_in, method_in};
+use crate::facts::{MethodTypes, descends_in, field_in, is_declared_in, method_in};
 use item_ids::Key;
 use mj_lexer::Name;
 use mj_tree::{MethodTree, Stmt, Ty};

@@ -4,3 +4,4 @@ pub mod Reading
 pub mod Orders
 pub mod Lawful
 pub mod Laws
+pub mod Views

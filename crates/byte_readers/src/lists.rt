@@ -14,7 +14,7 @@ use std::alloc::{AllocError, Global};
 pub fn check_list<F: Format>(items: &[F::Item])
     requires { AllByRecursion F.is_storable items.now }
     ensures few { length items.now < 2 ^ 64 }
-    ensures each { AllByRecursion F.has_spelling items.now }
+    ensures each { AllByRecursion F.has_spelling (F.view.all items.now) }
 {
     let _few = items.len();
     for item in items {
@@ -24,7 +24,7 @@ pub fn check_list<F: Format>(items: &[F::Item])
 
 /// Writes the number of items, and the items.
 pub fn put_list<F: Format>(out: &mut Vec<u8>, items: &[F::Item]) -> Result<(), AllocError>
-    ensures { OnOk result (out.new.items ≡ out.old.items ++ list F.spelling items.now) }
+    ensures { OnOk result (out.new.items ≡ out.old.items ++ list F.spelling (F.view.all items.now)) }
 {
     put_eight(out, items.len())?;
     for item in items {
@@ -36,7 +36,7 @@ pub fn put_list<F: Format>(out: &mut Vec<u8>, items: &[F::Item]) -> Result<(), A
 /// Reads a list.
 #[tactic(auto, unfolding(crate::specs::Reading::list_at))]
 pub fn read_list<F: Format>(alloc: Global, bytes: &[u8]) -> Result<(Vec<F::Item>, &[u8]), ReadError>
-    ensures { Decodes (λ x. x.items) result (list_at F.reading any bytes.now) }
+    ensures { Decodes (λ x. F.view.all x.items) result (list_at F.reading any bytes.now) }
 {
     let (count, rest) = read_eight(bytes)?;
     read_items::<F>(alloc, count, rest)
@@ -47,7 +47,7 @@ fn read_items<F: Format>(
     count: u64,
     bytes: &[u8],
 ) -> Result<(Vec<F::Item>, &[u8]), ReadError>
-    ensures { Decodes (λ x. x.items) result
+    ensures { Decodes (λ x. F.view.all x.items) result
         (list_from F.reading any [] count bytes.now) }
 {
     let mut items = Vec::new(alloc);
@@ -67,7 +67,7 @@ pub fn read_ascending<F: Ordered>(
     bytes: &[u8],
 ) -> Result<(Vec<F::Item>, &[u8]), ReadError>
     ensures { Decodes (λ x. x.items) result
-        (list_at F.reading (is_after F.precedes) bytes.now) }
+        (list_at F.item_reading (is_after F.precedes) bytes.now) }
 {
     let (count, rest) = read_eight(bytes)?;
     read_ascending_items::<F>(alloc, count, rest)
@@ -79,7 +79,7 @@ fn read_ascending_items<F: Ordered>(
     bytes: &[u8],
 ) -> Result<(Vec<F::Item>, &[u8]), ReadError>
     ensures { Decodes (λ x. x.items) result
-        (list_from F.reading (is_after F.precedes) [] count bytes.now) }
+        (list_from F.item_reading (is_after F.precedes) [] count bytes.now) }
 {
     let mut items = Vec::new(alloc);
     let mut rest = bytes;

@@ -78,8 +78,13 @@ impl Format for NameFormat {
     ghost use Rattle.byte_readers.specs.Reading.{name_at};
     ghost use Rattle.byte_readers.specs.Names.{IsName};
     ghost use Rattle.byte_readers.specs.Laws.{lawful_name};
+    ghost use Rattle.byte_readers.specs.Views.{plain};
 
     type Item = Name;
+
+    ghost Seen = { List ℕ };
+
+    ghost view = { plain };
 
     ghost is_storable = { λ _. Unit {0} };
 

@@ -11,7 +11,7 @@ use std::alloc::{AllocError, Global};
 /// An item that is there has a spelling where it meets what its type doesn't tell.
 pub fn check_option<F: Format>(item: &Option<F::Item>)
     requires { IfSome item.now F.is_storable }
-    ensures { IfSome item.now F.has_spelling }
+    ensures { IfSome (F.view.perhaps item.now) F.has_spelling }
 {
     if let Some(item) = item {
         F::check(item);
@@ -20,7 +20,7 @@ pub fn check_option<F: Format>(item: &Option<F::Item>)
 
 /// Writes an item that may be missing.
 pub fn put_option<F: Format>(out: &mut Vec<u8>, item: &Option<F::Item>) -> Result<(), AllocError>
-    ensures { OnOk result (out.new.items ≡ out.old.items ++ option F.spelling item.now) }
+    ensures { OnOk result (out.new.items ≡ out.old.items ++ option F.spelling (F.view.perhaps item.now)) }
 {
     match item {
         None => out.push(0x00)?,
@@ -38,7 +38,7 @@ pub fn read_option<F: Format>(
     alloc: Global,
     bytes: &[u8],
 ) -> Result<(Option<F::Item>, &[u8]), ReadError>
-    ensures { Decodes (λ x. x) result (option_at F.reading bytes.now) }
+    ensures { Decodes F.view.perhaps result (option_at F.reading bytes.now) }
 {
     match bytes {
         [] => Err(ReadError::Breach(Breach::Short)),

@@ -3,17 +3,17 @@ use Rattle.std.specs.Prelude.{◌≡◌, ◌≢◌, ℕ, List, Result, Ok, Err}
 use Rattle.item_ids.specs.declared.kind.Kind.{Kind}
 use Rattle.result_bytes.specs.declared.refusal.Refusal.TheVariants.{OutOfMemory}
 use Rattle.result_bytes.specs.declared.value.Value.{Value}
-use Rattle.result_bytes.specs.Values.{decoded}
+use Rattle.result_bytes.specs.Values.{decoding}
 use Rattle.fingerprint.specs.declared.sealed.OpenFault.{OpenFault}
 use Rattle.fingerprint.specs.declared.sealed.OpenFault.TheVariants.{Refused, WrongPrint}
 use Rattle.fingerprint.specs.Prints.{print_of}
 
 -- what refused the bytes is the refusal of reading them; a wrong print comes only where they spell a value
 abbrev pub IsOpened : Kind → List ℕ → List ℕ → Result Value OpenFault → Type 0
-IsOpened kind bytes print (Ok v) = (decoded kind bytes ≡ Ok v) × (print ≡ print_of v)
-IsOpened kind bytes print (Err WrongPrint) = (v : Value) × (decoded kind bytes ≡ Ok v) × (print ≢ print_of v)
+IsOpened kind bytes print (Ok v) = (decoding kind bytes ≡ Ok v) × (print ≡ print_of v)
+IsOpened kind bytes print (Err WrongPrint) = (v : Value) × (decoding kind bytes ≡ Ok v) × (print ≢ print_of v)
 IsOpened kind bytes print (Err (Refused OutOfMemory)) = Unit {0}
-IsOpened kind bytes print (Err (Refused refusal)) = decoded kind bytes ≡ Err refusal
+IsOpened kind bytes print (Err (Refused refusal)) = decoding kind bytes ≡ Err refusal
 
 -- it is this value, unless memory ran out
 abbrev pub IsOkUnlessMemory : Result Value OpenFault → Value → Type 0

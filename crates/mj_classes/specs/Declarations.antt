@@ -38,13 +38,13 @@ class_decl file number c = record {
   methods = c.methods;
 }
 
-abbrev pub numbered : ℕ → ℕ → List Class → List ClassDecl
-numbered file number [] = []
-numbered file number (c ∷ cs) = class_decl file number c ∷ numbered file (suc number) cs
+abbrev pub number_classes : ℕ → ℕ → List Class → List ClassDecl
+number_classes file number [] = []
+number_classes file number (c ∷ cs) = class_decl file number c ∷ number_classes file (suc number) cs
 
 abbrev pub main_first : ℕ → Option Main → List Class → List ClassDecl
-main_first file None cs = numbered file 0 cs
-main_first file (Some m) cs = main_decl file m ∷ numbered file 1 cs
+main_first file None cs = number_classes file 0 cs
+main_first file (Some m) cs = main_decl file m ∷ number_classes file 1 cs
 
 -- the classes of a file, the main class first
 abbrev pub classes_of : ℕ → File → List ClassDecl

@@ -5,7 +5,7 @@ ghost use Rattle.std.specs.BTreeMap.{get};
 ghost use Rattle.std.specs.Cmp.Lexicographic.{slice_cmp};
 ghost use Rattle.std.specs.Ordering.{nat_cmp};
 ghost use Rattle.mj_tree.specs.Views.{class_view, file_view};
-ghost use Rattle.mj_classes.specs.Declarations.{classes_of, numbered, declarations, decl};
+ghost use Rattle.mj_classes.specs.Declarations.{classes_of, number_classes, declarations, decl};
 ghost use Rattle.mj_classes.specs.Classes.{class_ref_view, classes_view, files_view};
 
 use crate::class::{ClassRef, Tree};
@@ -100,7 +100,7 @@ fn add_classes<'a>(
     requires { first ≤ 1 }
     ensures { OnOk result
         (classes_view classes.new.items
-        ≡ classes_view classes.old.items ++ numbered file first (map class_view trees.now)) }
+        ≡ classes_view classes.old.items ++ number_classes file first (map class_view trees.now)) }
 {
     for (n, class) in trees.iter().enumerate() {
         classes.push(ClassRef {

@@ -12,7 +12,7 @@ use std::alloc::{AllocError, Global};
 use std::str;
 
 /// The value that stands for each greater one too, where a literal is over the range of `int`.
-const GREATEST: u64 = 2147483648;
+pub const GREATEST_LITERAL: u64 = 2147483648;
 
 /// What may be wrong at a place.
 #[derive(Clone, Copy, Debug, PartialEq, Eq)]
@@ -224,7 +224,7 @@ fn number(digits: &[u8]) -> u32
 {
     let mut value = 0u64;
     for d in digits {
-        value = (10 * value + u64::from(d.saturating_sub(b'0'))).min(GREATEST);
+        value = (10 * value + u64::from(d.saturating_sub(b'0'))).min(GREATEST_LITERAL);
     }
     value as u32
 }

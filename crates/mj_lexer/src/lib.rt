@@ -8,7 +8,7 @@ mod name;
 mod place;
 mod token;
 
-pub use front::{Front, Problem};
+pub use front::{Front, GREATEST_LITERAL, Problem};
 pub use laws::{front_laws, lexing_laws, name_laws};
 pub use lexer::{LexFault, lex};
 pub use name::Name;

@@ -14,7 +14,7 @@ use Rattle.mj_parser.specs.Expressions.{tier_of, terminal_of, size, sizes, sizes
 use Rattle.mj_tree.specs.Views.{expressions_of}
 use Rattle.mj_parser.specs.Steps.{◌>>=◌, items_from, behind_comma, at_comma, listed_at}
 use Rattle.mj_parser.proofs.Binds.{bind_some, when_some, if_some, some_or_none, some_is, and_both, not_false}
-use Rattle.mj_parser.specs.ExpressionReading.{TierParser, closed, operator_here, of_tier, operator_at, takes_index, new_at, terminal_at, prim_of, prim_at, index_at, member_at, post_from, post_at, binary_from, tier_at, exp_at}
+use Rattle.mj_parser.specs.ExpressionReading.{TierParser, close, operator_here, of_tier, operator_at, takes_index, new_at, terminal_at, prim_of, prim_at, index_at, member_at, post_from, post_at, binary_from, tier_at, exp_at}
 use Rattle.mj_parser.proofs.Stands.{stands, when_stands, if_stands, both_stand}
 
 -- a tree that was read up to a place
@@ -169,7 +169,7 @@ module _ (part : TierParser) (ts : List Token) (room : ℕ) (sound : (d i : ℕ)
             subst (Sound ts 0 i (suc room)) (some_is _ x c.1) (record { is = (refl, h, b.1, both.0, both.1); at = refl; low = omega arith })
       ]
 
-  paren_found : (i : ℕ) (x : Expression × ℕ) → Stands ts i terminals.LeftParenthesis → (part 5 (i + 1) >>= closed ts terminals.RightParenthesis (Parenthesized i)) ≡ Some x → Primary i x
+  paren_found : (i : ℕ) (x : Expression × ℕ) → Stands ts i terminals.LeftParenthesis → (part 5 (i + 1) >>= close ts terminals.RightParenthesis (Parenthesized i)) ≡ Some x → Primary i x
   unfolding Primary
   paren_found i x h e =
       let c = bind_some (part 5 (i + 1)) _ x e in

@@ -20,43 +20,43 @@ all_terminals =
     Plus ∷ Minus ∷ Times ∷ Not ∷ Class ∷ Public ∷ Static ∷ Void ∷ Extends ∷ Return ∷ Int ∷ Boolean ∷
     If ∷ Else ∷ While ∷ True ∷ False ∷ This ∷ New ∷ []
 
-numbered : (terminal : Terminal) → slice_get all_terminals (terminal_number terminal) ≡ Some terminal
-numbered LeftBrace = refl
-numbered RightBrace = refl
-numbered LeftParenthesis = refl
-numbered RightParenthesis = refl
-numbered LeftBracket = refl
-numbered RightBracket = refl
-numbered Semicolon = refl
-numbered Comma = refl
-numbered Dot = refl
-numbered Assign = refl
-numbered And = refl
-numbered Less = refl
-numbered Plus = refl
-numbered Minus = refl
-numbered Times = refl
-numbered Not = refl
-numbered Class = refl
-numbered Public = refl
-numbered Static = refl
-numbered Void = refl
-numbered Extends = refl
-numbered Return = refl
-numbered Int = refl
-numbered Boolean = refl
-numbered If = refl
-numbered Else = refl
-numbered While = refl
-numbered True = refl
-numbered False = refl
-numbered This = refl
-numbered New = refl
+terminal_at_number : (terminal : Terminal) → slice_get all_terminals (terminal_number terminal) ≡ Some terminal
+terminal_at_number LeftBrace = refl
+terminal_at_number RightBrace = refl
+terminal_at_number LeftParenthesis = refl
+terminal_at_number RightParenthesis = refl
+terminal_at_number LeftBracket = refl
+terminal_at_number RightBracket = refl
+terminal_at_number Semicolon = refl
+terminal_at_number Comma = refl
+terminal_at_number Dot = refl
+terminal_at_number Assign = refl
+terminal_at_number And = refl
+terminal_at_number Less = refl
+terminal_at_number Plus = refl
+terminal_at_number Minus = refl
+terminal_at_number Times = refl
+terminal_at_number Not = refl
+terminal_at_number Class = refl
+terminal_at_number Public = refl
+terminal_at_number Static = refl
+terminal_at_number Void = refl
+terminal_at_number Extends = refl
+terminal_at_number Return = refl
+terminal_at_number Int = refl
+terminal_at_number Boolean = refl
+terminal_at_number If = refl
+terminal_at_number Else = refl
+terminal_at_number While = refl
+terminal_at_number True = refl
+terminal_at_number False = refl
+terminal_at_number This = refl
+terminal_at_number New = refl
 
 same_is : (t u : Terminal) → same_terminal t u ≡ true → u ≡ t
 same_is t u e =
     let n : terminal_number t ≡ terminal_number u = eqb-true (terminal_number t) (terminal_number u) e in
-    let a : Some u ≡ Some t = sym (numbered u) ∙ ap (slice_get all_terminals) (sym n) ∙ numbered t in
+    let a : Some u ≡ Some t = sym (terminal_at_number u) ∙ ap (slice_get all_terminals) (sym n) ∙ terminal_at_number t in
     cc
 
 terminal_there : (t : Terminal) (k : Option Kind) → is_terminal t k ≡ true → k ≡ Some (kinds.Terminal t)

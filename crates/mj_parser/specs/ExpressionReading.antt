@@ -21,13 +21,13 @@ Reading = Option (Expression × ℕ)
 abbrev pub TierParser : Type 0
 TierParser = ℕ → ℕ → Reading
 
-abbrev pub closed : List Token → Terminal → (Expression → Expression) → Expression × ℕ → Reading
-closed ts mark make x = when (has ts x.1 mark) (Some (make x.0, x.1 + 1))
+abbrev pub close : List Token → Terminal → (Expression → Expression) → Expression × ℕ → Reading
+close ts mark make x = when (has ts x.1 mark) (Some (make x.0, x.1 + 1))
 
 unfoldable pub new_at : TierParser → List Token → ℕ → Reading
 new_at part ts i =
     if has ts (i + 1) terminals.Int
-    then when (has ts (i + 2) terminals.LeftBracket) (part any_tier (i + 3) >>= closed ts terminals.RightBracket (NewArray i))
+    then when (has ts (i + 2) terminals.LeftBracket) (part any_tier (i + 3) >>= close ts terminals.RightBracket (NewArray i))
     else (name_at ts (i + 1) >>= λ name. when (has ts (i + 2) terminals.LeftParenthesis && has ts (i + 3) terminals.RightParenthesis) (Some (NewObject i name, i + 4)))
 
 unfoldable pub terminal_at : TierParser → List Token → ℕ → Terminal → Reading
@@ -35,7 +35,7 @@ terminal_at part ts i terminals.True = Some (Boolean i true, i + 1)
 terminal_at part ts i terminals.False = Some (Boolean i false, i + 1)
 terminal_at part ts i terminals.This = Some (This i, i + 1)
 terminal_at part ts i terminals.New = new_at part ts i
-terminal_at part ts i terminals.LeftParenthesis = part any_tier (i + 1) >>= closed ts terminals.RightParenthesis (Parenthesized i)
+terminal_at part ts i terminals.LeftParenthesis = part any_tier (i + 1) >>= close ts terminals.RightParenthesis (Parenthesized i)
 terminal_at part ts i _ = None
 
 abbrev pub prim_of : TierParser → List Token → ℕ → Option Kind → Reading
@@ -49,7 +49,7 @@ prim_at part ts i = prim_of part ts i (kind_at ts i)
 
 -- an index behind a tree, and a member
 unfoldable pub index_at : TierParser → List Token → Expression → ℕ → Reading
-index_at part ts left j = part any_tier (j + 1) >>= closed ts terminals.RightBracket (Index j left)
+index_at part ts left j = part any_tier (j + 1) >>= close ts terminals.RightBracket (Index j left)
 
 unfoldable pub member_at : TierParser → List Token → Expression → ℕ → Reading
 member_at part ts left mark = name_at ts mark >>= λ name.

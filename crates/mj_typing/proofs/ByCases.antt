@@ -14,7 +14,7 @@ use Rattle.mj_typing.specs.declared.verdict.Verdict.{Verdict}
 use Rattle.mj_typing.specs.declared.verdict.Verdict.TheVariants.{Is, Fine, Wrong, Silent}
 use Rattle.mj_typing.specs.Types.{is_same, is_int, is_boolean, is_int_array, class_in}
 use Rattle.mj_typing.specs.Inquiries.{World, Inquiry, Concludes, AsksDescent, AsksField, AsksMethod, conclusion}
-use Rattle.mj_typing.specs.Phrases.{demand, demand_asked, given, is, Phrase, Phrases, nothing, part, HasType, AllTyped}
+use Rattle.mj_typing.specs.Phrases.{demand, demand_asked, demand_some, is, Phrase, Phrases, nothing, part, HasType, AllTyped}
 use Rattle.mj_typing.specs.Table.{Scope, local_of, accepts, accepts_all, literal, variable, local_or_field, this, negation, binary, index, array_length, arguments, call, new_array, new_object, no_parts, one_part, two_parts, three_parts, some_parts, phrase_of, phrases_of}
 use Rattle.mj_typing.specs.Cases.{Accepted, IsLocal, IsNoLocal, IsVariable, operand_type, result_type, HasTypeByCases, AcceptedBy}
 use Rattle.mj_typing.proofs.Checks.{conclusion-and_then}
@@ -79,12 +79,12 @@ module _ (w : World) where
   pub asked_true : (m : Inquiry Bool) (code : Code) (then : Inquiry Verdict) → conclusion w m ≡ true → conclusion w (demand_asked m code then) ≡ conclusion w then
   asked_true m code then e = conclusion-and_then w m (λ ok. demand ok code then) ∙ demand_true (conclusion w m) code then e
 
-  given_holds : {A : Type 0} (o : Option A) (code : Code) (then : A → Inquiry Verdict) (v : Verdict) → Holds v → conclusion w (given o code then) ≡ v → (a : A) × (o ≡ Some a) × (conclusion w (then a) ≡ v)
+  given_holds : {A : Type 0} (o : Option A) (code : Code) (then : A → Inquiry Verdict) (v : Verdict) → Holds v → conclusion w (demand_some o code then) ≡ v → (a : A) × (o ≡ Some a) × (conclusion w (then a) ≡ v)
   given_holds None code then v h e = absurd (subst Holds (sym e) h)
   given_holds (Some a) code then v h e = (a, refl, e)
 
-  given_some : {A : Type 0} (o : Option A) (code : Code) (then : A → Inquiry Verdict) (a : A) → o ≡ Some a → conclusion w (given o code then) ≡ conclusion w (then a)
-  given_some o code then a e = ap (λ o. conclusion w (given o code then)) e
+  given_some : {A : Type 0} (o : Option A) (code : Code) (then : A → Inquiry Verdict) (a : A) → o ≡ Some a → conclusion w (demand_some o code then) ≡ conclusion w (then a)
+  given_some o code then a e = ap (λ o. conclusion w (demand_some o code then)) e
 
   -- ---- what is accepted
 
@@ -163,7 +163,7 @@ module _ (w : World) where
   variable_by : (s : Scope) (x : Name) (t : Ty) (o : Option Ty) → local_of s.variables x ≡ o → conclusion w (local_or_field o s.class x) ≡ Is t → IsVariable w s x t
   variable_by s x t (Some u) l e = inl (local_is s.variables x t (l ∙ ap (λ (t : Ty). Some t) (is_inj u t e)))
   variable_by s x t None l e =
-      let c = given_holds s.class E303 (λ c. AsksField c x (λ field. given field E303 is)) (Is t) tt e in
+      let c = given_holds s.class E303 (λ c. AsksField c x (λ field. demand_some field E303 is)) (Is t) tt e in
       let f = given_holds (w.field c.0 x) E303 is (Is t) tt c.2 in
       inr (none_is s.variables x l, (c.0, c.1, f.1 ∙ ap (λ (t : Ty). Some t) (is_inj f.0 t f.2)))
 
@@ -176,7 +176,7 @@ module _ (w : World) where
   from_variable s x t (inl h) = ap (λ o. conclusion w (local_or_field o s.class x)) (is_local s.variables x t h)
   from_variable s x t (inr h) =
       ap (λ o. conclusion w (local_or_field o s.class x)) (is_none s.variables x h.0)
-      ∙ given_some s.class E303 (λ c. AsksField c x (λ field. given field E303 is)) h.1.0 h.1.1
+      ∙ given_some s.class E303 (λ c. AsksField c x (λ field. demand_some field E303 is)) h.1.0 h.1.1
       ∙ given_some (w.field h.1.0 x) E303 is t h.1.2
 
   -- ---- parts
@@ -276,7 +276,7 @@ module _ (w : World) where
         (subst (HasTypeByCases w s e) (array_is a.0 d.0) (by_cases s e a.0 a.1), sym (is_inj ty.Int t d.1))
     by_cases s (Call mark e m es) t h =
         let a = from_some (call m) (phrase_of s e) (phrases_of s es) (Is t) h in
-        let c = given_holds (class_in a.0) E310 (λ c. AsksMethod c m (λ method. given method E311 (λ s. arguments s a.1))) (Is t) tt a.4 in
+        let c = given_holds (class_in a.0) E310 (λ c. AsksMethod c m (λ method. demand_some method E311 (λ s. arguments s a.1))) (Is t) tt a.4 in
         let sig = given_holds (w.method c.0 m) E311 (λ s. arguments s a.1) (Is t) tt c.2 in
         let d = demand_holds (nat_eq (length a.1) (length sig.0.formals)) E312 (demand_asked (accepts_all a.1 sig.0.formals) E313 (is sig.0.returns)) (Is t) tt sig.2 in
         let f = asked_holds (accepts_all a.1 sig.0.formals) E313 (is sig.0.returns) (Is t) tt d.1 in

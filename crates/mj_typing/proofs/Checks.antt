@@ -7,7 +7,7 @@ use Rattle.mj_tree.specs.declared.tree.Variable.{Variable}
 use Rattle.mj_typing.specs.declared.verdict.Verdict.{Verdict}
 use Rattle.mj_typing.specs.declared.verdict.Mistake.{Mistake}
 use Rattle.mj_typing.specs.Inquiries.{World, Inquiry, Concludes, AsksDescent, AsksField, AsksMethod, AsksDeclared, conclusion, and_then}
-use Rattle.mj_typing.specs.Phrases.{Phrase, Phrases, phrase, nothing, part, Finding, noted, own_step, phrase_step, parts_step, type_of, types_of, verdict_by, and_type, add_faults, add_all, add_each}
+use Rattle.mj_typing.specs.Phrases.{Phrase, Phrases, phrase, nothing, part, Finding, finding_of, own_step, phrase_step, parts_step, type_of, types_of, verdict_by, and_type, add_faults, add_all, add_each}
 use Rattle.mj_typing.specs.Steps.{Check, Proceeds}
 use Rattle.mj_typing.specs.Table.{Scope, own_phrase, statement_phrases, statements_phrases, return_phrase, method_scope, main_scope}
 use Rattle.mj_typing.specs.Bodies.{return_type_mark, variables_of, add_undeclared, add_undeclared_each, add_repeated_each, type_step, types_step, mistakes_step, statement_step, statements_step, declared_step, method_step, main_step, method_check, main_check, method_faults, main_faults}
@@ -20,9 +20,9 @@ conclusion-and_then w (AsksMethod c m k) f = conclusion-and_then w (k (w.method 
 conclusion-and_then w (AsksDeclared c k) f = conclusion-and_then w (k (w.is_declared c)) f
 
 module _ (w : World) where
-  own_said : (mark : ℕ) (row : List Ty → Inquiry Verdict) (types : Option (List Ty)) (mistakes : List Mistake) (k : Finding Ty → Check) → conclusion w (own_step mark row (record { type = types; mistakes = mistakes }) k) ≡ conclusion w (k (noted mistakes mark (verdict_by w row types)))
+  own_said : (mark : ℕ) (row : List Ty → Inquiry Verdict) (types : Option (List Ty)) (mistakes : List Mistake) (k : Finding Ty → Check) → conclusion w (own_step mark row (record { type = types; mistakes = mistakes }) k) ≡ conclusion w (k (finding_of mistakes mark (verdict_by w row types)))
   own_said mark row None mistakes k = refl
-  own_said mark row (Some ts) mistakes k = conclusion-and_then w (row ts) (λ verdict. k (noted mistakes mark verdict))
+  own_said mark row (Some ts) mistakes k = conclusion-and_then w (row ts) (λ verdict. k (finding_of mistakes mark verdict))
 
   mutual
     unfolding phrase_step parts_step

@@ -12,7 +12,7 @@ use Rattle.mj_typing.specs.Types.{is_int, is_boolean, is_int_array, class_in}
 use Rattle.mj_typing.specs.declared.verdict.Verdict.{Verdict}
 use Rattle.mj_typing.specs.declared.verdict.Verdict.TheVariants.{Wrong}
 use Rattle.mj_typing.specs.Inquiries.{World, Sig, Inquiry, AsksField, AsksMethod, conclusion}
-use Rattle.mj_typing.specs.Phrases.{demand, demand_asked, given, is, fine, Phrase}
+use Rattle.mj_typing.specs.Phrases.{demand, demand_asked, demand_some, is, fine, Phrase}
 use Rattle.mj_typing.specs.Table.{Scope, main_scope, method_scope, local_of, accepts, accepts_all, literal, variable, local_or_field, parenthesized, this, negation, binary, index, array_length, arguments, call, new_array, new_object, condition, print, assign, store, return_value, no_parts, one_part, two_parts, three_parts, some_parts, phrase_of, phrases_of, name_phrase, own_phrase, statement_phrases, statements_phrases, return_phrase, method_phrases, main_phrases}
 use Rattle.mj_typing.specs.Laws.{count, IsOfExpression, IsOfStatement, Decides, DecideAll, DecidesStatement, AllDecide}
 use Rattle.mj_typing.proofs.Checks.{conclusion-and_then}
@@ -25,7 +25,7 @@ module _ (w : World) (P : Verdict → Type 0) (wrong : (code : Code) → P (Wron
   demand_asked_of : (m : Inquiry Bool) (code : Code) (then : Inquiry Verdict) → P (conclusion w then) → P (conclusion w (demand_asked m code then))
   demand_asked_of m code then h = subst P (sym (conclusion-and_then w m (λ ok. demand ok code then))) (demand_of (conclusion w m) code then h)
 
-  given_of : {A : Type 0} (o : Option A) (code : Code) (then : A → Inquiry Verdict) → ((a : A) → P (conclusion w (then a))) → P (conclusion w (given o code then))
+  given_of : {A : Type 0} (o : Option A) (code : Code) (then : A → Inquiry Verdict) → ((a : A) → P (conclusion w (then a))) → P (conclusion w (demand_some o code then))
   given_of None code then h = wrong code
   given_of (Some a) code then h = h a
 
@@ -69,7 +69,7 @@ module _ (w : World) where
 
   local_row : (o : Option Ty) (class : Option Name) (x : Name) → E (conclusion w (local_or_field o class x))
   local_row (Some t) class x = tt
-  local_row None class x = given_of w IsOfExpression wrong_e class E303 (λ c. AsksField c x (λ field. given field E303 is)) (λ c. given_of w IsOfExpression wrong_e (w.field c x) E303 is (λ t. tt))
+  local_row None class x = given_of w IsOfExpression wrong_e class E303 (λ c. AsksField c x (λ field. demand_some field E303 is)) (λ c. given_of w IsOfExpression wrong_e (w.field c x) E303 is (λ t. tt))
 
   named_row : (s : Scope) (x : Name) → E (conclusion w (variable s x))
   unfolding variable
@@ -105,7 +105,7 @@ module _ (w : World) where
 
   call_row : (m : Name) (a : Ty) (ts : List Ty) → E (conclusion w (call m a ts))
   unfolding call
-  call_row m a ts = given_of w IsOfExpression wrong_e (class_in a) E310 (λ c. AsksMethod c m (λ method. given method E311 (λ s. arguments s ts))) (λ c. given_of w IsOfExpression wrong_e (w.method c m) E311 (λ s. arguments s ts) (λ s. called_row s ts))
+  call_row m a ts = given_of w IsOfExpression wrong_e (class_in a) E310 (λ c. AsksMethod c m (λ method. demand_some method E311 (λ s. arguments s ts))) (λ c. given_of w IsOfExpression wrong_e (w.method c m) E311 (λ s. arguments s ts) (λ s. called_row s ts))
 
   new_array_row : (a : Ty) → E (conclusion w (new_array a))
   unfolding new_array

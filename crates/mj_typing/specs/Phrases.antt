@@ -19,9 +19,9 @@ abbrev pub demand_asked : Inquiry Bool → Code → Inquiry Verdict → Inquiry 
 demand_asked asked code next = and_then asked (λ ok. demand ok code next)
 
 -- there has to be one, of which the next demands speak
-abbrev pub given : {A : Type 0} → Option A → Code → (A → Inquiry Verdict) → Inquiry Verdict
-given None code next = Concludes (Wrong code)
-given (Some a) code next = next a
+abbrev pub demand_some : {A : Type 0} → Option A → Code → (A → Inquiry Verdict) → Inquiry Verdict
+demand_some None code next = Concludes (Wrong code)
+demand_some (Some a) code next = next a
 
 -- all demands hold
 abbrev pub is : Ty → Inquiry Verdict
@@ -140,8 +140,8 @@ pub record Finding (T : Type 0) : Type 0 where
   pub mistakes : List Mistake
 
 -- notes what is wrong, and gives the type
-abbrev pub noted : List Mistake → ℕ → Verdict → Finding Ty
-noted mistakes mark verdict = record {
+abbrev pub finding_of : List Mistake → ℕ → Verdict → Finding Ty
+finding_of mistakes mark verdict = record {
   type = type_by verdict;
   mistakes = add_own mistakes mark verdict;
 }
@@ -152,7 +152,7 @@ own_step mark row found next = of_types found.type
   where
     of_types : Option (List Ty) → Check
     of_types None = next (record { type = None; mistakes = found.mistakes })
-    of_types (Some ts) = and_then (row ts) (λ verdict. next (noted found.mistakes mark verdict))
+    of_types (Some ts) = and_then (row ts) (λ verdict. next (finding_of found.mistakes mark verdict))
 
 -- the parts in their order, then the phrase
 unfoldable mutual

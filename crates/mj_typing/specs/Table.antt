@@ -11,7 +11,7 @@ use Rattle.mj_typing.specs.declared.verdict.Verdict.{Verdict}
 use Rattle.mj_typing.specs.declared.verdict.Verdict.TheVariants.{Silent}
 use Rattle.mj_typing.specs.Types.{is_same, is_int, is_boolean, is_int_array, class_in}
 use Rattle.mj_typing.specs.Inquiries.{Sig, Inquiry, Concludes, AsksDescent, AsksField, AsksMethod, AsksDeclared, and_then}
-use Rattle.mj_typing.specs.Phrases.{demand, demand_asked, given, is, fine, Phrase, Phrases, phrase, nothing, part}
+use Rattle.mj_typing.specs.Phrases.{demand, demand_asked, demand_some, is, fine, Phrase, Phrases, phrase, nothing, part}
 
 -- where a phrase stands: in a method of a class, whose formals and locals are these, or in main, which has neither
 pub record Scope : Type 0 where
@@ -51,13 +51,13 @@ literal value = demand (nat_le value 2147483647) E315 (is ty.Int)
 
 abbrev pub local_or_field : Option Ty → Option Name → Name → Inquiry Verdict
 local_or_field (Some t) class x = is t
-local_or_field None class x = given class E303 (λ c. AsksField c x (λ field. given field E303 is))
+local_or_field None class x = demand_some class E303 (λ c. AsksField c x (λ field. demand_some field E303 is))
 
 unfoldable pub variable : Scope → Name → Inquiry Verdict
 variable scope x = local_or_field (local_of scope.variables x) scope.class x
 
 unfoldable pub this : Scope → Inquiry Verdict
-this scope = given scope.class E306 (λ c. is (ty.Class c))
+this scope = demand_some scope.class E306 (λ c. is (ty.Class c))
 
 abbrev pub parenthesized : Ty → Inquiry Verdict
 parenthesized a = is a
@@ -86,7 +86,7 @@ arguments s ts =
 
 unfoldable pub call : Name → Ty → List Ty → Inquiry Verdict
 call m a ts =
-    given (class_in a) E310 (λ c. AsksMethod c m (λ method. given method E311 (λ s. arguments s ts)))
+    demand_some (class_in a) E310 (λ c. AsksMethod c m (λ method. demand_some method E311 (λ s. arguments s ts)))
 
 unfoldable pub new_array : Ty → Inquiry Verdict
 new_array a = demand (is_int a) E314 (is ty.IntArray)

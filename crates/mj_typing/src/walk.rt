@@ -1,7 +1,7 @@
 //! The walk over expressions.
 ghost use Rattle.std.specs.Prelude.{◌≡◌, IfOk, IfErr};
 ghost use Rattle.mj_tree.specs.Views.{exp_view, exps_view};
-ghost use Rattle.mj_typing.specs.Phrases.{phrase_step, parts_step, own_step, and_type, noted, with_type};
+ghost use Rattle.mj_typing.specs.Phrases.{phrase_step, parts_step, own_step, and_type, finding_of, with_type};
 ghost use Rattle.mj_typing.specs.declared.asking.Stop.TheVariants.{OutOfMemory};
 ghost use Rattle.mj_typing.specs.Steps.{Proceeds, Aborts};
 ghost use Rattle.mj_typing.specs.Seen.{items_in};
@@ -23,7 +23,7 @@ pub fn note<E>(
 ) -> Result<Option<Ty>, Stop<E>>
     ensures err { IfErr result (λ e. e ≡ OutOfMemory) }
     ensures ok { IfOk result (λ ty.
-        noted mistakes.old.items mark verdict
+        finding_of mistakes.old.items mark verdict
         ≡ record { type = ty; mistakes = mistakes.new.items }) }
 {
     match verdict {

@@ -14,7 +14,7 @@ use Rattle.result_bytes.specs.declared.refusal.Refusal.{Refusal}
 use Rattle.result_bytes.specs.declared.refusal.Refusal.TheVariants.{Trailing, WrongKind}
 use Rattle.result_bytes.specs.declared.value.Value.{Value}
 use Rattle.result_bytes.specs.declared.value.Value.TheVariants.{Files, Source, Tree, Index, Header, Method, Sig, Supers, Members, CheckClass, CheckBody, Diags, Answer}
-use Rattle.result_bytes.specs.Values.{kind_of, content, canon, IsValue, content_at, whole, decoded}
+use Rattle.result_bytes.specs.Values.{kind_of, content, canon, IsValue, content_at, whole, decoding}
 use Rattle.result_bytes.specs.ItemLaws.{lawful_file_names, lawful_text, lawful_index, lawful_header, lawful_signature, lawful_chain}
 use Rattle.answer_bytes.specs.AnswerLaws.{lawful_table, lawful_class_faults, lawful_answer}
 
@@ -88,8 +88,8 @@ behind_kind : (b n : ℕ) (r : Result Value Refusal) (v : Value) → cond (eqb b
 behind_kind b n r v e = kind_tested b n r v (eqb b n) refl e
 
 -- what is decoded is a value of the kind, and the bytes are its spelling
-pub decoded_takes : (kind : Kind) (bytes : List ℕ) (v : Value) → IsBytes bytes → decoded kind bytes ≡ Ok v → IsValue v × (kind_of v ≡ kind) × (bytes ≡ canon v)
-unfolding decoded canon
+pub decoded_takes : (kind : Kind) (bytes : List ℕ) (v : Value) → IsBytes bytes → decoding kind bytes ≡ Ok v → IsValue v × (kind_of v ≡ kind) × (bytes ≡ canon v)
+unfolding decoding canon
 decoded_takes kind [] v fits e = absurd cc
 decoded_takes kind (b ∷ bytes) v fits e =
     let k = behind_kind b (number_of kind) _ v e in
@@ -97,15 +97,15 @@ decoded_takes kind (b ∷ bytes) v fits e =
     (c.fits, c.kind_is, ap (λ (x : ℕ). x ∷ bytes) (k.0 ∙ ap number_of (sym c.kind_is)) ∙ ap (λ (x : List ℕ). number_of (kind_of v) ∷ x) (c.takes.parts ∙ append-nil (content v)))
 
 -- the spelling of a value is decoded
-pub decoded_again : (v : Value) → IsValue v → decoded (kind_of v) (canon v) ≡ Ok v
-unfolding decoded canon
+pub decoded_again : (v : Value) → IsValue v → decoding (kind_of v) (canon v) ≡ Ok v
+unfolding decoding canon
 decoded_again v h =
     let c : content_at (kind_of v) (content v) ≡ Ok (v, []) = ap (content_at (kind_of v)) (sym (append-nil (content v))) ∙ content_again v [] h in
     let same : eqb (number_of (kind_of v)) (number_of (kind_of v)) ≡ true = eq-eqb _ _ refl in
     rw (same, c) refl
 
-pub decoded_at : (kind : Kind) (bytes : List ℕ) (v : Value) → IsValue v → kind_of v ≡ kind → bytes ≡ canon v → decoded kind bytes ≡ Ok v
-decoded_at kind bytes v h k e = ap (λ (x : Kind). decoded x bytes) (sym k) ∙ ap (decoded (kind_of v)) e ∙ decoded_again v h
+pub decoded_at : (kind : Kind) (bytes : List ℕ) (v : Value) → IsValue v → kind_of v ≡ kind → bytes ≡ canon v → decoding kind bytes ≡ Ok v
+decoded_at kind bytes v h k e = ap (λ (x : Kind). decoding x bytes) (sym k) ∙ ap (decoding (kind_of v)) e ∙ decoded_again v h
 
 number_apart : (a b : Kind) → number_of a ≡ number_of b → a ≡ b
 number_apart kinds.Files kinds.Files e = refl

@@ -14,7 +14,8 @@ use Rattle.tree_bytes.specs.TypeLaws.{lawful_ty, lawful_field}
 use Rattle.result_bytes.specs.declared.parts.ChainEnd.{ChainEnd}
 use Rattle.result_bytes.specs.declared.parts.ChainEnd.TheVariants.{Top, Undeclared, Repeated}
 use Rattle.result_bytes.specs.Canon.{text, index_row, boolean, header, signature, chain_end, chain}
-use Rattle.result_bytes.specs.Storable.{most_files, FileNamesFit, TextFits, IndexRowFits, IndexFits, HeaderFits, SignatureFits, ChainEndFits, ChainFits}
+use Rattle.mj_project.specs.Projects.{most_files}
+use Rattle.result_bytes.specs.Storable.{FileNamesFit, TextFits, IndexRowFits, IndexFits, HeaderFits, SignatureFits, ChainEndFits, ChainFits}
 use Rattle.result_bytes.specs.Reading.{is_new, is_file_count, file_names_at, text_at, index_row_of, index_row_at, index_at, boolean_at, header_value, header_at, signature_value, signature_at, chain_end_at, chain_value, chain_at}
 use Rattle.answer_bytes.specs.OrderLaws.{lawful_by_name}
 use Rattle.result_bytes.specs.Distinct.{or_false, not_true, to_distinct, from_distinct, nowhere}

@@ -12,16 +12,13 @@ use Rattle.tree_bytes.specs.Storable.{TyFits, FieldFits}
 use Rattle.result_bytes.specs.declared.parts.ChainEnd.{ChainEnd}
 use Rattle.result_bytes.specs.declared.parts.ChainEnd.TheVariants.{Top, Undeclared, Repeated}
 use Rattle.result_bytes.specs.declared.files.IndexRow.{IndexRow}
+use Rattle.mj_project.specs.Projects.{most_files}
 use Rattle.result_bytes.specs.Payloads.{HeaderValue, SignatureValue, ChainValue}
 use Rattle.answer_bytes.specs.Storable.{IsCount, OrderedFits, ByName}
 
 abbrev pub AreDistinct : List (List ℕ) → Type 0
 AreDistinct [] = Unit {0}
 AreDistinct (n ∷ ns) = (Contains ns n → ⊥) × AreDistinct ns
-
--- the most files of a project
-abbrev pub most_files : ℕ
-most_files = 4096
 
 pub record FileNamesFit (names : List (List ℕ)) : Type 0 where
   pub some : 0 < length names

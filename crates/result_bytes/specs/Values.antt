@@ -101,9 +101,9 @@ whole len (Ok x) = if length x.1 == 0 then Ok x.0 else Err Trailing
 whole len (Err breach) = Err (refusal len breach)
 
 -- the value of a kind that the bytes spell, or the first breach
-unfoldable pub decoded : Kind → List ℕ → Result Value Refusal
-decoded kind [] = Err Short
-decoded kind (b ∷ bytes) = if b == number_of kind then whole (length (b ∷ bytes)) (content_at kind bytes) else Err WrongKind
+unfoldable pub decoding : Kind → List ℕ → Result Value Refusal
+decoding kind [] = Err Short
+decoding kind (b ∷ bytes) = if b == number_of kind then whole (length (b ∷ bytes)) (content_at kind bytes) else Err WrongKind
 
 -- the answer, unless memory ran out
 abbrev pub IsUnlessMemory : Result Value Refusal → Result Value Refusal → Type 0

@@ -211,8 +211,14 @@ impl Format for HeaderFormat {
     ghost use Rattle.result_bytes.specs.Storable.{HeaderFits};
     ghost use Rattle.result_bytes.specs.Reading.{header_at};
     ghost use Rattle.result_bytes.specs.ItemLaws.{lawful_header};
+    ghost use Rattle.result_bytes.specs.Payloads.{HeaderValue};
+    ghost use Rattle.byte_readers.specs.Views.{plain};
 
     type Item = Header;
+
+    ghost Seen = { HeaderValue };
+
+    ghost view = { plain };
 
     ghost is_storable = { λ _. Unit {0} };
 
@@ -253,8 +259,14 @@ impl Format for SignatureFormat {
     ghost use Rattle.result_bytes.specs.Storable.{SignatureFits};
     ghost use Rattle.result_bytes.specs.Reading.{signature_at};
     ghost use Rattle.result_bytes.specs.ItemLaws.{lawful_signature};
+    ghost use Rattle.result_bytes.specs.Payloads.{SignatureValue};
+    ghost use Rattle.byte_readers.specs.Views.{plain};
 
     type Item = Signature;
+
+    ghost Seen = { SignatureValue };
+
+    ghost view = { plain };
 
     ghost is_storable = { λ _. Unit {0} };
 
@@ -291,8 +303,14 @@ impl Format for SupersFormat {
     ghost use Rattle.result_bytes.specs.Storable.{ChainFits};
     ghost use Rattle.result_bytes.specs.Reading.{chain_at};
     ghost use Rattle.result_bytes.specs.ItemLaws.{lawful_chain};
+    ghost use Rattle.result_bytes.specs.Payloads.{ChainValue};
+    ghost use Rattle.byte_readers.specs.Views.{plain};
 
     type Item = Supers;
+
+    ghost Seen = { ChainValue };
+
+    ghost view = { plain };
 
     ghost is_storable = { λ _. Unit {0} };
 

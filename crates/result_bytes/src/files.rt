@@ -1,8 +1,9 @@
 //! What is known of the project's files.
 ghost use Rattle.std.specs.Prelude.{◌≡◌, ◌<◌, ◌≤◌, ◌++◌, List, ℕ, [], length, OnOk};
+ghost use Rattle.mj_project.specs.Projects.{most_files};
 ghost use Rattle.byte_readers.specs.Spelling.{name, list};
 ghost use Rattle.byte_readers.specs.Reading.{Decodes, name_at, list_from};
-ghost use Rattle.result_bytes.specs.Storable.{most_files, AreDistinct, FileNamesFit, TextFits};
+ghost use Rattle.result_bytes.specs.Storable.{AreDistinct, FileNamesFit, TextFits};
 ghost use Rattle.result_bytes.specs.Canon.{index_row};
 ghost use Rattle.result_bytes.specs.Reading.{is_new, file_names_at, index_at};
 
@@ -11,12 +12,10 @@ use byte_readers::{
     put_eight, put_list, put_name, read_ascending, read_eight, read_name, read_name_text,
 };
 use mj_lexer::Name;
+use mj_project::Project;
 use std::alloc::{AllocError, Global};
 use std::collections::BTreeSet;
 use std::marker::Model;
-
-/// The most files of a project.
-pub const MOST_FILES: usize = 4096;
 
 /// The names of a project's files in their order: 1 to 4,096 names that differ.
 #[derive(Debug, Drop)]
@@ -78,7 +77,7 @@ fn read_names(alloc: Global, bytes: &[u8]) -> Result<(Vec<Name>, &[u8]), ReadErr
     ensures { Decodes (λ x. x.items) result (file_names_at bytes.now) }
 {
     let (count, rest) = read_eight(bytes)?;
-    if count == 0 || count > 4096 {
+    if count == 0 || count > Project::MOST_FILES as u64 {
         return Err(not_canonical(bytes));
     }
     read_new_names(alloc, count, rest)
@@ -146,8 +145,14 @@ impl Format for TextFormat {
     ghost use Rattle.result_bytes.specs.Storable.{TextFits};
     ghost use Rattle.result_bytes.specs.Reading.{text_at};
     ghost use Rattle.result_bytes.specs.ItemLaws.{lawful_text};
+    ghost use Rattle.std.specs.Prelude.{List, ℕ};
+    ghost use Rattle.byte_readers.specs.Views.{plain};
 
     type Item = Text;
+
+    ghost Seen = { List ℕ };
+
+    ghost view = { plain };
 
     ghost is_storable = { λ _. Unit {0} };
 
@@ -195,8 +200,14 @@ impl Format for IndexRowFormat {
     ghost use Rattle.result_bytes.specs.Storable.{IndexRowFits};
     ghost use Rattle.result_bytes.specs.Reading.{index_row_at};
     ghost use Rattle.result_bytes.specs.ItemLaws.{lawful_index_row};
+    ghost use Rattle.result_bytes.specs.declared.files.IndexRow.{IndexRow};
+    ghost use Rattle.byte_readers.specs.Views.{plain};
 
     type Item = IndexRow;
+
+    ghost Seen = { IndexRow };
+
+    ghost view = { plain };
 
     ghost is_storable = { λ _. Unit {0} };
 
@@ -227,8 +238,14 @@ impl Format for IndexRowFormat {
 
 impl Ordered for IndexRowFormat {
     ghost use Rattle.answer_bytes.specs.Reading.{by_name};
+    ghost use Rattle.result_bytes.specs.Reading.{index_row_at};
+    ghost use Rattle.byte_readers.specs.Views.{tells_plain};
 
     ghost precedes = { by_name (λ row. row.class) };
+
+    ghost item_reading = { index_row_at };
+
+    ghost tells = { tells_plain index_row_at };
 
     fn precedes(item: &IndexRow, other: &IndexRow) -> bool {
         item.class.cmp(&other.class).is_lt()

@@ -14,7 +14,7 @@ use Rattle.byte_readers.specs.Reading.{two_at, four_at, eight_at}
 use Rattle.sessions.specs.Sessions.{RecordValue, SessionValue, AreRecords, IsSession}
 use Rattle.sessions.specs.Spelling.{start, record_bytes, head_bytes, body_bytes, file_of}
 use Rattle.session_file.specs.declared.fault.FileFault.TheVariants.{BadMagic, Version, Number, BadDigest}
-use Rattle.session_file.specs.Reading.{whole, bytes_at, tested, HeadValue, magic, magic_at, head_at, end_at, records_from, file_at}
+use Rattle.session_file.specs.Reading.{whole, bytes_at, demand, HeadValue, magic, magic_at, head_at, end_at, records_from, file_at}
 use Rattle.session_file.proofs.ReadLaws.{done, ok_is, bind_ok, bind_is, guard_ok, guard_so, tested_ok, tested_is, number_takes, number_again, bytes_takes, bytes_again}
 use Rattle.session_file.proofs.RecordsReadLaws.{records_take, records_again}
 
@@ -50,9 +50,9 @@ unfolding head_at
 head_takes bytes h rest fits e =
     let a = bind_ok (magic_at bytes) _ (h, rest) e in
     let b = bind_ok (whole (two_at a.0)) _ (h, rest) a.2 in
-    let c = bind_ok (tested (eqb b.0.0 1) Version) _ (h, rest) b.2 in
+    let c = bind_ok (demand (eqb b.0.0 1) Version) _ (h, rest) b.2 in
     let d = bind_ok (whole (four_at b.0.1)) _ (h, rest) c.2 in
-    let s = bind_ok (tested (leb d.0.0 9999) Number) _ (h, rest) d.2 in
+    let s = bind_ok (demand (leb d.0.0 9999) Number) _ (h, rest) d.2 in
     let l = bind_ok (bytes_at 32 d.0.1) _ (h, rest) s.2 in
     let n = bind_ok (whole (eight_at l.0.1)) _ (h, rest) l.2 in
     let ta = magic_takes bytes a.0 fits a.1 in
@@ -84,7 +84,7 @@ head_again h rest fits =
     ∙ bind_is (magic_at (magic ++ (two 1 ++ n))) _ (two 1 ++ n) (magic_again (two 1 ++ n))
     ∙ bind_is (whole (two_at (two 1 ++ n))) _ (1, n) (number_again lawful_two 1 n (omega arith))
     ∙ bind_is (whole (four_at n)) _ (h.number, l) (number_again lawful_four h.number l (omega (arith, fits.number)))
-    ∙ bind_is (tested (leb h.number 9999) Number) _ tt (tested_is _ _ (le-leb _ _ fits.number))
+    ∙ bind_is (demand (leb h.number 9999) Number) _ tt (tested_is _ _ (le-leb _ _ fits.number))
     ∙ bind_is (bytes_at 32 l) _ (h.link, e) (bytes_again 32 h.link e fits.link)
     ∙ bind_is (whole (eight_at e)) _ (h.count, rest) (number_again lawful_eight h.count rest fits.count)
 
@@ -94,7 +94,7 @@ pub end_takes : (body bytes : List ℕ) (u : Unit {0}) → IsBytes bytes → end
 unfolding end_at
 end_takes body bytes u fits e =
     let a = bind_ok (bytes_at 32 bytes) _ u e in
-    let b = bind_ok (tested (bytes_eq a.0.0 (sha256 body)) BadDigest) _ u a.2 in
+    let b = bind_ok (demand (bytes_eq a.0.0 (sha256 body)) BadDigest) _ u a.2 in
     let t = bytes_takes 32 bytes a.0.0 a.0.1 fits a.1 in
     let digest : a.0.0 ≡ sha256 body = (bytes_eq-Decides a.0.0 (sha256 body)).0 (tested_ok _ _ b.0 b.1) in
     let none : a.0.1 ≡ [] = nil_from_length a.0.1 (eqb-true _ _ (tested_ok _ _ u b.2)) in
@@ -106,7 +106,7 @@ end_again body =
     let same : bytes_eq (sha256 body) (sha256 body) ≡ true = (bytes_eq-Decides (sha256 body) (sha256 body)).1 refl in
     ap (end_at body) (sym (append-nil (sha256 body)))
     ∙ bind_is (bytes_at 32 (sha256 body ++ [])) _ (sha256 body, []) (bytes_again 32 (sha256 body) [] (length-sha256 body))
-    ∙ bind_is (tested (bytes_eq (sha256 body) (sha256 body)) BadDigest) _ tt (tested_is _ _ same)
+    ∙ bind_is (demand (bytes_eq (sha256 body) (sha256 body)) BadDigest) _ tt (tested_is _ _ same)
 
 -- ---- the file
 

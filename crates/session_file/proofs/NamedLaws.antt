@@ -16,7 +16,7 @@ use Rattle.sessions.specs.declared.mark.Mark.{Mark}
 use Rattle.sessions.specs.declared.mark.Mark.TheVariants.{Input, Executed, Green}
 use Rattle.sessions.specs.Marks.{number_of as mark_number}
 use Rattle.sessions.specs.Keys.{HasNames}
-use Rattle.session_file.specs.Keys.{all_kinds, kind_with, mark_with, name_with, same, are_names, named, key_of_kind, key_of_some, key_with}
+use Rattle.session_file.specs.Keys.{all_kinds, kind_with, mark_with, name_with, same, are_names, key_of_parts, key_of_kind, key_of_some, key_with}
 
 both : (a b : Bool) → (a && b) ≡ true → (a ≡ true) × (b ≡ true)
 both true b e = (refl, e)
@@ -41,7 +41,7 @@ name_is : (bytes : List ℕ) → 0 < length bytes → name_with bytes ≡ Some b
 name_is [] h = absurd (omega (arith, h))
 name_is (b ∷ bytes) h = refl
 
-named_kind : (kind : Kind) (c m : List ℕ) → kind_of (named kind c m) ≡ kind
+named_kind : (kind : Kind) (c m : List ℕ) → kind_of (key_of_parts kind c m) ≡ kind
 named_kind kinds.Files c m = refl
 named_kind kinds.Source c m = refl
 named_kind kinds.Tree c m = refl
@@ -56,7 +56,7 @@ named_kind kinds.CheckBody c m = refl
 named_kind kinds.Diags c m = refl
 named_kind kinds.Answer c m = refl
 
-named_class : (kind : Kind) (c m : List ℕ) → same (is_some (name_with c)) (has_class kind) ≡ true → class_text (named kind c m) ≡ c
+named_class : (kind : Kind) (c m : List ℕ) → same (is_some (name_with c)) (has_class kind) ≡ true → class_text (key_of_parts kind c m) ≡ c
 named_class kinds.Files c m e = no_name c e
 named_class kinds.Source c m e = refl
 named_class kinds.Tree c m e = refl
@@ -71,7 +71,7 @@ named_class kinds.CheckBody c m e = refl
 named_class kinds.Diags c m e = refl
 named_class kinds.Answer c m e = no_name c e
 
-named_member : (kind : Kind) (c m : List ℕ) → same (is_some (name_with m)) (has_member kind) ≡ true → member_text (named kind c m) ≡ m
+named_member : (kind : Kind) (c m : List ℕ) → same (is_some (name_with m)) (has_member kind) ≡ true → member_text (key_of_parts kind c m) ≡ m
 named_member kinds.Files c m e = no_name m e
 named_member kinds.Source c m e = no_name m e
 named_member kinds.Tree c m e = no_name m e
@@ -86,7 +86,7 @@ named_member kinds.CheckBody c m e = refl
 named_member kinds.Diags c m e = no_name m e
 named_member kinds.Answer c m e = no_name m e
 
-class_fits : (kind : Kind) (c m : List ℕ) → same (is_some (name_with c)) (has_class kind) ≡ true → length c < 256 → is_utf8 c ≡ true → IfSome (class_of (named kind c m)) IsName
+class_fits : (kind : Kind) (c m : List ℕ) → same (is_some (name_with c)) (has_class kind) ≡ true → length c < 256 → is_utf8 c ≡ true → IfSome (class_of (key_of_parts kind c m)) IsName
 class_fits kinds.Files c m e short text = tt
 class_fits kinds.Source c m e short text = a_name c e short text
 class_fits kinds.Tree c m e short text = a_name c e short text
@@ -101,7 +101,7 @@ class_fits kinds.CheckBody c m e short text = a_name c e short text
 class_fits kinds.Diags c m e short text = a_name c e short text
 class_fits kinds.Answer c m e short text = tt
 
-member_fits : (kind : Kind) (c m : List ℕ) → same (is_some (name_with m)) (has_member kind) ≡ true → length m < 256 → is_utf8 m ≡ true → IfSome (member_of (named kind c m)) IsName
+member_fits : (kind : Kind) (c m : List ℕ) → same (is_some (name_with m)) (has_member kind) ≡ true → length m < 256 → is_utf8 m ≡ true → IfSome (member_of (key_of_parts kind c m)) IsName
 member_fits kinds.Files c m e short text = tt
 member_fits kinds.Source c m e short text = tt
 member_fits kinds.Tree c m e short text = tt
@@ -132,9 +132,9 @@ key_in n None c m key is short_c short_m e = absurd cc
 key_in n (Some kind) c m key is short_c short_m e =
     let t = kept (is_utf8 c && is_utf8 m) (key_of_kind kind c m) key e in
     let texts = both (is_utf8 c) (is_utf8 m) t.0 in
-    let k = kept (are_names kind (name_with c) (name_with m)) (Some (named kind c m)) key t.1 in
+    let k = kept (are_names kind (name_with c) (name_with m)) (Some (key_of_parts kind c m)) key t.1 in
     let fit = both (same (is_some (name_with c)) (has_class kind)) (same (is_some (name_with m)) (has_member kind)) k.0 in
-    subst (IsKeyOf n c m) (some_is (named kind c m) key k.1) (record {
+    subst (IsKeyOf n c m) (some_is (key_of_parts kind c m) key k.1) (record {
       kind = ap number_of (named_kind kind c m) ∙ kind_is n kind (sym is);
       class = named_class kind c m fit.0;
       member = named_member kind c m fit.1;

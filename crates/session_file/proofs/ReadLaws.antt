@@ -9,7 +9,7 @@ use Rattle.byte_readers.specs.Spelling.{name}
 use Rattle.byte_readers.specs.Reading.{Decoder, byte_at}
 use Rattle.session_file.specs.declared.fault.FileFault.{FileFault}
 use Rattle.session_file.specs.declared.fault.FileFault.TheVariants.{Truncated}
-use Rattle.session_file.specs.Reading.{◌>>=◌, whole, bytes_at, text_at, there, tested}
+use Rattle.session_file.specs.Reading.{◌>>=◌, whole, bytes_at, text_at, there, demand}
 
 abbrev pub done : {A : Type 0} → A → Result A FileFault
 done x = Ok x
@@ -34,11 +34,11 @@ pub guard_so : {A : Type 0} (b : Bool) (d : FileFault) (r : Result A FileFault) 
 guard_so true d r y e = (refl, e)
 guard_so false d r y e = absurd cc
 
-pub tested_ok : (b : Bool) (fault : FileFault) (u : Unit {0}) → tested b fault ≡ Ok u → b ≡ true
+pub tested_ok : (b : Bool) (fault : FileFault) (u : Unit {0}) → demand b fault ≡ Ok u → b ≡ true
 tested_ok true fault u e = refl
 tested_ok false fault u e = absurd cc
 
-pub tested_is : (b : Bool) (fault : FileFault) → b ≡ true → tested b fault ≡ Ok tt
+pub tested_is : (b : Bool) (fault : FileFault) → b ≡ true → demand b fault ≡ Ok tt
 tested_is true fault e = refl
 tested_is false fault e = absurd cc
 

@@ -14,7 +14,7 @@ use Rattle.byte_readers.specs.Spelling.{eight, name, list}
 use Rattle.byte_readers.specs.Reading.{byte_at, eight_at}
 use Rattle.result_bytes.specs.declared.refusal.Refusal.{Refusal}
 use Rattle.result_bytes.specs.declared.value.Value.{Value}
-use Rattle.result_bytes.specs.Values.{IsValue, canon, decoded, kind_of as kind_of_value}
+use Rattle.result_bytes.specs.Values.{IsValue, canon, decoding, kind_of as kind_of_value}
 use Rattle.result_bytes.proofs.ValueLaws.{decoded_takes, decoded_at}
 use Rattle.fingerprint.specs.Prints.{print_of}
 use Rattle.sessions.specs.declared.mark.Mark.{Mark}
@@ -26,7 +26,7 @@ use Rattle.sessions.specs.Spelling.{key_bytes, result_bytes, record_bytes}
 use Rattle.sessions.proofs.RecordLaws.{above_last, last_below, less_of_test, test_of_less}
 use Rattle.session_file.specs.declared.fault.FileFault.TheVariants.{BadKey, KeyOrder, Result as BadResult}
 use Rattle.session_file.specs.Keys.{same, key_with, mark_with}
-use Rattle.session_file.specs.Reading.{whole, bytes_at, text_at, there, tested, ItemValue, item_with, item_at, is_behind, placed, edges_from, edges_at, printed, result_at, RestValue, rest_at, record_at}
+use Rattle.session_file.specs.Reading.{whole, bytes_at, text_at, there, demand, ItemValue, item_with, item_at, is_behind, check_place, edges_from, edges_at, value_with_print, result_at, RestValue, rest_at, record_at}
 use Rattle.session_file.proofs.ReadLaws.{ok_is, bind_ok, bind_is, tested_ok, tested_is, there_ok, number_takes, number_again, byte_takes, bytes_takes, bytes_again, text_takes, text_again}
 use Rattle.session_file.proofs.KeyLaws.{mark_again}
 use Rattle.session_file.proofs.NamedLaws.{key_takes, mark_takes, key_again}
@@ -120,19 +120,19 @@ pub record IsPlaced (front : List RecordValue) (item : ItemValue) : Type 0 where
   pub above : IsAbove front item.key
   pub marked : is_input_mark item.mark ≡ is_input (kind_of item.key)
 
-pub placed_ok : (front : List RecordValue) (item : ItemValue) (u : Unit {0}) → AreRecords front → placed front item ≡ Ok u → IsPlaced front item
-unfolding placed
+pub placed_ok : (front : List RecordValue) (item : ItemValue) (u : Unit {0}) → AreRecords front → check_place front item ≡ Ok u → IsPlaced front item
+unfolding check_place
 placed_ok front item u are e =
-    let a = bind_ok (tested (is_behind (slice_get front (length front - 1)) item.key) (KeyOrder (length front))) _ u e in
+    let a = bind_ok (demand (is_behind (slice_get front (length front - 1)) item.key) (KeyOrder (length front))) _ u e in
     record {
       above = (behind front item.key (slice_get front (length front - 1)) are refl).0 (tested_ok _ _ a.0 a.1);
       marked = same_is _ _ (tested_ok _ _ u a.2);
     }
 
-pub placed_is : (front : List RecordValue) (item : ItemValue) → AreRecords front → IsPlaced front item → placed front item ≡ Ok tt
-unfolding placed
+pub placed_is : (front : List RecordValue) (item : ItemValue) → AreRecords front → IsPlaced front item → check_place front item ≡ Ok tt
+unfolding check_place
 placed_is front item are h =
-    bind_is (tested (is_behind (slice_get front (length front - 1)) item.key) (KeyOrder (length front))) _ tt (tested_is _ _ ((behind front item.key (slice_get front (length front - 1)) are refl).1 h.above))
+    bind_is (demand (is_behind (slice_get front (length front - 1)) item.key) (KeyOrder (length front))) _ tt (tested_is _ _ ((behind front item.key (slice_get front (length front - 1)) are refl).1 h.above))
     ∙ tested_is _ _ (is_same (is_input_mark item.mark) (is_input (kind_of item.key)) h.marked)
 
 -- ---- the result
@@ -153,7 +153,7 @@ record Printed (p : List ℕ) (r : Result Value Refusal) (v : Value) : Type 0 wh
   pub value : r ≡ Ok v
   pub print : p ≡ print_of v
 
-printed_is : (print : List ℕ) (r : Result Value Refusal) (v : Value) → printed print r ≡ Some v → Printed print r v
+printed_is : (print : List ℕ) (r : Result Value Refusal) (v : Value) → value_with_print print r ≡ Some v → Printed print r v
 printed_is print (Ok w) v e =
     let k = kept (bytes_eq print (print_of w)) (Some w) v e in
     let is = some_is w v k.1 in
@@ -170,11 +170,11 @@ result_takes i kind bytes v rest fits e =
     let a = bind_ok (bytes_at 32 bytes) _ (v, rest) e in
     let b = bind_ok (whole (eight_at a.0.1)) _ (v, rest) a.2 in
     let c = bind_ok (bytes_at b.0.0 b.0.1) _ (v, rest) b.2 in
-    let t = there_ok (BadResult i) (printed a.0.0 (decoded kind c.0.0)) c.0.1 v rest c.2 in
+    let t = there_ok (BadResult i) (value_with_print a.0.0 (decoding kind c.0.0)) c.0.1 v rest c.2 in
     let ta = bytes_takes 32 bytes a.0.0 a.0.1 fits a.1 in
     let tb = number_takes lawful_eight a.0.1 b.0.0 b.0.1 ta.0.rest_fits b.1 in
     let tc = bytes_takes b.0.0 b.0.1 c.0.0 c.0.1 tb.0.rest_fits c.1 in
-    let p = printed_is a.0.0 (decoded kind c.0.0) v t.0 in
+    let p = printed_is a.0.0 (decoding kind c.0.0) v t.0 in
     let d = decoded_takes kind c.0.0 v tc.2 p.value in
     let size : length (canon v) ≡ b.0.0 = ap (λ (xs : List ℕ). length xs) (sym d.2) ∙ tc.1 in
     let all = Takes-then bytes a.0.0 a.0.1 (eight b.0.0 ++ c.0.0) c.0.1 ta.0 (Takes-then a.0.1 (eight b.0.0) b.0.1 c.0.0 c.0.1 tb.0 tc.0) in
@@ -191,10 +191,10 @@ print_length : (v : Value) → length (print_of v) ≡ 32
 unfolding print_of
 print_length v = length-sha256 (canon v)
 
-is_printed : (v : Value) (r : Result Value Refusal) → r ≡ Ok v → printed (print_of v) r ≡ Some v
+is_printed : (v : Value) (r : Result Value Refusal) → r ≡ Ok v → value_with_print (print_of v) r ≡ Some v
 is_printed v r e =
     let same : bytes_eq (print_of v) (print_of v) ≡ true = (bytes_eq-Decides (print_of v) (print_of v)).1 refl in
-    ap (printed (print_of v)) e ∙ rw same refl
+    ap (value_with_print (print_of v)) e ∙ rw same refl
 
 pub result_again : (i : ℕ) (kind : Kind) (v : Value) (rest : List ℕ) → ResultFits kind v → result_at i kind (result_bytes v ++ rest) ≡ Ok (v, rest)
 unfolding result_at
@@ -203,7 +203,7 @@ result_again i kind v rest h =
     ∙ bind_is (bytes_at 32 (print_of v ++ (eight (length (canon v)) ++ (canon v ++ rest)))) _ (print_of v, eight (length (canon v)) ++ (canon v ++ rest)) (bytes_again 32 (print_of v) _ (print_length v))
     ∙ bind_is (whole (eight_at (eight (length (canon v)) ++ (canon v ++ rest)))) _ (length (canon v), canon v ++ rest) (number_again lawful_eight (length (canon v)) (canon v ++ rest) h.size)
     ∙ bind_is (bytes_at (length (canon v)) (canon v ++ rest)) _ (canon v, rest) (bytes_again (length (canon v)) (canon v) rest refl)
-    ∙ ap (λ (o : Option Value). there (BadResult i) o rest) (is_printed v (decoded kind (canon v)) (decoded_at kind (canon v) v h.value h.kind refl))
+    ∙ ap (λ (o : Option Value). there (BadResult i) o rest) (is_printed v (decoding kind (canon v)) (decoded_at kind (canon v) v h.value h.kind refl))
 
 -- ---- a record
 
@@ -247,7 +247,7 @@ pub record_takes : (front : List RecordValue) (bytes : List ℕ) (r : RecordValu
 unfolding record_at
 record_takes front bytes r rest are fits e =
     let a = bind_ok (item_at (length front) bytes) _ (r, rest) e in
-    let p = bind_ok (placed front a.0.0) _ (r, rest) a.2 in
+    let p = bind_ok (check_place front a.0.0) _ (r, rest) a.2 in
     let b = bind_ok (rest_at front a.0.0.key a.0.1) _ (r, rest) p.2 in
     let ta = item_takes (length front) bytes a.0.0 a.0.1 fits a.1 in
     let tp = placed_ok front a.0.0 p.0 are p.1 in
@@ -273,5 +273,5 @@ record_again front r rest few are h =
     let regrouped : record_bytes r ++ rest ≡ item_bytes item ++ (rest_bytes r.edges r.value ++ rest) = ap (λ (xs : List ℕ). xs ++ rest) (sym (record_parts r.key r.mark r.edges r.value)) ∙ append_assoc (item_bytes item) (rest_bytes r.edges r.value) rest in
     ap (record_at front) regrouped
     ∙ bind_is (item_at (length front) (item_bytes item ++ (rest_bytes r.edges r.value ++ rest))) _ (item, rest_bytes r.edges r.value ++ rest) (item_again (length front) item (rest_bytes r.edges r.value ++ rest) h.kept.names)
-    ∙ bind_is (placed front item) _ tt (placed_is front item are (record { above = h.above; marked = h.marked }))
+    ∙ bind_is (check_place front item) _ tt (placed_is front item are (record { above = h.above; marked = h.marked }))
     ∙ bind_is (rest_at front r.key (rest_bytes r.edges r.value ++ rest)) _ (tail, rest) (rest_again front r.key tail rest few (record { edges = (h.edges, h.once); few = h.kept.few; result = record { value = h.kept.value; kind = h.kind; size = h.kept.size } }))

@@ -36,23 +36,23 @@ abbrev pub are_names : Kind → Option (List ℕ) → Option (List ℕ) → Bool
 are_names kind class member = same (is_some class) (has_class kind) && same (is_some member) (has_member kind)
 
 -- the key of a kind, with those of the names that the kind has
-abbrev pub named : Kind → List ℕ → List ℕ → Key
-named kinds.Files class member = Files
-named kinds.Source class member = Source class
-named kinds.Tree class member = Tree class
-named kinds.Index class member = Index
-named kinds.Header class member = Header class
-named kinds.Method class member = Method class member
-named kinds.Sig class member = Sig class member
-named kinds.Supers class member = Supers class
-named kinds.Members class member = Members class
-named kinds.CheckClass class member = CheckClass class
-named kinds.CheckBody class member = CheckBody class member
-named kinds.Diags class member = Diags class
-named kinds.Answer class member = Answer
+abbrev pub key_of_parts : Kind → List ℕ → List ℕ → Key
+key_of_parts kinds.Files class member = Files
+key_of_parts kinds.Source class member = Source class
+key_of_parts kinds.Tree class member = Tree class
+key_of_parts kinds.Index class member = Index
+key_of_parts kinds.Header class member = Header class
+key_of_parts kinds.Method class member = Method class member
+key_of_parts kinds.Sig class member = Sig class member
+key_of_parts kinds.Supers class member = Supers class
+key_of_parts kinds.Members class member = Members class
+key_of_parts kinds.CheckClass class member = CheckClass class
+key_of_parts kinds.CheckBody class member = CheckBody class member
+key_of_parts kinds.Diags class member = Diags class
+key_of_parts kinds.Answer class member = Answer
 
 abbrev pub key_of_kind : Kind → List ℕ → List ℕ → Option Key
-key_of_kind kind class member = if are_names kind (name_with class) (name_with member) then Some (named kind class member) else None
+key_of_kind kind class member = if are_names kind (name_with class) (name_with member) then Some (key_of_parts kind class member) else None
 
 abbrev pub key_of_some : Option Kind → List ℕ → List ℕ → Option Key
 key_of_some None class member = None

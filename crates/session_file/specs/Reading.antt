@@ -9,11 +9,11 @@ use Rattle.byte_readers.specs.declared.breach.Breach.{Breach}
 use Rattle.byte_readers.specs.Reading.{byte_at, two_at, four_at, eight_at}
 use Rattle.result_bytes.specs.declared.refusal.Refusal.{Refusal}
 use Rattle.result_bytes.specs.declared.value.Value.{Value}
-use Rattle.result_bytes.specs.Values.{decoded}
+use Rattle.result_bytes.specs.Values.{decoding}
 use Rattle.fingerprint.specs.Prints.{print_of}
 use Rattle.sessions.specs.declared.mark.Mark.{Mark}
 use Rattle.sessions.specs.Marks.{is_input, is_input_mark}
-use Rattle.sessions.specs.Sessions.{RecordValue, SessionValue, rank, key_at}
+use Rattle.sessions.specs.Sessions.{most_number, RecordValue, SessionValue, rank, key_at}
 use Rattle.session_file.specs.declared.fault.FileFault.{FileFault}
 use Rattle.session_file.specs.declared.fault.FileFault.TheVariants.{BadMagic, Version, Truncated, BadDigest, KeyOrder, BadEdge, Result as BadResult, InputKind, Trailing, BadKey, Number, OutOfMemory}
 use Rattle.session_file.specs.declared.stop.Stop.{Stop}
@@ -66,9 +66,9 @@ there fault None rest = Err fault
 there fault (Some a) rest = Ok (a, rest)
 
 -- a test, else a fault
-abbrev pub tested : Bool → FileFault → Result (Unit {0}) FileFault
-tested true fault = Ok tt
-tested false fault = Err fault
+abbrev pub demand : Bool → FileFault → Result (Unit {0}) FileFault
+demand true fault = Ok tt
+demand false fault = Err fault
 
 -- ---- a record behind those in front of it
 
@@ -94,10 +94,10 @@ is_behind None key = true
 is_behind (Some last) key = is_lt (key_cmp last.key key)
 
 -- the key is greater than the one before, and it is an input just where it is marked so
-unfoldable pub placed : List RecordValue → ItemValue → Result (Unit {0}) FileFault
-placed front item = do
-  order ← tested (is_behind (slice_get front (length front - 1)) item.key) (KeyOrder (length front))
-  tested (same (is_input_mark item.mark) (is_input (kind_of item.key))) (InputKind (length front))
+unfoldable pub check_place : List RecordValue → ItemValue → Result (Unit {0}) FileFault
+check_place front item = do
+  order ← demand (is_behind (slice_get front (length front - 1)) item.key) (KeyOrder (length front))
+  demand (same (is_input_mark item.mark) (is_input (kind_of item.key))) (InputKind (length front))
 
 abbrev pub is_among : List ℕ → ℕ → Bool
 is_among [] e = false
@@ -119,9 +119,9 @@ edges_at front key bytes = do
   n ← whole (eight_at bytes)
   edges_from front key [] n.0 n.1
 
-abbrev pub printed : List ℕ → Result Value Refusal → Option Value
-printed print (Ok v) = if bytes_eq print (print_of v) then Some v else None
-printed print (Err refusal) = None
+abbrev pub value_with_print : List ℕ → Result Value Refusal → Option Value
+value_with_print print (Ok v) = if bytes_eq print (print_of v) then Some v else None
+value_with_print print (Err refusal) = None
 
 -- a value of a kind that has the print in front of it
 unfoldable pub result_at : ℕ → Kind → Reader Value
@@ -129,7 +129,7 @@ result_at i kind bytes = do
   print ← bytes_at 32 bytes
   n ← whole (eight_at print.1)
   text ← bytes_at n.0 n.1
-  there (BadResult i) (printed print.0 (decoded kind text.0)) text.1
+  there (BadResult i) (value_with_print print.0 (decoding kind text.0)) text.1
 
 pub record RestValue : Type 0 where
   pub edges : List ℕ
@@ -145,7 +145,7 @@ rest_at front key bytes = do
 unfoldable pub record_at : List RecordValue → Reader RecordValue
 record_at front bytes = do
   item ← item_at (length front) bytes
-  place ← placed front item.0
+  place ← check_place front item.0
   rest ← rest_at front item.0.key item.1
   Ok (record { key = item.0.key; mark = item.0.mark; edges = rest.0.edges; value = rest.0.value }, rest.1)
 
@@ -175,9 +175,9 @@ unfoldable pub head_at : Reader HeadValue
 head_at bytes = do
   rest ← magic_at bytes
   version ← whole (two_at rest)
-  known ← tested (version.0 == 1) Version
+  known ← demand (version.0 == 1) Version
   number ← whole (four_at version.1)
-  small ← tested (nat_le number.0 9999) Number
+  small ← demand (nat_le number.0 most_number) Number
   link ← bytes_at 32 number.1
   count ← whole (eight_at link.1)
   Ok (record { number = number.0; link = link.0; count = count.0 }, count.1)
@@ -186,8 +186,8 @@ head_at bytes = do
 unfoldable pub end_at : List ℕ → List ℕ → Result (Unit {0}) FileFault
 end_at body bytes = do
   digest ← bytes_at 32 bytes
-  right ← tested (bytes_eq digest.0 (sha256 body)) BadDigest
-  tested (length digest.1 == 0) Trailing
+  right ← demand (bytes_eq digest.0 (sha256 body)) BadDigest
+  demand (length digest.1 == 0) Trailing
 
 -- the session whose file the bytes are, or the first breach
 unfoldable pub file_at : List ℕ → Result SessionValue FileFault

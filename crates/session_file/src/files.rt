@@ -5,7 +5,7 @@ ghost use Rattle.sessions.specs.Spelling.{file_of};
 ghost use Rattle.session_file.specs.Reading.{Gives, IsUnlessMemory, end_at, file_at, head_at, magic_at};
 
 use crate::fault::FileFault;
-use crate::parts::{bytes, eight, four, tested, two};
+use crate::parts::{bytes, eight, four, demand, two};
 use crate::records::read_records;
 use crate::results::as_digest;
 use crate::stop::Stop;
@@ -61,9 +61,9 @@ fn read_head(source: &[u8]) -> Result<(Head, &[u8]), Stop>
 {
     let rest = read_magic(source)?;
     let (version, rest) = two(rest)?;
-    tested(version == 1, FileFault::Version)?;
+    demand(version == 1, FileFault::Version)?;
     let (number, rest) = four(rest)?;
-    tested(number <= Session::MOST, FileFault::Number)?;
+    demand(number <= Session::MOST, FileFault::Number)?;
     let (link, rest) = bytes(32, rest)?;
     let (count, rest) = eight(rest)?;
     let head = Head {
@@ -96,6 +96,6 @@ fn check_end(body: &[u8], source: &[u8]) -> Result<(), Stop>
 {
     let (digest, rest) = bytes(32, source)?;
     let print = Print::of(body);
-    tested(digest == print.0.as_slice(), FileFault::BadDigest)?;
-    tested(rest.is_empty(), FileFault::Trailing)
+    demand(digest == print.0.as_slice(), FileFault::BadDigest)?;
+    demand(rest.is_empty(), FileFault::Trailing)
 }

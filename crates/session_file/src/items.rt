@@ -1,6 +1,7 @@
 //! Keys and marks of records.
 ghost use Rattle.std.specs.Prelude.{◌≡◌, ◌≤◌, length, IfOk, IfSome, is_some};
 ghost use Rattle.std.specs.Str.{is_utf8};
+ghost use Rattle.mj_lexer.specs.Bytes.{most_name_bytes};
 ghost use Rattle.session_file.specs.Keys.{key_of_kind, key_with, kind_with, mark_with};
 ghost use Rattle.session_file.specs.Reading.{Gives, item_at, item_with};
 
@@ -51,8 +52,8 @@ fn item_of(
     member: &[u8],
     mark: u8,
 ) -> Result<Option<Item>, AllocError>
-    requires class { length class.now ≤ 255 }
-    requires member { length member.now ≤ 255 }
+    requires class { length class.now ≤ most_name_bytes }
+    requires member { length member.now ≤ most_name_bytes }
     ensures { IfOk result (λ item. item ≡ item_with (key_with kind class.now member.now) (mark_with mark)) }
 {
     let Some(key) = key_of(alloc, kind, class, member)? else {
@@ -81,8 +82,8 @@ fn kind_of_number(number: u8) -> Option<Kind>
 /// The key of the kind of this number, with the names that there are.
 #[tactic(auto, unfolding(crate::specs::Keys::key_with))]
 fn key_of(alloc: Global, kind: u8, class: &[u8], member: &[u8]) -> Result<Option<Key>, AllocError>
-    requires class { length class.now ≤ 255 }
-    requires member { length member.now ≤ 255 }
+    requires class { length class.now ≤ most_name_bytes }
+    requires member { length member.now ≤ most_name_bytes }
     ensures { IfOk result (λ key. key ≡ key_with kind class.now member.now) }
 {
     let Some(kind) = kind_of_number(kind) else {
@@ -101,8 +102,8 @@ fn key_named(
     class: &str,
     member: &str,
 ) -> Result<Option<Key>, AllocError>
-    requires class { length class.now ≤ 255 }
-    requires member { length member.now ≤ 255 }
+    requires class { length class.now ≤ most_name_bytes }
+    requires member { length member.now ≤ most_name_bytes }
     ensures { IfOk result (λ key. key ≡ key_of_kind kind class.now member.now) }
 {
     let class = Name::try_new(alloc, class)?;

@@ -1,7 +1,8 @@
 //! Parts of a file that have a length.
 ghost use Rattle.std.specs.Prelude.{◌≡◌, ◌≤◌, length, IfOk};
+ghost use Rattle.mj_lexer.specs.Bytes.{most_name_bytes};
 ghost use Rattle.byte_readers.specs.Reading.{byte_at, two_at, four_at, eight_at};
-ghost use Rattle.session_file.specs.Reading.{Gives, bytes_at, text_at, tested, whole};
+ghost use Rattle.session_file.specs.Reading.{Gives, bytes_at, text_at, demand, whole};
 
 use crate::fault::FileFault;
 use crate::stop::Stop;
@@ -67,15 +68,15 @@ pub(crate) fn bytes(count: usize, bytes: &[u8]) -> Result<(&[u8], &[u8]), Stop>
 #[tactic(auto, unfolding(crate::specs::Reading::text_at))]
 pub(crate) fn text(source: &[u8]) -> Result<(&[u8], &[u8]), Stop>
     ensures value { Gives (λ x. (x.0.now, x.1.now)) result (text_at source.now) }
-    ensures short { IfOk result (λ x. length x.0.now ≤ 255) }
+    ensures short { IfOk result (λ x. length x.0.now ≤ most_name_bytes) }
 {
     let (count, rest) = byte(source)?;
     bytes(count as usize, rest)
 }
 
 /// A test, else a fault.
-pub(crate) fn tested(holds: bool, fault: FileFault) -> Result<(), Stop>
-    ensures { Gives (λ x. x) result (tested holds fault) }
+pub(crate) fn demand(holds: bool, fault: FileFault) -> Result<(), Stop>
+    ensures { Gives (λ x. x) result (demand holds fault) }
 {
     if holds {
         Ok(())

@@ -3,12 +3,12 @@ ghost use Rattle.std.specs.Prelude.{◌≡◌, false, [], length};
 ghost use Rattle.std.specs.Arc.{arc_value};
 ghost use Rattle.std.specs.List.{AllByRecursion};
 ghost use Rattle.std.specs.Option.{option_copied};
-ghost use Rattle.session_file.specs.Reading.{Gives, is_behind, placed, record_at, records_from, rest_at};
+ghost use Rattle.session_file.specs.Reading.{Gives, is_behind, check_place, record_at, records_from, rest_at};
 
 use crate::edges::read_edges;
 use crate::fault::FileFault;
 use crate::items::{Item, read_item};
-use crate::parts::tested;
+use crate::parts::demand;
 use crate::results::read_result;
 use crate::stop::Stop;
 use fingerprint::Sealed;
@@ -69,15 +69,15 @@ fn read_record<'a>(
 }
 
 /// The key is greater than the one before, and it is an input just where it is marked so.
-#[tactic(auto, unfolding(crate::specs::Reading::placed))]
+#[tactic(auto, unfolding(crate::specs::Reading::check_place))]
 fn check_place(front: &[Record], item: &Item) -> Result<(), Stop>
-    ensures { Gives (λ x. x) result (placed front.now item.now) }
+    ensures { Gives (λ x. x) result (check_place front.now item.now) }
 {
-    tested(
+    demand(
         is_behind(front.last(), &item.key),
         FileFault::KeyOrder(front.len()),
     )?;
-    tested(
+    demand(
         is_marked(item.mark, item.key.kind()),
         FileFault::InputKind(front.len()),
     )

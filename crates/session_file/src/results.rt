@@ -1,8 +1,8 @@
 //! Results of records.
 ghost use Rattle.std.specs.Prelude.{◌≡◌, length, IfOk, IfErr};
 ghost use Rattle.std.specs.Arc.{arc_value};
-ghost use Rattle.result_bytes.specs.Values.{decoded};
-ghost use Rattle.session_file.specs.Reading.{Gives, printed, result_at};
+ghost use Rattle.result_bytes.specs.Values.{decoding};
+ghost use Rattle.session_file.specs.Reading.{Gives, value_with_print, result_at};
 
 use crate::fault::FileFault;
 use crate::parts::{bytes, eight};
@@ -35,7 +35,7 @@ pub(crate) fn read_result(
 /// The value of a kind that the text spells, where it has the print.
 fn open(alloc: Global, kind: Kind, print: &[u8], text: &[u8]) -> Result<Option<Sealed>, Stop>
     requires { length print.now ≡ 32 }
-    ensures value { IfOk result (λ value. value ≡ printed print.now (decoded kind text.now)) }
+    ensures value { IfOk result (λ value. value ≡ value_with_print print.now (decoding kind text.now)) }
     ensures memory { IfErr result (λ stop. stop ≡ Stop.Memory) }
 {
     let print = Print(as_digest(print));

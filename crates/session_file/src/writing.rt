@@ -3,6 +3,7 @@ ghost use Rattle.std.specs.Prelude.{◌≡◌, ◌≤◌, ◌++◌, length, flat
 ghost use Rattle.std.specs.Option.{option_copied};
 ghost use Rattle.sha2.specs.Hashers.{Holds256};
 ghost use Rattle.item_ids.specs.Kinds.{text_of};
+ghost use Rattle.mj_lexer.specs.Bytes.{most_name_bytes};
 ghost use Rattle.byte_readers.specs.Spelling.{eight};
 ghost use Rattle.sessions.specs.Spelling.{body_bytes, digest_of, file_of, head_bytes, record_bytes, result_bytes};
 ghost use Rattle.session_file.specs.Devices.{Counts, Puts};
@@ -142,7 +143,7 @@ fn put_front<W: Sink>(sink: &mut W, item: &Record) -> Result<(), DeviceFault>
 /// The bytes of a name that may be missing.
 fn text(name: Option<&Name>) -> &[u8]
     ensures value { result.now ≡ text_of (option_copied name.entry) }
-    ensures short { length result.now ≤ 255 }
+    ensures short { length result.now ≤ most_name_bytes }
 {
     match name {
         Some(name) => name.bytes(),

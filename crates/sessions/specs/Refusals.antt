@@ -3,7 +3,7 @@ use Rattle.std.specs.Prelude.{◌≡◌, ℕ, ◌+◌, ◌<◌, ◌≤◌, List,
 use Rattle.item_ids.specs.declared.key.Key.{Key}
 use Rattle.sessions.specs.declared.fault.SessionFault.{SessionFault}
 use Rattle.sessions.specs.declared.fault.SessionFault.TheVariants.{Number, KeyOrder, InputKind, BadEdge, Result, OutOfMemory}
-use Rattle.sessions.specs.Sessions.{RecordValue, IsAbove, IsMarked, IsOfKind, AreRecords}
+use Rattle.sessions.specs.Sessions.{RecordValue, IsAbove, IsMarked, IsOfKind, AreRecords, most_number}
 use Rattle.sessions.specs.Edges.{AreEdges}
 
 -- j is the place of the first edge that is none, or was there before
@@ -30,9 +30,9 @@ pub record RefusesRecords (records : List RecordValue) (fault : SessionFault) : 
 
 -- the number is looked at first
 abbrev pub IsRefused : ℕ → List RecordValue → SessionFault → Type 0
-IsRefused number records Number = 9999 < number
-IsRefused number records OutOfMemory = number ≤ 9999
-IsRefused number records fault = (number ≤ 9999) × RefusesRecords records fault
+IsRefused number records Number = most_number < number
+IsRefused number records OutOfMemory = number ≤ most_number
+IsRefused number records fault = (number ≤ most_number) × RefusesRecords records fault
 
 -- a fact, unless memory ran out
 abbrev pub IsUnlessMemory : SessionFault → Type 0 → Type 0

@@ -35,6 +35,10 @@ key_at records i = slice_index_or (map (λ r. r.key) records) i Files
 
 -- ---- what every session keeps
 
+-- the number of the last session of a chain
+abbrev pub most_number : ℕ
+most_number = 9999
+
 -- the key is greater than those of the records in front
 abbrev pub IsAbove : List RecordValue → Key → Type 0
 IsAbove front key = AllByRecursion (λ r. key_cmp r.key key ≡ Less) front
@@ -77,7 +81,7 @@ abbrev pub AreRecords : List RecordValue → Type 0
 AreRecords records = (i : ℕ) (r : RecordValue) → i < length records → FitsBehind (take i records) (slice_index_or records i r)
 
 pub record IsSession (s : SessionValue) : Type 0 where
-  pub number : s.number ≤ 9999
+  pub number : s.number ≤ most_number
   pub link : length s.link ≡ 32
   pub few : length s.records < 2 ^ 64
   pub records : AreRecords s.records

@@ -1,6 +1,6 @@
 //! Sessions.
 ghost use Rattle.std.specs.Prelude.{◌≡◌, ◌≢◌, ◌≤◌, ◌<◌, Some, None, IfOk, IfErr, IfSome, IfNone, MatchOption, All, HoldsAt, length};
-ghost use Rattle.sessions.specs.Sessions.{AreRecords, AreInside, IsSession, entry_at, entry_of};
+ghost use Rattle.sessions.specs.Sessions.{most_number, AreRecords, AreInside, IsSession, entry_at, entry_of};
 ghost use Rattle.sessions.specs.Refusals.{IsRefused};
 
 use crate::checks::check_records;
@@ -61,7 +61,7 @@ impl Session {
 
     /// The session of this number, link and records, which are known to make one.
     pub fn of(number: u32, link: [u8; 32], records: Vec<Record>) -> Session
-        requires number { number ≤ 9999 }
+        requires number { number ≤ most_number }
         requires records { AreRecords records.items }
         ensures { result ≡ record { number = number; link = link; records = records.items } }
     {

@@ -1,15 +1,13 @@
 -- An expression that is read is spelled so, and one that is spelled so is read.
 use Rattle.std.proofs.Common.{◌≡◌, ℕ, zero, suc, ◌^◌, ◌<◌, false, cond, ltb, ◌≤◌, List, [], ◌∷◌, ◌++◌, length, Option, Some, None, Result, Ok, refl, sym, ap, subst, ◌∙◌, append_assoc, arith}
-use Rattle.std.specs.List.{flat_map, AllByRecursion}
-use Rattle.std.proofs.lemmas.List.Concat.{flat_map-cons}
 use Rattle.std.proofs.lemmas.Bool.{ltb-false, le-ltb}
 use Rattle.mj_tree.specs.Trees as trees
 use Rattle.byte_readers.specs.declared.breach.Breach.{Breach}
 use Rattle.byte_readers.specs.declared.breach.Breach.TheVariants.{NotCanonical}
 use Rattle.byte_readers.specs.Spelling.{four, eight, name}
-use Rattle.byte_readers.specs.Reading.{◌>>=◌, Decoder, not_canonical, any, byte_at, four_at, made_at}
+use Rattle.byte_readers.specs.Reading.{◌>>=◌, Decoder, not_canonical, byte_at, four_at, made_at}
 use Rattle.byte_readers.specs.Lawful.{IsBytes, Takes, Lawful}
-use Rattle.byte_readers.specs.Laws.{IsBytes-rest, bind_ok, guard_ok, ok_is, Takes-then, takes_nothing, made_takes, made_again, lawful_four, lawful_name, lawful_pair, lawful_list, lawful_made, lawful_as, lawful_where, any_admits}
+use Rattle.byte_readers.specs.Laws.{IsBytes-rest, bind_ok, guard_ok, ok_is, Takes-then, takes_nothing, made_takes, made_again, lawful_four, lawful_name, lawful_pair}
 use Rattle.mj_tree.specs.Trees.{Expression, Expressions, none, more}
 use Rattle.mj_tree.specs.Views.{expressions_of}
 use Rattle.tree_bytes.specs.declared.tag.ExpTag.{ExpTag}
@@ -20,51 +18,39 @@ use Rattle.tree_bytes.specs.Tags.{exp_byte, exp_tag_of}
 use Rattle.tree_bytes.specs.TagLaws.{exp_byte_is, exp_tag_back}
 use Rattle.tree_bytes.specs.Spelling.{node, exp, exps, count_exps}
 use Rattle.tree_bytes.specs.Storable.{ExpFits, ExpsFit}
+use Rattle.tree_bytes.specs.ListLaws.{IsListType, lawful_items}
 use Rattle.mj_lexer.specs.Bytes.{greatest_literal}
-use Rattle.tree_bytes.specs.Reading.{literal_at, exps_at, exp_body_at, exp_tagged, exp_at}
+use Rattle.tree_bytes.specs.Reading.{literal_at, exps_at, exp_body_at, exp_behind_tag, exp_at}
 
 -- ---- lists of expressions
 
 list_of : Expressions → List Expression
 list_of none = []
-list_of (more t ts) = t ∷ list_of ts
+list_of (more e es) = e ∷ list_of es
 
-of_list_of : (ts : Expressions) → expressions_of (list_of ts) ≡ ts
+of_list_of : (es : Expressions) → expressions_of (list_of es) ≡ es
 unfolding list_of
 of_list_of none = refl
-of_list_of (more t ts) = ap (more t) (of_list_of ts)
+of_list_of (more e es) = ap (more e) (of_list_of es)
 
-list_of_of : (ts : List Expression) → list_of (expressions_of ts) ≡ ts
+are_listed : (room : ℕ) → IsListType expressions_of exp exps count_exps (ExpFits room) (ExpsFit room)
 unfolding list_of
-list_of_of [] = refl
-list_of_of (t ∷ ts) = ap (λ (l : List Expression). t ∷ l) (list_of_of ts)
-
-length_list_of : (ts : Expressions) → length (list_of ts) ≡ count_exps ts
-unfolding list_of
-length_list_of none = refl
-length_list_of (more t ts) = ap (λ (n : ℕ). suc n) (length_list_of ts)
-
-spelled_list_of : (ts : Expressions) → exps ts ≡ flat_map exp (list_of ts)
-unfolding list_of
-spelled_list_of none = refl
-spelled_list_of (more t ts) = ap (λ (x : List ℕ). exp t ++ x) (spelled_list_of ts) ∙ sym (flat_map-cons exp t (list_of ts))
-
-fits_list_of : (room : ℕ) (ts : Expressions) → AllByRecursion (ExpFits room) (list_of ts) → ExpsFit room ts
-unfolding list_of
-fits_list_of room none h = tt
-fits_list_of room (more t ts) h = (h.0, fits_list_of room ts h.1)
-
-all_list_of : (room : ℕ) (ts : Expressions) → ExpsFit room ts → AllByRecursion (ExpFits room) (list_of ts)
-unfolding list_of
-all_list_of room none h = tt
-all_list_of room (more t ts) h = (h.0, all_list_of room ts h.1)
+are_listed room = record {
+  list_of = list_of;
+  there = of_list_of;
+  none_of = refl;
+  more_of = λ e es. refl;
+  spell_none = refl;
+  spell_more = λ e es. refl;
+  count_none = refl;
+  count_more = λ e es. refl;
+  fit_none = tt;
+  fit_more = λ e es fits all. (fits, all);
+  fit_parts = λ e es all. all;
+}
 
 pub lawful_exps : (room : ℕ) {part : Decoder Expression} → Lawful part exp (ExpFits room) → Lawful (exps_at part) (λ es. eight (count_exps es) ++ exps es) (λ es. (count_exps es < 2 ^ 64) × ExpsFit room es)
-lawful_exps room law =
-    lawful_where
-    (lawful_as (lawful_made (lawful_list law any) expressions_of list_of list_of_of of_list_of) (λ es. eight (count_exps es) ++ exps es) (λ es. rw (sym (length_list_of es), spelled_list_of es) refl))
-    (λ es h. (omega (arith, length_list_of es, h.few), fits_list_of room es h.fit))
-    (λ es h. record { few = omega (arith, length_list_of es, h.0); fit = all_list_of room es h.1; admitted = any_admits [] (list_of es) })
+lawful_exps room law = lawful_items (are_listed room) law
 
 -- ---- literals
 
@@ -119,7 +105,7 @@ body_takes room part law tags.Variable mark lt bytes t rest fits e = body_made l
 body_takes room part law tags.This mark lt bytes t rest fits e = body_leaf (trees.This mark) room tags.This mark refl lt bytes t rest fits e
 body_takes room part law tags.NewObject mark lt bytes t rest fits e = body_made lawful_name (trees.NewObject mark) room tags.NewObject mark (λ _. refl) (λ a h. (lt, h)) bytes t rest fits e
 
-tagged_takes : (room : ℕ) (part : Decoder Expression) (law : Lawful part exp (ExpFits room)) (whole : List ℕ) (b : ℕ) (o : Option ExpTag) → exp_tag_of b ≡ o → (bytes : List ℕ) (t : Expression) (rest : List ℕ) → IsBytes bytes → exp_tagged part whole o bytes ≡ Ok (t, rest) → Takes (b ∷ bytes) (exp t) rest × ExpFits (suc room) t
+tagged_takes : (room : ℕ) (part : Decoder Expression) (law : Lawful part exp (ExpFits room)) (whole : List ℕ) (b : ℕ) (o : Option ExpTag) → exp_tag_of b ≡ o → (bytes : List ℕ) (t : Expression) (rest : List ℕ) → IsBytes bytes → exp_behind_tag part whole o bytes ≡ Ok (t, rest) → Takes (b ∷ bytes) (exp t) rest × ExpFits (suc room) t
 tagged_takes room part law whole b None is bytes t rest fits e = absurd cc
 tagged_takes room part law whole b (Some tag) is bytes t rest fits e =
     let a = bind_ok (four_at bytes) (λ mark. exp_body_at part tag mark.0 mark.1) (t, rest) e in
@@ -131,7 +117,7 @@ tagged_takes room part law whole b (Some tag) is bytes t rest fits e =
 
 -- an expression whose parts are read so
 spelled_at : Decoder Expression → List ℕ → Result (Expression × List ℕ) Breach
-spelled_at part bytes = byte_at bytes >>= λ tag. exp_tagged part bytes (exp_tag_of tag.0) tag.1
+spelled_at part bytes = byte_at bytes >>= λ tag. exp_behind_tag part bytes (exp_tag_of tag.0) tag.1
 
 exp_takes : (room : ℕ) (part : Decoder Expression) (law : Lawful part exp (ExpFits room)) (bytes : List ℕ) (t : Expression) (rest : List ℕ) → IsBytes bytes → spelled_at part bytes ≡ Ok (t, rest) → Takes bytes (exp t) rest × ExpFits (suc room) t
 unfolding spelled_at
@@ -143,8 +129,8 @@ at_body : (part : Decoder Expression) (tag : ExpTag) (mark : ℕ) (text rest : L
 unfolding spelled_at
 at_body part tag mark text rest lt =
     let whole = node (exp_byte tag) mark text ++ rest in
-    ap (λ (o : Option ExpTag). exp_tagged part whole o ((four mark ++ text) ++ rest)) (exp_tag_back tag)
-    ∙ ap (exp_tagged part whole (Some tag)) (append_assoc (four mark) text rest) ∙ rw (lawful_four.again mark (text ++ rest) lt) refl
+    ap (λ (o : Option ExpTag). exp_behind_tag part whole o ((four mark ++ text) ++ rest)) (exp_tag_back tag)
+    ∙ ap (exp_behind_tag part whole (Some tag)) (append_assoc (four mark) text rest) ∙ rw (lawful_four.again mark (text ++ rest) lt) refl
 
 exp_again : (room : ℕ) (part : Decoder Expression) (law : Lawful part exp (ExpFits room)) (t : Expression) (rest : List ℕ) → ExpFits (suc room) t → spelled_at part (exp t ++ rest) ≡ Ok (t, rest)
 exp_again room part law (trees.Binary operator mark left right) rest h = at_body part (tags.Two (twos.Binary operator)) mark (exp left ++ exp right) rest h.0 ∙ made_again (lawful_pair law law) (λ x. trees.Binary operator mark x.0 x.1) (left, right) rest h.1

@@ -54,17 +54,17 @@ tagged_takes (zero ∷ bytes) m rest fits e = absurd cc
 tagged_takes (suc zero ∷ bytes) m rest fits e = let t = lawful_method.takes bytes m rest (IsBytes-rest 1 bytes fits) e in (takes_behind 1 bytes (method m) rest t.0, t.1)
 tagged_takes (suc (suc b) ∷ bytes) m rest fits e = absurd cc
 
-lawful_tagged : Lawful tagged_method_at tagged_method MethodFits
+pub lawful_tagged : Lawful tagged_method_at tagged_method MethodFits
 unfolding tagged_method_at
 lawful_tagged = record { takes = tagged_takes; again = λ m rest h. lawful_method.again m rest h }
 
-lawful_main : Lawful main_at main MainFits
+pub lawful_main : Lawful main_at main MainFits
 unfolding main_at
 lawful_main =
     lawful_where (lawful_made (lawful_pair lawful_name lawful_top_stmt) main_of (λ m. (m.name, m.statement)) (λ _. refl) (λ _. refl))
     (λ m h. record { name = h.0; statement = h.1 }) (λ m h. (h.name, h.statement))
 
-lawful_class : Lawful class_at class ClassFits
+pub lawful_class : Lawful class_at class ClassFits
 unfolding class_at class
 lawful_class =
     lawful_where

@@ -7,6 +7,7 @@ pub mod Bodies
 pub mod BodyViews
 pub mod TagLaws
 pub mod TypeLaws
+pub mod ListLaws
 pub mod ExpLaws
 pub mod StmtLaws
 pub mod FileLaws

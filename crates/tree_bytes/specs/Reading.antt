@@ -73,16 +73,16 @@ exp_body_at part tags.Variable mark bytes = made_at (trees.Named mark) name_at b
 exp_body_at part tags.This mark bytes = Ok (trees.This mark, bytes)
 exp_body_at part tags.NewObject mark bytes = made_at (trees.NewObject mark) name_at bytes
 
-abbrev pub exp_tagged : Decoder Expression → List ℕ → Option ExpTag → Decoder Expression
-exp_tagged part bytes None rest = not_canonical bytes
-exp_tagged part bytes (Some tag) rest = do
+abbrev pub exp_behind_tag : Decoder Expression → List ℕ → Option ExpTag → Decoder Expression
+exp_behind_tag part bytes None rest = not_canonical bytes
+exp_behind_tag part bytes (Some tag) rest = do
   mark ← four_at rest
   exp_body_at part tag mark.0 mark.1
 
 -- an expression of no more than so many levels
 unfoldable pub exp_at : ℕ → Decoder Expression
 exp_at zero bytes = byte_at bytes >>= λ tag. not_canonical bytes
-exp_at (suc room) bytes = byte_at bytes >>= λ tag. exp_tagged (exp_at room) bytes (exp_tag_of tag.0) tag.1
+exp_at (suc room) bytes = byte_at bytes >>= λ tag. exp_behind_tag (exp_at room) bytes (exp_tag_of tag.0) tag.1
 
 -- what stands behind a tag and a mark
 abbrev pub stmt_body_at : Decoder Expression → Decoder Statement → StmtTag → ℕ → Decoder Statement
@@ -93,16 +93,16 @@ stmt_body_at value part statements.Print mark bytes = made_at (trees.Print mark)
 stmt_body_at value part statements.Assign mark bytes = made_at (λ x. trees.Assign mark x.0 x.1.0 x.1.1) (pair_at name_at (pair_at four_at value)) bytes
 stmt_body_at value part statements.Store mark bytes = made_at (λ x. trees.Store mark x.0 x.1.0 x.1.1.0 x.1.1.1) (pair_at name_at (pair_at four_at (pair_at value value))) bytes
 
-abbrev pub stmt_tagged : Decoder Expression → Decoder Statement → List ℕ → Option StmtTag → Decoder Statement
-stmt_tagged value part bytes None rest = not_canonical bytes
-stmt_tagged value part bytes (Some tag) rest = do
+abbrev pub stmt_behind_tag : Decoder Expression → Decoder Statement → List ℕ → Option StmtTag → Decoder Statement
+stmt_behind_tag value part bytes None rest = not_canonical bytes
+stmt_behind_tag value part bytes (Some tag) rest = do
   mark ← four_at rest
   stmt_body_at value part tag mark.0 mark.1
 
 -- a statement of no more than so many levels
 unfoldable pub stmt_at : ℕ → Decoder Statement
 stmt_at zero bytes = byte_at bytes >>= λ tag. not_canonical bytes
-stmt_at (suc room) bytes = byte_at bytes >>= λ tag. stmt_tagged (exp_at room) (stmt_at room) bytes (stmt_tag_of tag.0) tag.1
+stmt_at (suc room) bytes = byte_at bytes >>= λ tag. stmt_behind_tag (exp_at room) (stmt_at room) bytes (stmt_tag_of tag.0) tag.1
 
 -- a statement and an expression of level 1
 unfoldable pub top_stmt_at : Decoder Statement

@@ -1,13 +1,11 @@
 -- A statement that is read is spelled so, and one that is spelled so is read.
-use Rattle.std.proofs.Common.{◌≡◌, ℕ, zero, suc, ◌^◌, ◌<◌, List, [], ◌∷◌, ◌++◌, length, Option, Some, None, Result, Ok, refl, sym, ap, subst, ◌∙◌, append_assoc, arith}
-use Rattle.std.specs.List.{flat_map, AllByRecursion}
-use Rattle.std.proofs.lemmas.List.Concat.{flat_map-cons}
+use Rattle.std.proofs.Common.{◌≡◌, ℕ, zero, suc, ◌^◌, ◌<◌, List, [], ◌∷◌, ◌++◌, Option, Some, None, Result, Ok, refl, sym, ap, subst, ◌∙◌, append_assoc}
 use Rattle.mj_tree.specs.Trees as trees
 use Rattle.byte_readers.specs.declared.breach.Breach.{Breach}
 use Rattle.byte_readers.specs.Spelling.{four, eight, name}
-use Rattle.byte_readers.specs.Reading.{◌>>=◌, Decoder, any, byte_at, four_at, made_at}
+use Rattle.byte_readers.specs.Reading.{◌>>=◌, Decoder, byte_at, four_at, made_at}
 use Rattle.byte_readers.specs.Lawful.{IsBytes, Takes, Lawful}
-use Rattle.byte_readers.specs.Laws.{IsBytes-rest, bind_ok, Takes-then, made_takes, made_again, lawful_four, lawful_name, lawful_pair, lawful_list, lawful_made, lawful_as, lawful_where, any_admits}
+use Rattle.byte_readers.specs.Laws.{IsBytes-rest, bind_ok, Takes-then, made_takes, made_again, lawful_four, lawful_name, lawful_pair}
 use Rattle.mj_tree.specs.Trees.{Statement, Statements, done, next}
 use Rattle.mj_tree.specs.Views.{statements_of}
 use Rattle.tree_bytes.specs.declared.tag.StmtTag.{StmtTag}
@@ -16,51 +14,39 @@ use Rattle.tree_bytes.specs.Tags.{stmt_byte, stmt_tag_of}
 use Rattle.tree_bytes.specs.TagLaws.{stmt_byte_is, stmt_tag_back}
 use Rattle.tree_bytes.specs.Spelling.{node, exp, stmt, stmts, count_stmts}
 use Rattle.tree_bytes.specs.Storable.{StmtFits, StmtsFit}
-use Rattle.tree_bytes.specs.Reading.{stmts_at, stmt_body_at, stmt_tagged, exp_at, stmt_at}
+use Rattle.tree_bytes.specs.Reading.{stmts_at, stmt_body_at, stmt_behind_tag, exp_at, stmt_at}
+use Rattle.tree_bytes.specs.ListLaws.{IsListType, lawful_items}
 use Rattle.tree_bytes.specs.ExpLaws.{lawful_exp}
 
 -- ---- lists of statements
 
 list_of : Statements → List Statement
 list_of done = []
-list_of (next t ts) = t ∷ list_of ts
+list_of (next s ss) = s ∷ list_of ss
 
-of_list_of : (ts : Statements) → statements_of (list_of ts) ≡ ts
+of_list_of : (ss : Statements) → statements_of (list_of ss) ≡ ss
 unfolding list_of
 of_list_of done = refl
-of_list_of (next t ts) = ap (next t) (of_list_of ts)
+of_list_of (next s ss) = ap (next s) (of_list_of ss)
 
-list_of_of : (ts : List Statement) → list_of (statements_of ts) ≡ ts
+are_listed : (room : ℕ) → IsListType statements_of stmt stmts count_stmts (StmtFits room) (StmtsFit room)
 unfolding list_of
-list_of_of [] = refl
-list_of_of (t ∷ ts) = ap (λ (l : List Statement). t ∷ l) (list_of_of ts)
-
-length_list_of : (ts : Statements) → length (list_of ts) ≡ count_stmts ts
-unfolding list_of
-length_list_of done = refl
-length_list_of (next t ts) = ap (λ (n : ℕ). suc n) (length_list_of ts)
-
-spelled_list_of : (ts : Statements) → stmts ts ≡ flat_map stmt (list_of ts)
-unfolding list_of
-spelled_list_of done = refl
-spelled_list_of (next t ts) = ap (λ (x : List ℕ). stmt t ++ x) (spelled_list_of ts) ∙ sym (flat_map-cons stmt t (list_of ts))
-
-fits_list_of : (room : ℕ) (ts : Statements) → AllByRecursion (StmtFits room) (list_of ts) → StmtsFit room ts
-unfolding list_of
-fits_list_of room done h = tt
-fits_list_of room (next t ts) h = (h.0, fits_list_of room ts h.1)
-
-all_list_of : (room : ℕ) (ts : Statements) → StmtsFit room ts → AllByRecursion (StmtFits room) (list_of ts)
-unfolding list_of
-all_list_of room done h = tt
-all_list_of room (next t ts) h = (h.0, all_list_of room ts h.1)
+are_listed room = record {
+  list_of = list_of;
+  there = of_list_of;
+  none_of = refl;
+  more_of = λ s ss. refl;
+  spell_none = refl;
+  spell_more = λ s ss. refl;
+  count_none = refl;
+  count_more = λ s ss. refl;
+  fit_none = tt;
+  fit_more = λ s ss fits all. (fits, all);
+  fit_parts = λ s ss all. all;
+}
 
 pub lawful_stmts : (room : ℕ) {part : Decoder Statement} → Lawful part stmt (StmtFits room) → Lawful (stmts_at part) (λ ss. eight (count_stmts ss) ++ stmts ss) (λ ss. (count_stmts ss < 2 ^ 64) × StmtsFit room ss)
-lawful_stmts room law =
-    lawful_where
-    (lawful_as (lawful_made (lawful_list law any) statements_of list_of list_of_of of_list_of) (λ ss. eight (count_stmts ss) ++ stmts ss) (λ ss. rw (sym (length_list_of ss), spelled_list_of ss) refl))
-    (λ ss h. (omega (arith, length_list_of ss, h.few), fits_list_of room ss h.fit))
-    (λ ss h. record { few = omega (arith, length_list_of ss, h.0); fit = all_list_of room ss h.1; admitted = any_admits [] (list_of ss) })
+lawful_stmts room law = lawful_items (are_listed room) law
 
 -- ---- one level
 
@@ -87,7 +73,7 @@ body_takes room part law tags.Assign mark lt bytes t rest fits e =
 body_takes room part law tags.Store mark lt bytes t rest fits e =
     body_made (lawful_pair lawful_name (lawful_pair lawful_four (lawful_pair (lawful_exp room) (lawful_exp room)))) (λ x. trees.Store mark x.0 x.1.0 x.1.1.0 x.1.1.1) room tags.Store mark (λ _. refl) (λ a h. (lt, h)) bytes t rest fits e
 
-tagged_takes : (room : ℕ) (part : Decoder Statement) (law : Lawful part stmt (StmtFits room)) (whole : List ℕ) (b : ℕ) (o : Option StmtTag) → stmt_tag_of b ≡ o → (bytes : List ℕ) (t : Statement) (rest : List ℕ) → IsBytes bytes → stmt_tagged (exp_at room) part whole o bytes ≡ Ok (t, rest) → Takes (b ∷ bytes) (stmt t) rest × StmtFits (suc room) t
+tagged_takes : (room : ℕ) (part : Decoder Statement) (law : Lawful part stmt (StmtFits room)) (whole : List ℕ) (b : ℕ) (o : Option StmtTag) → stmt_tag_of b ≡ o → (bytes : List ℕ) (t : Statement) (rest : List ℕ) → IsBytes bytes → stmt_behind_tag (exp_at room) part whole o bytes ≡ Ok (t, rest) → Takes (b ∷ bytes) (stmt t) rest × StmtFits (suc room) t
 tagged_takes room part law whole b None is bytes t rest fits e = absurd cc
 tagged_takes room part law whole b (Some tag) is bytes t rest fits e =
     let a = bind_ok (four_at bytes) (λ mark. stmt_body_at (exp_at room) part tag mark.0 mark.1) (t, rest) e in
@@ -99,7 +85,7 @@ tagged_takes room part law whole b (Some tag) is bytes t rest fits e =
 
 -- a statement whose parts are read so
 spelled_at : ℕ → Decoder Statement → List ℕ → Result (Statement × List ℕ) Breach
-spelled_at room part bytes = byte_at bytes >>= λ tag. stmt_tagged (exp_at room) part bytes (stmt_tag_of tag.0) tag.1
+spelled_at room part bytes = byte_at bytes >>= λ tag. stmt_behind_tag (exp_at room) part bytes (stmt_tag_of tag.0) tag.1
 
 stmt_takes : (room : ℕ) (part : Decoder Statement) (law : Lawful part stmt (StmtFits room)) (bytes : List ℕ) (t : Statement) (rest : List ℕ) → IsBytes bytes → spelled_at room part bytes ≡ Ok (t, rest) → Takes bytes (stmt t) rest × StmtFits (suc room) t
 unfolding spelled_at
@@ -111,8 +97,8 @@ at_body : (room : ℕ) (part : Decoder Statement) (tag : StmtTag) (mark : ℕ) (
 unfolding spelled_at
 at_body room part tag mark text rest lt =
     let whole = node (stmt_byte tag) mark text ++ rest in
-    ap (λ (o : Option StmtTag). stmt_tagged (exp_at room) part whole o ((four mark ++ text) ++ rest)) (stmt_tag_back tag)
-    ∙ ap (stmt_tagged (exp_at room) part whole (Some tag)) (append_assoc (four mark) text rest) ∙ rw (lawful_four.again mark (text ++ rest) lt) refl
+    ap (λ (o : Option StmtTag). stmt_behind_tag (exp_at room) part whole o ((four mark ++ text) ++ rest)) (stmt_tag_back tag)
+    ∙ ap (stmt_behind_tag (exp_at room) part whole (Some tag)) (append_assoc (four mark) text rest) ∙ rw (lawful_four.again mark (text ++ rest) lt) refl
 
 stmt_again : (room : ℕ) (part : Decoder Statement) (law : Lawful part stmt (StmtFits room)) (t : Statement) (rest : List ℕ) → StmtFits (suc room) t → spelled_at room part (stmt t ++ rest) ≡ Ok (t, rest)
 stmt_again room part law (trees.Block mark body) rest h = at_body room part tags.Block mark (eight (count_stmts body) ++ stmts body) rest h.0 ∙ made_again (lawful_stmts room law) (trees.Block mark) body rest h.1

@@ -7,6 +7,7 @@ ghost use Rattle.tree_bytes.specs.Reading.{literal_at, two_of, one_of, exp_at, e
 
 use crate::tag::{ExpTag, OnePart, TwoParts, exp_tag_of};
 use byte_readers::{ReadError, not_canonical, read_byte, read_eight, read_four, read_name};
+use mj_lexer::GREATEST_LITERAL;
 use mj_tree::{Exp, MOST_LEVELS};
 use std::alloc::Global;
 
@@ -197,7 +198,7 @@ fn read_literal(mark: usize, bytes: &[u8]) -> Result<(Exp, &[u8]), ReadError>
         (made_at (Literal mark) literal_at bytes.now) }
 {
     let (value, rest) = read_four(bytes)?;
-    if value > 2147483648 {
+    if u64::from(value) > GREATEST_LITERAL {
         return Err(not_canonical(bytes));
     }
     Ok((Exp::Literal { mark, value }, rest))

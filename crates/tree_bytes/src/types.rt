@@ -60,8 +60,14 @@ impl Format for TypeFormat {
     ghost use Rattle.tree_bytes.specs.Storable.{TyFits};
     ghost use Rattle.tree_bytes.specs.Reading.{ty_at};
     ghost use Rattle.tree_bytes.specs.TypeLaws.{lawful_ty};
+    ghost use Rattle.mj_tree.specs.declared.tree.Ty.{Ty};
+    ghost use Rattle.byte_readers.specs.Views.{plain};
 
     type Item = Ty;
+
+    ghost Seen = { Ty };
+
+    ghost view = { plain };
 
     ghost is_storable = { λ _. Unit {0} };
 
@@ -94,8 +100,14 @@ impl Format for FieldFormat {
     ghost use Rattle.tree_bytes.specs.Storable.{FieldFits};
     ghost use Rattle.tree_bytes.specs.Reading.{field_at};
     ghost use Rattle.tree_bytes.specs.TypeLaws.{lawful_field};
+    ghost use Rattle.mj_tree.specs.declared.tree.Field.{Field};
+    ghost use Rattle.byte_readers.specs.Views.{plain};
 
     type Item = Field;
+
+    ghost Seen = { Field };
+
+    ghost view = { plain };
 
     ghost is_storable = { λ _. Unit {0} };
 

@@ -14,8 +14,14 @@ impl Format for VariableFormat {
     ghost use Rattle.tree_bytes.specs.Storable.{VariableFits, IsMark};
     ghost use Rattle.tree_bytes.specs.Reading.{variable_at};
     ghost use Rattle.tree_bytes.specs.TypeLaws.{lawful_variable};
+    ghost use Rattle.mj_tree.specs.declared.tree.Variable.{Variable};
+    ghost use Rattle.byte_readers.specs.Views.{plain};
 
     type Item = Variable;
+
+    ghost Seen = { Variable };
+
+    ghost view = { plain };
 
     ghost is_storable = { λ v. IsMark v.mark };
 

@@ -1,11 +1,12 @@
 //! Writing trees.
-ghost use Rattle.std.specs.Prelude.{◌≡◌, ◌++◌, ◌∷◌, List, length, map, option_map, OnOk};
+ghost use Rattle.std.specs.Prelude.{◌≡◌, ◌++◌, ◌∷◌, OnOk};
 ghost use Rattle.mj_tree.specs.Trees.{Call, If, While, Assign, Store};
 ghost use Rattle.mj_tree.specs.Views.{exp_view, exps_view, stmt_view, stmts_view, method_view, main_view, class_view, file_view};
-ghost use Rattle.byte_readers.specs.Spelling.{name, four, eight, option, list};
+ghost use Rattle.byte_readers.specs.Spelling.{name, four, eight};
 ghost use Rattle.tree_bytes.specs.Tags.{operator_byte, boolean_byte};
-ghost use Rattle.tree_bytes.specs.Spelling.{node, exp, exps, stmt, stmts, count_exps, count_stmts, method, tagged_method, main, class, file};
+ghost use Rattle.tree_bytes.specs.Spelling.{node, exp, exps, stmt, stmts, count_exps, count_stmts, method, main, class, file};
 
+use crate::formats::{ClassTreeFormat, MainFormat, MethodFormat};
 use crate::types::{FieldFormat, put_ty};
 use crate::variables::VariableFormat;
 use byte_readers::{NameFormat, put_eight, put_four, put_list, put_name, put_option};
@@ -300,51 +301,23 @@ pub fn put_method(out: &mut Vec<u8>, m: &MethodTree) -> Result<(), AllocError>
     put_four(out, m.return_mark)
 }
 
-fn put_methods(out: &mut Vec<u8>, ms: &[MethodTree]) -> Result<(), AllocError>
-    ensures { OnOk result
-        (out.new.items ≡ out.old.items ++ list tagged_method (map method_view ms.now)) }
+/// Writes a main class.
+pub fn put_main(out: &mut Vec<u8>, m: &MainTree) -> Result<(), AllocError>
+    ensures { OnOk result (out.new.items ≡ out.old.items ++ main (main_view m.now)) }
 {
-    put_eight(out, ms.len())?;
-    for m in ms {
-        out.push(0x01)?;
-        put_method(out, m)?;
-    }
-    Ok(())
+    put_name(out, &m.name)?;
+    put_stmt(out, &m.statement)
 }
 
-fn put_main(out: &mut Vec<u8>, m: &Option<MainTree>) -> Result<(), AllocError>
-    ensures { OnOk result
-        (out.new.items ≡ out.old.items ++ option main (option_map main_view m.now)) }
-{
-    match m {
-        None => out.push(0x00)?,
-        Some(m) => {
-            out.push(0x01)?;
-            put_name(out, &m.name)?;
-            put_stmt(out, &m.statement)?;
-        }
-    }
-    Ok(())
-}
-
+/// Writes a class.
 #[tactic(auto, unfolding(crate::specs::Spelling::class))]
-fn put_class(out: &mut Vec<u8>, c: &ClassTree) -> Result<(), AllocError>
+pub fn put_class(out: &mut Vec<u8>, c: &ClassTree) -> Result<(), AllocError>
     ensures { OnOk result (out.new.items ≡ out.old.items ++ class (class_view c.now)) }
 {
     put_name(out, &c.name)?;
     put_option::<NameFormat>(out, &c.superclass)?;
     put_list::<FieldFormat>(out, &c.fields)?;
-    put_methods(out, &c.methods)
-}
-
-fn put_classes(out: &mut Vec<u8>, cs: &[ClassTree]) -> Result<(), AllocError>
-    ensures { OnOk result (out.new.items ≡ out.old.items ++ list class (map class_view cs.now)) }
-{
-    put_eight(out, cs.len())?;
-    for c in cs {
-        put_class(out, c)?;
-    }
-    Ok(())
+    put_list::<MethodFormat>(out, &c.methods)
 }
 
 /// Writes a file.
@@ -352,6 +325,6 @@ fn put_classes(out: &mut Vec<u8>, cs: &[ClassTree]) -> Result<(), AllocError>
 pub fn put_file(out: &mut Vec<u8>, f: &FileTree) -> Result<(), AllocError>
     ensures { OnOk result (out.new.items ≡ out.old.items ++ file (file_view f.now)) }
 {
-    put_main(out, &f.main)?;
-    put_classes(out, &f.classes)
+    put_option::<MainFormat>(out, &f.main)?;
+    put_list::<ClassTreeFormat>(out, &f.classes)
 }
