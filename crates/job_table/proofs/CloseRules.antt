@@ -105,7 +105,7 @@ roots_done p ns done _ answer = done
 roots_done p ns done _ files = tt
 roots_done p ns done _ (source file has) = tt
 
-done_of : (v : Value) (x : Status) → IsDoneWith v x → IsDone x
+pub done_of : (v : Value) (x : Status) → IsDoneWith v x → IsDone x
 done_of v Unknown d = d
 done_of v (Claimed w) d = d
 done_of v (Running w) d = d

@@ -1,11 +1,14 @@
 -- Keys that edges lead to.
-use Rattle.std.proofs.Common.{◌≡◌, ◌↔◌, ◌⊎◌, inl, inr, ℕ, zero, suc, ◌+◌, ◌<◌, ◌≤◌, List, [], ◌∷◌, ◌++◌, map, take, length, get_or, refl, sym, ap, ◌∙◌, subst, append-nil, eq-or-lt_of_le, arith}
-use Rattle.std.specs.Prelude.{Contains}
+use Rattle.std.proofs.Common.{◌≡◌, ◌↔◌, ◌⊎◌, inl, inr, ℕ, zero, suc, ◌+◌, ◌<◌, ◌≤◌, List, [], ◌∷◌, ◌++◌, map, take, length, get_or, refl, sym, ap, ◌∙◌, subst, append-nil, eq-or-lt_of_le, true, arith}
+use Rattle.std.specs.Prelude.{Contains, HoldsAt}
+use Rattle.std.specs.Ordering.{eq_by_cmp}
 use Rattle.std.specs.List.{AllByRecursion}
 use Rattle.std.proofs.lemmas.List.{take_more, append_assoc, get_or_append_left, get_or_default, length-append}
 use Rattle.std.proofs.lemmas.List.Elements.{All-contains, All-from_recursion, Contains-get_or, Contains-push, Contains-push_cases, Contains-append_left, Contains-append_right, Contains-append_cases}
 use Rattle.item_ids.specs.declared.key.Key.{Key}
 use Rattle.item_ids.specs.declared.key.Key.TheVariants.{Files, Source, Answer}
+use Rattle.item_ids.specs.Keys.{key_cmp}
+use Rattle.item_ids.proofs.Apart.{test_same}
 use Rattle.result_bytes.specs.declared.value.Value.{Value}
 use Rattle.mj_project.specs.Projects.{SourceFile, names_of}
 use Rattle.recorder.specs.Projects.{Project}
@@ -65,39 +68,49 @@ adds_none old = record {
   has = λ q h. absurd (let b = h.1 in omega arith);
 }
 
-module _ (old edges found : List Key) (i : ℕ) (x : Key) (lt : i < length edges) (is : x ≡ get_or edges i x) (so_far : Adds old (take i edges) found) where
-  front : take (suc i) edges ≡ take i edges ++ x ∷ []
-  front = let n : i + 1 ≡ suc i = omega arith in ap (λ (m : ℕ). take m edges) (sym n) ∙ (take_more edges i x lt ∙ ap (λ (y : Key). take i edges ++ y ∷ []) (sym is))
+-- a key that one of the list equals is there
+pub has_key : (found : List Key) (x : Key) → (k : ℕ) × (k < length found) × HoldsAt (λ y. eq_by_cmp key_cmp y x ≡ true) found k → Contains found x
+has_key found x h = (h.0, h.1, test_same _ x (h.2 x))
 
-  more_only : (q : Key) → Contains so_far.more q → Contains (take i edges ++ x ∷ []) q
-  more_only q h = Contains-append_left (take i edges) (x ∷ []) q (so_far.only q h)
+-- a key that was there
+pub adds_old : (found : List Key) (x : Key) → Contains found x → Adds found (x ∷ []) found
+adds_old found x there = record {
+  more = [];
+  whole = rw append-nil refl;
+  only = λ q h. absurd (let b = h.1 in omega arith);
+  has = λ q h. elim (Contains-push_cases [] x q h) [
+    | inl c ↦ absurd (let b = c.1 in omega arith)
+    | inr e ↦ subst (Contains found) e there
+  ];
+}
 
-  -- the edge was there
-  pub adds_old : Contains found x → Adds old (take (suc i) edges) found
-  adds_old there = subst (λ (es : List Key). Adds old es found) (sym front) (record {
-    more = so_far.more;
-    whole = so_far.whole;
-    only = more_only;
-    has = λ q h. elim (Contains-push_cases (take i edges) x q h) [
-      | inl c ↦ so_far.has q c
-      | inr e ↦ subst (Contains found) e there
-    ];
-  })
+-- a key that is added
+pub adds_new : (found : List Key) (x : Key) → Adds found (x ∷ []) (found ++ x ∷ [])
+adds_new found x = record {
+  more = x ∷ [];
+  whole = refl;
+  only = λ q h. h;
+  has = λ q h. Contains-append_right found (x ∷ []) q h;
+}
 
-  -- the edge is added
-  pub adds_new : Adds old (take (suc i) edges) (found ++ x ∷ [])
-  adds_new = subst (λ (es : List Key). Adds old es (found ++ x ∷ [])) (sym front) (record {
-    more = so_far.more ++ x ∷ [];
-    whole = ap (λ (ks : List Key). ks ++ x ∷ []) so_far.whole ∙ append_assoc old so_far.more (x ∷ []);
-    only = λ q h. elim (Contains-push_cases so_far.more x q h) [
-      | inl c ↦ more_only q c
-      | inr e ↦ subst (Contains (take i edges ++ x ∷ [])) e (Contains-push (take i edges) x)
-    ];
-    has = λ q h. elim (Contains-push_cases (take i edges) x q h) [
-      | inl c ↦ Contains-append_left found (x ∷ []) q (so_far.has q c)
-      | inr e ↦ subst (Contains (found ++ x ∷ [])) e (Contains-push found x)
-    ];
-  })
+-- one more edge
+pub adds_more : (old edges found new : List Key) (i : ℕ) (x : Key) → i < length edges → x ≡ get_or edges i x → Adds old (take i edges) found → Adds found (x ∷ []) new
+    → Adds old (take (i + 1) edges) new
+adds_more old edges found new i x lt is so_far one = subst (λ (es : List Key). Adds old es new) (sym front) (record {
+  more = so_far.more ++ one.more;
+  whole = one.whole ∙ (ap (λ (ks : List Key). ks ++ one.more) so_far.whole ∙ append_assoc old so_far.more one.more);
+  only = λ q h. elim (Contains-append_cases so_far.more one.more q h) [
+    | inl c ↦ Contains-append_left (take i edges) (x ∷ []) q (so_far.only q c)
+    | inr c ↦ Contains-append_right (take i edges) (x ∷ []) q (one.only q c)
+  ];
+  has = λ q h. elim (Contains-append_cases (take i edges) (x ∷ []) q h) [
+    | inl c ↦ subst (λ (ks : List Key). Contains ks q) (sym one.whole) (Contains-append_left found one.more q (so_far.has q c))
+    | inr c ↦ one.has q c
+  ];
+})
+  where
+    front : take (i + 1) edges ≡ take i edges ++ x ∷ []
+    front = take_more edges i x lt ∙ ap (λ (y : Key). take i edges ++ y ∷ []) (sym is)
 
 -- ---- keys that are reached
 
@@ -118,7 +131,7 @@ same_done : (s : State) (q : Key) (v u : Value) (es fs : List Key) (m n : Mark) 
 same_done s q v u es fs m n a b = let both : Done v es m ≡ Done u fs n = sym a ∙ b in cc
 
 pub spreads_more : (p : Project) (s : State) (ks all : List Key) (i : ℕ) (v : Value) (es : List Key) (m : Mark)
-    → Spreads p s ks i → i < length ks → s.at (key_in ks i) ≡ Done v es m → Adds ks es all → Spreads p s all (suc i)
+    → Spreads p s ks i → i < length ks → s.at (key_in ks i) ≡ Done v es m → Adds ks es all → Spreads p s all (i + 1)
 spreads_more p s ks all i v es m sp lt is a = record {
   roots = λ q r. kept q (sp.roots q r);
   only = λ q h. elim (Contains-append_cases ks a.more q (subst (λ (xs : List Key). Contains xs q) a.whole h)) [
@@ -134,13 +147,13 @@ spreads_more p s ks all i v es m sp lt is a = record {
     stays : (j : ℕ) → j < length ks → key_in all j ≡ key_in ks j
     stays j l = ap (λ (xs : List Key). key_in xs j) a.whole ∙ key_stays ks a.more j l
 
-    closed : (j : ℕ) → j < suc i → HasEdges s all (key_in ks j)
+    closed : (j : ℕ) → j < i + 1 → HasEdges s all (key_in ks j)
     closed j below = elim (split j below) [
       | inl lower ↦ λ u fs n e h c. kept e (sp.closed j lower u fs n e h c)
       | inr same ↦ λ u fs n e h c. a.has e (subst (λ (xs : List Key). Contains xs e) (same_done s (key_in ks i) u v fs es n m (ap (λ (k : ℕ). s.at (key_in ks k)) (sym same) ∙ h) is) c)
     ]
       where
-        split : (j : ℕ) → j < suc i → (j < i) ⊎ (j ≡ i)
+        split : (j : ℕ) → j < i + 1 → (j < i) ⊎ (j ≡ i)
         split j b = elim (eq-or-lt_of_le (let l : j ≤ i = omega arith in l)) [ inl e ↦ inr e | inr l ↦ inl l ]
 
 pub spreads_last : (p : Project) (s : State) (ks : List Key) (i : ℕ) → Spreads p s ks i → length ks ≤ i → AreReached p s ks

@@ -7,7 +7,7 @@ use Rattle.std.specs.Ordering.{ordering_index}
 use Rattle.std.specs.declared.cmp.Ordering.{Ordering}
 use Rattle.std.specs.declared.cmp.Ordering.TheVariants.{Less, Equal, Greater}
 use Rattle.std.proofs.lemmas.Bool.{cases_lt}
-use Rattle.std.proofs.lemmas.List.{get_or-map, get_or_default, get_or-take, length-take-le, length-map}
+use Rattle.std.proofs.lemmas.List.{get_or-map, get_or_default, get_or-take, length-take-le, length-map, map-append, take_more}
 use Rattle.std.proofs.lemmas.List.Elements.{All-contains, All-from_recursion}
 use Rattle.item_ids.specs.declared.key.Key.{Key}
 use Rattle.item_ids.specs.declared.key.Key.TheVariants.{Files}
@@ -164,6 +164,30 @@ module _ (lesser : (a b : Key) → rank a < rank b → key_cmp a b ≡ Less) whe
       kind = (done_so i d lt).kind;
       kept = (is_of i d lt).kept;
     }
+
+-- ---- lists with one more item
+
+all_last : {X : Type 0} (P : X → Type 0) (xs : List X) (x : X) → AllByRecursion P xs → P x → AllByRecursion P (xs ++ x ∷ [])
+all_last P [] x h p = (p, tt)
+all_last P (y ∷ xs) x h p = (h.0, all_last P xs x h.1 p)
+
+map_last : {X : Type 0} (f : X → Key) (xs : List X) (ks : List Key) (i : ℕ) (k : Key) (x : X) → i < length ks → k ≡ get_or ks i k → map f xs ≡ take i ks → f x ≡ k → map f (xs ++ x ∷ []) ≡ take (i + 1) ks
+map_last f xs ks i k x lt is so_far here =
+    map-append f xs (x ∷ [])
+    ∙ (ap (λ (ys : List Key). ys ++ f x ∷ []) so_far
+    ∙ (ap (λ (y : Key). take i ks ++ y ∷ []) (here ∙ is) ∙ sym (take_more ks i k lt)))
+
+pub places_more : (ks es : List Key) (is : List ℕ) (i : ℕ) (e : Key) (at : ℕ) → i < length es → e ≡ get_or es i e → map (key_in ks) is ≡ take i es → key_in ks at ≡ e → map (key_in ks) (is ++ at ∷ []) ≡ take (i + 1) es
+places_more ks es is i e at lt eq so_far here = map_last (key_in ks) is es i e at lt eq so_far here
+
+pub inside_more : (n : ℕ) (is : List ℕ) (at : ℕ) → AllByRecursion (λ e. e < n) is → at < n → AllByRecursion (λ e. e < n) (is ++ at ∷ [])
+inside_more n is at h lt = all_last (λ e. e < n) is at h lt
+
+pub keys_more : (ks : List Key) (rs : List RecordValue) (i : ℕ) (k : Key) (r : RecordValue) → i < length ks → k ≡ get_or ks i k → map (λ r. r.key) rs ≡ take i ks → r.key ≡ k → map (λ r. r.key) (rs ++ r ∷ []) ≡ take (i + 1) ks
+keys_more ks rs i k r lt eq so_far here = map_last (λ (x : RecordValue). x.key) rs ks i k r lt eq so_far here
+
+pub each_more : (s : State) (ks : List Key) (rs : List RecordValue) (r : RecordValue) → AllByRecursion (IsRecordOf s ks) rs → IsRecordOf s ks r → AllByRecursion (IsRecordOf s ks) (rs ++ r ∷ [])
+each_more s ks rs r h one = all_last (IsRecordOf s ks) rs r h one
 
 -- ---- what the records tell
 

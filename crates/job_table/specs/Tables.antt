@@ -4,7 +4,7 @@ use Rattle.std.specs.Arc.{arc_value}
 use Rattle.std.specs.declared.alloc.Global.{Global}
 use Rattle.std.specs.declared.sync.Arc.{Arc}
 use Rattle.recorder.specs.Projects.{Project}
-use Rattle.sessions.specs.Sessions.{SessionValue, past_entry}
+use Rattle.sessions.specs.Sessions.{SessionValue, most_number, past_entry}
 use Rattle.graph_rules.specs.Pasts.{Past}
 use Rattle.graph_rules.specs.Steps.{State, Event, MayStep, Legal, replayed}
 
@@ -36,4 +36,4 @@ adds t e = record { past = t.past; project = t.project; history = t.history ++ e
 -- no session can follow
 abbrev pub IsFull : Option SessionValue → Type 0
 IsFull None = ⊥
-IsFull (Some s) = 9999 ≤ s.number
+IsFull (Some s) = most_number ≤ s.number

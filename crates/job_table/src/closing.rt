@@ -1,9 +1,9 @@
 //! What a table closes with.
-ghost use Rattle.std.specs.Prelude.{◌≡◌, ◌<◌, List, false, map, length, IfOk, OnOk, Contains};
+ghost use Rattle.std.specs.Prelude.{◌≡◌, ◌<◌, ◌≤◌, [], ◌∷◌, false, map, length, IfOk, OnOk, Contains};
 ghost use Rattle.std.specs.List.{AllByRecursion};
 ghost use Rattle.item_ids.specs.declared.key.Key.{Key as KeyValue};
 ghost use Rattle.item_ids.specs.declared.key.Key.TheVariants.{Answer};
-ghost use Rattle.sessions.specs.Sessions.{past_entry};
+ghost use Rattle.sessions.specs.Sessions.{most_number, past_entry};
 ghost use Rattle.graph_rules.specs.Pasts.{IsGraph};
 ghost use Rattle.graph_rules.specs.Steps.{IsDone};
 ghost use Rattle.graph_rules.specs.Sound.{IsInOrder};
@@ -14,7 +14,7 @@ ghost use Rattle.job_table.specs.Reached.{Ascend, key_in, AreRoots, AreReached, 
 
 use crate::inputs::Inputs;
 use crate::nodes::{Entry, Node, entry_of};
-use item_ids::Key;
+use item_ids::{Key, ranks_in_order};
 use mj_answer::ascending;
 use session_file::digest;
 use sessions::{Record, Session, check_kept};
@@ -33,7 +33,9 @@ pub fn session_of(
     requires answer { IsDone (status_at inputs.now nodes.now.items Answer) }
     ensures { IfOk result (IsClosing (session_in past.now) inputs.now (held inputs.now nodes.now.items false)) }
 {
-    let keys = ascending(reach(alloc, inputs, nodes)?);
+    let found = reach(alloc, inputs, nodes)?;
+    let keys = ascending(found);
+    ranks_in_order();
     let records = records_of(alloc, inputs, nodes, &keys)?;
     Ok(Session::of(number_behind(past), link_behind(past), records))
 }
@@ -69,10 +71,19 @@ fn add(alloc: Global, found: &mut Vec<Key>, edges: &[Key]) -> Result<(), AllocEr
     ensures { OnOk result (Adds found.old.items edges.now found.new.items) }
 {
     for key in edges {
-        if !found.contains(key) {
-            found.push(key.copy(alloc)?)?;
-        }
+        add_key(alloc, found, key)?;
     }
+    Ok(())
+}
+
+/// Adds a key, unless it is there.
+fn add_key(alloc: Global, found: &mut Vec<Key>, key: &Key) -> Result<(), AllocError>
+    ensures { OnOk result (Adds found.old.items (key.now ∷ []) found.new.items) }
+{
+    if found.contains(key) {
+        return Ok(());
+    }
+    found.push(key.copy(alloc)?)?;
     Ok(())
 }
 
@@ -147,7 +158,8 @@ fn place_of(keys: &[Key], key: &Key) -> usize
 /// The number of the session behind the past.
 fn number_behind(past: &Option<Arc<Session>>) -> u32
     requires { ¬ IsFull (session_in past.now) }
-    ensures { result ≡ next_number (session_in past.now) }
+    ensures number { result ≡ next_number (session_in past.now) }
+    ensures most { result ≤ most_number }
 {
     match past {
         Some(past) => past.number() + 1,

@@ -1,4 +1,8 @@
-use Rattle.std.proofs.Common.{arith, length, ◌<◌, ◌≤◌, sym}
+use Rattle.std.proofs.Common.{◌≡◌, arith, length, ◌<◌, ◌≤◌, sym, ap, ◌∙◌, false}
+use Rattle.std.proofs.lemmas.List.{get_or_default}
+use Rattle.item_ids.specs.declared.key.Key.TheVariants.{Files}
+use Rattle.job_table.specs.Nodes.{held, status_at}
+use Rattle.job_table.specs.Reached.{key_in}
 use Rattle.job_table.proofs.ReachRules.{spreads_first, spreads_more, spreads_last, reached_done}
 use Rattle.job_table.proofs.CloseRules.{roots_done}
 use Rattle.job_table.proofs.closing.reach.Goals as goal
@@ -9,15 +13,18 @@ loop-i-init c = spreads_first _ _ _ c.in_ok-found.ensures
 pub entry_of-requires : goal.entry_of-requires
 entry_of-requires c =
     let lt : c.loop-i.i < length c.loop-i.found.items = omega arith in
-    ?
+    let q = c.index.result.now in
+    reached_done c.args.inputs.now (held c.args.inputs.now c.args.nodes.now.items false) c.requires.order (roots_done c.args.inputs.now c.args.nodes.now.items c.requires.answer) q (c.loop-i.invariant.only q (c.loop-i.i, lt, sym c.index.ensures))
 
 pub loop-i-preserved : goal.loop-i-preserved
 loop-i-preserved c =
     let lt : c.loop-i.i < length c.loop-i.found.items = omega arith in
-    spreads_more _ _ _ _ _ _ _ _ c.loop-i.invariant lt ? c.in_ok-add.ensures
+    let q = c.index.result.now in
+    let here : key_in c.loop-i.found.items c.loop-i.i ≡ q = get_or_default c.loop-i.found.items c.loop-i.i Files q lt ∙ sym c.index.ensures in
+    spreads_more c.args.inputs.now (held c.args.inputs.now c.args.nodes.now.items false) _ _ c.loop-i.i _ _ _ c.loop-i.invariant lt (ap (status_at c.args.inputs.now c.args.nodes.now.items) here ∙ c.entry_of.ensures) c.in_ok-add.ensures
 
 pub returns-in-loop-i : goal.returns-in-loop-i
-returns-in-loop-i c = spreads_last _ _ _ _ c.loop-i.invariant (omega arith)
+returns-in-loop-i c = spreads_last _ _ _ c.loop-i.i c.loop-i.invariant (omega arith)
 
 pub returns : goal.returns
-returns c = spreads_last _ _ _ _ c.loop-i.invariant (omega arith)
+returns c = spreads_last _ _ _ c.loop-i.i c.loop-i.invariant (omega arith)

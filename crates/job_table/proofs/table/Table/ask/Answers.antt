@@ -62,6 +62,7 @@ invariant_of-self-2 g c =
       kept_claim _ _ _ _ _ kept c.args.w c.args.key.now _ r.keys.0 refl c.if-self.false nd u (c.if-not-is_below.ensures.0 refl),
       backed_last g.R.Runner.mean g.R.Runner.reads (map event_of i.history.items) (Claim c.args.w c.args.key.now) c.self.invariant.1 tt,
       (λ _. omega (arith, note.len, note.capacity, r.room.1, c.room_for_claim.ensures.history.1)),
+      c.self.invariant.3,
     )
 
 pub returns : goal.returns

@@ -38,6 +38,7 @@ invariant_of-self-2 g c =
           (λ k. c.put.ensures.written c.args.key.now k c.in-Some.ensures.some.0),
       backed_last g.R.Runner.mean g.R.Runner.reads (map event_of i.history.items) (Begin c.args.w c.args.key.now) c.self.invariant.1 tt,
       (λ _. omega (arith, c.note.ensures.len, c.note.ensures.capacity, c.in-Some-room_for_begin.ensures.room, c.room_for_begin.ensures.history.1)),
+      c.self.invariant.3,
     )
 
 pub returns : goal.returns

@@ -16,4 +16,5 @@ invariant_of-self g c =
       kept_fail (past_entry (session_in i.past)) _ i.nodes.items (map event_of i.history.items) c.args.w no_fail,
       backed_last g.R.Runner.mean g.R.Runner.reads (map event_of i.history.items) (Fail c.args.w) c.self.invariant.1 tt,
       (λ e. absurd (cc)),
+      c.self.invariant.3,
     )

@@ -53,6 +53,7 @@ invariant_of-self-2 g c =
           (λ k. c.put.ensures.written o.key k (rw ke at c.in-Some.ensures.some.0)),
       backed_last g.R.Runner.mean g.R.Runner.reads (map event_of i.history.items) (Finish c.args.w o) c.self.invariant.1 (rw c.deref-3.ensures at c.room_for_finish.ensures.outcome),
       (λ _. omega (arith, c.note.ensures.len, c.note.ensures.capacity, r.room, c.room_for_finish.ensures.history.1)),
+      c.self.invariant.3,
     )
 
 pub returns : goal.returns

@@ -47,6 +47,7 @@ invariant_of-self-2 g c =
           (λ k. c.put.ensures.written c.args.key.now k c.in-Some.ensures.some.0),
       backed_last g.R.Runner.mean g.R.Runner.reads (map event_of i.history.items) (MarkGreen c.args.w c.args.key.now) c.self.invariant.1 tt,
       (λ _. omega (arith, c.note.ensures.len, c.note.ensures.capacity, r.room, c.room_for_mark.ensures.history.1)),
+      (rw c.in-Some-past.is at c.self.invariant.3),
     )
 
 pub returns : goal.returns

@@ -1,0 +1,16 @@
+use Rattle.std.proofs.Common.{length, ◌<◌, arith, sym}
+use Rattle.job_table.proofs.RecordRules.{places_more, inside_more}
+use Rattle.job_table.proofs.closing.places_of.Goals as goal
+
+pub place_of-requires-clause-found : goal.place_of-requires-clause-found
+place_of-requires-clause-found c =
+    let lt : c.loop-edge.edge-index < length c.args.edges.now = omega arith in
+    c.requires.found c.edge-item.result (c.loop-edge.edge-index, lt, sym c.edge-item.is)
+
+pub loop-edge-preserved : goal.loop-edge-preserved
+loop-edge-preserved c =
+    let lt : c.loop-edge.edge-index < length c.args.edges.now = omega arith in
+    record {
+      same = places_more c.args.keys.now c.args.edges.now c.loop-edge.places.items c.loop-edge.edge-index c.edge-item.result c.place_of.result lt c.edge-item.is c.loop-edge.invariant.same c.place_of.ensures.same;
+      inside = inside_more (length c.args.keys.now) c.loop-edge.places.items c.place_of.result c.loop-edge.invariant.inside c.place_of.ensures.inside;
+    }

@@ -1,0 +1,22 @@
+use Rattle.std.proofs.Common.{length, ◌<◌, arith, sym, false}
+use Rattle.job_table.specs.Nodes.{held}
+use Rattle.job_table.proofs.RecordRules.{keys_more, each_more}
+use Rattle.job_table.proofs.closing.records_of.Goals as goal
+
+pub record_of-requires-clause-done : goal.record_of-requires-clause-done
+record_of-requires-clause-done c =
+    let lt : c.loop-key.key-index < length c.args.keys.now = omega arith in
+    c.requires.done c.key-item.result (c.loop-key.key-index, lt, sym c.key-item.is)
+
+pub record_of-requires-clause-edges : goal.record_of-requires-clause-edges
+record_of-requires-clause-edges c =
+    let lt : c.loop-key.key-index < length c.args.keys.now = omega arith in
+    c.requires.edges c.key-item.result (c.loop-key.key-index, lt, sym c.key-item.is)
+
+pub loop-key-preserved : goal.loop-key-preserved
+loop-key-preserved c =
+    let lt : c.loop-key.key-index < length c.args.keys.now = omega arith in
+    record {
+      keys = keys_more c.args.keys.now c.loop-key.records.items c.loop-key.key-index c.key-item.result _ lt c.key-item.is c.loop-key.invariant.keys c.in_ok-record_of.ensures.key;
+      each = each_more (held c.args.inputs.now c.args.nodes.now.items false) c.args.keys.now c.loop-key.records.items _ c.loop-key.invariant.each c.in_ok-record_of.ensures.entry;
+    }

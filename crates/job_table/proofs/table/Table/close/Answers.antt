@@ -1,0 +1,26 @@
+use Rattle.std.proofs.Common.{true, false, refl, sym}
+use Rattle.std.specs.Prelude.{IsTrue}
+use Rattle.std.specs.Arc.{arc_value}
+use Rattle.job_table.proofs.CloseRules.{gives_running, gives_no_answer, gives_memory, gives_session, held_in_order, done_of}
+use Rattle.job_table.proofs.table.Table.close.Goals as goal
+
+not_true : IsTrue false → ⊥
+not_true e = cc
+
+pub returns-then-not-are_quiet : goal.returns-then-not-are_quiet
+returns-then-not-are_quiet g c = gives_running _ _ _ _ _ c.self.invariant.0 c.if-self.false _ c.self.view_is (λ all. not_true (c.if-not-are_quiet.ensures.1 all))
+
+pub returns-in_default : goal.returns-in_default
+returns-in_default g c = gives_no_answer _ _ _ _ _ c.self.invariant.0 c.if-self.false _ c.self.view_is (c.if-not-are_quiet.ensures.0 refl) c.in_default.ensures.none
+
+pub session_of-requires-clause-order : goal.session_of-requires-clause-order
+session_of-requires-clause-order g c = held_in_order g.R.Runner.mean g.R.Runner.reads _ _ _ _ false _ c.self.invariant.0 c.self.invariant.1 c.check_past.ensures
+
+pub session_of-requires-clause-answer : goal.session_of-requires-clause-answer
+session_of-requires-clause-answer g c = done_of _ _ c.in-Some.ensures.some
+
+pub returns-in-Err : goal.returns-in-Err
+returns-in-Err g c = gives_memory _ _ _ _ _ c.self.invariant.0 c.if-self.false _ c.self.view_is (c.if-not-are_quiet.ensures.0 refl) (arc_value c.in-Some.field-0.now) c.in-Some.ensures.some
+
+pub returns-in-Ok : goal.returns-in-Ok
+returns-in-Ok g c = gives_session _ _ _ _ _ c.self.invariant.0 c.if-self.false _ c.self.view_is (c.if-not-are_quiet.ensures.0 refl) (arc_value c.in-Some.field-0.now) c.in-Some.ensures.some false _ c.in-Ok.ensures
