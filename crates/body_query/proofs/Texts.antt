@@ -7,7 +7,7 @@ use Rattle.mj_tree.specs.declared.tree.Ty.TheVariants as types
 use Rattle.mj_typing.specs.declared.verdict.Verdict.{Verdict}
 use Rattle.mj_typing.specs.Inquiries.{World, Inquiry}
 use Rattle.mj_typing.specs.Phrases.{Phrase, phrase, nothing, part, type_of, types_of, and_type}
-use Rattle.mj_typing.specs.Table.{Scope, method_scope, parenthesized, negation, binary, index, array_length, call, new_array, condition, print, assign, store, return_value, one_part, two_parts, three_parts, some_parts, name_phrase, phrase_of, phrases_of, statement_phrases, statements_phrases, return_phrase}
+use Rattle.mj_typing.specs.Table.{Scope, method_scope, parentheses, negation, binary, index, array_length, call, new_array, condition, print, assign, store, return_value, one_part, two_parts, three_parts, some_parts, name_phrase, phrase_of, phrases_of, statement_phrases, statements_phrases, return_phrase}
 use Rattle.query_rules.specs.BodyReads.{type_reads, types_reads, name_reads, value_reads, call_reads, exp_reads, exps_reads, statement_reads, statements_reads, return_reads, method_reads}
 use Rattle.body_query.proofs.Asked.{asked_in, own_reads, phrase_reads, parts_reads, each_reads, each_reads-append, method_keys}
 use Rattle.body_query.proofs.Rows.{named_asked, this_asked, new_object_asked, assign_asked, returned_asked, call_asked, binary_asked, literal_asked, negation_asked, index_asked, array_length_asked, new_array_asked, condition_asked, print_asked, store_asked}
@@ -90,7 +90,7 @@ module _ (w : World) where
       exp_same (Boolean mark value) = refl
       exp_same (Named mark x) = name_same mark x
       exp_same (This mark) = this_asked w s
-      exp_same (Parenthesized mark e) = single mark (one_part parenthesized) (phrase_of s e) (one_nothing parenthesized (λ a. refl)) ∙ exp_same e
+      exp_same (Parenthesized mark e) = single mark (one_part parentheses) (phrase_of s e) (one_nothing parentheses (λ a. refl)) ∙ exp_same e
       exp_same (Not mark e) = single mark (one_part negation) (phrase_of s e) (one_nothing negation (negation_asked w)) ∙ exp_same e
       exp_same (Binary o mark l r) = double mark (two_parts (binary o)) (phrase_of s l) (phrase_of s r) (two_nothing (binary o) (binary_asked w o)) ∙ ap₂ (λ xs ys. xs ++ ys) (exp_same l) (exp_same r)
       exp_same (Index mark a i) = double mark (two_parts index) (phrase_of s a) (phrase_of s i) (two_nothing index (index_asked w)) ∙ ap₂ (λ xs ys. xs ++ ys) (exp_same a) (exp_same i)

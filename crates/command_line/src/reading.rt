@@ -35,13 +35,13 @@ fn read(alloc: Global, list: &[String]) -> Result<Words, WordsFault>
 {
     let program = program(alloc)?;
     match program.try_get_matches_from(list) {
-        Ok(matches) => chosen(alloc, &matches),
+        Ok(matches) => choose(alloc, &matches),
         Err(error) => Err(refusal(alloc, &error)),
     }
 }
 
 // What the matches ask for. Each test that fails here is one that `clap` has made already.
-fn chosen(alloc: Global, matches: &ArgMatches<'_>) -> Result<Words, WordsFault>
+fn choose(alloc: Global, matches: &ArgMatches<'_>) -> Result<Words, WordsFault>
     ensures runnable { IfOk result IsRunnable }
     ensures found { IfOk result (λ words. files_in matches.now ≡ Some (files_of_words words)) }
     ensures taken { subcommand_name_of matches.now ≡ Some (codes "scratch")
@@ -49,16 +49,16 @@ fn chosen(alloc: Global, matches: &ArgMatches<'_>) -> Result<Words, WordsFault>
         → IsOkUnless result WordsFault.OutOfMemory }
 {
     let Some(given) = matches.subcommand_matches(SCRATCH) else {
-        return Err(unread(alloc));
+        return Err(unreadable(alloc));
     };
     let files = values(alloc, given)?;
     if files.is_empty() {
-        return Err(unread(alloc));
+        return Err(unreadable(alloc));
     }
     Ok(Words::Scratch(files))
 }
 
-fn unread(alloc: Global) -> WordsFault {
+fn unreadable(alloc: Global) -> WordsFault {
     match String::from_str(alloc, "error: the words were not read\n") {
         Ok(text) => WordsFault::Refused(text),
         Err(_) => WordsFault::OutOfMemory,

@@ -18,3 +18,4 @@ pub use mj_answer::{
 };
 pub use mj_project::{Project, ProjectFault};
 pub use places::{FaultLine, fault_lines};
+pub use reading::read_file;

@@ -36,7 +36,7 @@ fn without_tree(fault: ParseFault) -> Result<Option<FileTree>, AllocError>
 }
 
 /// The tree of a file's bytes, if they are a sentence.
-fn read_file(alloc: Global, bytes: &[u8]) -> Result<Option<FileTree>, AllocError>
+pub fn read_file(alloc: Global, bytes: &[u8]) -> Result<Option<FileTree>, AllocError>
     ensures { IfOk result (λ tree. option_map file_view tree ≡ file_of bytes.now) }
 {
     let tokens = match lex(alloc, bytes) {

@@ -13,7 +13,7 @@ use Rattle.mj_typing.specs.declared.verdict.Verdict.{Verdict}
 use Rattle.mj_typing.specs.declared.verdict.Verdict.TheVariants.{Wrong}
 use Rattle.mj_typing.specs.Inquiries.{World, Sig, Inquiry, AsksField, AsksMethod, conclusion}
 use Rattle.mj_typing.specs.Phrases.{demand, demand_asked, demand_some, is, fine, Phrase}
-use Rattle.mj_typing.specs.Table.{Scope, main_scope, method_scope, local_of, accepts, accepts_all, literal, variable, local_or_field, parenthesized, this, negation, binary, index, array_length, arguments, call, new_array, new_object, condition, print, assign, store, return_value, no_parts, one_part, two_parts, three_parts, some_parts, phrase_of, phrases_of, name_phrase, own_phrase, statement_phrases, statements_phrases, return_phrase, method_phrases, main_phrases}
+use Rattle.mj_typing.specs.Table.{Scope, main_scope, method_scope, local_of, accepts, accepts_all, literal, variable, local_or_field, parentheses, this, negation, binary, index, array_length, arguments, call, new_array, new_object, condition, print, assign, store, return_value, no_parts, one_part, two_parts, three_parts, some_parts, phrase_of, phrases_of, name_phrase, own_phrase, statement_phrases, statements_phrases, return_phrase, method_phrases, main_phrases}
 use Rattle.mj_typing.specs.Laws.{count, IsOfExpression, IsOfStatement, Decides, DecideAll, DecidesStatement, AllDecide}
 use Rattle.mj_typing.proofs.Checks.{conclusion-and_then}
 
@@ -121,7 +121,7 @@ module _ (w : World) where
     decides s (Boolean mark value) = (no_row w IsOfExpression wrong_e (is ty.Boolean) tt, tt)
     decides s (Named mark x) = (no_row w IsOfExpression wrong_e (variable s x) (named_row s x), tt)
     decides s (This mark) = (no_row w IsOfExpression wrong_e (this s) (this_row s), tt)
-    decides s (Parenthesized mark e) = (one_row w IsOfExpression wrong_e parenthesized (λ a. tt), (decides s e, tt))
+    decides s (Parenthesized mark e) = (one_row w IsOfExpression wrong_e parentheses (λ a. tt), (decides s e, tt))
     decides s (Not mark e) = (one_row w IsOfExpression wrong_e negation negation_row, (decides s e, tt))
     decides s (Binary o mark l r) = (two_row w IsOfExpression wrong_e (binary o) (binary_row o), (decides s l, (decides s r, tt)))
     decides s (Index mark a i) = (two_row w IsOfExpression wrong_e index index_row, (decides s a, (decides s i, tt)))

@@ -59,8 +59,8 @@ variable scope x = local_or_field (local_of scope.variables x) scope.class x
 unfoldable pub this : Scope → Inquiry Verdict
 this scope = demand_some scope.class E306 (λ c. is (ty.Class c))
 
-abbrev pub parenthesized : Ty → Inquiry Verdict
-parenthesized a = is a
+abbrev pub parentheses : Ty → Inquiry Verdict
+parentheses a = is a
 
 unfoldable pub negation : Ty → Inquiry Verdict
 negation a = demand (is_boolean a) E301 (is ty.Boolean)
@@ -143,7 +143,7 @@ abbrev mutual
   phrase_of s (Named mark x) = name_phrase s mark x
   phrase_of s (This mark) = phrase mark (no_parts (this s)) nothing
   phrase_of s (Parenthesized mark e) =
-      phrase mark (one_part parenthesized) (part (phrase_of s e) nothing)
+      phrase mark (one_part parentheses) (part (phrase_of s e) nothing)
   phrase_of s (Not mark e) = phrase mark (one_part negation) (part (phrase_of s e) nothing)
   phrase_of s (Binary o mark l r) =
       phrase mark (two_parts (binary o)) (part (phrase_of s l) (part (phrase_of s r) nothing))

@@ -213,7 +213,7 @@ fn is_missed(
     missing: &Given,
 ) -> Result<bool, Fail> {
     let wanted = key_of(rt, missing)?;
-    match recorder.refused() {
+    match recorder.refused_key() {
         Some(key) => Ok(*key == wanted),
         None => Ok(false),
     }

@@ -71,7 +71,7 @@ impl<D: Reader> Recorder<D> {
     }
 
     /// The key of the refused read, unless memory ran out.
-    pub fn refused(&self) -> Option<&Key>
+    pub fn refused_key(&self) -> Option<&Key>
         ensures { option_copied result ≡ key_of self.now }
     {
         match &self.refused {

@@ -93,7 +93,7 @@ fn new_recorder(rt: HostRuntime) -> Result<(), Fail> {
 fn repeated_reads(rt: HostRuntime) -> Result<(), Fail> {
     let recorder = asked_again(rt)?;
     assert!(rt; are_reads(rt, recorder.reads(), &[SECOND, FIRST])?);
-    assert!(rt; recorder.fault().is_none() && recorder.refused().is_none());
+    assert!(rt; recorder.fault().is_none() && recorder.refused_key().is_none());
 
     // The reader was asked once for each key.
     assert_eq!(rt; recorder.into_reader().count, 2);

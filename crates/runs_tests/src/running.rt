@@ -66,7 +66,7 @@ fn outcome(rt: HostRuntime, key: &Key, list: AnswerList) -> Result<Outcome<Sampl
     let mut runner = SampleRunner::new(rt.alloc());
     let mut recorder = Recorder::new(rt.alloc(), list);
     match record(rt.alloc(), &mut runner, key, &mut recorder) {
-        Ok(outcome) if recorder.fault().is_none() && recorder.refused().is_none() => Ok(outcome),
+        Ok(outcome) if recorder.fault().is_none() && recorder.refused_key().is_none() => Ok(outcome),
         _ => Err("a result, and no refused read".into()),
     }
 }
@@ -237,7 +237,7 @@ fn key_of_a_refused_read(rt: HostRuntime) -> Result<(), Fail> {
 #[test]
 fn no_key_where_memory_ran_out(rt: HostRuntime) -> Result<(), Fail> {
     let (recorder, _) = after_refusal(rt, ReadFault::OutOfMemory)?;
-    assert!(rt; recorder.refused().is_none());
+    assert!(rt; recorder.refused_key().is_none());
     Ok(())
 }
 

@@ -7,12 +7,12 @@ use Rattle.command_line.proofs.reading.read.Goals as goal
 pub returns-in-Ok-clause-asked : goal.returns-in-Ok-clause-asked
 returns-in-Ok-clause-asked c =
     let read = has_read _ (map string_bytes c.args.list.now) c.in-Ok.matches c.in_ok-program.ensures c.in-Ok.ensures.kinds c.in-Ok.ensures.matches in
-    IfOk-weaker c.chosen.result _ _ (λ words are. read.asked ∙ (sym read.files ∙ are)) c.chosen.ensures.found
+    IfOk-weaker c.choose.result _ _ (λ words are. read.asked ∙ (sym read.files ∙ are)) c.choose.ensures.found
 
 pub returns-in-Ok-clause-taken : goal.returns-in-Ok-clause-taken
 returns-in-Ok-clause-taken c plain =
     let read = has_read _ (map string_bytes c.args.list.now) c.in-Ok.matches c.in_ok-program.ensures c.in-Ok.ensures.kinds c.in-Ok.ensures.matches in
-    c.chosen.ensures.taken read.name read.first read.others read.files
+    c.choose.ensures.taken read.name read.first read.others read.files
 
 pub returns-in-Err-clause-taken : goal.returns-in-Err-clause-taken
 returns-in-Err-clause-taken c plain =
