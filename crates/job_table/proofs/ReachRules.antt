@@ -180,3 +180,7 @@ reached_done p s order roots _ (edge q v es m e reached is has) =
 -- the list of what is reached has all that its keys were read for
 pub reached_edges : (p : Project) (s : State) (ks : List Key) → AreReached p s ks → (q : Key) → Contains ks q → HasEdges s ks q
 reached_edges p s ks reached q c v es m e is has = (reached e).1 (edge q v es m e ((reached q).0 c) is has)
+
+-- a list with the same keys
+pub reached_too : (p : Project) (s : State) (found ks : List Key) → AreReached p s found → ((q : Key) → Contains ks q ↔ Contains found q) → AreReached p s ks
+reached_too p s found ks reached same q = ((λ h. (reached q).0 ((same q).0 h)), (λ r. (same q).1 ((reached q).1 r)))

@@ -2,7 +2,7 @@
 use Rattle.std.proofs.Common.{◌≡◌, ◌≢◌, ◌↔◌, ◌⊎◌, inl, inr, ℕ, zero, suc, ◌+◌, ◌<◌, ◌≤◌, List, [], ◌∷◌, ◌++◌, map, take, length, get_or, refl, sym, ap, ◌∙◌, subst, eq-or-lt_of_le, arith}
 use Rattle.std.specs.Prelude.{Contains, HoldsAt}
 use Rattle.std.specs.List.{AllByRecursion}
-use Rattle.std.specs.List.Sorted.{IsNonDecreasingBy, IsPartitionPoint}
+use Rattle.std.specs.List.Sorted.{IsNonDecreasingBy, IsPartitionPoint, IsStrictlySortedBy}
 use Rattle.std.specs.Ordering.{ordering_index}
 use Rattle.std.specs.declared.cmp.Ordering.{Ordering}
 use Rattle.std.specs.declared.cmp.Ordering.TheVariants.{Less, Equal, Greater}
@@ -15,6 +15,7 @@ use Rattle.item_ids.specs.Keys.{key_cmp, key_total, kind_of}
 use Rattle.item_ids.specs.Kinds.{rank_of}
 use Rattle.item_ids.proofs.Apart.{key_exact, key_itself}
 use Rattle.mj_answer.specs.Order.{IsAscendingBy}
+use Rattle.mj_answer.proofs.Compared.{ascends}
 use Rattle.result_bytes.specs.declared.value.Value.{Value}
 use Rattle.recorder.specs.Projects.{Project}
 use Rattle.recorder.specs.Backed.{AreLower, NoneTwice}
@@ -37,6 +38,9 @@ before_place [] i j d up below lt = absurd (omega arith)
 before_place (k ∷ ks) i zero d up below lt = absurd (omega arith)
 before_place (k ∷ ks) zero (suc j) d up below lt = before_all k ks j d up.0 (omega arith)
 before_place (k ∷ ks) (suc i) (suc j) d up below lt = before_place ks i j d up.1 (omega arith) (omega arith)
+
+pub sorted_ascend : (ks : List Key) → IsStrictlySortedBy key_cmp ks → Ascend ks
+sorted_ascend ks h = ascends key_cmp KeyBefore (λ a b e. e) ks h
 
 below_two : (o : Ordering) → ordering_index o ≤ 2
 below_two Less = omega arith

@@ -10,7 +10,7 @@ place_of-requires-clause-found c =
 pub loop-edge-preserved : goal.loop-edge-preserved
 loop-edge-preserved c =
     let lt : c.loop-edge.edge-index < length c.args.edges.now = omega arith in
-    record {
+    rw c.in_ok-push.ensures.items (record {
       same = places_more c.args.keys.now c.args.edges.now c.loop-edge.places.items c.loop-edge.edge-index c.edge-item.result c.place_of.result lt c.edge-item.is c.loop-edge.invariant.same c.place_of.ensures.same;
       inside = inside_more (length c.args.keys.now) c.loop-edge.places.items c.place_of.result c.loop-edge.invariant.inside c.place_of.ensures.inside;
-    }
+    })

@@ -10,8 +10,8 @@ use Rattle.job_table.proofs.closing.reach.Goals as goal
 pub loop-i-init : goal.loop-i-init
 loop-i-init c = spreads_first _ _ _ c.in_ok-found.ensures
 
-pub entry_of-requires : goal.entry_of-requires
-entry_of-requires c =
+pub entry_of-entry-requires : goal.entry_of-entry-requires
+entry_of-entry-requires c =
     let lt : c.loop-i.i < length c.loop-i.found.items = omega arith in
     let q = c.index.result.now in
     reached_done c.args.inputs.now (held c.args.inputs.now c.args.nodes.now.items false) c.requires.order (roots_done c.args.inputs.now c.args.nodes.now.items c.requires.answer) q (c.loop-i.invariant.only q (c.loop-i.i, lt, sym c.index.ensures))
@@ -21,10 +21,10 @@ loop-i-preserved c =
     let lt : c.loop-i.i < length c.loop-i.found.items = omega arith in
     let q = c.index.result.now in
     let here : key_in c.loop-i.found.items c.loop-i.i ≡ q = get_or_default c.loop-i.found.items c.loop-i.i Files q lt ∙ sym c.index.ensures in
-    spreads_more c.args.inputs.now (held c.args.inputs.now c.args.nodes.now.items false) _ _ c.loop-i.i _ _ _ c.loop-i.invariant lt (ap (status_at c.args.inputs.now c.args.nodes.now.items) here ∙ c.entry_of.ensures) c.in_ok-add.ensures
+    spreads_more c.args.inputs.now (held c.args.inputs.now c.args.nodes.now.items false) _ _ c.loop-i.i _ _ _ c.loop-i.invariant lt (ap (status_at c.args.inputs.now c.args.nodes.now.items) here ∙ c.entry_of-entry.ensures) c.in_ok-add.ensures
 
-pub returns-in-loop-i : goal.returns-in-loop-i
-returns-in-loop-i c = spreads_last _ _ _ c.loop-i.i c.loop-i.invariant (omega arith)
+pub returns-then-i-len : goal.returns-then-i-len
+returns-then-i-len c = spreads_last _ _ _ c.loop-i.i c.loop-i.invariant (omega arith)
 
 pub returns : goal.returns
 returns c = spreads_last _ _ _ c.loop-i.i c.loop-i.invariant (omega arith)

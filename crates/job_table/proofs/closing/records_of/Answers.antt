@@ -16,7 +16,7 @@ record_of-requires-clause-edges c =
 pub loop-key-preserved : goal.loop-key-preserved
 loop-key-preserved c =
     let lt : c.loop-key.key-index < length c.args.keys.now = omega arith in
-    record {
+    rw c.in_ok-push.ensures.items (record {
       keys = keys_more c.args.keys.now c.loop-key.records.items c.loop-key.key-index c.key-item.result _ lt c.key-item.is c.loop-key.invariant.keys c.in_ok-record_of.ensures.key;
       each = each_more (held c.args.inputs.now c.args.nodes.now.items false) c.args.keys.now c.loop-key.records.items _ c.loop-key.invariant.each c.in_ok-record_of.ensures.entry;
-    }
+    })

@@ -5,8 +5,8 @@ use Rattle.job_table.specs.Nodes.{status_of, status_at}
 use Rattle.job_table.proofs.NodeRules.{first_status, status_not_input}
 use Rattle.job_table.proofs.nodes.entry_of.Goals as goal
 
-pub returns-in-Done : goal.returns-in-Done
-returns-in-Done c =
+pub returns : goal.returns
+returns c =
     let e = first_status c.args.nodes.now.items c.args.key.now c.in-Some-find.at c.index.result.now c.in-Some-find.ensures.some c.index.ensures ∙ ap status_of c.in-Done.is in
     status_not_input c.args.inputs.now c.args.nodes.now.items c.args.key.now c.in_default.ensures ∙ e
 
