@@ -113,11 +113,11 @@ module _ (lesser : (a b : Key) → rank a < rank b → key_cmp a b ≡ Less) whe
         | inr above ↦ elim (eq-or-lt_of_le above) [
           | inl same ↦ absurd (let n : rank (key_in ks e) ≡ rank (key_in ks i) = ap (λ (k : ℕ). rank (key_in ks k)) (sym same) in omega (arith, n, lower))
           | inr more ↦ absurd (
-            let here = before_place ks i e Files up more le in
-            let there = lesser (key_in ks e) (key_in ks i) lower in
-            let none = key_total.trans (key_in ks i) (key_in ks e) (key_in ks i) here there in
-            let same = key_itself (key_in ks i) (key_in ks i) refl in
-            absurd cc)
+              let here = before_place ks i e Files up more le in
+              let there = lesser (key_in ks e) (key_in ks i) lower in
+              let none = key_total.trans (key_in ks i) (key_in ks e) (key_in ks i) here there in
+              let same = key_itself (key_in ks i) (key_in ks i) refl in
+              absurd cc)
         ]
       ]
 
@@ -136,12 +136,12 @@ module _ (lesser : (a b : Key) → rank a < rank b → key_cmp a b ≡ Less) whe
 
     above_front : (i : ℕ) (d : RecordValue) → i < length rs → IsAbove (take i rs) (get_or rs i d).key
     above_front i d lt = all_where (λ (r : RecordValue). key_cmp r.key (get_or rs i d).key ≡ Less) (take i rs) (λ x has.
-      let at = front_place rs i (omega arith) x has in
-      let lj : at.0 < length rs = let b = at.1 in omega arith in
-      let here : key_in ks at.0 ≡ x.key = key_here at.0 x lj ∙ ap (λ (r : RecordValue). r.key) at.2 in
-      let there = key_here i d lt in
-      let l : i < length ks = omega (arith, lt, as_long) in
-      subst (λ (k : Key). key_cmp x.key k ≡ Less) there (subst (λ (k : Key). key_cmp k (key_in ks i) ≡ Less) here (before_place ks at.0 i Files up at.1 l)))
+        let at = front_place rs i (omega arith) x has in
+        let lj : at.0 < length rs = let b = at.1 in omega arith in
+        let here : key_in ks at.0 ≡ x.key = key_here at.0 x lj ∙ ap (λ (r : RecordValue). r.key) at.2 in
+        let there = key_here i d lt in
+        let l : i < length ks = omega (arith, lt, as_long) in
+        subst (λ (k : Key). key_cmp x.key k ≡ Less) there (subst (λ (k : Key). key_cmp k (key_in ks i) ≡ Less) here (before_place ks at.0 i Files up at.1 l)))
 
     front_key : (i e : ℕ) (d : RecordValue) → e < i → e < length rs → e < length (take i rs) → key_at (take i rs) e ≡ key_in ks e
     front_key i e d below le lef =

@@ -8,7 +8,7 @@ use Rattle.job_table.proofs.nodes.entry_of.Goals as goal
 pub returns : goal.returns
 returns c =
     let e = first_status c.args.nodes.now.items c.args.key.now c.in-Some-find.at c.index.result.now c.in-Some-find.ensures.some c.index.ensures ∙ ap status_of c.in-Done.is in
-    rw c.as_slice.ensures (status_not_input c.args.inputs.now c.args.nodes.now.items c.args.key.now c.in_default.ensures ∙ e)
+    rw c.as_slice.ensures.value (status_not_input c.args.inputs.now c.args.nodes.now.items c.args.key.now c.in_default.ensures ∙ e)
 
 pub unreachable-requires-in-Claimed : goal.unreachable-requires-in-Claimed
 unreachable-requires-in-Claimed c =
