@@ -11,9 +11,13 @@ use sessions::{Mark, Session};
 use std::test::*;
 
 const NAMES: &str = "0000000000000000010161";
+
 const BYTES: &str = "0101000000000000000141";
+
 const NO_FIELDS: &str = "0401000000000000000000000000000000000000";
+
 const NO_FAULTS: &str = "090000000000000000";
+
 const NO_CLASSES: &str = "0c00000000000000000000000000000000";
 
 // The answer read the names and a check, which read the names and the header of b. Nobody reads the header of a.

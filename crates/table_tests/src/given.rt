@@ -19,12 +19,19 @@ use std::test::*;
 pub(crate) struct Named(pub Kind, pub &'static str);
 
 pub(crate) const FILES: Named = Named(Kind::Files, "");
+
 pub(crate) const SOURCE: Named = Named(Kind::Source, "a");
+
 pub(crate) const HEADER: Named = Named(Kind::Header, "a");
+
 pub(crate) const HEADER_B: Named = Named(Kind::Header, "b");
+
 pub(crate) const CHECK: Named = Named(Kind::CheckClass, "b");
+
 pub(crate) const TREE: Named = Named(Kind::Tree, "M.java");
+
 pub(crate) const INDEX: Named = Named(Kind::Index, "");
+
 pub(crate) const ANSWER: Named = Named(Kind::Answer, "");
 
 /// A key, and the canonical bytes of its result in hexadecimal digits.
