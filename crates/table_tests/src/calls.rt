@@ -1,9 +1,10 @@
 //! The calls of one table in turn.
 
-use crate::given::{Named, key_of, project_of};
-use item_ids::{Key, Kind};
-use job_table::{Asked, Table, TableFault};
+use crate::given::{ANSWER, INDEX, Named, TREE, key_of, project_of};
+use item_ids::Key;
+use job_table::{Asked, CloseFault, Table, TableFault};
 use sample_runner::SampleRunner;
+use sessions::Session;
 use std::test::*;
 
 /// A call of a table, by its name.
@@ -13,6 +14,7 @@ pub(crate) enum Call {
     Mark,
     Begin,
     Fail,
+    Close,
 }
 
 /// What a call said.
@@ -23,30 +25,23 @@ pub(crate) enum Said {
     Stopped,
     Done,
     Refused(TableFault),
+    NotClosed(CloseFault),
 }
 
 /// A call by a worker with a key, what it says, and how many events there are then.
 pub(crate) type Row = (Call, u32, Named, Said, usize);
 
-const ANSWER: Named = Named {
-    kind: Kind::Answer,
-    name: "",
-};
-
-const TREE: Named = Named {
-    kind: Kind::Tree,
-    name: "M.java",
-};
-
-const INDEX: Named = Named {
-    kind: Kind::Index,
-    name: "",
-};
-
 const FILE: &str = "class M { public static void main(String[] a) { System.out.println(1); } }";
 
 // One table of a project of one file, with no past.
 const ROWS: &[Row] = &[
+    (
+        Call::Close,
+        0,
+        ANSWER,
+        Said::NotClosed(CloseFault::NoAnswer),
+        0,
+    ),
     (Call::Ask, 0, ANSWER, Said::Yours, 1),
     (Call::Ask, 0, TREE, Said::Yours, 2),
     (Call::Ask, 0, INDEX, Said::Refused(TableFault::OutOfRank), 2),
@@ -54,9 +49,23 @@ const ROWS: &[Row] = &[
     (Call::Begin, 1, TREE, Said::Refused(TableFault::NotYours), 2),
     (Call::Mark, 0, TREE, Said::Refused(TableFault::NotInPast), 2),
     (Call::Begin, 0, TREE, Said::Done, 3),
+    (
+        Call::Close,
+        0,
+        ANSWER,
+        Said::NotClosed(CloseFault::StillRunning),
+        3,
+    ),
     (Call::Fail, 1, ANSWER, Said::Done, 4),
     (Call::Ask, 0, ANSWER, Said::Stopped, 4),
     (Call::Begin, 0, TREE, Said::Refused(TableFault::Failed), 4),
+    (
+        Call::Close,
+        0,
+        ANSWER,
+        Said::NotClosed(CloseFault::Failed),
+        4,
+    ),
     (Call::Fail, 0, ANSWER, Said::Refused(TableFault::Failed), 4),
 ];
 
@@ -77,6 +86,13 @@ fn refused_or_done<T: Drop>(called: Result<T, TableFault>) -> Said {
     }
 }
 
+fn closed_or_not(closed: Result<Session, CloseFault>) -> Said {
+    match closed {
+        Ok(_) => Said::Done,
+        Err(fault) => Said::NotClosed(fault),
+    }
+}
+
 /// Makes a call.
 fn answer_to(table: &mut Table<SampleRunner>, call: Call, worker: u32, key: &Key) -> Said {
     match call {
@@ -84,6 +100,7 @@ fn answer_to(table: &mut Table<SampleRunner>, call: Call, worker: u32, key: &Key
         Call::Mark => refused_or_done(table.mark(worker, key)),
         Call::Begin => refused_or_done(table.begin_run(worker, key)),
         Call::Fail => refused_or_done(table.fail(worker)),
+        Call::Close => closed_or_not(table.close()),
     }
 }
 

@@ -16,10 +16,23 @@ use std::test::*;
 
 /// A kind, and its class or file, empty where it has none.
 #[derive(Clone, Copy)]
-pub(crate) struct Named {
-    pub kind: Kind,
-    pub name: &'static str,
-}
+pub(crate) struct Named(pub Kind, pub &'static str);
+
+pub(crate) const FILES: Named = Named(Kind::Files, "");
+
+pub(crate) const SOURCE: Named = Named(Kind::Source, "a");
+
+pub(crate) const HEADER: Named = Named(Kind::Header, "a");
+
+pub(crate) const HEADER_B: Named = Named(Kind::Header, "b");
+
+pub(crate) const CHECK: Named = Named(Kind::CheckClass, "b");
+
+pub(crate) const TREE: Named = Named(Kind::Tree, "M.java");
+
+pub(crate) const INDEX: Named = Named(Kind::Index, "");
+
+pub(crate) const ANSWER: Named = Named(Kind::Answer, "");
 
 /// A key, and the canonical bytes of its result in hexadecimal digits.
 #[derive(Clone, Copy)]
@@ -40,7 +53,8 @@ fn name(rt: HostRuntime, text: &str) -> Result<Option<Name>, Fail> {
 
 /// The key of this kind with this name.
 pub(crate) fn key_of(rt: HostRuntime, named: Named) -> Result<Key, Fail> {
-    Ok(Key::new(named.kind, name(rt, named.name)?, None).ok_or("a name of the kind")?)
+    let Named(kind, text) = named;
+    Ok(Key::new(kind, name(rt, text)?, None).ok_or("a name of the kind")?)
 }
 
 /// The project of one file.

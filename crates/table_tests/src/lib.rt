@@ -4,6 +4,10 @@
 #[cfg(test)]
 mod calls;
 #[cfg(test)]
+mod closes;
+#[cfg(test)]
 mod given;
+#[cfg(test)]
+mod pasts;
 #[cfg(test)]
 mod runs;

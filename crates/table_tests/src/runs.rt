@@ -1,33 +1,14 @@
 //! Runs over a past, outcomes that are stale, and replays.
 
 use crate::calls::{Call, Row, Said, says, table_of};
-use crate::given::{Given, Named, key_of, outcome_of, project_of, sealed_of};
-use item_ids::{Key, Kind};
+use crate::given::{
+    CHECK, FILES, Given, HEADER, Named, SOURCE, key_of, outcome_of, project_of, sealed_of,
+};
+use crate::pasts::{Kept, table_over};
 use job_table::{Asked, Event, ReplayFault, Table, TableFault};
 use sample_runner::SampleRunner;
-use sessions::{Mark, Record, Session};
-use std::sync::Arc;
+use sessions::Mark;
 use std::test::*;
-
-const FILES: Named = Named {
-    kind: Kind::Files,
-    name: "",
-};
-
-const SOURCE: Named = Named {
-    kind: Kind::Source,
-    name: "a",
-};
-
-const HEADER: Named = Named {
-    kind: Kind::Header,
-    name: "a",
-};
-
-const CHECK: Named = Named {
-    kind: Kind::CheckClass,
-    name: "b",
-};
 
 // The file a with one byte, before and now.
 const OLD_SOURCE: Given = Given {
@@ -45,9 +26,6 @@ const CHECKED: Given = Given {
     key: CHECK,
     digits: "090000000000000000",
 };
-
-/// A key of the past with the digits of its result, how it became done, and the places of its edges.
-type Kept = (Named, &'static str, Mark, &'static [usize]);
 
 // A session of the file a before: its header, and a check that read the files and the header.
 const PAST: &[Kept] = &[
@@ -108,37 +86,8 @@ const HEADER_RUNS: &[Row] = &[
     (Call::Begin, 0, HEADER, Said::Done, 2),
 ];
 
-fn record_of(rt: HostRuntime, kept: &Kept) -> Result<Record, Fail> {
-    let (named, digits, mark, edges) = kept;
-    let key = key_of(rt, *named)?;
-    let sealed = sealed_of(rt, &key, digits)?;
-    let edges = edges.to_vec(rt.alloc())?;
-    Ok(Record::new(key, *mark, edges, sealed))
-}
-
-fn session_of(rt: HostRuntime, kept: &[Kept]) -> Result<Arc<Session>, Fail> {
-    let mut records = Vec::new(rt.alloc());
-    for one in kept {
-        records.push(record_of(rt, one)?)?;
-    }
-    match Session::new(rt.alloc(), 0, [0; 32], records) {
-        Ok(session) => Ok(Arc::new(rt.alloc(), session)?),
-        Err(_) => Err("a session".into()),
-    }
-}
-
-/// The table of the file a with its new byte, over the past.
-fn table_behind(rt: HostRuntime) -> Result<Table<SampleRunner>, Fail> {
-    let project = project_of(rt, "a", "B")?;
-    let past = session_of(rt, PAST)?;
-    match Table::open(rt.alloc(), Some(past), &project) {
-        Ok(table) => Ok(table),
-        Err(_) => Err("a table".into()),
-    }
-}
-
 /// Ends the run of a key by its outcome over these answers.
-fn finish(
+pub(crate) fn finish(
     rt: HostRuntime,
     table: &mut Table<SampleRunner>,
     key: Named,
@@ -168,7 +117,7 @@ fn has_past(table: &Table<SampleRunner>) -> Result<bool, Fail> {
 
 #[test]
 fn calls_behind_a_past(rt: HostRuntime) -> Result<(), Fail> {
-    let mut table = table_behind(rt)?;
+    let mut table = table_over(rt, PAST, "B")?;
     assert!(rt; says(rt, &mut table, BEFORE)?);
     assert!(rt; finish(rt, &mut table, HEADER, &[NEW_SOURCE])? == Ok(()));
     assert!(rt; says(rt, &mut table, BEHIND)?);
