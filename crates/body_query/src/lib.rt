@@ -1,11 +1,11 @@
 //! The query of a body's mistakes: the check of a body that gets what it asks by reads.
 #![tactic(auto)]
 
+mod facts;
 mod faults;
 mod laws;
 mod query;
 mod reads;
-mod facts;
 
 pub use faults::{class_faults, note_fault};
 pub use laws::{body_ties, bounds_law};

@@ -66,7 +66,9 @@ fn outcome(rt: HostRuntime, key: &Key, list: AnswerList) -> Result<Outcome<Sampl
     let mut runner = SampleRunner::new(rt.alloc());
     let mut recorder = Recorder::new(rt.alloc(), list);
     match record(rt.alloc(), &mut runner, key, &mut recorder) {
-        Ok(outcome) if recorder.fault().is_none() && recorder.refused_key().is_none() => Ok(outcome),
+        Ok(outcome) if recorder.fault().is_none() && recorder.refused_key().is_none() => Ok(
+            outcome,
+        ),
         _ => Err("a result, and no refused read".into()),
     }
 }

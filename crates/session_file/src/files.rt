@@ -5,7 +5,7 @@ ghost use Rattle.sessions.specs.Spelling.{file_of};
 ghost use Rattle.session_file.specs.Reading.{Gives, IsUnlessMemory, end_at, file_at, head_at, magic_at};
 
 use crate::fault::FileFault;
-use crate::parts::{bytes, eight, four, demand, two};
+use crate::parts::{bytes, demand, eight, four, two};
 use crate::records::read_records;
 use crate::results::as_digest;
 use crate::stop::Stop;

@@ -5,4 +5,4 @@ use Rattle.byte_readers.proofs.lists.put_list.Given as goal
 
 abbrev pub invariant-loop-item : goal.invariant-loop-item
 invariant-loop-item g l =
-  l.out.items ++ flat_map g.F.Format.spelling (map g.F.Format.view.one (drop l.item-index l.items)) ≡ l.fn.out.items ++ list g.F.Format.spelling (map g.F.Format.view.one l.items)
+    l.out.items ++ flat_map g.F.Format.spelling (map g.F.Format.view.one (drop l.item-index l.items)) ≡ l.fn.out.items ++ list g.F.Format.spelling (map g.F.Format.view.one l.items)
