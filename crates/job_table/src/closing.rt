@@ -31,7 +31,8 @@ pub fn session_of(
     requires room { ¬ IsFull (session_in past.now) }
     requires order { IsInOrder (held inputs.now nodes.now.items false) }
     requires answer { IsDone (status_at inputs.now nodes.now.items Answer) }
-    ensures { IfOk result (IsClosing (session_in past.now) inputs.now (held inputs.now nodes.now.items false)) }
+    ensures { IfOk result (IsClosing (session_in past.now) inputs.now
+        (held inputs.now nodes.now.items false)) }
 {
     let found = reach(alloc, inputs, nodes)?;
     let keys = ascending(found);
@@ -44,7 +45,8 @@ pub fn session_of(
 fn reach(alloc: Global, inputs: &Inputs, nodes: &Vec<Node>) -> Result<Vec<Key>, AllocError>
     requires order { IsInOrder (held inputs.now nodes.now.items false) }
     requires answer { IsDone (status_at inputs.now nodes.now.items Answer) }
-    ensures { IfOk result (λ v. AreReached inputs.now (held inputs.now nodes.now.items false) v.items) }
+    ensures { IfOk result (λ v. AreReached inputs.now (held inputs.now nodes.now.items false)
+        v.items) }
 {
     let mut found = roots(alloc, inputs)?;
     for i in 0..usize::MAX {
@@ -95,9 +97,12 @@ fn records_of(
     keys: &[Key],
 ) -> Result<Vec<Record>, AllocError>
     requires ascend { Ascend keys.now }
-    requires done { (q : KeyValue) → Contains keys.now q → IsDone (status_at inputs.now nodes.now.items q) }
-    requires edges { (q : KeyValue) → Contains keys.now q → HasEdges (held inputs.now nodes.now.items false) keys.now q }
-    ensures { IfOk result (λ v. AreRecordsOf (held inputs.now nodes.now.items false) keys.now v.items) }
+    requires done { (q : KeyValue) → Contains keys.now q
+        → IsDone (status_at inputs.now nodes.now.items q) }
+    requires edges { (q : KeyValue) → Contains keys.now q
+        → HasEdges (held inputs.now nodes.now.items false) keys.now q }
+    ensures { IfOk result (λ v. AreRecordsOf (held inputs.now nodes.now.items false) keys.now
+        v.items) }
 {
     let mut records = Vec::new(alloc);
     for key in keys {

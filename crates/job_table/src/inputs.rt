@@ -35,7 +35,8 @@ impl Model for Source {
 
     ghost view = { λ s. record { name = s.name; bytes = bytes_in (arc_value s.sealed) } };
 
-    ghost invariant = { λ s. arc_value s.sealed ≡ values.Source (Some (bytes_in (arc_value s.sealed))) };
+    ghost invariant = { λ s. arc_value s.sealed
+        ≡ values.Source (Some (bytes_in (arc_value s.sealed))) };
 }
 
 impl Source {
@@ -83,7 +84,8 @@ impl Model for Inputs {
 
     ghost view = { λ i. i.sources.items };
 
-    ghost invariant = { λ i. (arc_value i.files ≡ values.Files (names_of i.sources.items)) × (arc_value i.missing ≡ values.Source None) × IsProject i.sources.items };
+    ghost invariant = { λ i. (arc_value i.files ≡ values.Files (names_of i.sources.items))
+        × (arc_value i.missing ≡ values.Source None) × IsProject i.sources.items };
 }
 
 impl Inputs {
@@ -102,7 +104,8 @@ impl Inputs {
     /// The result of a key that is an input.
     #[tactic(auto, unfolding(graph_rules::specs::Keys::input_of))]
     pub fn get(&self, key: &Key) -> Option<&Arc<Sealed>>
-        ensures { MatchOption result (input_of self.now key.now ≡ None) (λ a. input_of self.now key.now ≡ Some (arc_value a.now)) }
+        ensures { MatchOption result (input_of self.now key.now ≡ None)
+            (λ a. input_of self.now key.now ≡ Some (arc_value a.now)) }
     {
         match key {
             Key::Files => Some(&self.files),
@@ -144,7 +147,8 @@ fn find_source<'a>(sources: &'a Vec<Source>, name: &Name) -> Option<&'a Source>
 
 /// The key of all files, and of each of these.
 fn keys_of(alloc: Global, sources: &Vec<Source>) -> Result<Vec<Key>, AllocError>
-    ensures { IfOk result (λ v. v.items ≡ keys.Files ∷ map (λ f. keys.Source f.name) sources.now.items) }
+    ensures { IfOk result (λ v. v.items
+        ≡ keys.Files ∷ map (λ f. keys.Source f.name) sources.now.items) }
 {
     let mut keys = Vec::new(alloc);
     keys.push(Key::Files)?;

@@ -77,7 +77,8 @@ fn is_held_by(node: &Node, w: u32) -> bool
 /// The result of a key that is done.
 pub fn result_of<'a>(inputs: &'a Inputs, nodes: &'a Vec<Node>, key: &Key) -> Option<&'a Arc<Sealed>>
     ensures none { IfNone result (IsNotDone (status_at inputs.now nodes.now.items key.now)) }
-    ensures some { IfSome result (λ a. IsDoneWith (arc_value a.now) (status_at inputs.now nodes.now.items key.now)) }
+    ensures some { IfSome result (λ a. IsDoneWith (arc_value a.now)
+        (status_at inputs.now nodes.now.items key.now)) }
 {
     if let Some(sealed) = inputs.get(key) {
         return Some(sealed);
@@ -101,7 +102,8 @@ pub struct Entry<'a> {
 /// How a key is done.
 pub fn entry_of<'a>(inputs: &'a Inputs, nodes: &'a Vec<Node>, key: &Key) -> Entry<'a>
     requires { IsDone (status_at inputs.now nodes.now.items key.now) }
-    ensures { status_at inputs.now nodes.now.items key.now ≡ Done (arc_value result.sealed.now) result.edges.now result.mark }
+    ensures { status_at inputs.now nodes.now.items key.now
+        ≡ Done (arc_value result.sealed.now) result.edges.now result.mark }
 {
     if let Some(sealed) = inputs.get(key) {
         return Entry {
@@ -144,7 +146,8 @@ fn is_quiet(node: &Node) -> bool
 /// Where a key is that the worker has claimed.
 pub fn claimed_by(nodes: &Vec<Node>, w: u32, key: &Key) -> Option<usize>
     ensures none { IfNone result (status_in nodes.now.items key.now ≡ Claimed w → ⊥) }
-    ensures some { IfSome result (λ i. IsFirst nodes.now.items key.now i × (i < vec_len nodes.now)) }
+    ensures some { IfSome result (λ i. IsFirst nodes.now.items key.now i
+        × (i < vec_len nodes.now)) }
     ensures claimed { IfSome result (λ _. status_in nodes.now.items key.now ≡ Claimed w) }
 {
     let at = find(nodes, key)?;
@@ -168,7 +171,8 @@ fn is_claimed(node: &Node, w: u32) -> bool
 /// Where a key is that the worker runs.
 pub fn run_by(nodes: &Vec<Node>, w: u32, key: &Key) -> Option<usize>
     ensures none { IfNone result (status_in nodes.now.items key.now ≡ Running w → ⊥) }
-    ensures some { IfSome result (λ i. IsFirst nodes.now.items key.now i × (i < vec_len nodes.now)) }
+    ensures some { IfSome result (λ i. IsFirst nodes.now.items key.now i
+        × (i < vec_len nodes.now)) }
     ensures running { IfSome result (λ _. status_in nodes.now.items key.now ≡ Running w) }
 {
     let at = find(nodes, key)?;
@@ -192,7 +196,8 @@ fn is_running(node: &Node, w: u32) -> bool
 /// Writes how the key at a place stands.
 pub fn put(nodes: &mut Vec<Node>, at: usize, standing: Standing)
     requires { at < vec_len nodes.old }
-    ensures written { (q k : Key) → IsFirst nodes.old.items q at → status_in nodes.new.items k ≡ (if same_key q k then status_of standing else status_in nodes.old.items k) }
+    ensures written { (q k : Key) → IsFirst nodes.old.items q at → status_in nodes.new.items k
+        ≡ (if same_key q k then status_of standing else status_in nodes.old.items k) }
     ensures apart { AreApart nodes.old.items → AreApart nodes.new.items }
 {
     let node = &mut nodes[at];

@@ -10,7 +10,8 @@ use recorder::Read;
 
 /// The place of the first read whose key isn't done with the result that was read.
 pub fn first_stale(inputs: &Inputs, nodes: &Vec<Node>, reads: &[Read]) -> Option<usize>
-    ensures { MatchOption result (AreHeld (held inputs.now nodes.now.items false) reads.now) (IsFirstStale (held inputs.now nodes.now.items false) reads.now) }
+    ensures { MatchOption result (AreHeld (held inputs.now nodes.now.items false) reads.now)
+        (IsFirstStale (held inputs.now nodes.now.items false) reads.now) }
 {
     for (i, read) in reads.iter().enumerate() {
         if !is_held(inputs, nodes, read) {
@@ -22,7 +23,8 @@ pub fn first_stale(inputs: &Inputs, nodes: &Vec<Node>, reads: &[Read]) -> Option
 
 /// Whether the key of a read is done with the result that was read.
 fn is_held(inputs: &Inputs, nodes: &Vec<Node>, read: &Read) -> bool
-    ensures { IsTrue result ↔ IsDoneWith read.now.value (status_at inputs.now nodes.now.items read.now.key) }
+    ensures { IsTrue result ↔ IsDoneWith read.now.value
+        (status_at inputs.now nodes.now.items read.now.key) }
 {
     match result_of(inputs, nodes, read.key()) {
         Some(now) => now.same_result(read.answer()),

@@ -26,9 +26,12 @@ pub fn room_for_claim<R: Runner>(
     key: &Key,
 ) -> Option<(Key, Key)>
     ensures nodes { (nodes.new.items ≡ nodes.old.items) × (vec_len nodes.new ≡ vec_len nodes.old) }
-    ensures history { (history.new.items ≡ history.old.items) × (vec_len history.new ≡ vec_len history.old) × (vec_capacity history.old ≤ vec_capacity history.new) }
+    ensures history { (history.new.items ≡ history.old.items)
+        × (vec_len history.new ≡ vec_len history.old)
+        × (vec_capacity history.old ≤ vec_capacity history.new) }
     ensures keys { IfSome result (λ k. (k.0 ≡ key.now) × (k.1 ≡ key.now)) }
-    ensures room { IfSome result (λ _. (vec_len nodes.new < vec_capacity nodes.new) × (vec_len history.new + 1 < vec_capacity history.new)) }
+    ensures room { IfSome result (λ _. (vec_len nodes.new < vec_capacity nodes.new)
+        × (vec_len history.new + 1 < vec_capacity history.new)) }
 {
     let own = key.copy(alloc).ok()?;
     let noted = key.copy(alloc).ok()?;
@@ -40,7 +43,8 @@ pub fn room_for_claim<R: Runner>(
 /// Adds an event, for which there is room.
 pub fn note<R: Runner>(history: &mut Vec<Event<R>>, event: Event<R>)
     requires { vec_len history.old < vec_capacity history.old }
-    ensures events { map event_of history.new.items ≡ map event_of history.old.items ++ event_of event ∷ [] }
+    ensures events { map event_of history.new.items ≡ map event_of history.old.items
+        ++ event_of event ∷ [] }
     ensures len { vec_len history.new ≡ vec_len history.old + 1 }
     ensures capacity { vec_capacity history.new ≡ vec_capacity history.old }
 {
@@ -68,7 +72,9 @@ pub fn room_for_begin<R: Runner>(
     history: &mut Vec<Event<R>>,
     key: &Key,
 ) -> Option<Key>
-    ensures history { (history.new.items ≡ history.old.items) × (vec_len history.new ≡ vec_len history.old) × (vec_capacity history.old ≤ vec_capacity history.new) }
+    ensures history { (history.new.items ≡ history.old.items)
+        × (vec_len history.new ≡ vec_len history.old)
+        × (vec_capacity history.old ≤ vec_capacity history.new) }
     ensures key { IfSome result (λ k. k ≡ key.now) }
     ensures room { IfSome result (λ _. vec_len history.new + 1 < vec_capacity history.new) }
 {
@@ -95,10 +101,14 @@ pub fn room_for_mark<R: Runner>(
     record: &Record,
 ) -> Option<MarkParts>
     requires { AreInside past.now.records record.now.edges }
-    ensures history { (history.new.items ≡ history.old.items) × (vec_len history.new ≡ vec_len history.old) × (vec_capacity history.old ≤ vec_capacity history.new) }
+    ensures history { (history.new.items ≡ history.old.items)
+        × (vec_len history.new ≡ vec_len history.old)
+        × (vec_capacity history.old ≤ vec_capacity history.new) }
     ensures key { IfSome result (λ parts. parts.noted ≡ key.now) }
-    ensures edges { IfSome result (λ parts. parts.edges.items ≡ map (key_at past.now.records) record.now.edges) }
-    ensures results { IfSome result (λ parts. (arc_value parts.sealed ≡ record.now.value) × (arc_value parts.answer ≡ record.now.value)) }
+    ensures edges { IfSome result (λ parts. parts.edges.items
+        ≡ map (key_at past.now.records) record.now.edges) }
+    ensures results { IfSome result (λ parts. (arc_value parts.sealed ≡ record.now.value)
+        × (arc_value parts.answer ≡ record.now.value)) }
     ensures room { IfSome result (λ _. vec_len history.new + 1 < vec_capacity history.new) }
 {
     let noted = key.copy(alloc).ok()?;
@@ -140,7 +150,9 @@ pub fn room_for_finish<R: Runner>(
     history: &mut Vec<Event<R>>,
     outcome: &Outcome<R>,
 ) -> Option<FinishParts>
-    ensures history { (history.new.items ≡ history.old.items) × (vec_len history.new ≡ vec_len history.old) × (vec_capacity history.old ≤ vec_capacity history.new) }
+    ensures history { (history.new.items ≡ history.old.items)
+        × (vec_len history.new ≡ vec_len history.old)
+        × (vec_capacity history.old ≤ vec_capacity history.new) }
     ensures edges { IfSome result (λ parts. parts.edges.items ≡ keys outcome.now.told) }
     ensures value { IfSome result (λ parts. arc_value parts.sealed ≡ outcome.now.value) }
     ensures outcome { IsOutcome R.mean R.reads outcome.now }

@@ -49,9 +49,18 @@ impl<R: Runner> Model for Table<R> {
 
     ghost coded = { Prim.hlevel (codes, value_contracts.the_row.coded) };
 
-    ghost view = { λ t. record { past = session_in t.past; project = t.inputs; history = map event_of t.history.items } };
+    ghost view = { λ t. record {
+      past = session_in t.past;
+      project = t.inputs;
+      history = map
+          event_of t.history.items;
+    } };
 
-    ghost invariant = { λ t. IsKept (past_entry (session_in t.past)) t.inputs t.nodes.items t.failed (map event_of t.history.items) × AreBacked R.mean R.reads (map event_of t.history.items) × (t.failed ≡ false → vec_len t.history < vec_capacity t.history) × ¬ IsFull (session_in t.past) };
+    ghost invariant = { λ t. IsKept (past_entry (session_in t.past)) t.inputs t.nodes.items
+        t.failed (map event_of t.history.items)
+        × AreBacked R.mean R.reads (map event_of t.history.items)
+        × (t.failed ≡ false → vec_len t.history < vec_capacity t.history)
+        × ¬ IsFull (session_in t.past) };
 }
 
 impl<R: Runner> Table<R> {

@@ -33,7 +33,9 @@ pub enum Walked {
 /// How the past edge stands that leads to a record.
 fn past_edge(inputs: &Inputs, nodes: &Vec<Node>, past: &Session, at: usize) -> Edge
     requires { at < length past.now.records }
-    ensures { edge_of result ≡ edge_at (print_in (past_entry (Some past.now)) (key_at past.now.records at)) (status_at inputs.now nodes.now.items (key_at past.now.records at)) }
+    ensures { edge_of result ≡ edge_at
+        (print_in (past_entry (Some past.now)) (key_at past.now.records at))
+        (status_at inputs.now nodes.now.items (key_at past.now.records at)) }
 {
     let record = &past.records()[at];
     let Some(sealed) = result_of(inputs, nodes, record.key()) else {
@@ -49,7 +51,8 @@ fn past_edge(inputs: &Inputs, nodes: &Vec<Node>, past: &Session, at: usize) -> E
 /// How the walk over past edges ends.
 pub fn walk_edges(inputs: &Inputs, nodes: &Vec<Node>, past: &Session, edges: &[usize]) -> Walked
     requires { AreInside past.now.records edges.now }
-    ensures { walk_of result ≡ walk (past_entry (Some past.now)) (held inputs.now nodes.now.items false) (map (key_at past.now.records) edges.now) }
+    ensures { walk_of result ≡ walk (past_entry (Some past.now))
+        (held inputs.now nodes.now.items false) (map (key_at past.now.records) edges.now) }
 {
     for (i, at) in edges.iter().enumerate() {
         match past_edge(inputs, nodes, past, *at) {
@@ -68,7 +71,9 @@ fn past_walked(
     past: &Option<Arc<Session>>,
     key: &Key,
 ) -> Option<Walked>
-    ensures { option_map walk_of result ≡ past_walk (past_entry (session_in past.now)) (held inputs.now nodes.now.items false) key.now }
+    ensures { option_map walk_of result
+        ≡ past_walk (past_entry (session_in past.now)) (held inputs.now nodes.now.items false)
+        key.now }
 {
     let Some(past) = past else {
         return None;
@@ -86,7 +91,8 @@ pub fn why_not(
     past: &Option<Arc<Session>>,
     key: &Key,
 ) -> Option<TableFault>
-    ensures { IsWhyNot (past_walk (past_entry (session_in past.now)) (held inputs.now nodes.now.items false) key.now) result }
+    ensures { IsWhyNot (past_walk (past_entry (session_in past.now))
+        (held inputs.now nodes.now.items false) key.now) result }
 {
     match past_walked(inputs, nodes, past, key) {
         Some(Walked::Open(i)) => Some(TableFault::EdgeOpen(i)),

@@ -30,8 +30,10 @@ fn ask_file<D: Reader>(
     recorder: &mut Recorder<D>,
     file: Option<&Name>,
 ) -> Result<Option<Arc<Sealed>>, RunFault>
-    ensures ok { IfOk result (λ a. Goes (file_step (option_copied file.entry)) recorder.old (option_and_then tree_told (option_map arc_value a)) recorder.new) }
-    ensures err { IfErr result (λ e. GivesUp (file_step (option_copied file.entry)) recorder.old e recorder.new) }
+    ensures ok { IfOk result (λ a. Goes (file_step (option_copied file.entry)) recorder.old
+        (option_and_then tree_told (option_map arc_value a)) recorder.new) }
+    ensures err { IfErr result (λ e. GivesUp (file_step (option_copied file.entry)) recorder.old
+        e recorder.new) }
     ensures follows { D.follows recorder.old.inner recorder.new.inner }
 {
     match file {
@@ -49,8 +51,10 @@ pub fn ask_class_tree<D: Reader>(
     recorder: &mut Recorder<D>,
     class: &Name,
 ) -> Result<Option<Arc<Sealed>>, RunFault>
-    ensures ok { IfOk result (λ a. Goes (class_tree_step class.now) recorder.old (option_and_then tree_told (option_map arc_value a)) recorder.new) }
-    ensures err { IfErr result (λ e. GivesUp (class_tree_step class.now) recorder.old e recorder.new) }
+    ensures ok { IfOk result (λ a. Goes (class_tree_step class.now) recorder.old
+        (option_and_then tree_told (option_map arc_value a)) recorder.new) }
+    ensures err { IfErr result (λ e. GivesUp (class_tree_step class.now) recorder.old e
+        recorder.new) }
     ensures follows { D.follows recorder.old.inner recorder.new.inner }
 {
     let index = ask_key(recorder, &Key::Index)?;

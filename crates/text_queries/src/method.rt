@@ -18,7 +18,9 @@ fn body_for(
     class: &Name,
     method: &Name,
 ) -> Result<Option<Body>, AllocError>
-    ensures { IfOk result (λ body. body ≡ option_and_then (λ file. body_named file class.now method.now) (option_copied tree.entry)) }
+    ensures { IfOk result (λ body. body
+        ≡ option_and_then (λ file. body_named file class.now method.now)
+        (option_copied tree.entry)) }
 {
     match tree {
         Some(tree) => tree.body(alloc, class, method),
@@ -33,8 +35,10 @@ pub fn run_method<D: Reader>(
     class: &Name,
     method: &Name,
 ) -> Result<Value, RunFault>
-    ensures ok { IfOk result (λ v. Goes (method_steps class.now method.now) recorder.old v recorder.new) }
-    ensures err { IfErr result (λ e. GivesUp (method_steps class.now method.now) recorder.old e recorder.new) }
+    ensures ok { IfOk result (λ v. Goes (method_steps class.now method.now) recorder.old v
+        recorder.new) }
+    ensures err { IfErr result (λ e. GivesUp (method_steps class.now method.now) recorder.old e
+        recorder.new) }
     ensures follows { D.follows recorder.old.inner recorder.new.inner }
 {
     let answer = ask_class_tree(alloc, recorder, class)?;

@@ -41,7 +41,8 @@ fn signature_of(alloc: Global, body: &Body) -> Result<Option<Signature>, AllocEr
 
 /// The types of a body that is there.
 fn signature_for(alloc: Global, body: Option<&Body>) -> Result<Option<Signature>, AllocError>
-    ensures { IfOk result (λ signature. signature ≡ option_and_then signature_of (option_copied body.entry)) }
+    ensures { IfOk result (λ signature. signature
+        ≡ option_and_then signature_of (option_copied body.entry)) }
 {
     match body {
         Some(body) => signature_of(alloc, body),
@@ -56,8 +57,10 @@ pub fn run_sig<D: Reader>(
     class: &Name,
     method: &Name,
 ) -> Result<Value, RunFault>
-    ensures ok { IfOk result (λ v. Goes (sig_steps class.now method.now) recorder.old v recorder.new) }
-    ensures err { IfErr result (λ e. GivesUp (sig_steps class.now method.now) recorder.old e recorder.new) }
+    ensures ok { IfOk result (λ v. Goes (sig_steps class.now method.now) recorder.old v
+        recorder.new) }
+    ensures err { IfErr result (λ e. GivesUp (sig_steps class.now method.now) recorder.old e
+        recorder.new) }
     ensures follows { D.follows recorder.old.inner recorder.new.inner }
 {
     let key = Key::Method(class.copy(alloc)?, method.copy(alloc)?);
