@@ -227,7 +227,7 @@ pub const ANSWERS: &[(&str, &str)] = &[
     ),
 ];
 
-pub fn bytes_of(rt: HostRuntime, digits: &str) -> Result<Vec<u8>, Fail> {
+pub(crate) fn bytes_of(rt: HostRuntime, digits: &str) -> Result<Vec<u8>, Fail> {
     Ok(
         hex::decode(rt.alloc(), digits)
             .ok()
@@ -235,7 +235,7 @@ pub fn bytes_of(rt: HostRuntime, digits: &str) -> Result<Vec<u8>, Fail> {
     )
 }
 
-pub fn is_encoded(rt: HostRuntime, value: &Value, want: &[u8]) -> Result<bool, Fail> {
+pub(crate) fn is_encoded(rt: HostRuntime, value: &Value, want: &[u8]) -> Result<bool, Fail> {
     Ok(encode(rt.alloc(), value)?.as_slice() == want)
 }
 
