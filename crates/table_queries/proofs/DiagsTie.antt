@@ -27,7 +27,7 @@ use Rattle.query_rules.specs.Items.{class_at, header_of, body_at, mistakes_in, f
 use Rattle.query_rules.specs.Meaning.{mean}
 use Rattle.query_rules.specs.Reads.{bodies_of, diagnosis_reads, asked_keys, firsts, reads}
 use Rattle.body_query.proofs.Sets.{Same}
-use Rattle.table_queries.specs.Told.{header_in, faults_in, unrepeated, first_names}
+use Rattle.table_queries.specs.Facts.{header_in, faults_in, unrepeated, first_names}
 use Rattle.table_queries.specs.Diags.{bodies_in, body_step, bodies_steps, declared_steps, diags_by, diags_steps}
 use Rattle.table_queries.specs.Laws.{DiagsTies}
 use Rattle.table_queries.proofs.Passes.{Passes, Stays, Reads, passes_each, flat_one, ties_by}

@@ -25,7 +25,7 @@ use Rattle.recorder.proofs.Rules.{fold_of, each_fits, each_map}
 use Rattle.query_rules.specs.Items.{class_at, chain_value, body_at}
 use Rattle.query_rules.specs.Meaning.{mean}
 use Rattle.query_rules.specs.Reads.{row_signature, chain_headers, signatures, asked_keys, reads}
-use Rattle.table_queries.specs.Told.{header_in, chain_in, signature_in}
+use Rattle.table_queries.specs.Facts.{header_in, chain_in, signature_in}
 use Rattle.table_queries.specs.Members.{Link, fields_told, methods_told, link_step, with_types, types_step, table_steps, chain_table_steps, members_by, members_steps}
 use Rattle.table_queries.specs.Laws.{MembersTies}
 use Rattle.table_queries.proofs.Passes.{Passes, Stays, Reads, passes_each, passes_then, flat_one, ties_by}

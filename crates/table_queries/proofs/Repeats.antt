@@ -8,7 +8,7 @@ use Rattle.mj_project.proofs.RepeatLemmas.{Contains-is_in, is_in-Contains}
 use Rattle.recorder.specs.Programs.{is_seen}
 use Rattle.recorder.proofs.Seen.{unseen_last}
 use Rattle.query_rules.specs.Reads.{firsts}
-use Rattle.table_queries.specs.Told.{unrepeated, first_names}
+use Rattle.table_queries.specs.Facts.{unrepeated, first_names}
 
 seen_grows : (ks : List Key) (k x : Key) → is_seen ks x ≡ true → is_seen (ks ++ k ∷ []) x ≡ true
 seen_grows ks k x h = by_test (is_seen (ks ++ k ∷ []) x) refl

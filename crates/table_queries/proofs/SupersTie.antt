@@ -20,7 +20,7 @@ use Rattle.query_rules.specs.Meaning.{mean}
 use Rattle.query_rules.specs.Reads.{chain_headers, asked_keys, reads}
 use Rattle.table_queries.specs.declared.supers.Climb.{Climb}
 use Rattle.table_queries.specs.declared.supers.Climb.TheVariants.{At, Over}
-use Rattle.table_queries.specs.Told.{rows_in, is_listed, header_in}
+use Rattle.table_queries.specs.Facts.{rows_in, is_listed, header_in}
 use Rattle.table_queries.specs.Supers.{chain, climb_by, climb_on, chain_steps, listed_steps, supers_steps}
 use Rattle.table_queries.specs.Laws.{SupersTies}
 use Rattle.table_queries.proofs.Passes.{Passes, Stays, Reads, ties_by}

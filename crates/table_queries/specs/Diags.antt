@@ -9,7 +9,7 @@ use Rattle.result_bytes.specs.declared.value.Value.{Value}
 use Rattle.result_bytes.specs.declared.value.Value.TheVariants as values
 use Rattle.recorder.specs.Programs.{Prog, Ask, each}
 use Rattle.query_rules.specs.Items.{fault_set}
-use Rattle.table_queries.specs.Told.{first_names, header_in, faults_in}
+use Rattle.table_queries.specs.Facts.{first_names, header_in, faults_in}
 
 -- the bodies of a class: `main` of a main class, else its methods
 abbrev pub bodies_in : HeaderValue → List Name

@@ -1,4 +1,4 @@
-pub mod Told
+pub mod Facts
 pub mod Supers
 pub mod Members
 pub mod Diags

@@ -10,7 +10,7 @@ use Rattle.result_bytes.specs.Payloads.{HeaderValue, SignatureValue, ChainValue}
 use Rattle.result_bytes.specs.declared.value.Value.{Value}
 use Rattle.result_bytes.specs.declared.value.Value.TheVariants as values
 use Rattle.recorder.specs.Programs.{Prog, Ask, each}
-use Rattle.table_queries.specs.Told.{header_in, chain_in, signature_in}
+use Rattle.table_queries.specs.Facts.{header_in, chain_in, signature_in}
 
 -- a class of a chain, and its header
 abbrev pub Link : Type 0

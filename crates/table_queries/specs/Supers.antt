@@ -12,7 +12,7 @@ use Rattle.result_bytes.specs.declared.value.Value.TheVariants as values
 use Rattle.recorder.specs.Programs.{Prog, Ask}
 use Rattle.table_queries.specs.declared.supers.Climb.{Climb}
 use Rattle.table_queries.specs.declared.supers.Climb.TheVariants.{At, Over}
-use Rattle.table_queries.specs.Told.{rows_in, is_listed, header_in}
+use Rattle.table_queries.specs.Facts.{rows_in, is_listed, header_in}
 
 abbrev pub chain : List Name → ChainEnd → ChainValue
 chain names end = record { classes = names; end = end }
