@@ -2,8 +2,9 @@
 use Rattle.std.specs.Prelude.{◌≡◌, ◌==◌, ◌&&◌, ◌++◌, ℕ, Bool, List, Option, Some, None, option_map, codes, decimal, flat_map, length}
 use Rattle.std.specs.List.{list_all}
 use Rattle.mj_rules.specs.AnswerWords.{AnswerValue, code_number, ProjectFault, RepeatedFile, NoFiles, TooManyFiles, BadFileName, OutOfMemory}
-use Rattle.mj_rules.specs.FaultCodes.{codes_of, answer_codes}
-use Rattle.mj_rules.specs.declared.places.FaultLine.{FaultLine}
+use Rattle.mj_project.specs.Projects.{SourceFile}
+use Rattle.fault_lines.specs.FaultLines.{AreLinesOf}
+use Rattle.fault_lines.specs.declared.lines.FaultLine.{FaultLine}
 
 -- neither the project nor a class has a fault
 abbrev pub is_clean : AnswerValue → Bool
@@ -22,10 +23,10 @@ line_text line =
     place_words (option_map (λ file. file.now) line.file) line.at ++ codes ": E"
     ++ decimal (code_number line.code) ++ codes "\n"
 
--- a line for each fault of the answer, in its order
-pub record AreLinesOf (answer : AnswerValue) (text : List ℕ) : Type 0 where
+-- the lines of the answer's faults, each at its place in the files
+pub record IsFaultText (files : List SourceFile) (answer : AnswerValue) (text : List ℕ) : Type 0 where
   pub lines : List FaultLine
-  pub each : codes_of lines ≡ answer_codes answer
+  pub each : AreLinesOf files answer lines
   pub joined : text ≡ flat_map line_text lines
 
 -- why files are no project; want of memory has no text

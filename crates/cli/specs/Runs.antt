@@ -5,19 +5,19 @@ use Rattle.mj_project.specs.Projects.{SourceFile, names_of}
 use Rattle.mj_rules.specs.AnswerWords.{AnswerValue, text_of}
 use Rattle.mj_rules.specs.Rules.{Rules}
 use Rattle.cli.specs.Endings.{status_of_answer}
-use Rattle.cli.specs.Lines.{is_clean, AreLinesOf}
+use Rattle.cli.specs.Lines.{is_clean, IsFaultText}
 use Rattle.cli.specs.declared.report.Report.{Report}
 use Rattle.cli.specs.declared.report.Status.{Status}
 use Rattle.cli.specs.declared.report.Status.TheVariants as status
 
--- The answer that the rules give files of these names: its text, a line for each of its faults, and the status that it ends with.
+-- The answer that the rules give files of these names: its text, a line for each of its faults with its place, and the status that it ends with.
 pub record ReportsOn (names : List (List ℕ)) (report : Report) : Type 0 where
   pub files : List SourceFile
   pub answer : AnswerValue
   pub named : names_of files ≡ names
   pub rules : Rules files answer
   pub text : string_bytes report.answer ≡ text_of answer
-  pub lines : AreLinesOf answer (string_bytes report.notes)
+  pub lines : IsFaultText files answer (string_bytes report.notes)
   pub status : report.status ≡ status_of_answer (is_clean answer)
 
 -- Both texts of a report stand behind what the two streams held before.

@@ -1,9 +1,10 @@
 //! The lines of standard error: one for each fault, with its place in its file.
 ghost use Rattle.std.specs.Prelude.{◌≡◌, ◌==◌, ◌++◌, IfOk, OnOk, flat_map, length, string_bytes};
 ghost use Rattle.std.specs.List.{list_all};
-ghost use Rattle.cli.specs.Lines.{is_clean, line_text, AreLinesOf, refusal_words};
+ghost use Rattle.cli.specs.Lines.{is_clean, line_text, IsFaultText, refusal_words};
 
-use mj_rules::{Answer, ClassAnswer, FaultLine, Project, ProjectFault, fault_lines};
+use fault_lines::{FaultLine, ReadProject, fault_lines};
+use mj_rules::{Answer, ClassAnswer, ProjectFault};
 use std::alloc::{AllocError, Global};
 
 /// Whether an answer has no fault.
@@ -19,13 +20,13 @@ fn are_clean(classes: &[ClassAnswer]) -> bool
     classes.iter().all(|class| class.faults().is_empty())
 }
 
-/// A line for each fault of the project's answer, in the order of the answer's text.
+/// A line for each fault of the project's answer, in the order of the answer's text: its place and its code.
 pub(crate) fn fault_text(
     alloc: Global,
-    project: &Project,
+    project: &ReadProject,
     answer: &Answer,
 ) -> Result<String, AllocError>
-    ensures { IfOk result (λ text. AreLinesOf answer.now (string_bytes text)) }
+    ensures { IfOk result (λ text. IsFaultText project.now answer.now (string_bytes text)) }
 {
     let mut text = String::new(alloc);
     if is_clean(answer) {

@@ -3,7 +3,7 @@ ghost use Rattle.std.specs.Prelude.{◌≡◌, ◌≢◌, ◌⊎◌, ℕ, List, 
 ghost use Rattle.command_line.specs.CommandLine.{scratch_files, asks_plainly};
 ghost use Rattle.mj_rules.specs.AnswerWords.{text_of};
 ghost use Rattle.cli.specs.Endings.{status_of_answer, status_of_failure};
-ghost use Rattle.cli.specs.Lines.{is_clean, AreLinesOf};
+ghost use Rattle.cli.specs.Lines.{is_clean, IsFaultText};
 ghost use Rattle.cli.specs.Runs.{ReportsOn, Prints};
 ghost use Rattle.cli.specs.Statuses.{IsStatus};
 
@@ -11,7 +11,8 @@ use crate::failure::Failure;
 use crate::lines::{fault_text, is_clean, refusal_text};
 use crate::report::{Report, Status, deliver, no_memory};
 use command_line::{Words, WordsFault, words};
-use mj_rules::{Answer, Project, render};
+use fault_lines::ReadProject;
+use mj_rules::{Answer, Project, answer_for, render};
 use std::alloc::{AllocError, Global};
 use std::fs;
 use std::io::{ErrorKind, Write};
@@ -73,13 +74,19 @@ fn scratch<R: Files + AllocGlobal>(rt: &R, names: Vec<String>) -> Result<Report,
 {
     let alloc = rt.alloc();
     let project = Project::new(alloc, read_files(rt, names)?)?;
-    let answer = mj_rules::scratch(alloc, &project)?;
-    Ok(answer_report(alloc, &project, &answer)?)
+    let read = ReadProject::new(alloc, &project)?;
+    let answer = answer_for(alloc, &project, read.trees())?;
+    Ok(answer_report(alloc, &read, &answer)?)
 }
 
 // What is written of an answer.
-fn answer_report(alloc: Global, project: &Project, answer: &Answer) -> Result<Report, AllocError>
-    ensures notes { IfOk result (λ report. AreLinesOf answer.now (string_bytes report.notes)) }
+fn answer_report(
+    alloc: Global,
+    project: &ReadProject,
+    answer: &Answer,
+) -> Result<Report, AllocError>
+    ensures notes { IfOk result (λ report.
+        IsFaultText project.now answer.now (string_bytes report.notes)) }
     ensures answer { IfOk result (λ report. string_bytes report.answer ≡ text_of answer.now) }
     ensures status { IfOk result (λ report.
         report.status ≡ status_of_answer (is_clean answer.now)) }

@@ -122,11 +122,10 @@ impl<'a> TokenIndex<'a> {
 
     /// The token of a place in the class with this number; that of a whole file or project is none. Classes are
     /// numbered from 0, the main class first. The tokens are those of a file.
-    pub fn locate(&self, class: u32, place: &Place) -> Option<usize>
+    pub fn locate(&self, class: usize, place: &Place) -> Option<usize>
         ensures value { result ≡ token_of self.now class place.now }
         ensures within { IfSome result (λ at. at < length self.now) }
     {
-        let class = class as usize;
         match place {
             Place::Project | Place::File(_) => None,
             Place::ClassOf(_, number) => self.class_name(*number),

@@ -3,8 +3,10 @@
 
 mod index;
 mod places;
+mod reading;
 mod terminals;
 mod text;
 
 pub use index::TokenIndex;
+pub use reading::{ReadFile, read};
 pub use text::LinedText;

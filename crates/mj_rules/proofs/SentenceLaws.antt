@@ -1,10 +1,9 @@
 -- The tree that is computed is the one of the sentence.
-use Rattle.std.proofs.Common.{◌≡◌, ℕ, List, Option, Some, None, Result, Ok, Err, IfOk, option_and_then, option_map, refl, sym, ap, ◌∙◌}
+use Rattle.std.proofs.Common.{◌≡◌, ℕ, List, Option, Some, None, Ok, Err, option_and_then, option_map, refl, sym, ap, ◌∙◌}
 use Rattle.std.specs.Result.{result_ok}
 use Rattle.std.proofs.lemmas.Option.{none-some}
 use Rattle.mj_lexer.specs.declared.token.Token.{Token}
-use Rattle.mj_lexer.specs.declared.lexer.LexFault.{LexFault}
-use Rattle.mj_lexer.specs.Lexing.{tokens_of, lexing_of}
+use Rattle.mj_lexer.specs.Lexing.{Lexing, tokens_of, lexing_of}
 use Rattle.mj_lexer.proofs.Lexings.{Lexes-tokens_of}
 use Rattle.mj_tree.specs.Trees.{File}
 use Rattle.mj_tree.specs.Views.{file_view}
@@ -12,6 +11,8 @@ use Rattle.mj_tree.specs.declared.tree.FileTree.{FileTree}
 use Rattle.mj_parser.specs.Declarations.{Derives}
 use Rattle.mj_parser.specs.FileReading.{tree_of}
 use Rattle.mj_parser.specs.Laws.{GrammarLaws}
+use Rattle.file_index.specs.declared.reading.ReadFile.{ReadFile}
+use Rattle.file_index.specs.Reading.{IsReading, IsTreeOf}
 use Rattle.mj_rules.specs.Sentences.{IsSentence, file_of}
 use Rattle.mj_rules.specs.Laws.{SentenceLaw}
 
@@ -37,22 +38,19 @@ file_by_tokens : (bytes : List ℕ) (o : Option (List Token)) → tokens_of byte
 unfolding file_of
 file_by_tokens bytes o e = ap (option_and_then tree_of) e
 
--- no tokens, no tree
-pub no_tokens : (bytes : List ℕ) (fault : LexFault) → lexing_of bytes ≡ Err fault → None ≡ file_of bytes
-no_tokens bytes fault e = sym (file_by_tokens bytes None (ap result_ok e))
+same_options : (a b : Option File) → ((tree : File) → a ≡ Some tree → b ≡ Some tree) → ((tree : File) → b ≡ Some tree → a ≡ Some tree) → a ≡ b
+same_options None None to from = refl
+same_options None (Some tree) to from = from tree refl
+same_options (Some tree) b to from = sym (to tree refl)
 
-pub tree_found : GrammarLaws → (bytes : List ℕ) (tokens : List Token) (tree : File) → lexing_of bytes ≡ Ok tokens → Derives tokens tree → Some tree ≡ file_of bytes
-tree_found grammar bytes tokens tree e d = sym (file_by_tokens bytes (Some tokens) (ap result_ok e) ∙ (grammar tokens tree).0 d)
+tree_by : GrammarLaws → (tokens : List Token) (tree : Option FileTree) → IsTreeOf tokens tree → option_map file_view tree ≡ tree_of tokens
+tree_by grammar tokens tree is =
+    same_options (option_map file_view tree) (tree_of tokens) (λ t e. (grammar tokens t).0 (is.found t e)) (λ t e. is.only t ((grammar tokens t).1 e))
 
-no_tree : (o : Option File) → ((tree : File) → o ≡ Some tree → ⊥) → o ≡ None
-no_tree None never = refl
-no_tree (Some tree) never = absurd (never tree refl)
+module _ (grammar : GrammarLaws) (bytes : List ℕ) (file : ReadFile) (is : IsReading bytes file) where
+  by_lexing : (r : Lexing) → lexing_of bytes ≡ r → option_map file_view file.tree ≡ file_of bytes
+  by_lexing (Ok tokens) e = tree_by grammar tokens file.tree (is.tree tokens e) ∙ sym (file_by_tokens bytes (Some tokens) (ap result_ok e))
+  by_lexing (Err fault) e = ap (option_map file_view) (is.no_tree fault e) ∙ sym (file_by_tokens bytes None (ap result_ok e))
 
-pub no_tree_found : GrammarLaws → (bytes : List ℕ) (tokens : List Token) → lexing_of bytes ≡ Ok tokens → ((tree : File) → Derives tokens tree → ⊥) → None ≡ file_of bytes
-no_tree_found grammar bytes tokens e never =
-    sym (file_by_tokens bytes (Some tokens) (ap result_ok e) ∙ no_tree (tree_of tokens) (λ tree t. never tree ((grammar tokens tree).1 t)))
-
--- what a refusal that isn't for want of memory comes to
-pub refused : {E P : Type 0} (r : Result (Option FileTree) E) (found : Option File) → IfOk r (λ tree. (tree ≡ None) × P) → (P → None ≡ found) → IfOk r (λ tree. option_map file_view tree ≡ found)
-refused (Ok tree) found h next = ap (option_map file_view) h.0 ∙ next h.1
-refused (Err e) found h next = tt
+  pub tree_read : option_map file_view file.tree ≡ file_of bytes
+  tree_read = by_lexing (lexing_of bytes) refl

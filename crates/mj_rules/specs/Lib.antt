@@ -8,4 +8,3 @@ pub mod FaultLists
 pub mod Laws
 pub mod Answering
 pub mod Tables
-pub mod FaultCodes

@@ -2,9 +2,10 @@
 ghost use Rattle.std.specs.Prelude.{◌≡◌, ◌↔◌, ℕ, List, Some, IfOk, Contains};
 ghost use Rattle.mj_answer.specs.Order.{NameBefore, IsAscendingBy};
 ghost use Rattle.mj_classes.specs.Declarations.{decl};
-ghost use Rattle.mj_classes.specs.Classes.{class_ref_view};
+ghost use Rattle.mj_classes.specs.Classes.{class_ref_view, files_view};
 ghost use Rattle.mj_classes.specs.Index.{declared_in};
 ghost use Rattle.mj_rules.specs.FaultLists.{class_names};
+ghost use Rattle.mj_rules.specs.Sentences.{trees_of};
 ghost use Rattle.mj_rules.specs.Rules.{IsAnswerFor, AreClassAnswers, Rules};
 
 use crate::body_faults::add_body_faults;
@@ -16,6 +17,7 @@ use mj_answer::{Answer, ClassAnswer, fault_set, name_set};
 use mj_classes::{ClassRef, Declarations};
 use mj_lexer::Name;
 use mj_project::Project;
+use mj_tree::FileTree;
 use std::alloc::{AllocError, Global};
 
 /// The answer for a class, the first one of its name.
@@ -70,13 +72,25 @@ fn class_answers(alloc: Global, declarations: &Declarations) -> Result<Vec<Class
     Ok(answers)
 }
 
+/// The answer that the rules give a project whose files have these trees.
+pub fn answer_for(
+    alloc: Global,
+    project: &Project,
+    trees: &[Option<FileTree>],
+) -> Result<Answer, AllocError>
+    requires { files_view trees.now ≡ trees_of project.now }
+    ensures { IfOk result (λ answer. Rules project.now answer) }
+{
+    let declarations = Declarations::new(alloc, trees)?;
+    let faults = project_faults(alloc, project, trees, declarations.classes())?;
+    let classes = class_answers(alloc, &declarations)?;
+    Ok(Answer::new(fault_set(faults), classes))
+}
+
 /// The answer that the rules give a project.
 pub fn scratch(alloc: Global, project: &Project) -> Result<Answer, AllocError>
     ensures { IfOk result (λ answer. Rules project.now answer) }
 {
     let trees = read_files(alloc, project)?;
-    let declarations = Declarations::new(alloc, &trees)?;
-    let faults = project_faults(alloc, project, &trees, declarations.classes())?;
-    let classes = class_answers(alloc, &declarations)?;
-    Ok(Answer::new(fault_set(faults), classes))
+    answer_for(alloc, project, &trees)
 }

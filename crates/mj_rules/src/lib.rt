@@ -5,17 +5,15 @@ mod body_faults;
 mod checker;
 mod declaration_faults;
 mod laws;
-mod places;
 mod project_faults;
 mod reading;
 mod tables;
 mod world;
 
-pub use checker::scratch;
+pub use checker::{answer_for, scratch};
 pub use laws::{answer_laws, class_fault_laws, project_fault_laws, sentence_laws, world_laws};
 pub use mj_answer::{
     Answer, ClassAnswer, ClassTable, Code, Diagnostic, FieldRow, MethodRow, render,
 };
 pub use mj_project::{Project, ProjectFault};
-pub use places::{FaultLine, fault_lines};
 pub use reading::read_file;

@@ -3,19 +3,18 @@ use Rattle.mj_answer.specs.declared.diagnostic.Diagnostic.{Diagnostic}
 use Rattle.mj_answer.specs.AnswerValues.{AnswerValue}
 use Rattle.mj_answer.specs.Order.{IsAscending}
 use Rattle.mj_classes.specs.Declarations.{ClassDecl, declarations}
-use Rattle.mj_classes.specs.Classes.{files_view}
 use Rattle.mj_classes.specs.Index.{declared_in}
 use Rattle.mj_rules.specs.Sentences.{classes_in}
 use Rattle.mj_rules.specs.FaultLists.{project_faults}
 use Rattle.mj_rules.specs.Rules.{AreClassAnswers}
 use Rattle.mj_rules.proofs.Composing.{SameFaults, project_answer}
 use Rattle.mj_rules.proofs.LowerLaws.{sentence_law}
-use Rattle.mj_rules.proofs.checker.scratch.Goals as goal
+use Rattle.mj_rules.proofs.checker.answer_for.Goals as goal
 
 pub returns : goal.returns
 returns c =
     let files = c.args.project.now in
-    let declared : declared_in c.in_ok-declarations.declarations ≡ classes_in files = c.in_ok-declarations.ensures ∙ ap declarations (ap (λ ts. files_view ts) c.deref.ensures.value ∙ c.in_ok-trees.ensures) in
+    let declared : declared_in c.in_ok-declarations.declarations ≡ classes_in files = c.in_ok-declarations.ensures ∙ ap declarations c.requires in
     let faults : c.new-2.result.faults ≡ c.fault_set.result.items = ap (λ (a : AnswerValue). a.faults) c.new-2.ensures in
     let classes : c.new-2.result.classes ≡ c.in_ok-classes.classes.items = ap (λ (a : AnswerValue). a.classes) c.new-2.ensures in
     let same : SameFaults c.fault_set.result.items (project_faults files) = subst (λ (ds : List Diagnostic). SameFaults c.fault_set.result.items ds) c.in_ok-faults.ensures c.fault_set.ensures.same in

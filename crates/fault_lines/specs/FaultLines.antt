@@ -1,0 +1,126 @@
+-- Where the faults of an answer stand in the texts of a project's files.
+use Rattle.std.specs.Prelude.{◌≡◌, ◌≢◌, ◌++◌, ℕ, List, map, flat_map, Option, Some, None, option_map, option_and_then, find, slice_get}
+use Rattle.std.specs.Str.{bytes_eq}
+use Rattle.mj_lexer.specs.declared.token.Token.{Token}
+use Rattle.mj_lexer.specs.Lexing.{tokens_of}
+use Rattle.mj_lexer.specs.Places.{line_of, column_of}
+use Rattle.mj_tree.specs.Trees.{Name}
+use Rattle.mj_tree.specs.declared.place.Place.{Place}
+use Rattle.mj_tree.specs.declared.place.Place.TheVariants as places
+use Rattle.mj_parser.specs.Locations.{token_of}
+use Rattle.file_index.specs.Reading.{IsStop}
+use Rattle.mj_answer.specs.declared.code.Code.{Code}
+use Rattle.mj_answer.specs.declared.code.Code.TheVariants.{E103}
+use Rattle.mj_answer.specs.declared.diagnostic.Diagnostic.{Diagnostic}
+use Rattle.mj_answer.specs.AnswerValues.{AnswerValue}
+use Rattle.mj_classes.specs.Declarations.{ClassDecl, decl}
+use Rattle.mj_project.specs.Projects.{SourceFile}
+use Rattle.mj_rules.specs.Sentences.{classes_in}
+use Rattle.fault_lines.specs.Pairs.{Pairwise}
+use Rattle.fault_lines.specs.declared.lines.FaultLine.{FaultLine}
+
+-- ---- lines and columns in a text
+
+-- the line and the column of a byte, both counted from 1
+abbrev pub line_column : List ℕ → ℕ → ℕ × ℕ
+line_column text at = (line_of text at, column_of text at)
+
+-- those of a token of the text
+abbrev pub token_spot : List ℕ → List Token → ℕ → Option (ℕ × ℕ)
+token_spot text ts number = option_map (λ t. line_column text t.start) (slice_get ts number)
+
+abbrev pub spot_among : List ℕ → ℕ → Place → List Token → Option (ℕ × ℕ)
+spot_among text class place ts = option_and_then (token_spot text ts) (token_of ts class place)
+
+-- those of the token of a place in the class with this number
+unfoldable pub spot_in : List ℕ → ℕ → Place → Option (ℕ × ℕ)
+spot_in text class place = option_and_then (spot_among text class place) (tokens_of text)
+
+-- those of the byte at which reading the text stopped
+pub record IsStopSpot (text : List ℕ) (at : Option (ℕ × ℕ)) : Type 0 where
+  pub stopped : Option ℕ
+  pub stop : IsStop text stopped
+  pub at_stop : at ≡ option_map (line_column text) stopped
+
+-- ---- files
+
+-- a file's name, and a line and a column in it
+pub record Spot : Type 0 where
+  pub file : Option (List ℕ)
+  pub at : Option (ℕ × ℕ)
+
+abbrev pub nowhere : Spot
+nowhere = record { file = None; at = None }
+
+-- a place in the class with this number of a file
+abbrev pub spot_in_file : Option SourceFile → ℕ → Place → Spot
+spot_in_file None class place = nowhere
+spot_in_file (Some f) class place =
+    record { file = Some f.name; at = spot_in f.bytes class place }
+
+-- a place in a class
+abbrev pub spot_in_class : List SourceFile → Option ClassDecl → Place → Spot
+spot_in_class files None place = nowhere
+spot_in_class files (Some k) place = spot_in_file (slice_get files k.file) k.number place
+
+-- the file of a name
+abbrev pub file_named : List SourceFile → Name → Option SourceFile
+file_named files name = find (λ f. bytes_eq f.name name) files
+
+-- Of two files with main classes the later one is at fault at its main class, a file that is no sentence where
+-- reading it stopped.
+pub record IsFileSpot (f : SourceFile) (code : Code) (spot : Spot) : Type 0 where
+  pub file : spot.file ≡ Some f.name
+  pub main : code ≡ E103 → spot.at ≡ spot_in f.bytes 0 places.Class
+  pub stopped : code ≢ E103 → IsStopSpot f.bytes spot.at
+
+abbrev pub IsSpotOfFile : Option SourceFile → Code → Spot → Type 0
+IsSpotOfFile None code spot = spot ≡ nowhere
+IsSpotOfFile (Some f) code spot = IsFileSpot f code spot
+
+-- ---- faults
+
+-- where a fault of the project stands
+abbrev pub IsSpotOfProject : List SourceFile → Code → Place → Spot → Type 0
+IsSpotOfProject files code (places.File name) spot = IsSpotOfFile (file_named files name) code spot
+IsSpotOfProject files code (places.ClassOf name number) spot =
+    spot ≡ spot_in_file (file_named files name) 0 (places.ClassOf name number)
+IsSpotOfProject files code places.Project spot = spot ≡ nowhere
+IsSpotOfProject files code places.Class spot = spot ≡ nowhere
+IsSpotOfProject files code (places.Field number) spot = spot ≡ nowhere
+IsSpotOfProject files code (places.Method number) spot = spot ≡ nowhere
+IsSpotOfProject files code (places.Inside method token) spot = spot ≡ nowhere
+
+-- a fault with the name of its class; one of the project itself has none
+pub record Finding : Type 0 where
+  pub class : Option Name
+  pub fault : Diagnostic
+
+abbrev pub of_project : Diagnostic → Finding
+of_project fault = record { class = None; fault = fault }
+
+abbrev pub of_class : Name → Diagnostic → Finding
+of_class name fault = record { class = Some name; fault = fault }
+
+-- the faults of an answer: the project's own, then those of each class
+abbrev pub findings : AnswerValue → List Finding
+findings answer =
+    map of_project answer.faults
+    ++ flat_map (λ class. map (of_class class.name) class.faults) answer.classes
+
+-- A fault of a class stands in the first class of its name.
+abbrev pub IsSpotOf : List SourceFile → Option Name → Diagnostic → Spot → Type 0
+IsSpotOf files None fault spot = IsSpotOfProject files fault.code fault.place spot
+IsSpotOf files (Some class) fault spot =
+    spot ≡ spot_in_class files (decl (classes_in files) class) fault.place
+
+abbrev pub spot_of_line : FaultLine → Spot
+spot_of_line line = record { file = option_map (λ f. f.now) line.file; at = line.at }
+
+pub record IsLineOf (files : List SourceFile) (finding : Finding) (line : FaultLine) : Type 0 where
+  pub code : line.code ≡ finding.fault.code
+  pub spot : IsSpotOf files finding.class finding.fault (spot_of_line line)
+
+-- a line for each fault of the answer, in its order
+abbrev pub AreLinesOf : List SourceFile → AnswerValue → List FaultLine → Type 0
+AreLinesOf files answer lines = Pairwise (IsLineOf files) (findings answer) lines

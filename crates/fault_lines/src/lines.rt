@@ -1,0 +1,162 @@
+//! A line for each fault.
+ghost use Rattle.std.specs.Prelude.{◌≡◌, ◌++◌, None, List, map, flat_map, slice_get, Some, option_copied, IfOk, OnOk};
+ghost use Rattle.mj_classes.specs.Declarations.{decl};
+ghost use Rattle.mj_classes.specs.Index.{declared_in};
+ghost use Rattle.mj_rules.specs.Sentences.{classes_in};
+ghost use Rattle.fault_lines.specs.Pairs.{Pairwise};
+ghost use Rattle.fault_lines.specs.FaultLines.{Finding, of_project, of_class, spot_in_file, spot_in_class, IsSpotOfFile, IsLineOf, AreLinesOf, spot_of_line};
+
+use crate::sources::ReadProject;
+use crate::texts::{IndexedText, Texts};
+use mj_answer::{Answer, ClassAnswer, Code, Diagnostic};
+use mj_classes::Declarations;
+use mj_lexer::Name;
+use mj_tree::Place;
+use std::alloc::{AllocError, Global};
+
+/// A fault as it is shown to a reader.
+#[derive(Debug, Drop)]
+pub struct FaultLine<'a> {
+    /// The name of its file; none for a fault of the project.
+    pub file: Option<&'a str>,
+    /// Its line and its column in the file, both counted from 1, if it has a place there.
+    pub at: Option<(usize, usize)>,
+    pub code: Code,
+}
+
+/// The line of a fault of a file: a second main class, or bytes that are no sentence.
+fn file_line<'a>(text: Option<&IndexedText<'a, '_>>, code: Code) -> FaultLine<'a>
+    ensures code { result.code ≡ code }
+    ensures spot { IsSpotOfFile (option_copied text.entry) code (spot_of_line result) }
+{
+    let Some(text) = text else {
+        return FaultLine {
+            file: None,
+            at: None,
+            code,
+        };
+    };
+    let at = if code == Code::E103 {
+        text.spot(0, &Place::Class)
+    } else {
+        text.stop()
+    };
+    FaultLine {
+        file: Some(text.name()),
+        at,
+        code,
+    }
+}
+
+/// The line of a fault at a place in the class with this number of a file.
+fn place_line<'a>(
+    text: Option<&IndexedText<'a, '_>>,
+    class: usize,
+    place: &Place,
+    code: Code,
+) -> FaultLine<'a>
+    ensures code { result.code ≡ code }
+    ensures spot { spot_of_line result ≡ spot_in_file (option_copied text.entry) class place.now }
+{
+    match text {
+        Some(text) => FaultLine {
+            file: Some(text.name()),
+            at: text.spot(class, place),
+            code,
+        },
+        None => FaultLine {
+            file: None,
+            at: None,
+            code,
+        },
+    }
+}
+
+/// The line of a fault of the project.
+fn project_line<'a>(texts: &Texts<'a, '_>, fault: &Diagnostic) -> FaultLine<'a>
+    ensures { IsLineOf texts.now (of_project fault.now) result }
+{
+    match &fault.place {
+        Place::File(name) => file_line(texts.named(name), fault.code),
+        Place::ClassOf(name, _) => place_line(texts.named(name), 0, &fault.place, fault.code),
+        Place::Project
+        | Place::Class
+        | Place::Field(_)
+        | Place::Method(_)
+        | Place::Inside(_, _) => place_line(None, 0, &fault.place, fault.code),
+    }
+}
+
+/// The line of a fault of a class, the first one of its name.
+fn class_line<'a>(
+    texts: &Texts<'a, '_>,
+    declarations: &Declarations,
+    class: &Name,
+    fault: &Diagnostic,
+) -> FaultLine<'a>
+    requires { declared_in declarations.now ≡ classes_in texts.now }
+    ensures { IsLineOf texts.now (of_class class.now fault.now) result }
+{
+    match declarations.find(class) {
+        Some(declared) => place_line(
+            texts.get(declared.file),
+            declared.number,
+            &fault.place,
+            fault.code,
+        ),
+        None => place_line(None, 0, &fault.place, fault.code),
+    }
+}
+
+/// Adds the lines of the project's own faults.
+fn add_project_lines<'a>(
+    lines: &mut Vec<FaultLine<'a>>,
+    texts: &Texts<'a, '_>,
+    faults: &[Diagnostic],
+) -> Result<(), AllocError>
+    ensures { (before : List Finding) → Pairwise (IsLineOf texts.now) before lines.old.items
+        → OnOk result
+        (Pairwise (IsLineOf texts.now) (before ++ map of_project faults.now) lines.new.items) }
+{
+    for fault in faults {
+        lines.push(project_line(texts, fault))?;
+    }
+    Ok(())
+}
+
+/// Adds the lines of a class's faults.
+fn add_class_lines<'a>(
+    lines: &mut Vec<FaultLine<'a>>,
+    texts: &Texts<'a, '_>,
+    declarations: &Declarations,
+    class: &ClassAnswer,
+) -> Result<(), AllocError>
+    requires { declared_in declarations.now ≡ classes_in texts.now }
+    ensures { (before : List Finding) → Pairwise (IsLineOf texts.now) before lines.old.items
+        → OnOk result
+        (Pairwise (IsLineOf texts.now) (before ++ map (of_class class.now.name) class.now.faults)
+        lines.new.items) }
+{
+    for fault in class.faults() {
+        lines.push(class_line(texts, declarations, class.name(), fault))?;
+    }
+    Ok(())
+}
+
+/// The faults of an answer, in its order, with their places in the files of the project.
+pub fn fault_lines<'a>(
+    alloc: Global,
+    project: &ReadProject<'a>,
+    answer: &Answer,
+) -> Result<Vec<FaultLine<'a>>, AllocError>
+    ensures { IfOk result (λ lines. AreLinesOf project.now answer.now lines.items) }
+{
+    let texts = Texts::new(alloc, project.texts())?;
+    let declarations = Declarations::new(alloc, project.trees())?;
+    let mut lines = Vec::new(alloc);
+    add_project_lines(&mut lines, &texts, answer.faults())?;
+    for class in answer.classes() {
+        add_class_lines(&mut lines, &texts, &declarations, class)?;
+    }
+    Ok(lines)
+}

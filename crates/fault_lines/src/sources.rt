@@ -1,0 +1,142 @@
+//! A project whose files are read once.
+ghost use Rattle.std.specs.Prelude.{◌≡◌, IfOk, option_map};
+ghost use Rattle.mj_tree.specs.Views.{file_view};
+ghost use Rattle.mj_classes.specs.Classes.{files_view};
+ghost use Rattle.mj_project.specs.Projects.{source_view, sources_view};
+ghost use Rattle.file_index.specs.Reading.{IsStop, tokens_or_none};
+ghost use Rattle.mj_rules.specs.Sentences.{file_of, trees_of};
+
+use file_index::{ReadFile, read};
+use mj_lexer::Token;
+use mj_project::Project;
+use mj_tree::FileTree;
+use std::alloc::{AllocError, Global};
+use std::marker::Model;
+
+/// A file with its tokens, none if it isn't cut into tokens, and with the byte at which reading it stopped, if it is no
+/// sentence and stopped at one. Contracts see the file.
+#[derive(Drop)]
+pub struct ReadText<'a> {
+    file: &'a (String, Vec<u8>),
+    tokens: Vec<Token>,
+    stopped: Option<usize>,
+}
+
+impl<'a> Model for ReadText<'a> {
+    ghost use Rattle.std.specs.Prelude.{◌≡◌};
+    ghost use Rattle.mj_project.specs.Projects.{SourceFile, source_view};
+    ghost use Rattle.file_index.specs.Reading.{IsStop, tokens_or_none};
+
+    ghost Value = { SourceFile };
+
+    ghost view = { λ t. source_view t.file.now };
+
+    ghost invariant = { λ t.
+        (t.tokens.items ≡ tokens_or_none (source_view t.file.now).bytes)
+        × IsStop (source_view t.file.now).bytes t.stopped };
+}
+
+impl<'a> ReadText<'a> {
+    /// The file's name.
+    pub fn name(&self) -> &'a str
+        ensures { result.now ≡ self.now.name }
+    {
+        let (name, _) = self.file;
+        name.as_str()
+    }
+
+    /// The file's bytes.
+    pub fn bytes(&self) -> &'a [u8]
+        ensures { result.now ≡ self.now.bytes }
+    {
+        let (_, bytes) = self.file;
+        bytes.as_slice()
+    }
+
+    /// The file's tokens, none if it isn't cut into tokens.
+    pub fn tokens(&self) -> &[Token]
+        ensures { result.now ≡ tokens_or_none self.now.bytes }
+    {
+        self.tokens.as_slice()
+    }
+
+    /// Where reading the file stopped, if it is no sentence.
+    pub fn stopped(&self) -> Option<usize>
+        ensures { IsStop self.now.bytes result }
+    {
+        self.stopped
+    }
+}
+
+/// Reads a file: its text and its tree, if it is a sentence.
+fn read_source<'a>(
+    alloc: Global,
+    file: &'a (String, Vec<u8>),
+) -> Result<(ReadText<'a>, Option<FileTree>), AllocError>
+    ensures text { IfOk result (λ r. r.0 ≡ source_view file.now) }
+    ensures tree { IfOk result (λ r.
+        option_map file_view r.1 ≡ file_of (source_view file.now).bytes) }
+{
+    let (_, bytes) = file;
+    let ReadFile {
+        tokens,
+        tree,
+        stopped,
+    } = read(alloc, bytes)?;
+    let text = ReadText {
+        file,
+        tokens,
+        stopped,
+    };
+    Ok((text, tree))
+}
+
+/// A project with what its files were read as. Contracts see the files.
+#[derive(Drop)]
+pub struct ReadProject<'a> {
+    texts: Vec<ReadText<'a>>,
+    trees: Vec<Option<FileTree>>,
+}
+
+impl<'a> Model for ReadProject<'a> {
+    ghost use Rattle.std.specs.Prelude.{◌≡◌, List};
+    ghost use Rattle.mj_classes.specs.Classes.{files_view};
+    ghost use Rattle.mj_project.specs.Projects.{SourceFile};
+    ghost use Rattle.mj_rules.specs.Sentences.{trees_of};
+
+    ghost Value = { List SourceFile };
+
+    ghost view = { λ p. p.texts.items };
+
+    ghost invariant = { λ p. files_view p.trees.items ≡ trees_of p.texts.items };
+}
+
+impl<'a> ReadProject<'a> {
+    /// Reads the files of a project.
+    pub fn new(alloc: Global, project: &'a Project) -> Result<Self, AllocError>
+        ensures { IfOk result (λ p. p ≡ project.now) }
+    {
+        let mut texts = Vec::new(alloc);
+        let mut trees = Vec::new(alloc);
+        for file in project.files() {
+            let (text, tree) = read_source(alloc, file)?;
+            texts.push(text)?;
+            trees.push(tree)?;
+        }
+        Ok(ReadProject { texts, trees })
+    }
+
+    /// The tree of each file, if it is a sentence.
+    pub fn trees(&self) -> &[Option<FileTree>]
+        ensures { files_view result.now ≡ trees_of self.now }
+    {
+        self.trees.as_slice()
+    }
+
+    /// What is kept of each file's text.
+    pub(crate) fn texts(&self) -> &[ReadText<'a>]
+        ensures { result.now ≡ self.now }
+    {
+        self.texts.as_slice()
+    }
+}

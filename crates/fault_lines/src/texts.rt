@@ -1,0 +1,155 @@
+//! The files of a project by their lines and tokens, found by their names.
+ghost use Rattle.std.specs.Prelude.{◌≡◌, ℕ, List, map, position, option_copied, option_and_then, slice_get, find, Some, IfOk};
+ghost use Rattle.std.specs.Str.{bytes_eq};
+ghost use Rattle.std.specs.BTreeMap.{get};
+ghost use Rattle.std.specs.Cmp.Lexicographic.{slice_cmp};
+ghost use Rattle.std.specs.Ordering.{nat_cmp};
+ghost use Rattle.fault_lines.specs.FaultLines.{spot_in, file_named, IsStopSpot};
+
+use crate::sources::ReadText;
+use file_index::{LinedText, TokenIndex};
+use mj_lexer::Name;
+use mj_tree::Place;
+use std::alloc::{AllocError, Global};
+use std::collections::BTreeMap;
+use std::marker::Model;
+
+/// A file by its lines and its tokens. Contracts see the file.
+#[derive(Drop)]
+pub struct IndexedText<'a, 't> {
+    name: &'a str,
+    lines: LinedText<'a>,
+    tokens: TokenIndex<'t>,
+    stopped: Option<usize>,
+}
+
+impl<'a, 't> Model for IndexedText<'a, 't> {
+    ghost use Rattle.std.specs.Prelude.{◌≡◌};
+    ghost use Rattle.mj_project.specs.Projects.{SourceFile};
+    ghost use Rattle.file_index.specs.Reading.{IsStop, tokens_or_none};
+
+    ghost Value = { SourceFile };
+
+    ghost view = { λ t. record { name = t.name.now; bytes = t.lines } };
+
+    ghost invariant = { λ t. (t.tokens ≡ tokens_or_none t.lines) × IsStop t.lines t.stopped };
+}
+
+impl<'a, 't> IndexedText<'a, 't> {
+    /// The file that was read with its lines and its tokens.
+    fn new(alloc: Global, text: &'t ReadText<'a>) -> Result<Self, AllocError>
+        ensures { IfOk result (λ t. t ≡ text.now) }
+    {
+        Ok(IndexedText {
+            name: text.name(),
+            lines: LinedText::new(alloc, text.bytes())?,
+            tokens: TokenIndex::new(alloc, text.tokens())?,
+            stopped: text.stopped(),
+        })
+    }
+
+    /// The file's name.
+    pub fn name(&self) -> &'a str
+        ensures { result.now ≡ self.now.name }
+    {
+        self.name
+    }
+
+    /// The line and the column of a place in the class with this number.
+    pub fn spot(&self, class: usize, place: &Place) -> Option<(usize, usize)>
+        ensures { result ≡ spot_in self.now.bytes class place.now }
+    {
+        let at = self.tokens.locate(class, place)?;
+        let token = self.tokens.tokens().get(at)?;
+        Some(self.lines.line_col(token.start))
+    }
+
+    /// The line and the column at which reading the file stopped.
+    pub fn stop(&self) -> Option<(usize, usize)>
+        ensures { IsStopSpot self.now.bytes result }
+    {
+        let at = self.stopped?;
+        Some(self.lines.line_col(at))
+    }
+}
+
+/// The files of a project, in order, found by their names too. Contracts see the files.
+#[derive(Drop)]
+pub struct Texts<'a, 't> {
+    texts: Vec<IndexedText<'a, 't>>,
+    numbers: BTreeMap<&'a str, usize>,
+}
+
+impl<'a, 't> Model for Texts<'a, 't> {
+    ghost use Rattle.std.specs.Prelude.{◌≡◌, ℕ, List, position};
+    ghost use Rattle.std.specs.Str.{bytes_eq};
+    ghost use Rattle.std.specs.BTreeMap.{get};
+    ghost use Rattle.std.specs.Cmp.Lexicographic.{slice_cmp};
+    ghost use Rattle.std.specs.Ordering.{nat_cmp};
+    ghost use Rattle.mj_project.specs.Projects.{SourceFile};
+
+    ghost Value = { List SourceFile };
+
+    ghost view = { λ t. t.texts.items };
+
+    ghost invariant = { λ t. (name : List ℕ) → get (slice_cmp nat_cmp) t.numbers name
+        ≡ position (λ f. bytes_eq f.name name) t.texts.items };
+}
+
+/// Each file with its lines and its tokens.
+fn index_texts<'a, 't>(
+    alloc: Global,
+    texts: &'t [ReadText<'a>],
+) -> Result<Vec<IndexedText<'a, 't>>, AllocError>
+    ensures { IfOk result (λ indexed. indexed.items ≡ texts.now) }
+{
+    let mut indexed = Vec::new(alloc);
+    for text in texts {
+        indexed.push(IndexedText::new(alloc, text)?)?;
+    }
+    Ok(indexed)
+}
+
+/// The number of the first file of each name.
+fn number_names<'a>(
+    alloc: Global,
+    texts: &[IndexedText<'a, '_>],
+) -> Result<BTreeMap<&'a str, usize>, AllocError>
+    ensures { IfOk result (λ numbers. (name : List ℕ) → get (slice_cmp nat_cmp) numbers name
+        ≡ position (λ f. bytes_eq f.name name) texts.now) }
+{
+    let mut numbers = BTreeMap::new(alloc);
+    for (number, text) in texts.iter().enumerate() {
+        let name = text.name();
+        if !numbers.contains_key(name) {
+            numbers.insert(name, number)?;
+        }
+    }
+    Ok(numbers)
+}
+
+impl<'a, 't> Texts<'a, 't> {
+    /// The files that were read.
+    pub fn new(alloc: Global, texts: &'t [ReadText<'a>]) -> Result<Self, AllocError>
+        ensures { IfOk result (λ t. t ≡ texts.now) }
+    {
+        let texts = index_texts(alloc, texts)?;
+        let numbers = number_names(alloc, &texts)?;
+        Ok(Texts { texts, numbers })
+    }
+
+    /// The file with this number.
+    pub fn get(&self, number: usize) -> Option<&IndexedText<'a, 't>>
+        ensures { option_copied result ≡ slice_get self.now number }
+    {
+        self.texts.get(number)
+    }
+
+    /// The file of a name.
+    pub fn named(&self, name: &Name) -> Option<&IndexedText<'a, 't>>
+        ensures { option_copied result ≡ file_named self.now name.now }
+    {
+        let number = *self.numbers.get(name.as_str())?;
+        self.texts.get(number)
+    }
+}

@@ -1,0 +1,108 @@
+//! A file read once: its tokens, its tree, and where reading stopped.
+ghost use Rattle.std.specs.Prelude.{◌≡◌, ◌≢◌, None, [], IfOk};
+ghost use Rattle.mj_lexer.specs.declared.lexer.LexFault.TheVariants as lexing;
+ghost use Rattle.mj_parser.specs.declared.fault.ParseFault.TheVariants as parsing;
+ghost use Rattle.file_index.specs.Reading.{IsReading, IsTreeOf, IsTokenStop, lexing_stop, token_start};
+
+use mj_lexer::{LexFault, Token, lex};
+use mj_parser::{ParseFault, parse};
+use mj_tree::FileTree;
+use std::alloc::{AllocError, Global};
+
+/// What a file's bytes were read as.
+#[derive(Debug, Drop)]
+pub struct ReadFile {
+    /// Its tokens; none where the bytes aren't cut into tokens.
+    pub tokens: Vec<Token>,
+    /// Its tree, if the bytes are a sentence.
+    pub tree: Option<FileTree>,
+    /// The byte at which reading stopped, if the bytes are no sentence and it stopped at one.
+    pub stopped: Option<usize>,
+}
+
+/// The byte at which cutting into tokens stopped. A file that is too long has none.
+fn lexing_stop(fault: LexFault) -> Result<Option<usize>, AllocError>
+    ensures { IfOk result (λ stop. (stop ≡ lexing_stop fault) × (fault ≢ lexing.OutOfMemory)) }
+{
+    match fault {
+        LexFault::OutOfMemory => Err(AllocError),
+        LexFault::BadByte(at) | LexFault::OpenComment(at) | LexFault::NameTooLong(at) => Ok(Some(
+            at,
+        )),
+        LexFault::FileTooLong => Ok(None),
+    }
+}
+
+/// A text that isn't cut into tokens.
+fn without_tokens(alloc: Global, fault: LexFault) -> Result<ReadFile, AllocError>
+    ensures tokens { IfOk result (λ file. file.tokens.items ≡ []) }
+    ensures tree { IfOk result (λ file. file.tree ≡ None) }
+    ensures stopped { IfOk result (λ file. file.stopped ≡ lexing_stop fault) }
+    ensures memory { IfOk result (λ _. fault ≢ lexing.OutOfMemory) }
+{
+    let stopped = lexing_stop(fault)?;
+    Ok(ReadFile {
+        tokens: Vec::new(alloc),
+        tree: None,
+        stopped,
+    })
+}
+
+/// The byte at which a token begins, or where the text ends.
+fn token_start(tokens: &[Token], number: usize, end: usize) -> usize
+    ensures { result ≡ token_start tokens.now end number }
+{
+    match tokens.get(number) {
+        Some(token) => token.start,
+        None => end,
+    }
+}
+
+/// Where the tokens of a text of this length stop being a file. A phrase that is too deep has no place.
+fn parsing_stop(
+    fault: ParseFault,
+    tokens: &[Token],
+    end: usize,
+) -> Result<Option<usize>, AllocError>
+    ensures stop { IfOk result (IsTokenStop tokens.now end) }
+    ensures memory { IfOk result (λ _. fault ≢ parsing.OutOfMemory) }
+{
+    match fault {
+        ParseFault::OutOfMemory => Err(AllocError),
+        ParseFault::TooDeep => Ok(None),
+        ParseFault::NotAFile(number) => Ok(Some(token_start(tokens, number, end))),
+    }
+}
+
+/// The tree of the tokens of a text of this length.
+fn read_tokens(alloc: Global, tokens: Vec<Token>, end: usize) -> Result<ReadFile, AllocError>
+    ensures tokens { IfOk result (λ file. file.tokens ≡ tokens) }
+    ensures tree { IfOk result (λ file. IsTreeOf tokens.items file.tree) }
+    ensures stopped { IfOk result (λ file. IsTokenStop tokens.items end file.stopped) }
+{
+    match parse(alloc, &tokens) {
+        Ok(tree) => Ok(ReadFile {
+            tokens,
+            tree: Some(tree),
+            stopped: None,
+        }),
+        Err(fault) => {
+            let stopped = parsing_stop(fault, &tokens, end)?;
+            Ok(ReadFile {
+                tokens,
+                tree: None,
+                stopped,
+            })
+        }
+    }
+}
+
+/// Reads a file's bytes.
+pub fn read(alloc: Global, bytes: &[u8]) -> Result<ReadFile, AllocError>
+    ensures { IfOk result (IsReading bytes.now) }
+{
+    match lex(alloc, bytes) {
+        Ok(tokens) => read_tokens(alloc, tokens, bytes.len()),
+        Err(fault) => without_tokens(alloc, fault),
+    }
+}
