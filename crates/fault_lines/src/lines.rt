@@ -79,11 +79,8 @@ fn project_line<'a>(texts: &Texts<'a, '_>, fault: &Diagnostic) -> FaultLine<'a>
     match &fault.place {
         Place::File(name) => file_line(texts.named(name), fault.code),
         Place::ClassOf(name, _) => place_line(texts.named(name), 0, &fault.place, fault.code),
-        Place::Project
-        | Place::Class
-        | Place::Field(_)
-        | Place::Method(_)
-        | Place::Inside(_, _) => place_line(None, 0, &fault.place, fault.code),
+        Place::Project | Place::Class | Place::Field(_) | Place::Method(_) | Place::Inside(_, _) =>
+            place_line(None, 0, &fault.place, fault.code),
     }
 }
 

@@ -13,7 +13,8 @@ use std::alloc::{AllocError, Global};
 pub fn read_file(alloc: Global, bytes: &[u8]) -> Result<Option<FileTree>, AllocError>
     ensures { IfOk result (λ tree. option_map file_view tree ≡ file_of bytes.now) }
 {
-    let ReadFile { tree, .. } = read(alloc, bytes)?;
+    let file = read(alloc, bytes)?;
+    let ReadFile { tree, .. } = file;
     Ok(tree)
 }
 

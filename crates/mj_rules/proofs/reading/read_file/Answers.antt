@@ -3,4 +3,4 @@ use Rattle.mj_rules.proofs.LowerLaws.{grammar}
 use Rattle.mj_rules.proofs.reading.read_file.Goals as goal
 
 pub returns : goal.returns
-returns c = tree_read grammar c.args.bytes.now c.in_ok-read.result c.in_ok-read.ensures
+returns c = tree_read grammar c.args.bytes.now c.in_ok-file.file c.in_ok-file.ensures
