@@ -1,15 +1,15 @@
 //! A line for each fault.
 ghost use Rattle.std.specs.Prelude.{◌≡◌, ◌++◌, None, List, map, flat_map, slice_get, Some, option_copied, IfOk, OnOk};
-ghost use Rattle.mj_classes.specs.Declarations.{decl};
+ghost use Rattle.mj_classes.specs.Classes.{class_ref_view};
 ghost use Rattle.mj_classes.specs.Index.{declared_in};
 ghost use Rattle.mj_rules.specs.Sentences.{classes_in};
 ghost use Rattle.fault_lines.specs.Pairs.{Pairwise};
-ghost use Rattle.fault_lines.specs.FaultLines.{Finding, of_project, of_class, spot_in_file, spot_in_class, IsSpotOfFile, IsLineOf, AreLinesOf, spot_of_line};
+ghost use Rattle.fault_lines.specs.FaultLines.{Finding, of_project, of_class, spot_in_file, spot_in_class, nowhere, IsFileSpot, IsLineOf, AreLinesOf, spot_of_line};
 
 use crate::sources::ReadProject;
 use crate::texts::{IndexedText, Texts};
 use mj_answer::{Answer, ClassAnswer, Code, Diagnostic};
-use mj_classes::Declarations;
+use mj_classes::{ClassRef, Declarations};
 use mj_lexer::Name;
 use mj_tree::Place;
 use std::alloc::{AllocError, Global};
@@ -24,18 +24,23 @@ pub struct FaultLine<'a> {
     pub code: Code,
 }
 
-/// The line of a fault of a file: a second main class, or bytes that are no sentence.
-fn file_line<'a>(text: Option<&IndexedText<'a, '_>>, code: Code) -> FaultLine<'a>
+/// The line of a fault that stands in no file.
+fn line_without_file<'a>(code: Code) -> FaultLine<'a>
     ensures code { result.code ≡ code }
-    ensures spot { IsSpotOfFile (option_copied text.entry) code (spot_of_line result) }
+    ensures spot { spot_of_line result ≡ nowhere }
 {
-    let Some(text) = text else {
-        return FaultLine {
-            file: None,
-            at: None,
-            code,
-        };
-    };
+    FaultLine {
+        file: None,
+        at: None,
+        code,
+    }
+}
+
+/// The line of a fault of a file: a second main class, or bytes that are no sentence.
+fn file_line<'a>(text: &IndexedText<'a, '_>, code: Code) -> FaultLine<'a>
+    ensures code { result.code ≡ code }
+    ensures spot { IsFileSpot text.now code (spot_of_line result) }
+{
     let at = if code == Code::E103 {
         text.spot(0, &Place::Class)
     } else {
@@ -50,25 +55,18 @@ fn file_line<'a>(text: Option<&IndexedText<'a, '_>>, code: Code) -> FaultLine<'a
 
 /// The line of a fault at a place in the class with this number of a file.
 fn place_line<'a>(
-    text: Option<&IndexedText<'a, '_>>,
+    text: &IndexedText<'a, '_>,
     class: usize,
     place: &Place,
     code: Code,
 ) -> FaultLine<'a>
     ensures code { result.code ≡ code }
-    ensures spot { spot_of_line result ≡ spot_in_file (option_copied text.entry) class place.now }
+    ensures spot { spot_of_line result ≡ spot_in_file (Some text.now) class place.now }
 {
-    match text {
-        Some(text) => FaultLine {
-            file: Some(text.name()),
-            at: text.spot(class, place),
-            code,
-        },
-        None => FaultLine {
-            file: None,
-            at: None,
-            code,
-        },
+    FaultLine {
+        file: Some(text.name()),
+        at: text.spot(class, place),
+        code,
     }
 }
 
@@ -76,11 +74,37 @@ fn place_line<'a>(
 fn project_line<'a>(texts: &Texts<'a, '_>, fault: &Diagnostic) -> FaultLine<'a>
     ensures { IsLineOf texts.now (of_project fault.now) result }
 {
+    let code = fault.code;
     match &fault.place {
-        Place::File(name) => file_line(texts.named(name), fault.code),
-        Place::ClassOf(name, _) => place_line(texts.named(name), 0, &fault.place, fault.code),
-        Place::Project | Place::Class | Place::Field(_) | Place::Method(_) | Place::Inside(_, _) =>
-            place_line(None, 0, &fault.place, fault.code),
+        Place::File(name) => match texts.named(name) {
+            Some(text) => file_line(text, code),
+            None => line_without_file(code),
+        },
+        Place::ClassOf(name, _) => match texts.named(name) {
+            Some(text) => place_line(text, 0, &fault.place, code),
+            None => line_without_file(code),
+        },
+        Place::Project
+        | Place::Class
+        | Place::Field(_)
+        | Place::Method(_)
+        | Place::Inside(_, _) => line_without_file(code),
+    }
+}
+
+/// The line of a fault of a class that is declared here.
+fn declared_line<'a>(
+    texts: &Texts<'a, '_>,
+    declared: &ClassRef,
+    fault: &Diagnostic,
+) -> FaultLine<'a>
+    ensures code { result.code ≡ fault.now.code }
+    ensures spot { spot_of_line result
+        ≡ spot_in_class texts.now (Some (class_ref_view declared.now)) fault.now.place }
+{
+    match texts.get(declared.file) {
+        Some(text) => place_line(text, declared.number, &fault.place, fault.code),
+        None => line_without_file(fault.code),
     }
 }
 
@@ -95,13 +119,8 @@ fn class_line<'a>(
     ensures { IsLineOf texts.now (of_class class.now fault.now) result }
 {
     match declarations.find(class) {
-        Some(declared) => place_line(
-            texts.get(declared.file),
-            declared.number,
-            &fault.place,
-            fault.code,
-        ),
-        None => place_line(None, 0, &fault.place, fault.code),
+        Some(declared) => declared_line(texts, &declared, fault),
+        None => line_without_file(fault.code),
     }
 }
 
