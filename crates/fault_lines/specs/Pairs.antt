@@ -1,5 +1,5 @@
 -- Two lists whose elements belong together, each with the one at its place.
-use Rattle.std.specs.Prelude.{List, [], ◌∷◌}
+use Rattle.std.specs.Prelude.{⊤, List, [], ◌∷◌}
 
 abbrev pub Pairwise : {A B : Type 0} → (A → B → Type 0) → List A → List B → Type 0
 Pairwise R [] [] = ⊤

@@ -84,11 +84,8 @@ fn project_line<'a>(texts: &Texts<'a, '_>, fault: &Diagnostic) -> FaultLine<'a>
             Some(text) => place_line(text, 0, &fault.place, code),
             None => line_without_file(code),
         },
-        Place::Project
-        | Place::Class
-        | Place::Field(_)
-        | Place::Method(_)
-        | Place::Inside(_, _) => line_without_file(code),
+        Place::Project | Place::Class | Place::Field(_) | Place::Method(_) | Place::Inside(_, _) =>
+            line_without_file(code),
     }
 }
 

@@ -2,7 +2,7 @@
 ghost use Rattle.std.specs.Prelude.{◌≡◌, IfOk, option_map};
 ghost use Rattle.mj_tree.specs.Views.{file_view};
 ghost use Rattle.mj_classes.specs.Classes.{files_view};
-ghost use Rattle.mj_project.specs.Projects.{source_view, sources_view};
+ghost use Rattle.mj_project.specs.Projects.{source_view, sources_view, IsProject};
 ghost use Rattle.file_index.specs.Reading.{IsStop, tokens_or_none};
 ghost use Rattle.mj_rules.specs.Sentences.{file_of, trees_of};
 
@@ -78,11 +78,12 @@ fn read_source<'a>(
         option_map file_view r.1 ≡ file_of (source_view file.now).bytes) }
 {
     let (_, bytes) = file;
+    let found = read(alloc, bytes)?;
     let ReadFile {
         tokens,
         tree,
         stopped,
-    } = read(alloc, bytes)?;
+    } = found;
     let text = ReadText {
         file,
         tokens,
@@ -101,14 +102,15 @@ pub struct ReadProject<'a> {
 impl<'a> Model for ReadProject<'a> {
     ghost use Rattle.std.specs.Prelude.{◌≡◌, List};
     ghost use Rattle.mj_classes.specs.Classes.{files_view};
-    ghost use Rattle.mj_project.specs.Projects.{SourceFile};
+    ghost use Rattle.mj_project.specs.Projects.{SourceFile, IsProject};
     ghost use Rattle.mj_rules.specs.Sentences.{trees_of};
 
     ghost Value = { List SourceFile };
 
     ghost view = { λ p. p.texts.items };
 
-    ghost invariant = { λ p. files_view p.trees.items ≡ trees_of p.texts.items };
+    ghost invariant = { λ p.
+        IsProject p.texts.items × (files_view p.trees.items ≡ trees_of p.texts.items) };
 }
 
 impl<'a> ReadProject<'a> {
@@ -135,7 +137,8 @@ impl<'a> ReadProject<'a> {
 
     /// What is kept of each file's text.
     pub(crate) fn texts(&self) -> &[ReadText<'a>]
-        ensures { result.now ≡ self.now }
+        ensures texts { result.now ≡ self.now }
+        ensures project { IsProject self.now }
     {
         self.texts.as_slice()
     }

@@ -1,14 +1,15 @@
 //! The files of a project by their lines and tokens, found by their names.
-ghost use Rattle.std.specs.Prelude.{◌≡◌, ℕ, List, map, position, option_copied, option_and_then, slice_get, find, Some, IfOk};
+ghost use Rattle.std.specs.Prelude.{◌≡◌, ℕ, List, map, position, option_copied, slice_get, find, Some, All, IfOk};
 ghost use Rattle.std.specs.Str.{bytes_eq};
 ghost use Rattle.std.specs.BTreeMap.{get};
 ghost use Rattle.std.specs.Cmp.Lexicographic.{slice_cmp};
 ghost use Rattle.std.specs.Ordering.{nat_cmp};
-ghost use Rattle.fault_lines.specs.FaultLines.{spot_in, file_named, IsStopSpot};
+ghost use Rattle.mj_project.specs.Projects.{names_of, IsFileName};
+ghost use Rattle.fault_lines.specs.FaultLines.{spot_in, token_spot, file_named, IsStopSpot};
 
 use crate::sources::ReadText;
 use file_index::{LinedText, TokenIndex};
-use mj_lexer::Name;
+use mj_lexer::{Name, Token};
 use mj_tree::Place;
 use std::alloc::{AllocError, Global};
 use std::collections::BTreeMap;
@@ -59,9 +60,8 @@ impl<'a, 't> IndexedText<'a, 't> {
     pub fn spot(&self, class: usize, place: &Place) -> Option<(usize, usize)>
         ensures { result ≡ spot_in self.now.bytes class place.now }
     {
-        let at = self.tokens.locate(class, place)?;
-        let token = self.tokens.tokens().get(at)?;
-        Some(self.lines.line_col(token.start))
+        let number = self.tokens.locate(class, place)?;
+        token_spot(&self.lines, self.tokens.tokens(), number)
     }
 
     /// The line and the column at which reading the file stopped.
@@ -73,11 +73,21 @@ impl<'a, 't> IndexedText<'a, 't> {
     }
 }
 
+/// The line and the column of the token with this number.
+fn token_spot(lines: &LinedText, tokens: &[Token], number: usize) -> Option<(usize, usize)>
+    ensures { result ≡ token_spot lines.now tokens.now number }
+{
+    match tokens.get(number) {
+        Some(token) => Some(lines.line_col(token.start)),
+        None => None,
+    }
+}
+
 /// The files of a project, in order, found by their names too. Contracts see the files.
 #[derive(Drop)]
 pub struct Texts<'a, 't> {
     texts: Vec<IndexedText<'a, 't>>,
-    numbers: BTreeMap<&'a str, usize>,
+    numbers: BTreeMap<Name, usize>,
 }
 
 impl<'a, 't> Model for Texts<'a, 't> {
@@ -111,17 +121,15 @@ fn index_texts<'a, 't>(
 }
 
 /// The number of the first file of each name.
-fn number_names<'a>(
-    alloc: Global,
-    texts: &[IndexedText<'a, '_>],
-) -> Result<BTreeMap<&'a str, usize>, AllocError>
+fn number_names(alloc: Global, texts: &[IndexedText]) -> Result<BTreeMap<Name, usize>, AllocError>
+    requires { All IsFileName (names_of texts.now) }
     ensures { IfOk result (λ numbers. (name : List ℕ) → get (slice_cmp nat_cmp) numbers name
         ≡ position (λ f. bytes_eq f.name name) texts.now) }
 {
     let mut numbers = BTreeMap::new(alloc);
     for (number, text) in texts.iter().enumerate() {
-        let name = text.name();
-        if !numbers.contains_key(name) {
+        let name = Name::new(alloc, text.name())?;
+        if !numbers.contains_key(&name) {
             numbers.insert(name, number)?;
         }
     }
@@ -131,6 +139,7 @@ fn number_names<'a>(
 impl<'a, 't> Texts<'a, 't> {
     /// The files that were read.
     pub fn new(alloc: Global, texts: &'t [ReadText<'a>]) -> Result<Self, AllocError>
+        requires { All IsFileName (names_of texts.now) }
         ensures { IfOk result (λ t. t ≡ texts.now) }
     {
         let texts = index_texts(alloc, texts)?;
@@ -149,7 +158,7 @@ impl<'a, 't> Texts<'a, 't> {
     pub fn named(&self, name: &Name) -> Option<&IndexedText<'a, 't>>
         ensures { option_copied result ≡ file_named self.now name.now }
     {
-        let number = *self.numbers.get(name.as_str())?;
-        self.texts.get(number)
+        let number = *self.numbers.get(name)?;
+        self.get(number)
     }
 }
