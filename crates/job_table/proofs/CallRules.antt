@@ -1,7 +1,6 @@
 -- What mark, begin_run and finish say of the table.
-use Rattle.std.proofs.Common.{◌≡◌, ℕ, suc, zero, ◌+◌, List, [], ◌∷◌, ◌++◌, map, refl, sym, ap, ◌∙◌, subst, Bool, true, false, Option, Some, None, option_map}
-use Rattle.std.specs.Prelude.{if◌then◌else◌, Result, Ok, Err}
-use Rattle.std.specs.Arc.{arc_value}
+use Rattle.std.proofs.Common.{◌≡◌, ℕ, suc, zero, ◌+◌, List, [], ◌∷◌, ◌++◌, refl, sym, ap, ◌∙◌, subst, Bool, false, Option, Some, None, option_map}
+use Rattle.std.specs.Prelude.{if◌then◌else◌, Err}
 use Rattle.item_ids.specs.declared.key.Key.{Key}
 use Rattle.result_bytes.specs.declared.value.Value.{Value}
 use Rattle.recorder.specs.Projects.{Project}
@@ -11,15 +10,15 @@ use Rattle.sessions.specs.Sessions.{Entry, SessionValue, past_entry}
 use Rattle.sessions.specs.declared.mark.Mark.TheVariants.{Green, Executed}
 use Rattle.graph_rules.specs.Keys.{same_key, input_of}
 use Rattle.graph_rules.specs.Pasts.{Past}
-use Rattle.graph_rules.specs.Steps.{Status, Unknown, Claimed, Running, Done, State, Event, MarkGreen, Begin, Finish, with_status, IsNotDone, IsDoneWith, MayStep, MayRun, Walk, AllUnchanged, walk, past_walk, AreHeld, green, after, state_after}
+use Rattle.graph_rules.specs.Steps.{Status, Claimed, Running, Done, State, Event, MarkGreen, Begin, Finish, with_status, IsNotDone, IsDoneWith, MayStep, MayRun, AllUnchanged, walk, past_walk, AreHeld, green, state_after}
 use Rattle.job_table.specs.declared.nodes.Node.{Node}
 use Rattle.job_table.specs.declared.fault.TableFault.{TableFault}
 use Rattle.job_table.specs.declared.fault.TableFault.TheVariants as fault
-use Rattle.job_table.specs.Nodes.{status_in, status_at, unless_input, held, AreApart}
+use Rattle.job_table.specs.Nodes.{status_in, unless_input, state_of_nodes, AreApart}
 use Rattle.job_table.specs.Kept.{IsKept}
-use Rattle.job_table.specs.Tables.{TableValue, past_of, state_of, IsStep, adds}
+use Rattle.job_table.specs.Tables.{TableValue, state_of, IsStep, adds}
 use Rattle.job_table.specs.Walks.{IsWhyNot}
-use Rattle.job_table.specs.Answers.{MarkGives, BeginGives, FinishGives, IsFirstStale, IsClaimed, walk_in}
+use Rattle.job_table.specs.Calls.{BeginGives, FinishGives, IsFirstStale}
 use Rattle.job_table.proofs.StepRules.{is_standing, is_walk, are_held, kept_put, at_written, past_walk_same}
 
 -- ---- keys that a worker hasn't
@@ -34,7 +33,7 @@ not_standing past p ns b h kept q y other isnt is = isnt (standing_in (input_of 
 -- ---- mark
 
 pub mark_may : (past : Past) (p : Project) (ns : List Node) (b : Bool) (h : List Event) → IsKept past p ns b h → (q : Key) (w : ℕ) (r : Entry)
-    → past q ≡ Some r → b ≡ false → status_in ns q ≡ Claimed w → AllUnchanged ≡ walk past (held p ns false) r.reads
+    → past q ≡ Some r → b ≡ false → status_in ns q ≡ Claimed w → AllUnchanged ≡ walk past (state_of_nodes p ns false) r.reads
     → MayStep past (state_after past p h) (MarkGreen w q)
 mark_may past p ns b h kept q w r found nf stands all = (
   sym kept.failed_is ∙ nf,
@@ -43,7 +42,7 @@ mark_may past p ns b h kept q w r found nf stands all = (
 )
 
 pub mark_kept : (past : Past) (p : Project) (ns ms : List Node) (b : Bool) (h : List Event) → IsKept past p ns b h → (q : Key) (w : ℕ) (r : Entry) (x : Status)
-    → past q ≡ Some r → b ≡ false → status_in ns q ≡ Claimed w → AllUnchanged ≡ walk past (held p ns false) r.reads
+    → past q ≡ Some r → b ≡ false → status_in ns q ≡ Claimed w → AllUnchanged ≡ walk past (state_of_nodes p ns false) r.reads
     → x ≡ Done r.value r.reads Green → (AreApart ns → AreApart ms) → ((k : Key) → status_in ms k ≡ (if same_key q k then x else status_in ns k))
     → IsKept past p ms b (h ++ MarkGreen w q ∷ [])
 mark_kept past p ns ms b h kept q w r x found nf stands all xis apart put =
@@ -53,7 +52,7 @@ mark_kept past p ns ms b h kept q w r x found nf stands all xis apart put =
 
 -- what mark tells, where the tables before and after are these
 pub mark_gives : (so : Option SessionValue) (p : Project) (ns : List Node) (b : Bool) (h : List Event) → IsKept (past_entry so) p ns b h → (q : Key) (w : ℕ) (r : Entry)
-    → past_entry so q ≡ Some r → b ≡ false → status_in ns q ≡ Claimed w → AllUnchanged ≡ walk (past_entry so) (held p ns false) r.reads
+    → past_entry so q ≡ Some r → b ≡ false → status_in ns q ≡ Claimed w → AllUnchanged ≡ walk (past_entry so) (state_of_nodes p ns false) r.reads
     → (t u : TableValue) (v : Value) → t ≡ record { past = so; project = p; history = h } → u ≡ record { past = so; project = p; history = h ++ MarkGreen w q ∷ [] } → r.value ≡ v
     → IsStep t (MarkGreen w q) × (u ≡ adds t (MarkGreen w q)) × IsDoneWith v ((state_of u).at q)
 mark_gives so p ns b h kept q w r found nf stands all t u v te ue ve =
@@ -69,12 +68,12 @@ mark_gives so p ns b h kept q w r found nf stands all t u v te ue ve =
 -- ---- begin_run
 
 pub begin_may : (past : Past) (p : Project) (ns : List Node) (b : Bool) (h : List Event) → IsKept past p ns b h → (q : Key) (w : ℕ)
-    → b ≡ false → status_in ns q ≡ Claimed w → MayRun (past_walk past (held p ns false) q) → MayStep past (state_after past p h) (Begin w q)
+    → b ≡ false → status_in ns q ≡ Claimed w → MayRun (past_walk past (state_of_nodes p ns false) q) → MayStep past (state_after past p h) (Begin w q)
 begin_may past p ns b h kept q w nf stands may =
-    (sym kept.failed_is ∙ nf, (is_standing past p ns b h kept q (Claimed w) stands (λ e. cc)).1, subst MayRun (past_walk_same past (held p ns false) (state_after past p h) kept.status q) may)
+    (sym kept.failed_is ∙ nf, (is_standing past p ns b h kept q (Claimed w) stands (λ e. cc)).1, subst MayRun (past_walk_same past (state_of_nodes p ns false) (state_after past p h) kept.status q) may)
 
 pub begin_kept : (past : Past) (p : Project) (ns ms : List Node) (b : Bool) (h : List Event) → IsKept past p ns b h → (q : Key) (w : ℕ)
-    → b ≡ false → status_in ns q ≡ Claimed w → MayRun (past_walk past (held p ns false) q)
+    → b ≡ false → status_in ns q ≡ Claimed w → MayRun (past_walk past (state_of_nodes p ns false) q)
     → (AreApart ns → AreApart ms) → ((k : Key) → status_in ms k ≡ (if same_key q k then Running w else status_in ns k))
     → IsKept past p ms b (h ++ Begin w q ∷ [])
 begin_kept past p ns ms b h kept q w nf stands may apart put =
@@ -83,13 +82,13 @@ begin_kept past p ns ms b h kept q w nf stands may apart put =
 
 -- what begin_run tells of its event, where the table before is this
 pub begin_at : (so : Option SessionValue) (p : Project) (ns : List Node) (b : Bool) (h : List Event) → IsKept (past_entry so) p ns b h → (q : Key) (w : ℕ)
-    → b ≡ false → status_in ns q ≡ Claimed w → MayRun (past_walk (past_entry so) (held p ns false) q)
+    → b ≡ false → status_in ns q ≡ Claimed w → MayRun (past_walk (past_entry so) (state_of_nodes p ns false) q)
     → (t : TableValue) → record { past = so; project = p; history = h } ≡ t → IsStep t (Begin w q)
 begin_at so p ns b h kept q w nf stands may t te = subst (λ (u : TableValue). IsStep u (Begin w q)) te (begin_may (past_entry so) p ns b h kept q w nf stands may)
 
 -- a claimed key that isn't run
 pub begin_refused : (so : Option SessionValue) (p : Project) (ns : List Node) (b : Bool) (h : List Event) → IsKept (past_entry so) p ns b h → (q : Key) (w : ℕ) (f : TableFault)
-    → b ≡ false → status_in ns q ≡ Claimed w → IsWhyNot (past_walk (past_entry so) (held p ns false) q) (Some f)
+    → b ≡ false → status_in ns q ≡ Claimed w → IsWhyNot (past_walk (past_entry so) (state_of_nodes p ns false) q) (Some f)
     → (t : TableValue) → record { past = so; project = p; history = h } ≡ t → BeginGives t w q (Err f) t
 begin_refused so p ns b h kept q w f nf stands why t te =
     subst (λ (u : TableValue). BeginGives u w q (Err f) u) te (go f why)
@@ -97,10 +96,10 @@ begin_refused so p ns b h kept q w f nf stands why t te =
     at : (state_after (past_entry so) p h).at q ≡ Claimed w
     at = (is_standing (past_entry so) p ns b h kept q (Claimed w) stands (λ e. cc)).1
 
-    same : past_walk (past_entry so) (held p ns false) q ≡ past_walk (past_entry so) (state_after (past_entry so) p h) q
-    same = past_walk_same (past_entry so) (held p ns false) (state_after (past_entry so) p h) kept.status q
+    same : past_walk (past_entry so) (state_of_nodes p ns false) q ≡ past_walk (past_entry so) (state_after (past_entry so) p h) q
+    same = past_walk_same (past_entry so) (state_of_nodes p ns false) (state_after (past_entry so) p h) kept.status q
 
-    go : (f : TableFault) → IsWhyNot (past_walk (past_entry so) (held p ns false) q) (Some f) → BeginGives (record { past = so; project = p; history = h }) w q (Err f) (record { past = so; project = p; history = h })
+    go : (f : TableFault) → IsWhyNot (past_walk (past_entry so) (state_of_nodes p ns false) q) (Some f) → BeginGives (record { past = so; project = p; history = h }) w q (Err f) (record { past = so; project = p; history = h })
     go (fault.EdgeOpen i) why = ((sym kept.failed_is ∙ nf, at), sym same ∙ why, refl)
     go fault.NothingChanged why = ((sym kept.failed_is ∙ nf, at), sym same ∙ why, refl)
     go fault.NotYours why = absurd why
@@ -114,12 +113,12 @@ begin_refused so p ns b h kept q w f nf stands why t te =
 -- ---- finish
 
 pub finish_may : (past : Past) (p : Project) (ns : List Node) (b : Bool) (h : List Event) → IsKept past p ns b h → (o : OutcomeValue) (w : ℕ)
-    → b ≡ false → status_in ns o.key ≡ Running w → AreHeld (held p ns false) o.told → MayStep past (state_after past p h) (Finish w o)
+    → b ≡ false → status_in ns o.key ≡ Running w → AreHeld (state_of_nodes p ns false) o.told → MayStep past (state_after past p h) (Finish w o)
 finish_may past p ns b h kept o w nf stands all =
     (sym kept.failed_is ∙ nf, (is_standing past p ns b h kept o.key (Running w) stands (λ e. cc)).1, are_held past p ns b h kept false o.told all)
 
 pub finish_kept : (past : Past) (p : Project) (ns ms : List Node) (b : Bool) (h : List Event) → IsKept past p ns b h → (o : OutcomeValue) (w : ℕ) (x : Status)
-    → b ≡ false → status_in ns o.key ≡ Running w → AreHeld (held p ns false) o.told
+    → b ≡ false → status_in ns o.key ≡ Running w → AreHeld (state_of_nodes p ns false) o.told
     → x ≡ Done o.value (keys o.told) Executed → (AreApart ns → AreApart ms) → ((k : Key) → status_in ms k ≡ (if same_key o.key k then x else status_in ns k))
     → IsKept past p ms b (h ++ Finish w o ∷ [])
 finish_kept past p ns ms b h kept o w x nf stands all xis apart put =
@@ -128,7 +127,7 @@ finish_kept past p ns ms b h kept o w x nf stands all xis apart put =
     (is_standing past p ns b h kept o.key (Running w) stands (λ e. cc)).0 apart put
 
 pub finish_at : (so : Option SessionValue) (p : Project) (ns : List Node) (b : Bool) (h : List Event) → IsKept (past_entry so) p ns b h → (o : OutcomeValue) (w : ℕ)
-    → b ≡ false → status_in ns o.key ≡ Running w → AreHeld (held p ns false) o.told
+    → b ≡ false → status_in ns o.key ≡ Running w → AreHeld (state_of_nodes p ns false) o.told
     → (t : TableValue) → record { past = so; project = p; history = h } ≡ t → IsStep t (Finish w o)
 finish_at so p ns b h kept o w nf stands all t te = subst (λ (u : TableValue). IsStep u (Finish w o)) te (finish_may (past_entry so) p ns b h kept o w nf stands all)
 
@@ -139,11 +138,11 @@ stale_same s t e (r ∷ rs) (suc i) h = (subst (λ (x : Status). IsDoneWith r.va
 
 -- a running key whose reads are stale
 pub finish_stale : (so : Option SessionValue) (p : Project) (ns : List Node) (b : Bool) (h : List Event) → IsKept (past_entry so) p ns b h → (o : OutcomeValue) (w i : ℕ)
-    → b ≡ false → status_in ns o.key ≡ Running w → IsFirstStale (held p ns false) o.told i
+    → b ≡ false → status_in ns o.key ≡ Running w → IsFirstStale (state_of_nodes p ns false) o.told i
     → (t : TableValue) → record { past = so; project = p; history = h } ≡ t → FinishGives t w o (Err (fault.StaleRead i)) t
 finish_stale so p ns b h kept o w i nf stands stale t te =
     subst (λ (u : TableValue). FinishGives u w o (Err (fault.StaleRead i)) u) te (
       (sym kept.failed_is ∙ nf, (is_standing (past_entry so) p ns b h kept o.key (Running w) stands (λ e. cc)).1),
-      stale_same (held p ns false) (state_after (past_entry so) p h) kept.status o.told i stale,
+      stale_same (state_of_nodes p ns false) (state_after (past_entry so) p h) kept.status o.told i stale,
       refl,
     )

@@ -1,24 +1,24 @@
 -- What close says of the table.
-use Rattle.std.proofs.Common.{◌≡◌, ℕ, List, [], ◌∷◌, refl, sym, ap, ◌∙◌, subst, Bool, true, false, Option, Some, None}
-use Rattle.std.specs.Prelude.{if◌then◌else◌, Ok, Err, Contains}
+use Rattle.std.proofs.Common.{◌≡◌, List, [], ◌∷◌, refl, sym, ◌∙◌, subst, Bool, true, false, Option, Some, None}
+use Rattle.std.specs.Prelude.{if◌then◌else◌, Ok, Err}
 use Rattle.std.specs.List.{AllByRecursion}
 use Rattle.item_ids.specs.declared.key.Key.{Key}
-use Rattle.item_ids.specs.declared.key.Key.TheVariants.{Files, Source, Answer}
+use Rattle.item_ids.specs.declared.key.Key.TheVariants.{Answer}
 use Rattle.result_bytes.specs.declared.value.Value.{Value}
 use Rattle.recorder.specs.Projects.{Project}
 use Rattle.recorder.specs.Backed.{Meaning, ReadLists}
-use Rattle.sessions.specs.Sessions.{SessionValue, past_entry, entries}
+use Rattle.sessions.specs.Sessions.{SessionValue, past_entry}
 use Rattle.graph_rules.specs.Keys.{same_key, input_of}
 use Rattle.graph_rules.specs.Pasts.{Past, IsGraph}
 use Rattle.graph_rules.specs.Steps.{Status, Unknown, Claimed, Running, Done, State, Event, IsDone, IsNotDone, IsDoneWith, state_after}
-use Rattle.graph_rules.specs.Sound.{AreBacked, IsDoneInOrder, IsInOrderAt, IsInOrder}
-use Rattle.graph_rules.specs.Graphs.{IsRoot, answer, files, source, IsReached, edge, AreClosed}
+use Rattle.graph_rules.specs.Sound.{AreBacked, IsInOrderAt, IsInOrder}
+use Rattle.graph_rules.specs.Graphs.{IsRoot, answer, files, source, IsReached, edge}
 use Rattle.graph_rules.specs.Graphs.IsReached.{root as starts}
 use Rattle.graph_rules.proofs.KeyRules.{same_is, same_refl}
 use Rattle.graph_rules.proofs.Keeping.{sound_history, in_order}
 use Rattle.job_table.specs.declared.nodes.Node.{Node}
 use Rattle.job_table.specs.declared.fault.CloseFault.TheVariants as fault
-use Rattle.job_table.specs.Nodes.{status_of, status_in, status_at, unless_input, held, has_key, AreApart}
+use Rattle.job_table.specs.Nodes.{status_of, status_in, status_at, unless_input, state_of_nodes, has_key, AreApart}
 use Rattle.job_table.specs.Kept.{IsKept}
 use Rattle.job_table.specs.Tables.{TableValue}
 use Rattle.job_table.specs.Closes.{IsQuiet, AreQuiet, IsClosing, CloseGives}
@@ -115,9 +115,9 @@ done_of v (Done u es m) d = tt
 
 -- the state that the nodes stand for is in order
 pub held_in_order : (mean : Meaning) (reads : ReadLists) (past : Past) (p : Project) (ns : List Node) (b c : Bool) (h : List Event)
-    → IsKept past p ns b h → AreBacked mean reads h → IsGraph past → IsInOrder (held p ns c)
+    → IsKept past p ns b h → AreBacked mean reads h → IsGraph past → IsInOrder (state_of_nodes p ns c)
 held_in_order mean reads past p ns b c h kept backed graph =
-    order_same (state_after past p h) (held p ns c) (λ k. sym (kept.status k))
+    order_same (state_after past p h) (state_of_nodes p ns c) (λ k. sym (kept.status k))
     (in_order mean reads past p graph (state_after past p h) (sound_history mean reads past p h kept.legal backed))
 
 module _ (so : Option SessionValue) (p : Project) (ns : List Node) (b : Bool) (h : List Event) (kept : IsKept (past_entry so) p ns b h) (nf : b ≡ false) (t : TableValue) (is : record { past = so; project = p; history = h } ≡ t) where
@@ -136,8 +136,8 @@ module _ (so : Option SessionValue) (p : Project) (ns : List Node) (b : Bool) (h
   pub gives_memory : AllQuiet ns → (v : Value) → IsDoneWith v (status_at p ns Answer) → CloseGives t (Err fault.OutOfMemory)
   gives_memory all v d = subst (λ (u : TableValue). CloseGives u (Err fault.OutOfMemory)) is (sym kept.failed_is ∙ nf, quiet all, subst IsDone (kept.status Answer) (done_of v (status_at p ns Answer) d))
 
-  pub gives_session : AllQuiet ns → (v : Value) → IsDoneWith v (status_at p ns Answer) → (c : Bool) (session : SessionValue) → IsClosing so p (held p ns c) session → CloseGives t (Ok session)
+  pub gives_session : AllQuiet ns → (v : Value) → IsDoneWith v (status_at p ns Answer) → (c : Bool) (session : SessionValue) → IsClosing so p (state_of_nodes p ns c) session → CloseGives t (Ok session)
   gives_session all v d c session closing = subst (λ (u : TableValue). CloseGives u (Ok session)) is (
     (sym kept.failed_is ∙ nf, quiet all, subst IsDone (kept.status Answer) (done_of v (status_at p ns Answer) d)),
-    closing_same so p (held p ns c) (state_after (past_entry so) p h) session kept.status closing,
+    closing_same so p (state_of_nodes p ns c) (state_after (past_entry so) p h) session kept.status closing,
   )

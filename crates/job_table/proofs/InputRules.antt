@@ -1,5 +1,5 @@
 -- The names of a project's files.
-use Rattle.std.proofs.Common.{◌≡◌, ℕ, suc, zero, ◌<◌, ◌≤◌, List, [], ◌∷◌, map, take, length, get_or, slice_get, Some, Contains, All, refl, sym, ap, ◌∙◌, subst, string_bytes, String, Vec, arith}
+use Rattle.std.proofs.Common.{◌≡◌, ℕ, suc, zero, ◌<◌, List, [], ◌∷◌, map, take, length, get_or, slice_get, Some, Contains, refl, sym, ap, subst, string_bytes, String, Vec, arith}
 use Rattle.std.specs.declared.alloc.Global.{Global}
 use Rattle.std.proofs.lemmas.List.Elements.{Contains-append_left, Contains-append_right, Contains-push}
 use Rattle.result_bytes.specs.Storable.{AreDistinct}

@@ -2,18 +2,17 @@
 use Rattle.std.proofs.Common.{◌≡◌, ◌↔◌, ◌⊎◌, inl, inr, ℕ, zero, suc, ◌+◌, ◌<◌, ◌≤◌, List, [], ◌∷◌, ◌++◌, map, take, length, get_or, refl, sym, ap, ◌∙◌, subst, append-nil, eq-or-lt_of_le, true, arith}
 use Rattle.std.specs.Prelude.{Contains, HoldsAt}
 use Rattle.std.specs.Ordering.{eq_by_cmp}
-use Rattle.std.specs.List.{AllByRecursion}
-use Rattle.std.proofs.lemmas.List.{take_more, append_assoc, get_or_append_left, get_or_default, length-append}
+use Rattle.std.proofs.lemmas.List.{take_more, append_assoc, get_or_append_left, get_or_default}
 use Rattle.std.proofs.lemmas.List.Elements.{All-contains, All-from_recursion, Contains-get_or, Contains-push, Contains-push_cases, Contains-append_left, Contains-append_right, Contains-append_cases}
 use Rattle.item_ids.specs.declared.key.Key.{Key}
 use Rattle.item_ids.specs.declared.key.Key.TheVariants.{Files, Source, Answer}
 use Rattle.item_ids.specs.Keys.{key_cmp}
 use Rattle.item_ids.proofs.Apart.{test_same}
 use Rattle.result_bytes.specs.declared.value.Value.{Value}
-use Rattle.mj_project.specs.Projects.{SourceFile, names_of}
+use Rattle.mj_project.specs.Projects.{SourceFile}
 use Rattle.recorder.specs.Projects.{Project}
 use Rattle.sessions.specs.declared.mark.Mark.{Mark}
-use Rattle.graph_rules.specs.Steps.{Status, Unknown, Claimed, Running, Done, State, IsDone}
+use Rattle.graph_rules.specs.Steps.{Status, Done, State, IsDone}
 use Rattle.graph_rules.specs.Sound.{IsDoneInOrder, IsInOrderAt, IsInOrder}
 use Rattle.graph_rules.specs.Graphs.{IsRoot, answer, files, source, IsReached, edge}
 use Rattle.graph_rules.specs.Graphs.IsReached.{root as starts}

@@ -1,18 +1,16 @@
 -- The records of keys in order make a session.
-use Rattle.std.proofs.Common.{◌≡◌, ◌≢◌, ◌↔◌, ◌⊎◌, inl, inr, ℕ, zero, suc, ◌+◌, ◌<◌, ◌≤◌, List, [], ◌∷◌, ◌++◌, map, take, length, get_or, refl, sym, ap, ◌∙◌, subst, eq-or-lt_of_le, arith}
+use Rattle.std.proofs.Common.{◌≡◌, ◌≢◌, inl, inr, ℕ, zero, suc, ◌+◌, ◌<◌, ◌≤◌, List, [], ◌∷◌, ◌++◌, map, take, length, get_or, refl, sym, ap, ◌∙◌, subst, eq-or-lt_of_le, arith}
 use Rattle.std.specs.Prelude.{Contains, HoldsAt}
 use Rattle.std.specs.List.{AllByRecursion}
 use Rattle.std.specs.List.Sorted.{IsNonDecreasingBy, IsPartitionPoint, IsStrictlySortedBy}
 use Rattle.std.specs.Ordering.{ordering_index}
-use Rattle.std.specs.declared.cmp.Ordering.{Ordering}
 use Rattle.std.specs.declared.cmp.Ordering.TheVariants.{Less, Equal, Greater}
 use Rattle.std.proofs.lemmas.Bool.{cases_lt}
-use Rattle.std.proofs.lemmas.List.{get_or-map, get_or_default, get_or-take, length-take-le, length-map, map-append, take_more}
+use Rattle.std.proofs.lemmas.List.{get_or-map, get_or-take, length-take-le, length-map, map-append, take_more}
 use Rattle.std.proofs.lemmas.List.Elements.{All-contains, All-from_recursion}
 use Rattle.item_ids.specs.declared.key.Key.{Key}
 use Rattle.item_ids.specs.declared.key.Key.TheVariants.{Files}
-use Rattle.item_ids.specs.Keys.{key_cmp, key_total, kind_of}
-use Rattle.item_ids.specs.Kinds.{rank_of}
+use Rattle.item_ids.specs.Keys.{key_cmp, key_total}
 use Rattle.item_ids.proofs.Apart.{key_exact, key_itself}
 use Rattle.mj_answer.specs.Order.{IsAscendingBy}
 use Rattle.mj_answer.proofs.Compared.{ascends}
@@ -21,6 +19,7 @@ use Rattle.recorder.specs.Projects.{Project}
 use Rattle.recorder.specs.Backed.{AreLower, NoneTwice}
 use Rattle.sessions.specs.declared.mark.Mark.{Mark}
 use Rattle.sessions.specs.Sessions.{RecordValue, Entry, rank, key_at, entry_of, IsAbove, IsEdge, AreDistinct, AreRecords}
+use Rattle.sessions.proofs.EntryRules.{rises}
 use Rattle.graph_rules.specs.Steps.{Status, Done, State}
 use Rattle.graph_rules.specs.Sound.{IsDoneInOrder, IsInOrderAt, IsInOrder}
 use Rattle.graph_rules.specs.Graphs.{IsReached, KeyBefore, AreAscending, IsEntryOf, AreClosed}
@@ -41,20 +40,6 @@ before_place (k ∷ ks) (suc i) (suc j) d up below lt = before_place ks i j d up
 
 pub sorted_ascend : (ks : List Key) → IsStrictlySortedBy key_cmp ks → Ascend ks
 sorted_ascend ks h = ascends key_cmp KeyBefore (λ a b e. e) ks h
-
-below_two : (o : Ordering) → ordering_index o ≤ 2
-below_two Less = omega arith
-below_two Equal = omega arith
-below_two Greater = omega arith
-
--- of two keys the lower one compares no higher with a third
-rises : (a b q : Key) → key_cmp a b ≡ Less → ordering_index (key_cmp a q) ≤ ordering_index (key_cmp b q)
-rises a b q less =
-    (elim (key_cmp b q) as (λ o. key_cmp b q ≡ o → ordering_index (key_cmp a q) ≤ ordering_index o) [
-      | Less ↦ λ is. rw (key_total.trans a b q less is) (omega arith)
-      | Equal ↦ λ is. rw (subst (λ (k : Key). key_cmp a k ≡ Less) (key_exact b q is) less) (omega arith)
-      | Greater ↦ λ is. below_two (key_cmp a q)
-    ]) refl
 
 pub keys_rise : (ks : List Key) (q : Key) → Ascend ks → IsNonDecreasingBy (λ k. ordering_index (key_cmp k q)) ks
 keys_rise ks q up i j d le lt =

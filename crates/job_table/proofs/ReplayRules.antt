@@ -1,29 +1,28 @@
 -- Events in turn.
-use Rattle.std.proofs.Common.{◌≡◌, ◌<◌, ℕ, List, [], ◌∷◌, ◌++◌, take, drop, map, length, get_or, suc, zero, sym, ap, ◌∙◌, subst, refl, Bool, true, false, arith}
+use Rattle.std.proofs.Common.{◌≡◌, ◌<◌, ℕ, List, [], ◌∷◌, ◌++◌, take, drop, map, length, get_or, suc, zero, ap, subst, refl, Bool, true, false, arith}
 use Rattle.std.specs.Prelude.{Result, Ok, Err}
 use Rattle.recorder.specs.Projects.{Project}
 use Rattle.recorder.specs.Backed.{ReadValue}
 use Rattle.recorder.specs.Runs.{OutcomeValue}
 use Rattle.sessions.specs.Sessions.{SessionValue, past_entry}
-use Rattle.graph_rules.specs.Pasts.{Past}
-use Rattle.graph_rules.specs.Steps.{State, Event, Finish, Fail, AreHeld, IsDoneWith, MayStep, Legal}
-use Rattle.job_table.specs.declared.event.Event.{Event as Stored}
+use Rattle.graph_rules.specs.Steps.{State, Event, Finish, Fail, AreHeld, Legal}
+use Rattle.job_table.specs.declared.event.Event.{Event as StoredEvent}
 use Rattle.job_table.specs.declared.fault.TableFault.{TableFault}
 use Rattle.job_table.specs.declared.fault.TableFault.TheVariants as fault
 use Rattle.job_table.specs.Kept.{event_of}
-use Rattle.job_table.specs.Tables.{TableValue, past_of, state_of, IsStep}
-use Rattle.job_table.specs.Answers.{FinishGives, FailGives, IsFirstStale}
+use Rattle.job_table.specs.Tables.{TableValue, state_of, IsStep}
+use Rattle.job_table.specs.Calls.{FinishGives, FailGives, IsFirstStale}
 use Rattle.job_table.specs.Replays.{StepGives, step_of_call, IsFirstIllegal}
 use Rattle.std.specs.Prelude.{Option}
 
 -- a list of events is those before a place, the one there, and the others
-pub parted : {R : Type 0} (es : List (Stored R)) (i : ℕ) (e : Stored R) → i < length es → e ≡ get_or es i e
+pub split_events : {R : Type 0} (es : List (StoredEvent R)) (i : ℕ) (e : StoredEvent R) → i < length es → e ≡ get_or es i e
     → map event_of es ≡ map event_of (take i es) ++ event_of e ∷ map event_of (drop (suc i) es)
-parted [] i e lt is = absurd (omega arith)
-parted (x ∷ es) zero e lt is = rw is refl
-parted (x ∷ es) (suc i) e lt is = ap (λ (zs : List Event). event_of x ∷ zs) (parted es i e (omega arith) is)
+split_events [] i e lt is = absurd (omega arith)
+split_events (x ∷ es) zero e lt is = rw is refl
+split_events (x ∷ es) (suc i) e lt is = ap (λ (zs : List Event). event_of x ∷ zs) (split_events es i e (omega arith) is)
 
-pub length_front : {R : Type 0} (es : List (Stored R)) (i : ℕ) → i < length es → length (map event_of (take i es)) ≡ i
+pub length_front : {R : Type 0} (es : List (StoredEvent R)) (i : ℕ) → i < length es → length (map event_of (take i es)) ≡ i
 length_front [] i lt = absurd (omega arith)
 length_front (x ∷ es) zero lt = refl
 length_front (x ∷ es) (suc i) lt = ap suc (length_front es i (omega arith))

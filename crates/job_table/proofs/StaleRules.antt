@@ -1,10 +1,10 @@
 -- Reads compared with a state, from a place on.
-use Rattle.std.proofs.Common.{◌≡◌, ◌↔◌, ℕ, suc, ◌+◌, ◌<◌, List, [], ◌∷◌, drop, length, get_or, sym, ap, ◌∙◌, subst, arith}
+use Rattle.std.proofs.Common.{◌≡◌, ◌↔◌, ℕ, suc, ◌+◌, ◌<◌, List, ◌∷◌, drop, length, get_or, sym, ap, ◌∙◌, subst, arith}
 use Rattle.std.proofs.Math.Seq.{drop-cons}
 use Rattle.result_bytes.specs.declared.value.Value.{Value}
 use Rattle.recorder.specs.Backed.{ReadValue}
 use Rattle.graph_rules.specs.Steps.{Status, Unknown, Claimed, Running, Done, State, IsDoneWith, IsNotDone, AreHeld}
-use Rattle.job_table.specs.Answers.{IsFirstStale}
+use Rattle.job_table.specs.Calls.{IsFirstStale}
 
 pub not_both : (v : Value) (x : Status) → IsNotDone x → IsDoneWith v x → ⊥
 not_both v Unknown n d = d

@@ -1,38 +1,35 @@
 -- What a change of the nodes is in the state, and what each call says of the table.
-use Rattle.std.proofs.Common.{◌≡◌, ℕ, suc, zero, ◌+◌, ◌<◌, List, [], ◌∷◌, ◌++◌, map, refl, sym, ap, ◌∙◌, subst, Bool, true, false, Option, Some, None, option_map}
+use Rattle.std.proofs.Common.{◌≡◌, ℕ, ◌+◌, List, [], ◌∷◌, ◌++◌, refl, sym, ap, ◌∙◌, subst, Bool, true, false, Option, Some, None, option_map}
 use Rattle.std.specs.Prelude.{if◌then◌else◌}
-use Rattle.std.specs.List.{AllByRecursion}
 use Rattle.std.proofs.lemmas.Option.{none-some}
 use Rattle.item_ids.specs.declared.key.Key.{Key}
 use Rattle.result_bytes.specs.declared.value.Value.{Value}
 use Rattle.mj_project.specs.Projects.{IsProject}
 use Rattle.recorder.specs.Projects.{Project}
-use Rattle.recorder.specs.Backed.{Meaning, ReadLists, ReadValue, rank, keys}
-use Rattle.recorder.specs.Runs.{OutcomeValue}
+use Rattle.recorder.specs.Backed.{Meaning, ReadLists, ReadValue, rank}
 use Rattle.sessions.specs.Sessions.{Entry}
-use Rattle.sessions.specs.declared.mark.Mark.TheVariants.{Input, Green, Executed}
 use Rattle.graph_rules.specs.Keys.{same_key, input_of}
 use Rattle.graph_rules.specs.Pasts.{Past, print_in}
-use Rattle.graph_rules.specs.Steps.{Status, Unknown, Claimed, Running, Done, State, Event, Claim, MarkGreen, Begin, Finish, Fail, at_opening, opening, with_status, IsDone, IsNotDone, IsDoneWith, IsHeldBy, IsBelow, MayStep, MayRun, Walk, AllUnchanged, walk_on, walk, past_walk, edge_at, AreHeld, green, after, after_all, AreSteps, Legal, state_after}
+use Rattle.graph_rules.specs.Steps.{Status, Unknown, Claimed, State, Event, Claim, Fail, at_opening, opening, with_status, IsNotDone, IsDoneWith, IsHeldBy, IsBelow, MayStep, Walk, walk_on, walk, past_walk, edge_at, AreHeld, after, Legal, state_after}
 use Rattle.graph_rules.specs.Sound.{IsBacked, AreBacked}
 use Rattle.graph_rules.proofs.KeyRules.{same_refl, same_is}
 use Rattle.graph_rules.proofs.Orders.{after_all_append, steps_append}
 use Rattle.job_table.specs.declared.nodes.Node.{Node}
-use Rattle.job_table.specs.Nodes.{status_of, status_in, status_at, unless_input, held, has_key, AreApart, IsFirst, AllAbove}
+use Rattle.job_table.specs.Nodes.{status_of, status_in, status_at, unless_input, state_of_nodes, has_key, AreApart, IsFirst, AllAbove}
 use Rattle.job_table.specs.Kept.{IsKept}
 use Rattle.job_table.proofs.NodeRules.{above_held, held_above, first_known, unknown_absent, apart_last, status_last}
 
 -- ---- opening
 
-opened : (o : Option Value) → unless_input o Unknown ≡ at_opening o
-opened (Some v) = refl
-opened None = refl
+opening_status : (o : Option Value) → unless_input o Unknown ≡ at_opening o
+opening_status (Some v) = refl
+opening_status None = refl
 
 pub kept_opening : (past : Past) (p : Project) → IsProject p → IsKept past p [] false []
 kept_opening past p project = record {
   project = project;
   legal = tt;
-  status = λ q. opened (input_of p q);
+  status = λ q. opening_status (input_of p q);
   failed_is = refl;
   apart = tt;
   inner = λ q v is. refl;
@@ -177,11 +174,11 @@ module _ (past : Past) (p : Project) (ns : List Node) (b : Bool) (h : List Event
       let none : input_of p q ≡ None = none_at (input_of p q) (status_in ns q) (kept.inner q) (λ u. known (sym is ∙ u)) in
       (none, sym (kept.status q) ∙ (ap (λ o. unless_input o (status_in ns q)) none ∙ is))
 
-  pub are_held : (c : Bool) (rs : List ReadValue) → AreHeld (held p ns c) rs → AreHeld (state_after past p h) rs
-  are_held c rs all = held_same (held p ns c) (state_after past p h) kept.status rs all
+  pub are_held : (c : Bool) (rs : List ReadValue) → AreHeld (state_of_nodes p ns c) rs → AreHeld (state_after past p h) rs
+  are_held c rs all = held_same (state_of_nodes p ns c) (state_after past p h) kept.status rs all
 
-  pub is_walk : (c : Bool) (es : List Key) → walk past (held p ns c) es ≡ walk past (state_after past p h) es
-  is_walk c es = walk_same past (held p ns c) (state_after past p h) kept.status es
+  pub is_walk : (c : Bool) (es : List Key) → walk past (state_of_nodes p ns c) es ≡ walk past (state_after past p h) es
+  is_walk c es = walk_same past (state_of_nodes p ns c) (state_after past p h) kept.status es
 
   -- a key that stands otherwise
   pub kept_put : (ms : List Node) (e : Event) (q : Key) (x : Status) → MayStep past (state_after past p h) e → ((s : State) → after past s e ≡ with_status s q x)

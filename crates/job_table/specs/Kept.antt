@@ -1,5 +1,5 @@
 -- What a table keeps.
-use Rattle.std.specs.Prelude.{◌≡◌, ℕ, Bool, List, Option, Some}
+use Rattle.std.specs.Prelude.{◌≡◌, Bool, List, Some}
 use Rattle.std.specs.Arc.{arc_value}
 use Rattle.item_ids.specs.declared.key.Key.{Key}
 use Rattle.result_bytes.specs.declared.value.Value.{Value}
@@ -7,14 +7,14 @@ use Rattle.mj_project.specs.Projects.{IsProject}
 use Rattle.recorder.specs.Projects.{Project}
 use Rattle.graph_rules.specs.Keys.{input_of}
 use Rattle.graph_rules.specs.Pasts.{Past}
-use Rattle.graph_rules.specs.Steps.{Status, Unknown, Event, Claim, MarkGreen, Begin, Finish, Fail, Legal, state_after}
+use Rattle.graph_rules.specs.Steps.{Unknown, Event, Claim, MarkGreen, Begin, Finish, Fail, Legal, state_after}
 use Rattle.job_table.specs.declared.nodes.Node.{Node}
 use Rattle.job_table.specs.Nodes.{status_at, status_in, AreApart}
-use Rattle.job_table.specs.declared.event.Event.{Event as Stored}
+use Rattle.job_table.specs.declared.event.Event.{Event as StoredEvent}
 use Rattle.job_table.specs.declared.event.Event.TheVariants as stored
 
 -- the event that is stored so
-abbrev pub event_of : {R : Type 0} → Stored R → Event
+abbrev pub event_of : {R : Type 0} → StoredEvent R → Event
 event_of (stored.Claim w q) = Claim w q
 event_of (stored.Mark w q) = MarkGreen w q
 event_of (stored.Begin w q) = Begin w q

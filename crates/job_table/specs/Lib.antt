@@ -3,7 +3,7 @@ pub mod Inputs
 pub mod Nodes
 pub mod Kept
 pub mod Walks
-pub mod Answers
+pub mod Calls
 pub mod Replays
 pub mod Closes
 pub mod Reached

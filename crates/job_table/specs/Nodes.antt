@@ -1,5 +1,5 @@
 -- How keys stand in a list of nodes.
-use Rattle.std.specs.Prelude.{◌≡◌, ℕ, ◌+◌, ◌<◌, Bool, true, false, List, [], ◌∷◌, Option, Some, None, if◌then◌else◌}
+use Rattle.std.specs.Prelude.{◌≡◌, ℕ, ◌<◌, Bool, true, false, List, [], ◌∷◌, Option, Some, None, if◌then◌else◌}
 use Rattle.std.proofs.Common.{zero, suc}
 use Rattle.std.specs.Arc.{arc_value}
 use Rattle.item_ids.specs.declared.key.Key.{Key}
@@ -8,7 +8,7 @@ use Rattle.recorder.specs.Projects.{Project}
 use Rattle.recorder.specs.Backed.{rank}
 use Rattle.sessions.specs.declared.mark.Mark.TheVariants.{Input}
 use Rattle.graph_rules.specs.Keys.{same_key, input_of}
-use Rattle.graph_rules.specs.Steps.{Status, Unknown, Claimed, Running, Done, State, IsHeldBy, IsDone, Walk, AllUnchanged, OpenAt, ChangedAt, EdgeState, Open, Unchanged, Changed}
+use Rattle.graph_rules.specs.Steps.{Status, Unknown, Claimed, Running, Done, State, IsHeldBy}
 use Rattle.job_table.specs.declared.nodes.Standing.{Standing}
 use Rattle.job_table.specs.declared.nodes.Standing.TheVariants as standing
 use Rattle.job_table.specs.declared.nodes.Node.{Node}
@@ -54,5 +54,5 @@ abbrev pub status_at : Project → List Node → Key → Status
 status_at p ns q = unless_input (input_of p q) (status_in ns q)
 
 -- the state that a project and nodes stand for
-abbrev pub held : Project → List Node → Bool → State
-held p ns failed = record { at = status_at p ns; failed = failed }
+abbrev pub state_of_nodes : Project → List Node → Bool → State
+state_of_nodes p ns failed = record { at = status_at p ns; failed = failed }

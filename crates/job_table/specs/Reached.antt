@@ -1,5 +1,5 @@
 -- How a closing table finds the keys that it keeps, and what their records are.
-use Rattle.std.specs.Prelude.{◌≡◌, ◌↔◌, ℕ, ◌<◌, List, [], ◌∷◌, ◌++◌, map, length, Contains, slice_index_or}
+use Rattle.std.specs.Prelude.{◌≡◌, ◌↔◌, ℕ, ◌<◌, List, ◌++◌, map, length, Contains, slice_index_or}
 use Rattle.std.specs.List.{AllByRecursion}
 use Rattle.item_ids.specs.declared.key.Key.{Key}
 use Rattle.item_ids.specs.declared.key.Key.TheVariants.{Files}
@@ -8,7 +8,7 @@ use Rattle.mj_answer.specs.Order.{IsAscendingBy}
 use Rattle.recorder.specs.Projects.{Project}
 use Rattle.sessions.specs.declared.mark.Mark.{Mark}
 use Rattle.sessions.specs.Sessions.{RecordValue, IsRecord}
-use Rattle.graph_rules.specs.Steps.{Status, Done, State}
+use Rattle.graph_rules.specs.Steps.{Done, State}
 use Rattle.graph_rules.specs.Graphs.{IsRoot, IsReached, KeyBefore}
 use Rattle.job_table.specs.declared.nodes.Node.{Node}
 use Rattle.job_table.specs.Nodes.{status_of}

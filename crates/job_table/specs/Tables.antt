@@ -1,12 +1,12 @@
 -- What callers see of a table: the past and the project that it was opened with, and its events.
-use Rattle.std.specs.Prelude.{◌≡◌, ℕ, ◌≤◌, List, [], ◌∷◌, ◌++◌, Option, Some, None}
+use Rattle.std.specs.Prelude.{◌≤◌, List, [], ◌∷◌, ◌++◌, Option, Some, None}
 use Rattle.std.specs.Arc.{arc_value}
 use Rattle.std.specs.declared.alloc.Global.{Global}
 use Rattle.std.specs.declared.sync.Arc.{Arc}
 use Rattle.recorder.specs.Projects.{Project}
 use Rattle.sessions.specs.Sessions.{SessionValue, most_number, past_entry}
 use Rattle.graph_rules.specs.Pasts.{Past}
-use Rattle.graph_rules.specs.Steps.{State, Event, MayStep, Legal, state_after}
+use Rattle.graph_rules.specs.Steps.{State, Event, MayStep, state_after}
 
 pub record TableValue : Type 0 where
   pub past : Option SessionValue

@@ -3,8 +3,8 @@ use Rattle.std.specs.Prelude.{◌≡◌, Option, Some, None}
 use Rattle.graph_rules.specs.Steps.{EdgeState, Open, Unchanged, Changed, Walk, AllUnchanged, OpenAt, ChangedAt, MayRun}
 use Rattle.job_table.specs.declared.walks.Edge.{Edge}
 use Rattle.job_table.specs.declared.walks.Edge.TheVariants as edge
-use Rattle.job_table.specs.declared.walks.Walked.{Walked}
-use Rattle.job_table.specs.declared.walks.Walked.TheVariants as walked
+use Rattle.job_table.specs.declared.walks.WalkEnd.{WalkEnd}
+use Rattle.job_table.specs.declared.walks.WalkEnd.TheVariants as ends
 use Rattle.job_table.specs.declared.fault.TableFault.{TableFault}
 use Rattle.job_table.specs.declared.fault.TableFault.TheVariants as fault
 
@@ -13,10 +13,10 @@ edge_of edge.Open = Open
 edge_of edge.Unchanged = Unchanged
 edge_of edge.Changed = Changed
 
-abbrev pub walk_of : Walked → Walk
-walk_of walked.AllUnchanged = AllUnchanged
-walk_of (walked.Open i) = OpenAt i
-walk_of (walked.Changed i) = ChangedAt i
+abbrev pub walk_of : WalkEnd → Walk
+walk_of ends.AllUnchanged = AllUnchanged
+walk_of (ends.Open i) = OpenAt i
+walk_of (ends.Changed i) = ChangedAt i
 
 -- why a claimed key may not run, by the walk over its past edges
 abbrev pub IsWhyNot : Option Walk → Option TableFault → Type 0

@@ -8,7 +8,7 @@ ghost use Rattle.graph_rules.specs.Pasts.{IsGraph};
 ghost use Rattle.graph_rules.specs.Steps.{IsDone};
 ghost use Rattle.graph_rules.specs.Sound.{IsInOrder};
 ghost use Rattle.job_table.specs.Tables.{session_in, IsFull};
-ghost use Rattle.job_table.specs.Nodes.{status_at, held};
+ghost use Rattle.job_table.specs.Nodes.{status_at, state_of_nodes};
 ghost use Rattle.job_table.specs.Closes.{next_number, next_link, IsClosing};
 ghost use Rattle.job_table.specs.Reached.{Ascend, key_in, AreRoots, AreReached, HasEdges, Adds, IsRecordOf, AreRecordsOf};
 
@@ -29,10 +29,10 @@ pub fn session_of(
     nodes: &Vec<Node>,
 ) -> Result<Session, AllocError>
     requires room { ¬ IsFull (session_in past.now) }
-    requires order { IsInOrder (held inputs.now nodes.now.items false) }
+    requires order { IsInOrder (state_of_nodes inputs.now nodes.now.items false) }
     requires answer { IsDone (status_at inputs.now nodes.now.items Answer) }
     ensures { IfOk result (IsClosing (session_in past.now) inputs.now
-        (held inputs.now nodes.now.items false)) }
+        (state_of_nodes inputs.now nodes.now.items false)) }
 {
     let found = reach(alloc, inputs, nodes)?;
     let keys = ascending(found);
@@ -43,10 +43,10 @@ pub fn session_of(
 
 /// Just the keys that the inputs and Answer lead to.
 fn reach(alloc: Global, inputs: &Inputs, nodes: &Vec<Node>) -> Result<Vec<Key>, AllocError>
-    requires order { IsInOrder (held inputs.now nodes.now.items false) }
+    requires order { IsInOrder (state_of_nodes inputs.now nodes.now.items false) }
     requires answer { IsDone (status_at inputs.now nodes.now.items Answer) }
-    ensures { IfOk result (λ v. AreReached inputs.now (held inputs.now nodes.now.items false)
-        v.items) }
+    ensures { IfOk result (λ v. AreReached inputs.now
+        (state_of_nodes inputs.now nodes.now.items false) v.items) }
 {
     let mut found = roots(alloc, inputs)?;
     for i in 0..usize::MAX {
@@ -100,9 +100,9 @@ fn records_of(
     requires done { (q : KeyValue) → Contains keys.now q
         → IsDone (status_at inputs.now nodes.now.items q) }
     requires edges { (q : KeyValue) → Contains keys.now q
-        → HasEdges (held inputs.now nodes.now.items false) keys.now q }
-    ensures { IfOk result (λ v. AreRecordsOf (held inputs.now nodes.now.items false) keys.now
-        v.items) }
+        → HasEdges (state_of_nodes inputs.now nodes.now.items false) keys.now q }
+    ensures { IfOk result (λ v. AreRecordsOf (state_of_nodes inputs.now nodes.now.items false)
+        keys.now v.items) }
 {
     let mut records = Vec::new(alloc);
     for key in keys {
@@ -121,9 +121,10 @@ fn record_of(
 ) -> Result<Record, AllocError>
     requires ascend { Ascend keys.now }
     requires done { IsDone (status_at inputs.now nodes.now.items key.now) }
-    requires edges { HasEdges (held inputs.now nodes.now.items false) keys.now key.now }
+    requires edges { HasEdges (state_of_nodes inputs.now nodes.now.items false) keys.now key.now }
     ensures key { IfOk result (λ r. r.key ≡ key.now) }
-    ensures entry { IfOk result (IsRecordOf (held inputs.now nodes.now.items false) keys.now) }
+    ensures entry { IfOk result (IsRecordOf (state_of_nodes inputs.now nodes.now.items false)
+        keys.now) }
 {
     let entry = entry_of(inputs, nodes, key);
     let edges = places_of(alloc, keys, entry.edges)?;

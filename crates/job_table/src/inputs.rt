@@ -48,7 +48,7 @@ impl Source {
     {
         let name = Name::new(alloc, name)?;
         let text = Text::new(bytes.to_vec(alloc)?);
-        let sealed = shared(alloc, Value::Source(Some(text)))?;
+        let sealed = seal_to_share(alloc, Value::Source(Some(text)))?;
         Ok(Source { name, sealed })
     }
 
@@ -97,7 +97,7 @@ impl Inputs {
         Ok(Inputs {
             files: files_result(alloc, project)?,
             sources: sources_of(alloc, files)?,
-            missing: shared(alloc, Value::Source(None))?,
+            missing: seal_to_share(alloc, Value::Source(None))?,
         })
     }
 
@@ -158,8 +158,8 @@ fn keys_of(alloc: Global, sources: &Vec<Source>) -> Result<Vec<Key>, AllocError>
     Ok(keys)
 }
 
-/// The value, sealed, to be shared.
-fn shared(alloc: Global, value: Value) -> Result<Arc<Sealed>, AllocError>
+/// Seals a value, to be shared.
+fn seal_to_share(alloc: Global, value: Value) -> Result<Arc<Sealed>, AllocError>
     ensures { IfOk result (λ a. arc_value a ≡ value) }
 {
     Ok(Arc::new(alloc, seal(alloc, value)?)?)
@@ -194,5 +194,5 @@ fn files_result(alloc: Global, project: &Project) -> Result<Arc<Sealed>, AllocEr
     ensures { IfOk result (λ a. arc_value a ≡ values.Files (names_of project.now)) }
 {
     let names = file_names(alloc, project.files())?;
-    shared(alloc, Value::Files(FileNames::new(names)))
+    seal_to_share(alloc, Value::Files(FileNames::new(names)))
 }

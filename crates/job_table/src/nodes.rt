@@ -144,7 +144,7 @@ fn is_quiet(node: &Node) -> bool
 }
 
 /// Where a key is that the worker has claimed.
-pub fn claimed_by(nodes: &Vec<Node>, w: u32, key: &Key) -> Option<usize>
+pub fn find_claimed(nodes: &Vec<Node>, w: u32, key: &Key) -> Option<usize>
     ensures none { IfNone result (status_in nodes.now.items key.now ≡ Claimed w → ⊥) }
     ensures some { IfSome result (λ i. IsFirst nodes.now.items key.now i
         × (i < vec_len nodes.now)) }
@@ -169,7 +169,7 @@ fn is_claimed(node: &Node, w: u32) -> bool
 }
 
 /// Where a key is that the worker runs.
-pub fn run_by(nodes: &Vec<Node>, w: u32, key: &Key) -> Option<usize>
+pub fn find_running(nodes: &Vec<Node>, w: u32, key: &Key) -> Option<usize>
     ensures none { IfNone result (status_in nodes.now.items key.now ≡ Running w → ⊥) }
     ensures some { IfSome result (λ i. IsFirst nodes.now.items key.now i
         × (i < vec_len nodes.now)) }

@@ -1,8 +1,8 @@
 //! Reads of an outcome, compared with the table.
-ghost use Rattle.std.specs.Prelude.{◌≡◌, ◌↔◌, false, IsTrue, MatchOption};
+ghost use Rattle.std.specs.Prelude.{◌↔◌, false, IsTrue, MatchOption};
 ghost use Rattle.graph_rules.specs.Steps.{IsDoneWith, AreHeld};
-ghost use Rattle.job_table.specs.Nodes.{status_at, held};
-ghost use Rattle.job_table.specs.Answers.{IsFirstStale};
+ghost use Rattle.job_table.specs.Nodes.{status_at, state_of_nodes};
+ghost use Rattle.job_table.specs.Calls.{IsFirstStale};
 
 use crate::inputs::Inputs;
 use crate::nodes::{Node, result_of};
@@ -10,8 +10,9 @@ use recorder::Read;
 
 /// The place of the first read whose key isn't done with the result that was read.
 pub fn first_stale(inputs: &Inputs, nodes: &Vec<Node>, reads: &[Read]) -> Option<usize>
-    ensures { MatchOption result (AreHeld (held inputs.now nodes.now.items false) reads.now)
-        (IsFirstStale (held inputs.now nodes.now.items false) reads.now) }
+    ensures { MatchOption result
+        (AreHeld (state_of_nodes inputs.now nodes.now.items false) reads.now)
+        (IsFirstStale (state_of_nodes inputs.now nodes.now.items false) reads.now) }
 {
     for (i, read) in reads.iter().enumerate() {
         if !is_held(inputs, nodes, read) {

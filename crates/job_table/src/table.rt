@@ -1,5 +1,5 @@
 //! Tables.
-ghost use Rattle.std.specs.Prelude.{◌≡◌, ◌↔◌, map, length, IfOk, IsTrue};
+ghost use Rattle.std.specs.Prelude.{◌≡◌, ◌↔◌, map, IfOk, IsTrue};
 ghost use Rattle.std.specs.Arc.{arc_value};
 ghost use Rattle.job_table.specs.Tables.{session_in, IsFull};
 ghost use Rattle.job_table.specs.Kept.{event_of};
@@ -8,13 +8,15 @@ use crate::closing::{check_past, session_of};
 use crate::event::Event;
 use crate::fault::{Asked, CloseFault, OpenFault, TableFault};
 use crate::inputs::Inputs;
-use crate::nodes::{Node, Standing, are_quiet, claimed_by, find, is_below, put, result_of, run_by};
+use crate::nodes::{
+    Node, Standing, are_quiet, find, find_claimed, find_running, is_below, put, result_of,
+};
 use crate::reads::first_stale;
 use crate::room::{
     FinishParts, MarkParts, note, room_for_begin, room_for_claim, room_for_finish, room_for_mark,
     room_for_opening,
 };
-use crate::walks::{Walked, walk_edges, why_not};
+use crate::walks::{WalkEnd, walk_edges, why_not};
 use fingerprint::Sealed;
 use item_ids::Key;
 use mj_project::Project;
@@ -68,7 +70,7 @@ impl<R: Runner> Table<R> {
     ghost use Rattle.graph_rules.specs.Sound.{AreBacked};
     ghost use Rattle.mj_project.specs.Projects.{IsProject};
     ghost use Rattle.job_table.specs.Tables.{past_of};
-    ghost use Rattle.job_table.specs.Answers.{OpenGives, AskGives, MarkGives, BeginGives, FinishGives, FailGives};
+    ghost use Rattle.job_table.specs.Calls.{OpenGives, AskGives, MarkGives, BeginGives, FinishGives, FailGives};
     ghost use Rattle.job_table.specs.Closes.{CloseGives};
 
     /// Opens the table of a session of the project, over the session before it.
@@ -133,7 +135,7 @@ impl<R: Runner> Table<R> {
         if self.failed {
             return Err(TableFault::Failed);
         }
-        let Some(at) = claimed_by(&self.nodes, w, key) else {
+        let Some(at) = find_claimed(&self.nodes, w, key) else {
             return Err(TableFault::NotYours);
         };
         let Some(past) = &self.past else {
@@ -143,9 +145,9 @@ impl<R: Runner> Table<R> {
             return Err(TableFault::NotInPast);
         };
         match walk_edges(&self.inputs, &self.nodes, past, record.edges()) {
-            Walked::Open(i) => return Err(TableFault::EdgeOpen(i)),
-            Walked::Changed(i) => return Err(TableFault::EdgeChanged(i)),
-            Walked::AllUnchanged => {}
+            WalkEnd::Open(i) => return Err(TableFault::EdgeOpen(i)),
+            WalkEnd::Changed(i) => return Err(TableFault::EdgeChanged(i)),
+            WalkEnd::AllUnchanged => {}
         }
         let Some(
             MarkParts {
@@ -174,7 +176,7 @@ impl<R: Runner> Table<R> {
         if self.failed {
             return Err(TableFault::Failed);
         }
-        let Some(at) = claimed_by(&self.nodes, w, key) else {
+        let Some(at) = find_claimed(&self.nodes, w, key) else {
             return Err(TableFault::NotYours);
         };
         if let Some(fault) = why_not(&self.inputs, &self.nodes, &self.past, key) {
@@ -195,7 +197,7 @@ impl<R: Runner> Table<R> {
         if self.failed {
             return Err(TableFault::Failed);
         }
-        let Some(at) = run_by(&self.nodes, w, outcome.key()) else {
+        let Some(at) = find_running(&self.nodes, w, outcome.key()) else {
             return Err(TableFault::NotYours);
         };
         if let Some(i) = first_stale(&self.inputs, &self.nodes, outcome.reads()) {

@@ -2,9 +2,9 @@
 ghost use Rattle.std.specs.Prelude.{◌≡◌, ◌<◌, Some, false, map, length, option_map};
 ghost use Rattle.sessions.specs.Sessions.{AreInside, key_at, past_entry};
 ghost use Rattle.graph_rules.specs.Pasts.{print_in};
-ghost use Rattle.graph_rules.specs.Steps.{edge_at, walk, past_walk, MayRun, AllUnchanged};
+ghost use Rattle.graph_rules.specs.Steps.{edge_at, walk, past_walk, AllUnchanged};
 ghost use Rattle.job_table.specs.Tables.{session_in};
-ghost use Rattle.job_table.specs.Nodes.{status_at, held};
+ghost use Rattle.job_table.specs.Nodes.{status_at, state_of_nodes};
 ghost use Rattle.job_table.specs.Walks.{edge_of, walk_of, IsWhyNot};
 
 use crate::fault::TableFault;
@@ -24,7 +24,7 @@ pub enum Edge {
 
 /// How a walk over past edges ends: all are unchanged, or the first that isn't, by its place.
 #[derive(Clone, Copy)]
-pub enum Walked {
+pub enum WalkEnd {
     AllUnchanged,
     Open(usize),
     Changed(usize),
@@ -49,31 +49,32 @@ fn past_edge(inputs: &Inputs, nodes: &Vec<Node>, past: &Session, at: usize) -> E
 }
 
 /// How the walk over past edges ends.
-pub fn walk_edges(inputs: &Inputs, nodes: &Vec<Node>, past: &Session, edges: &[usize]) -> Walked
+pub fn walk_edges(inputs: &Inputs, nodes: &Vec<Node>, past: &Session, edges: &[usize]) -> WalkEnd
     requires { AreInside past.now.records edges.now }
     ensures { walk_of result ≡ walk (past_entry (Some past.now))
-        (held inputs.now nodes.now.items false) (map (key_at past.now.records) edges.now) }
+        (state_of_nodes inputs.now nodes.now.items false)
+        (map (key_at past.now.records) edges.now) }
 {
     for (i, at) in edges.iter().enumerate() {
         match past_edge(inputs, nodes, past, *at) {
-            Edge::Open => return Walked::Open(i),
-            Edge::Changed => return Walked::Changed(i),
+            Edge::Open => return WalkEnd::Open(i),
+            Edge::Changed => return WalkEnd::Changed(i),
             Edge::Unchanged => {}
         }
     }
-    Walked::AllUnchanged
+    WalkEnd::AllUnchanged
 }
 
 /// How the walk over a key's past edges ends, where the past has the key.
-fn past_walked(
+fn walk_past(
     inputs: &Inputs,
     nodes: &Vec<Node>,
     past: &Option<Arc<Session>>,
     key: &Key,
-) -> Option<Walked>
+) -> Option<WalkEnd>
     ensures { option_map walk_of result
-        ≡ past_walk (past_entry (session_in past.now)) (held inputs.now nodes.now.items false)
-        key.now }
+        ≡ past_walk (past_entry (session_in past.now))
+        (state_of_nodes inputs.now nodes.now.items false) key.now }
 {
     let Some(past) = past else {
         return None;
@@ -92,12 +93,12 @@ pub fn why_not(
     key: &Key,
 ) -> Option<TableFault>
     ensures { IsWhyNot (past_walk (past_entry (session_in past.now))
-        (held inputs.now nodes.now.items false) key.now) result }
+        (state_of_nodes inputs.now nodes.now.items false) key.now) result }
 {
-    match past_walked(inputs, nodes, past, key) {
-        Some(Walked::Open(i)) => Some(TableFault::EdgeOpen(i)),
-        Some(Walked::AllUnchanged) => Some(TableFault::NothingChanged),
-        Some(Walked::Changed(_)) => None,
+    match walk_past(inputs, nodes, past, key) {
+        Some(WalkEnd::Open(i)) => Some(TableFault::EdgeOpen(i)),
+        Some(WalkEnd::AllUnchanged) => Some(TableFault::NothingChanged),
+        Some(WalkEnd::Changed(_)) => None,
         None => None,
     }
 }

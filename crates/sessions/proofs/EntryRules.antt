@@ -203,7 +203,7 @@ below_two Equal = omega arith
 below_two Greater = omega arith
 
 -- of two keys the lower one compares no higher with a third
-rises : (a b q : Key) → key_cmp a b ≡ Less → ordering_index (key_cmp a q) ≤ ordering_index (key_cmp b q)
+pub rises : (a b q : Key) → key_cmp a b ≡ Less → ordering_index (key_cmp a q) ≤ ordering_index (key_cmp b q)
 rises a b q less =
     (elim (key_cmp b q) as (λ o. key_cmp b q ≡ o → ordering_index (key_cmp a q) ≤ ordering_index o) [
       | Less ↦ λ is. rw (key_total.trans a b q less is) (omega arith)

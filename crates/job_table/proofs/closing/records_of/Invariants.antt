@@ -1,11 +1,11 @@
 use Rattle.std.proofs.Common.{◌≡◌, map, take, false}
 use Rattle.std.specs.List.{AllByRecursion}
-use Rattle.job_table.specs.Nodes.{held}
+use Rattle.job_table.specs.Nodes.{state_of_nodes}
 use Rattle.job_table.specs.Reached.{IsRecordOf}
 use Rattle.job_table.proofs.closing.records_of.Given as goal
 
 abbrev pub invariant-loop-key : goal.invariant-loop-key
 invariant-loop-key l = record {
   keys : map (λ r. r.key) l.records.items ≡ take l.key-index l.keys;
-  each : AllByRecursion (IsRecordOf (held l.inputs l.nodes.items false) l.keys) l.records.items;
+  each : AllByRecursion (IsRecordOf (state_of_nodes l.inputs l.nodes.items false) l.keys) l.records.items;
 }

@@ -1,5 +1,5 @@
 use Rattle.std.proofs.Common.{◌≡◌, map, take}
-use Rattle.mj_project.specs.Projects.{source_view, IsProject}
+use Rattle.mj_project.specs.Projects.{source_view}
 use Rattle.job_table.proofs.inputs.sources_of.Given as goal
 
 abbrev pub invariant-loop-name : goal.invariant-loop-name

@@ -1,7 +1,6 @@
-use Rattle.std.proofs.Common.{◌≡◌, ap, ◌∙◌, subst}
-use Rattle.std.specs.Arc.{arc_value}
+use Rattle.std.proofs.Common.{ap, ◌∙◌, subst}
 use Rattle.graph_rules.specs.Steps.{Status, IsDone}
-use Rattle.job_table.specs.Nodes.{status_of, status_at}
+use Rattle.job_table.specs.Nodes.{status_of}
 use Rattle.job_table.proofs.NodeRules.{first_status, status_not_input}
 use Rattle.job_table.proofs.nodes.entry_of.Goals as goal
 

@@ -1,5 +1,4 @@
-use Rattle.std.proofs.Common.{◌≡◌, ◌<◌, ℕ, ◌+◌, drop, sym, add-one, add-zero, arith, ◌∙◌, length}
-use Rattle.job_table.specs.Nodes.{status_in, IsFirst}
+use Rattle.std.proofs.Common.{◌<◌, sym, add-one, arith, ◌∙◌, length}
 use Rattle.job_table.proofs.NodeRules.{status_drop, first_more}
 use Rattle.job_table.proofs.nodes.find.Goals as goal
 

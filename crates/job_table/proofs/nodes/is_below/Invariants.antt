@@ -1,4 +1,4 @@
-use Rattle.std.proofs.Common.{◌≡◌, ℕ, ◌+◌, drop, ◌↔◌}
+use Rattle.std.proofs.Common.{drop, ◌↔◌}
 use Rattle.recorder.specs.Backed.{rank}
 use Rattle.job_table.specs.Nodes.{AllAbove}
 use Rattle.job_table.proofs.nodes.is_below.Given as goal

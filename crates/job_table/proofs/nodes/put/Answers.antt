@@ -1,4 +1,4 @@
-use Rattle.std.proofs.Common.{◌<◌, length, arith}
+use Rattle.std.proofs.Common.{arith}
 use Rattle.job_table.proofs.NodeRules.{status_put, apart_put}
 use Rattle.job_table.proofs.nodes.put.Goals as goal
 

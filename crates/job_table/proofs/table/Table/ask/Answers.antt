@@ -1,8 +1,8 @@
-use Rattle.std.proofs.Common.{◌≡◌, ◌<◌, [], ◌∷◌, ◌++◌, map, true, false, arith, sym, ◌∙◌, refl}
+use Rattle.std.proofs.Common.{◌≡◌, [], ◌∷◌, ◌++◌, map, false, arith, sym, ◌∙◌, refl}
 use Rattle.std.specs.Prelude.{IsTrue}
 use Rattle.graph_rules.specs.Steps.{Claim}
 use Rattle.job_table.specs.Kept.{event_of}
-use Rattle.job_table.proofs.StepRules.{kept_claim, is_not_done, is_done, is_below, is_not_below, is_unknown, is_known, backed_last}
+use Rattle.job_table.proofs.StepRules.{kept_claim, is_not_done, is_below, is_not_below, is_unknown, is_known, backed_last}
 use Rattle.job_table.proofs.table.Table.ask.Given.{Over}
 use Rattle.job_table.proofs.table.Table.ask.Goals as goal
 

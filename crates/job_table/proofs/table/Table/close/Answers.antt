@@ -1,4 +1,4 @@
-use Rattle.std.proofs.Common.{true, false, refl, sym}
+use Rattle.std.proofs.Common.{false, refl}
 use Rattle.std.specs.Prelude.{IsTrue}
 use Rattle.std.specs.Arc.{arc_value}
 use Rattle.job_table.proofs.CloseRules.{gives_running, gives_no_answer, gives_memory, gives_session, held_in_order, done_of}

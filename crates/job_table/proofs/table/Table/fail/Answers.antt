@@ -1,4 +1,4 @@
-use Rattle.std.proofs.Common.{◌≡◌, ◌<◌, [], ◌∷◌, ◌++◌, map, true, false, arith, sym, ◌∙◌}
+use Rattle.std.proofs.Common.{map, false}
 use Rattle.sessions.specs.Sessions.{past_entry}
 use Rattle.graph_rules.specs.Steps.{Fail}
 use Rattle.job_table.specs.Tables.{session_in}

@@ -1,9 +1,7 @@
-use Rattle.std.proofs.Common.{◌≡◌, ◌<◌, [], ◌∷◌, ◌++◌, map, true, false, arith, sym, ◌∙◌, ap, refl}
+use Rattle.std.proofs.Common.{◌≡◌, [], ◌∷◌, ◌++◌, map, false, arith, sym, ◌∙◌, ap, refl}
 use Rattle.std.specs.Arc.{arc_value}
 use Rattle.recorder.specs.Runs.{OutcomeValue}
-use Rattle.recorder.specs.Backed.{ReadValue}
-use Rattle.graph_rules.specs.Steps.{Running, Finish, AreHeld}
-use Rattle.job_table.specs.Nodes.{status_in, held}
+use Rattle.graph_rules.specs.Steps.{Running, Finish}
 use Rattle.job_table.specs.Kept.{event_of}
 use Rattle.job_table.specs.Tables.{session_in}
 use Rattle.job_table.proofs.StepRules.{backed_last}

@@ -1,10 +1,9 @@
-use Rattle.std.proofs.Common.{◌≡◌, ◌<◌, [], ◌∷◌, ◌++◌, map, true, false, arith, sym, ◌∙◌, ap, refl, Some}
+use Rattle.std.proofs.Common.{◌≡◌, [], ◌∷◌, ◌++◌, map, false, arith, sym, ◌∙◌, refl, Some}
 use Rattle.std.specs.Arc.{arc_value}
 use Rattle.sessions.specs.Sessions.{Entry, entry_of, entry_at}
 use Rattle.graph_rules.specs.Steps.{Claimed, MarkGreen, AllUnchanged, walk}
-use Rattle.job_table.specs.Nodes.{status_in, held}
+use Rattle.job_table.specs.Nodes.{state_of_nodes}
 use Rattle.job_table.specs.Kept.{event_of}
-use Rattle.job_table.specs.Tables.{session_in}
 use Rattle.job_table.proofs.StepRules.{backed_last}
 use Rattle.job_table.proofs.CallRules.{not_standing, mark_gives, mark_kept}
 use Rattle.job_table.proofs.table.Table.mark.Given.{Over}
@@ -25,16 +24,16 @@ events_after : (g : Over) (c : After-note g) → map event_of c.note.new.history
 events_after g c = rw (c.note.ensures.events, c.room_for_mark.ensures.history.0, c.in-Some-room_for_mark.ensures.key) refl
 
 -- what the past has of the key
-abbrev had : (g : Over) (c : After-note g) → Entry
-had g c = entry_of (arc_value c.in-Some-past.past).records c.in-Some-find.record.now
+abbrev entry_before : (g : Over) (c : After-note g) → Entry
+entry_before g c = entry_of (arc_value c.in-Some-past.past).records c.in-Some-find.record.now
 
-found : (g : Over) (c : After-note g) → entry_at (arc_value c.in-Some-past.past) c.args.key.now ≡ Some (had g c)
-found g c = let e = c.in-Some-find.ensures.found in rw c.deref.ensures at e
+past_has_entry : (g : Over) (c : After-note g) → entry_at (arc_value c.in-Some-past.past) c.args.key.now ≡ Some (entry_before g c)
+past_has_entry g c = let e = c.in-Some-find.ensures.found in rw c.deref.ensures at e
 
-walked : (g : Over) (c : After-note g) → AllUnchanged ≡ walk (entry_at (arc_value c.in-Some-past.past)) (held c.self.inside.inputs c.self.inside.nodes.items false) (had g c).reads
-walked g c = let e = c.in-AllUnchanged.ensures in rw (c.deref-2.ensures, c.edges.ensures) at e
+walk_is_unchanged : (g : Over) (c : After-note g) → AllUnchanged ≡ walk (entry_at (arc_value c.in-Some-past.past)) (state_of_nodes c.self.inside.inputs c.self.inside.nodes.items false) (entry_before g c).reads
+walk_is_unchanged g c = let e = c.in-AllUnchanged.ensures in rw (c.deref-2.ensures, c.edges.ensures) at e
 
-edges_same : (g : Over) (c : After-note g) → c.in-Some-room_for_mark.field-0.edges.items ≡ (had g c).reads
+edges_same : (g : Over) (c : After-note g) → c.in-Some-room_for_mark.field-0.edges.items ≡ (entry_before g c).reads
 edges_same g c = let e = c.in-Some-room_for_mark.ensures.edges in rw c.deref-3.ensures at e
 
 pub invariant_of-self-2 : goal.invariant_of-self-2
@@ -43,7 +42,7 @@ invariant_of-self-2 g c =
     let kept = rw c.in-Some-past.is at c.self.invariant.0 in
     let r = c.in-Some-room_for_mark.ensures in
     rw (c.in-Some-past.is, events_after g c) (
-      mark_kept (entry_at (arc_value c.in-Some-past.past)) _ _ _ _ _ kept c.args.key.now c.args.w (had g c) _ (found g c) c.if-self.false c.in-Some.ensures.claimed (walked g c) (rw (r.results.0, edges_same g c) refl) c.put.ensures.apart
+      mark_kept (entry_at (arc_value c.in-Some-past.past)) _ _ _ _ _ kept c.args.key.now c.args.w (entry_before g c) _ (past_has_entry g c) c.if-self.false c.in-Some.ensures.claimed (walk_is_unchanged g c) (rw (r.results.0, edges_same g c) refl) c.put.ensures.apart
           (λ k. c.put.ensures.written c.args.key.now k c.in-Some.ensures.some.0),
       backed_last g.R.Runner.mean g.R.Runner.reads (map event_of i.history.items) (MarkGreen c.args.w c.args.key.now) c.self.invariant.1 tt,
       (λ _. omega (arith, c.note.ensures.len, c.note.ensures.capacity, r.room, c.room_for_mark.ensures.history.1)),
@@ -54,5 +53,5 @@ pub returns : goal.returns
 returns g c =
     let kept = rw c.in-Some-past.is at c.self.invariant.0 in
     let te = rw c.in-Some-past.is at c.self.view_is in
-    mark_gives (Some (arc_value c.in-Some-past.past)) _ _ _ _ kept c.args.key.now c.args.w (had g c) (found g c) c.if-self.false c.in-Some.ensures.claimed (walked g c) _ _ _ (sym te)
+    mark_gives (Some (arc_value c.in-Some-past.past)) _ _ _ _ kept c.args.key.now c.args.w (entry_before g c) (past_has_entry g c) c.if-self.false c.in-Some.ensures.claimed (walk_is_unchanged g c) _ _ _ (sym te)
     (rw (c.in-Some-past.is, events_after g c) refl) (sym c.in-Some-room_for_mark.ensures.results.1)

@@ -1,4 +1,3 @@
-use Rattle.std.proofs.Common.{sym}
 use Rattle.std.specs.Arc.{arc_value}
 use Rattle.job_table.proofs.ReplayRules.{finish_step, fail_step}
 use Rattle.job_table.proofs.table.Table.step.Goals as goal

@@ -1,6 +1,6 @@
 use Rattle.std.proofs.Common.{◌≡◌, Bool, true, false, sym, ◌∙◌}
 use Rattle.job_table.proofs.NodeRules.{first_status}
-use Rattle.job_table.proofs.nodes.run_by.Goals as goal
+use Rattle.job_table.proofs.nodes.find_running.Goals as goal
 
 not_both : (b : Bool) → b ≡ true → b ≡ false → ⊥
 not_both b t f = cc

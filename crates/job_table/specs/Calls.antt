@@ -1,5 +1,5 @@
 -- What each call answers, decided by the state before it, and what becomes of the table.
-use Rattle.std.specs.Prelude.{◌≡◌, ℕ, Bool, true, false, Result, Ok, Err, Option, Some, None, List, [], ◌∷◌, ◌++◌, length}
+use Rattle.std.specs.Prelude.{◌≡◌, ℕ, true, false, Result, Ok, Err, Option, Some, None, List, [], ◌∷◌}
 use Rattle.std.proofs.Common.{zero, suc}
 use Rattle.std.specs.declared.alloc.Global.{Global}
 use Rattle.std.specs.declared.sync.Arc.{Arc}
@@ -9,8 +9,8 @@ use Rattle.result_bytes.specs.declared.value.Value.{Value}
 use Rattle.recorder.specs.Projects.{Project}
 use Rattle.recorder.specs.Backed.{ReadValue}
 use Rattle.recorder.specs.Runs.{OutcomeValue}
-use Rattle.sessions.specs.Sessions.{SessionValue, past_entry}
-use Rattle.graph_rules.specs.Steps.{Unknown, Claimed, Running, Event, Claim, MarkGreen, Begin, Finish, Fail, State, Walk, AllUnchanged, OpenAt, ChangedAt, IsDoneWith, IsNotDone, IsBelow, MayRun, past_walk, AreHeld, Legal, state_after, MayStep}
+use Rattle.sessions.specs.Sessions.{SessionValue}
+use Rattle.graph_rules.specs.Steps.{Unknown, Claimed, Running, Claim, MarkGreen, Begin, Finish, Fail, State, Walk, AllUnchanged, OpenAt, ChangedAt, IsDoneWith, IsNotDone, IsBelow, past_walk}
 use Rattle.job_table.specs.Tables.{TableValue, past_of, state_of, IsStep, adds, IsFull}
 use Rattle.job_table.specs.declared.fault.Asked.{Asked}
 use Rattle.job_table.specs.declared.fault.Asked.TheVariants as asked
