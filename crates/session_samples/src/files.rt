@@ -1,53 +1,65 @@
 //! Files of sessions.
 
 use crate::records::{Kept, session_of};
+use crate::answers::Unfit;
 use session_file::{FileFault, MemorySink, Sink, digest, read, write};
 use sessions::Session;
 use std::alloc::Global;
 
-/// The file of the first session of these records.
-pub fn file_of(alloc: Global, kept: &[Kept]) -> Option<MemorySink> {
-    let mut sink = MemorySink::new(alloc);
-    match write_to(alloc, kept, &mut sink) {
-        Some(Ok(())) => Some(sink),
-        _ => None,
-    }
-}
-
-/// Writes the first session of these records to a sink, and answers what came of it, where the records make a session.
+/// Writes the session of these records, the first of a chain, to a sink, and answers what came of it.
 pub fn write_to<W: Sink>(
     alloc: Global,
     kept: &[Kept],
     sink: &mut W,
-) -> Option<Result<(), FileFault>> {
-    match session_of(alloc, 0, [0; 32], kept) {
-        Some(session) => Some(write(&session, sink)),
-        None => None,
+) -> Result<Result<(), FileFault>, Unfit> {
+    let session = session_of(alloc, 0, [0; 32], kept)?;
+    Ok(write(&session, sink))
+}
+
+/// The file of the session of these records, the first of a chain.
+pub fn file_of(alloc: Global, kept: &[Kept]) -> Result<MemorySink, Unfit> {
+    let session = session_of(alloc, 0, [0; 32], kept)?;
+    written(alloc, &session)
+}
+
+fn written(alloc: Global, session: &Session) -> Result<MemorySink, Unfit> {
+    let mut sink = MemorySink::new(alloc);
+    match write(session, &mut sink) {
+        Ok(()) => Ok(sink),
+        Err(_) => Err(Unfit),
     }
 }
 
-/// The digest of the session of this number, link and records, where they make one.
-pub fn digest_of(alloc: Global, number: u32, link: [u8; 32], kept: &[Kept]) -> Option<[u8; 32]> {
-    match session_of(alloc, number, link, kept) {
-        Some(session) => Some(digest(&session)),
-        None => None,
-    }
+/// The digest of the session of this number, link and records.
+pub fn digest_of(
+    alloc: Global,
+    number: u32,
+    link: [u8; 32],
+    kept: &[Kept],
+) -> Result<[u8; 32], Unfit> {
+    let session = session_of(alloc, number, link, kept)?;
+    Ok(digest(&session))
 }
 
-/// How the bytes are refused as a file.
+/// Why the bytes are no file of a session, or `None` where they are one.
 pub fn fault_of(alloc: Global, bytes: &[u8]) -> Option<FileFault> {
-    read(alloc, bytes).err()
+    match read(alloc, bytes) {
+        Ok(_) => None,
+        Err(fault) => Some(fault),
+    }
 }
 
-/// Whether the bytes are read, and what is read is written to the same bytes.
+/// Whether the bytes are read as a session, and its file has just these bytes.
 pub fn is_read_again(alloc: Global, bytes: &[u8]) -> bool {
     match read(alloc, bytes) {
-        Ok(session) => has_file(alloc, &session, bytes),
+        Ok(session) => is_file(alloc, &session, bytes),
         Err(_) => false,
     }
 }
 
-fn has_file(alloc: Global, session: &Session, bytes: &[u8]) -> bool {
-    let mut sink = MemorySink::new(alloc);
-    write(session, &mut sink) == Ok(()) && sink.bytes() == bytes
+fn is_file(alloc: Global, session: &Session, bytes: &[u8]) -> bool {
+    match written(alloc, session) {
+        Ok(sink) => sink.bytes() == bytes,
+        Err(_) => false,
+    }
 }

@@ -1,99 +1,67 @@
 //! Sessions from rows of texts.
 
-use fingerprint::{Print, Sealed, open_sealed};
-use item_ids::{Key, Kind};
-use mj_lexer::Name;
+use crate::answers::{Asked, Unfit, key_of, sealed_of};
+use item_ids::Key;
 use sessions::{Mark, Record, Session};
 use std::alloc::Global;
-use std::sync::Arc;
 
-/// A record: its key's kind and names, each empty where there is none, how it became done, the indices of the records
-/// that it read, and the canonical bytes of its result in hexadecimal digits.
+/// A record of a session: its key, how it became done, the indices of the records that it read, and the canonical
+/// bytes of its result in hexadecimal digits.
+#[derive(Clone, Copy)]
 pub struct Kept {
-    pub kind: Kind,
-    pub class: &'static str,
-    pub member: &'static str,
+    pub key: Asked,
     pub mark: Mark,
     pub edges: &'static [usize],
-    pub result: &'static str,
+    pub digits: &'static str,
 }
 
-/// The session of this number, link and records, where the records make one.
-pub fn session_of(alloc: Global, number: u32, link: [u8; 32], kept: &[Kept]) -> Option<Session> {
-    match records_of(alloc, kept) {
-        Some(records) => Session::new(alloc, number, link, records).ok(),
-        None => None,
+/// The session of this number, link and records.
+pub fn session_of(
+    alloc: Global,
+    number: u32,
+    link: [u8; 32],
+    kept: &[Kept],
+) -> Result<Session, Unfit> {
+    let records = records_of(alloc, kept)?;
+    match Session::new(alloc, number, link, records) {
+        Ok(session) => Ok(session),
+        Err(_) => Err(Unfit),
     }
 }
 
-fn records_of(alloc: Global, kept: &[Kept]) -> Option<Vec<Record>> {
+fn records_of(alloc: Global, kept: &[Kept]) -> Result<Vec<Record>, Unfit> {
     let mut records = Vec::new(alloc);
     for one in kept {
-        if !has_added(alloc, &mut records, one) {
-            return None;
-        }
+        add_record(alloc, &mut records, one)?;
     }
-    Some(records)
+    Ok(records)
 }
 
-/// Adds the record, and says whether it is one.
-fn has_added(alloc: Global, records: &mut Vec<Record>, kept: &Kept) -> bool {
-    match record_of(alloc, kept) {
-        Some(record) => records.push(record).is_ok(),
-        None => false,
+fn add_record(alloc: Global, records: &mut Vec<Record>, kept: &Kept) -> Result<(), Unfit> {
+    let record = record_of(alloc, kept)?;
+    match records.push(record) {
+        Ok(()) => Ok(()),
+        Err(_) => Err(Unfit),
     }
 }
 
-fn record_of(alloc: Global, kept: &Kept) -> Option<Record> {
-    match key_of(alloc, kept) {
-        Some(key) => record_of_key(alloc, kept, key),
-        None => None,
-    }
+fn record_of(alloc: Global, kept: &Kept) -> Result<Record, Unfit> {
+    let key = key_of(alloc, kept.key)?;
+    record_of_key(alloc, kept, key)
 }
 
-fn record_of_key(alloc: Global, kept: &Kept, key: Key) -> Option<Record> {
-    match kept.edges.to_vec(alloc) {
-        Ok(edges) => record_with_edges(alloc, kept, key, edges),
-        Err(_) => None,
-    }
+fn record_of_key(alloc: Global, kept: &Kept, key: Key) -> Result<Record, Unfit> {
+    let edges = kept.edges.to_vec(alloc)?;
+    record_with_edges(alloc, kept, key, edges)
 }
 
-fn record_with_edges(alloc: Global, kept: &Kept, key: Key, edges: Vec<usize>) -> Option<Record> {
-    match shared(alloc, kept) {
-        Some(sealed) => Some(Record::new(key, kept.mark, edges, sealed)),
-        None => None,
-    }
-}
-
-fn key_of(alloc: Global, kept: &Kept) -> Option<Key> {
-    match Name::try_new(alloc, kept.class) {
-        Ok(class) => key_of_class(alloc, kept, class),
-        Err(_) => None,
-    }
-}
-
-fn key_of_class(alloc: Global, kept: &Kept, class: Option<Name>) -> Option<Key> {
-    match Name::try_new(alloc, kept.member) {
-        Ok(member) => Key::new(kept.kind, class, member),
-        Err(_) => None,
-    }
-}
-
-fn shared(alloc: Global, kept: &Kept) -> Option<Arc<Sealed>> {
-    match sealed_of(alloc, kept) {
-        Some(sealed) => Arc::new(alloc, sealed).ok(),
-        None => None,
-    }
-}
-
-fn sealed_of(alloc: Global, kept: &Kept) -> Option<Sealed> {
-    match hex::decode(alloc, kept.result) {
-        Ok(bytes) => sealed_with(alloc, kept.kind, bytes),
-        Err(_) => None,
-    }
-}
-
-fn sealed_with(alloc: Global, kind: Kind, bytes: Vec<u8>) -> Option<Sealed> {
-    let print = Print::of(&bytes);
-    open_sealed(alloc, kind, bytes, print).ok()
+fn record_with_edges(
+    alloc: Global,
+    kept: &Kept,
+    key: Key,
+    edges: Vec<usize>,
+) -> Result<Record, Unfit> {
+    let Asked(kind, _, _) = kept.key;
+    let sealed = sealed_of(alloc, kind, kept.digits)?;
+    Ok(Record::new(key, kept.mark, edges, sealed))
 }

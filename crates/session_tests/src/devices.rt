@@ -105,17 +105,17 @@ const TAKEN: &[Taken] = &[
 /// Whether the write ends as the row says.
 fn has_ended(alloc: Global, sink: &mut Slow, row: &Taken) -> bool {
     match write_to(alloc, FIRST, sink) {
-        Some(Ok(())) => row.whole && sink.failures() == 0,
-        Some(Err(fault)) => !row.whole && fault == FileFault::Device && sink.failures() == 1,
-        None => false,
+        Ok(Ok(())) => row.whole && sink.failures() == 0,
+        Ok(Err(fault)) => !row.whole && fault == FileFault::Device && sink.failures() == 1,
+        Err(_) => false,
     }
 }
 
 /// Whether the sink has so many bytes, which the file begins with.
 fn has_beginning(alloc: Global, sink: &Slow, bytes: usize) -> bool {
     match file_of(alloc, FIRST) {
-        Some(file) => file.bytes().get(..bytes) == Some(sink.bytes.as_slice()),
-        None => false,
+        Ok(file) => file.bytes().get(..bytes) == Some(sink.bytes.as_slice()),
+        Err(_) => false,
     }
 }
 
@@ -151,7 +151,7 @@ fn memory_is_a_feed(rt: HostRuntime) {
 
 fn is_handed_on(alloc: Global, bytes: &mut Vec<u8>) -> bool {
     let mut sink = WriterSink::new(bytes);
-    write_to(alloc, FIRST, &mut sink) == Some(Ok(())) && sink.failures() == 0
+    write_to(alloc, FIRST, &mut sink) == Ok(Ok(())) && sink.failures() == 0
 }
 
 fn is_fed(bytes: &[u8]) -> bool {

@@ -8,8 +8,8 @@ use std::test::*;
 
 fn is_file_read(alloc: Global, count: usize) -> bool {
     match file_of_first(alloc, count) {
-        Some(file) => is_read_again(alloc, file.bytes()),
-        None => false,
+        Ok(file) => is_read_again(alloc, file.bytes()),
+        Err(_) => false,
     }
 }
 
@@ -38,7 +38,7 @@ fn is_cut_refused(alloc: Global, file: &[u8], count: usize) -> bool {
 
 #[test]
 fn cut_files_are_refused(rt: HostRuntime) -> Result<(), Fail> {
-    let file = file_of(rt.alloc(), FIRST).ok_or("a file")?;
+    let file = file_of(rt.alloc(), FIRST).ok().ok_or("a file")?;
     for count in 0..1192 {
         assert!(rt; is_cut_refused(rt.alloc(), file.bytes(), count));
     }
@@ -184,7 +184,7 @@ fn is_refused(alloc: Global, file: &[u8], row: &Changed) -> bool {
 
 #[test]
 fn changed_files_are_refused(rt: HostRuntime) -> Result<(), Fail> {
-    let file = file_of(rt.alloc(), FIRST).ok_or("a file")?;
+    let file = file_of(rt.alloc(), FIRST).ok().ok_or("a file")?;
     for row in CHANGED {
         assert!(rt; is_refused(rt.alloc(), file.bytes(), row));
     }
@@ -202,7 +202,7 @@ fn is_trailing_refused(alloc: Global, file: &[u8]) -> bool {
 
 #[test]
 fn bytes_behind_a_file_are_refused(rt: HostRuntime) -> Result<(), Fail> {
-    let file = file_of(rt.alloc(), FIRST).ok_or("a file")?;
+    let file = file_of(rt.alloc(), FIRST).ok().ok_or("a file")?;
     assert!(rt; is_trailing_refused(rt.alloc(), file.bytes()));
     Ok(())
 }

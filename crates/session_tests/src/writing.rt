@@ -1,6 +1,7 @@
 //! Files of sessions, and faults as texts.
 
 use crate::first::{FIRST, file_of_first};
+use session_samples::is_print;
 use fingerprint::Print;
 use session_file::FileFault;
 use session_samples::digest_of;
@@ -28,22 +29,16 @@ const WRITTEN: &[Written] = &[
     },
 ];
 
-/// Whether the print has these digits.
-fn is_text(alloc: Global, print: Print, want: &str) -> bool {
-    match print.text(alloc) {
-        Ok(text) => text.as_str() == want,
+fn is_written(alloc: Global, row: &Written) -> bool {
+    match file_of_first(alloc, row.records) {
+        Ok(file) => file.bytes().len() == row.bytes
+            && has_print(alloc, Print::of(file.bytes()), row),
         Err(_) => false,
     }
 }
 
-fn is_written(alloc: Global, row: &Written) -> bool {
-    match file_of_first(alloc, row.records) {
-        Some(file) => {
-            let bytes = file.bytes();
-            bytes.len() == row.bytes && is_text(alloc, Print::of(bytes), row.print)
-        }
-        None => false,
-    }
+fn has_print(alloc: Global, print: Print, row: &Written) -> bool {
+    is_print(alloc, print, row.print) == Ok(true)
 }
 
 #[test]
@@ -53,13 +48,12 @@ fn sessions_are_written(rt: HostRuntime) {
     }
 }
 
-fn digest_of_first(alloc: Global, count: usize) -> Option<[u8; 32]> {
-    digest_of(alloc, 0, [0; 32], FIRST.get(..count)?)
-}
-
 fn has_digest(alloc: Global, row: &Written) -> bool {
-    match digest_of_first(alloc, row.records) {
-        Some(digest) => is_text(alloc, Print(digest), row.print),
+    match FIRST.get(..row.records) {
+        Some(front) => match digest_of(alloc, 0, [0; 32], front) {
+            Ok(digest) => has_print(alloc, Print(digest), row),
+            Err(_) => false,
+        },
         None => false,
     }
 }

@@ -1,0 +1,14 @@
+//! Tables for tests: opened, called and closed as short texts say, and asked whether they answer as they should.
+#![tactic(auto)]
+
+mod calls;
+mod outcomes;
+mod replays;
+mod steps;
+mod tables;
+
+pub use calls::{Call, Said, Saying};
+pub use outcomes::Given;
+pub use replays::replayed;
+pub use steps::{Step, are_kept};
+pub use tables::Start;
