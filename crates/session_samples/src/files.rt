@@ -1,7 +1,7 @@
 //! Files of sessions.
 
 use crate::records::{Kept, session_of};
-use crate::answers::Unfit;
+use answer_samples::Unfit;
 use session_file::{FileFault, MemorySink, Sink, digest, read, write};
 use sessions::Session;
 use std::alloc::Global;

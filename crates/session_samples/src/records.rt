@@ -1,6 +1,6 @@
 //! Sessions from rows of texts.
 
-use crate::answers::{Asked, Unfit, key_of, sealed_of};
+use answer_samples::{Asked, Unfit, key_of, sealed_of};
 use item_ids::Key;
 use sessions::{Mark, Record, Session};
 use std::alloc::Global;
@@ -9,7 +9,7 @@ use std::alloc::Global;
 /// bytes of its result in hexadecimal digits.
 #[derive(Clone, Copy)]
 pub struct Kept {
-    pub key: Asked,
+    pub key: Asked<'static>,
     pub mark: Mark,
     pub edges: &'static [usize],
     pub digits: &'static str,

@@ -1,6 +1,6 @@
 //! The records of a first session.
 
-use session_samples::{Asked, Unfit};
+use answer_samples::{Asked, Unfit};
 use item_ids::Kind;
 use session_file::MemorySink;
 use session_samples::{Kept, file_of};

@@ -1,7 +1,7 @@
 //! Files of sessions, and faults as texts.
 
 use crate::first::{FIRST, file_of_first};
-use session_samples::is_print;
+use answer_samples::is_print;
 use fingerprint::Print;
 use session_file::FileFault;
 use session_samples::digest_of;

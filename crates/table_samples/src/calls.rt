@@ -1,13 +1,13 @@
 //! The calls of a table, and what they say.
 
+use answer_samples::{Asked, Unfit, key_of};
 use item_ids::Key;
 use job_table::{Asked as Told, CloseFault, Table, TableFault};
 use sample_runner::SampleRunner;
-use session_samples::{Asked, Unfit, key_of};
 use std::alloc::Global;
 
 /// A call of a table, by its name.
-#[derive(Clone, Copy, Debug, PartialEq, Eq)]
+#[derive(Clone, Copy)]
 pub enum Call {
     Ask,
     Mark,
@@ -17,7 +17,7 @@ pub enum Call {
 }
 
 /// What a call says. `Done` is also that of a call which gives a result, a session or nothing.
-#[derive(Clone, Copy, Debug, PartialEq, Eq)]
+#[derive(Clone, Copy, PartialEq, Eq)]
 pub enum Said {
     Yours,
     Busy,
@@ -28,7 +28,7 @@ pub enum Said {
 }
 
 /// A call by a worker with a key, what it says, and how many events there are then.
-pub type Saying = (Call, u32, Asked, Said, usize);
+pub type Saying = (Call, u32, Asked<'static>, Said, usize);
 
 fn asked(table: &mut Table<SampleRunner>, worker: u32, key: &Key) -> Said {
     match table.ask(worker, key) {

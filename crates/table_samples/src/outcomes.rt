@@ -2,17 +2,17 @@
 ghost use Rattle.std.specs.Prelude.{◌<◌};
 ghost use Rattle.recorder.specs.Backed.{rank as rank_of};
 
+use answer_samples::{Asked, Unfit, key_of, sealed_of};
 use item_ids::{Key, rank};
 use recorder::{AnswerList, Outcome, Recorder, record};
 use sample_runner::SampleRunner;
-use session_samples::{Asked, Unfit, key_of, sealed_of};
 use std::alloc::Global;
 use std::sync::Arc;
 
 /// A key, and the canonical bytes of its result in hexadecimal digits.
 #[derive(Clone, Copy)]
 pub struct Given {
-    pub key: Asked,
+    pub key: Asked<'static>,
     pub digits: &'static str,
 }
 

@@ -2,10 +2,10 @@
 
 use crate::outcomes::{Given, outcome_of};
 use crate::tables::{Start, project_of};
+use answer_samples::{Asked, Unfit, key_of};
 use job_table::{Event, ReplayFault, Table};
 use mj_project::Project;
 use sample_runner::SampleRunner;
-use session_samples::{Asked, Unfit, key_of};
 use std::alloc::Global;
 
 type Events = Vec<Event<SampleRunner>>;

@@ -3,11 +3,12 @@
 use crate::calls::{Said, Saying, done_or_refused, says};
 use crate::outcomes::{Given, outcome_of};
 use crate::tables::{Start, table_of};
+use answer_samples::{Asked, Unfit, is_spelled, key_of};
 use item_ids::Key;
 use job_table::{Asked as Told, Table};
 use sample_runner::SampleRunner;
 use session_file::digest;
-use session_samples::{Asked, Kept, Unfit, digest_of, is_spelled, key_of};
+use session_samples::{Kept, digest_of};
 use std::alloc::Global;
 
 /// A step, and what has to come of it.
@@ -16,7 +17,7 @@ pub enum Step {
     /// Calls in turn.
     Calls(&'static [Saying]),
     /// The worker 0 ends the run of a key by its outcome over these answers, and the table says so.
-    Finish(Asked, &'static [Given], Said),
+    Finish(Asked<'static>, &'static [Given], Said),
     /// The key is done with this result.
     Done(Given),
     /// The table's past has so many records.

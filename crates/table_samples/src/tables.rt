@@ -1,9 +1,10 @@
 //! Tables of projects of one file.
 
+use answer_samples::Unfit;
 use job_table::Table;
 use mj_project::Project;
 use sample_runner::SampleRunner;
-use session_samples::{Kept, Unfit, session_of};
+use session_samples::{Kept, session_of};
 use sessions::Session;
 use std::alloc::{AllocError, Global};
 use std::sync::Arc;
