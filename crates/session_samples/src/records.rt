@@ -3,7 +3,7 @@
 use answer_samples::{Asked, Unfit, key_of, sealed_of};
 use item_ids::Key;
 use sessions::{Mark, Record, Session};
-use std::alloc::Global;
+use std::alloc::{AllocError, AllocFailed, Global};
 
 /// A record of a session: its key, how it became done, the indices of the records that it read, and the canonical
 /// bytes of its result in hexadecimal digits.
@@ -39,10 +39,11 @@ fn records_of(alloc: Global, kept: &[Kept]) -> Result<Vec<Record>, Unfit> {
 
 fn add_record(alloc: Global, records: &mut Vec<Record>, kept: &Kept) -> Result<(), Unfit> {
     let record = record_of(alloc, kept)?;
-    match records.push(record) {
-        Ok(()) => Ok(()),
-        Err(_) => Err(Unfit),
-    }
+    Ok(push(records, record)?)
+}
+
+fn push(records: &mut Vec<Record>, record: Record) -> Result<(), AllocError> {
+    Ok(records.push(record)?)
 }
 
 fn record_of(alloc: Global, kept: &Kept) -> Result<Record, Unfit> {

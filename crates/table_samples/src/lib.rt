@@ -8,7 +8,6 @@ mod steps;
 mod tables;
 
 pub use calls::{Call, Said, Saying};
-pub use outcomes::Given;
 pub use replays::replayed;
 pub use steps::{Step, are_kept};
 pub use tables::Start;

@@ -1,30 +1,28 @@
 //! Replays of events.
 
-use crate::outcomes::{Given, outcome_of};
+use crate::outcomes::outcome_of;
 use crate::tables::{Start, project_of};
 use answer_samples::{Asked, Unfit, key_of};
 use job_table::{Event, ReplayFault, Table};
 use mj_project::Project;
+use run_samples::Given;
 use sample_runner::SampleRunner;
-use std::alloc::Global;
+use std::alloc::{AllocError, AllocFailed, Global};
 
 type Events = Vec<Event<SampleRunner>>;
 
-fn add(events: &mut Events, event: Event<SampleRunner>) -> Result<(), Unfit> {
-    match events.push(event) {
-        Ok(()) => Ok(()),
-        Err(_) => Err(Unfit),
-    }
+fn add(events: &mut Events, event: Event<SampleRunner>) -> Result<(), AllocError> {
+    Ok(events.push(event)?)
 }
 
 fn add_claim(alloc: Global, events: &mut Events, named: Asked) -> Result<(), Unfit> {
     let key = key_of(alloc, named)?;
-    add(events, Event::Claim(0, key))
+    Ok(add(events, Event::Claim(0, key))?)
 }
 
 fn add_begin(alloc: Global, events: &mut Events, named: Asked) -> Result<(), Unfit> {
     let key = key_of(alloc, named)?;
-    add(events, Event::Begin(0, key))
+    Ok(add(events, Event::Begin(0, key))?)
 }
 
 fn add_finish(
@@ -34,7 +32,7 @@ fn add_finish(
     given: &[Given],
 ) -> Result<(), Unfit> {
     let outcome = outcome_of(alloc, named, given)?;
-    add(events, Event::Finish(0, outcome))
+    Ok(add(events, Event::Finish(0, outcome))?)
 }
 
 /// Adds a claim and an outcome, with a begin between them or without.

@@ -1,11 +1,12 @@
 //! What a table is asked, step by step.
 
 use crate::calls::{Said, Saying, done_or_refused, says};
-use crate::outcomes::{Given, outcome_of};
+use crate::outcomes::outcome_of;
 use crate::tables::{Start, table_of};
 use answer_samples::{Asked, Unfit, is_spelled, key_of};
 use item_ids::Key;
 use job_table::{Asked as Told, Table};
+use run_samples::Given;
 use sample_runner::SampleRunner;
 use session_file::digest;
 use session_samples::{Kept, digest_of};
@@ -17,9 +18,9 @@ pub enum Step {
     /// Calls in turn.
     Calls(&'static [Saying]),
     /// The worker 0 ends the run of a key by its outcome over these answers, and the table says so.
-    Finish(Asked<'static>, &'static [Given], Said),
+    Finish(Asked<'static>, &'static [Given<'static>], Said),
     /// The key is done with this result.
-    Done(Given),
+    Done(Given<'static>),
     /// The table's past has so many records.
     Past(usize),
     /// The table closes with the session of these records, the first of a chain.
@@ -66,9 +67,9 @@ fn has_result(
     }
 }
 
-fn is_done(alloc: Global, table: &mut Table<SampleRunner>, given: &Given) -> Result<bool, Unfit> {
-    let key = key_of(alloc, given.key)?;
-    has_result(alloc, table, &key, given.digits)
+fn is_done(alloc: Global, table: &mut Table<SampleRunner>, given: Given) -> Result<bool, Unfit> {
+    let key = key_of(alloc, given.0)?;
+    has_result(alloc, table, &key, given.1)
 }
 
 /// Whether the table has a past of so many records.
@@ -112,7 +113,7 @@ fn is_kept(alloc: Global, table: &mut Table<SampleRunner>, step: &Step) -> Resul
     match *step {
         Step::Calls(sayings) => all_say(alloc, table, sayings),
         Step::Finish(key, given, said) => Ok(finished(alloc, table, key, given)? == said),
-        Step::Done(given) => is_done(alloc, table, &given),
+        Step::Done(given) => is_done(alloc, table, given),
         Step::Past(records) => Ok(has_past(table, records)),
         Step::First(kept) => closes_with_first(alloc, table, kept),
         Step::Second(past, kept) => closes_with_second(alloc, table, past, kept),

@@ -6,7 +6,7 @@ use mj_project::Project;
 use sample_runner::SampleRunner;
 use session_samples::{Kept, session_of};
 use sessions::Session;
-use std::alloc::{AllocError, Global};
+use std::alloc::{AllocError, AllocFailed, Global};
 use std::sync::Arc;
 
 /// What a table is opened with: a project of one file, and the records of the first session before, empty where there
@@ -57,14 +57,12 @@ fn past_of(alloc: Global, kept: &[Kept]) -> Result<Option<Arc<Session>>, Unfit> 
         return Ok(None);
     }
     let session = session_of(alloc, 0, [0; 32], kept)?;
-    share(alloc, session)
+    Ok(Some(share(alloc, session)?))
 }
 
-fn share(alloc: Global, session: Session) -> Result<Option<Arc<Session>>, Unfit> {
-    match Arc::new(alloc, session) {
-        Ok(past) => Ok(Some(past)),
-        Err(_) => Err(Unfit),
-    }
+/// The session, to be shared.
+fn share(alloc: Global, session: Session) -> Result<Arc<Session>, AllocError> {
+    Ok(Arc::new(alloc, session)?)
 }
 
 /// The table that is opened so.

@@ -2,27 +2,19 @@
 
 use crate::keys::{CHECK, FILES, HEADER, SOURCE};
 use job_table::{ReplayFault, TableFault};
+use run_samples::Given;
 use session_samples::Kept;
 use sessions::Mark;
 use std::test::*;
-use table_samples::{Call, Given, Said, Saying, Start, Step, are_kept, replayed};
+use table_samples::{Call, Said, Saying, Start, Step, are_kept, replayed};
 
 // The file a with one byte, before and now.
-const OLD_SOURCE: Given = Given {
-    key: SOURCE,
-    digits: "0101000000000000000141",
-};
+const OLD_SOURCE: Given<'static> = Given(SOURCE, "0101000000000000000141");
 
-const NEW_SOURCE: Given = Given {
-    key: SOURCE,
-    digits: "0101000000000000000142",
-};
+const NEW_SOURCE: Given<'static> = Given(SOURCE, "0101000000000000000142");
 
 // What the check found before, and so finds now.
-const CHECKED: Given = Given {
-    key: CHECK,
-    digits: "090000000000000000",
-};
+const CHECKED: Given<'static> = Given(CHECK, "090000000000000000");
 
 // A session of the file a before: its header, and a check that read the files and the header.
 const PAST: &[Kept] = &[
