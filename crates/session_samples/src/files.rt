@@ -19,10 +19,10 @@ pub fn write_to<W: Sink>(
 /// The file of the session of these records, the first of a chain.
 pub fn file_of(alloc: Global, kept: &[Kept]) -> Result<MemorySink, Unfit> {
     let session = session_of(alloc, 0, [0; 32], kept)?;
-    written(alloc, &session)
+    file_of_session(alloc, &session)
 }
 
-fn written(alloc: Global, session: &Session) -> Result<MemorySink, Unfit> {
+fn file_of_session(alloc: Global, session: &Session) -> Result<MemorySink, Unfit> {
     let mut sink = MemorySink::new(alloc);
     match write(session, &mut sink) {
         Ok(()) => Ok(sink),
@@ -58,7 +58,7 @@ pub fn is_read_again(alloc: Global, bytes: &[u8]) -> bool {
 }
 
 fn is_file(alloc: Global, session: &Session, bytes: &[u8]) -> bool {
-    match written(alloc, session) {
+    match file_of_session(alloc, session) {
         Ok(sink) => sink.bytes() == bytes,
         Err(_) => false,
     }

@@ -30,7 +30,7 @@ pub enum Said {
 /// A call by a worker with a key, what it says, and how many events there are then.
 pub type Saying = (Call, u32, Asked<'static>, Said, usize);
 
-fn asked(table: &mut Table<SampleRunner>, worker: u32, key: &Key) -> Said {
+fn ask(table: &mut Table<SampleRunner>, worker: u32, key: &Key) -> Said {
     match table.ask(worker, key) {
         Ok(Told::Yours) => Said::Yours,
         Ok(Told::Done(_)) => Said::Done,
@@ -40,7 +40,7 @@ fn asked(table: &mut Table<SampleRunner>, worker: u32, key: &Key) -> Said {
     }
 }
 
-fn marked(table: &mut Table<SampleRunner>, worker: u32, key: &Key) -> Said {
+fn mark(table: &mut Table<SampleRunner>, worker: u32, key: &Key) -> Said {
     match table.mark(worker, key) {
         Ok(_) => Said::Done,
         Err(fault) => Said::Refused(fault),
@@ -48,14 +48,14 @@ fn marked(table: &mut Table<SampleRunner>, worker: u32, key: &Key) -> Said {
 }
 
 /// What is said by a call that gives nothing.
-pub(crate) fn done_or_refused(called: Result<(), TableFault>) -> Said {
+pub(crate) fn answer_of(called: Result<(), TableFault>) -> Said {
     match called {
         Ok(()) => Said::Done,
         Err(fault) => Said::Refused(fault),
     }
 }
 
-fn closed(table: &Table<SampleRunner>) -> Said {
+fn close(table: &Table<SampleRunner>) -> Said {
     match table.close() {
         Ok(_) => Said::Done,
         Err(fault) => Said::NotClosed(fault),
@@ -65,11 +65,11 @@ fn closed(table: &Table<SampleRunner>) -> Said {
 /// Makes a call.
 fn answer_to(table: &mut Table<SampleRunner>, call: Call, worker: u32, key: &Key) -> Said {
     match call {
-        Call::Ask => asked(table, worker, key),
-        Call::Mark => marked(table, worker, key),
-        Call::Begin => done_or_refused(table.begin_run(worker, key)),
-        Call::Fail => done_or_refused(table.fail(worker)),
-        Call::Close => closed(table),
+        Call::Ask => ask(table, worker, key),
+        Call::Mark => mark(table, worker, key),
+        Call::Begin => answer_of(table.begin_run(worker, key)),
+        Call::Fail => answer_of(table.fail(worker)),
+        Call::Close => close(table),
     }
 }
 

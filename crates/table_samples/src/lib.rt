@@ -8,6 +8,6 @@ mod steps;
 mod tables;
 
 pub use calls::{Call, Said, Saying};
-pub use replays::replayed;
+pub use replays::replay_run;
 pub use steps::{Step, are_kept};
 pub use tables::Start;

@@ -68,7 +68,7 @@ fn replay_of(
     }
 }
 
-fn replayed_in(
+fn replay_run_in(
     alloc: Global,
     project: &Project,
     named: Asked,
@@ -81,7 +81,7 @@ fn replayed_in(
 
 /// How many events a replay has in a table's project, with no past, or why there is none. In it the worker 0 claims a key
 /// and ends its run by the outcome over these answers, with a begin between them or without.
-pub fn replayed(
+pub fn replay_run(
     alloc: Global,
     start: &Start,
     named: Asked,
@@ -89,5 +89,5 @@ pub fn replayed(
     begins: bool,
 ) -> Result<Result<usize, ReplayFault>, Unfit> {
     let project = project_of(alloc, start.file, start.text)?;
-    replayed_in(alloc, &project, named, given, begins)
+    replay_run_in(alloc, &project, named, given, begins)
 }

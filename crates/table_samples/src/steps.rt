@@ -1,6 +1,6 @@
 //! What a table is asked, step by step.
 
-use crate::calls::{Said, Saying, done_or_refused, says};
+use crate::calls::{Said, Saying, answer_of, says};
 use crate::outcomes::outcome_of;
 use crate::tables::{Start, table_of};
 use answer_samples::{Asked, Unfit, is_spelled, key_of};
@@ -44,14 +44,14 @@ fn all_say(
 }
 
 /// What the table says to the outcome of a run.
-fn finished(
+fn finish(
     alloc: Global,
     table: &mut Table<SampleRunner>,
     named: Asked,
     given: &[Given],
 ) -> Result<Said, Unfit> {
     let outcome = outcome_of(alloc, named, given)?;
-    Ok(done_or_refused(table.finish(0, outcome)))
+    Ok(answer_of(table.finish(0, outcome)))
 }
 
 /// Whether the key is done with the result that these digits spell.
@@ -112,7 +112,7 @@ fn closes_with_second(
 fn is_kept(alloc: Global, table: &mut Table<SampleRunner>, step: &Step) -> Result<bool, Unfit> {
     match *step {
         Step::Calls(sayings) => all_say(alloc, table, sayings),
-        Step::Finish(key, given, said) => Ok(finished(alloc, table, key, given)? == said),
+        Step::Finish(key, given, said) => Ok(finish(alloc, table, key, given)? == said),
         Step::Done(given) => is_done(alloc, table, given),
         Step::Past(records) => Ok(has_past(table, records)),
         Step::First(kept) => closes_with_first(alloc, table, kept),

@@ -6,7 +6,7 @@ use run_samples::Given;
 use session_samples::Kept;
 use sessions::Mark;
 use std::test::*;
-use table_samples::{Call, Said, Saying, Start, Step, are_kept, replayed};
+use table_samples::{Call, Said, Saying, Start, Step, are_kept, replay_run};
 
 // The file a with one byte, before and now.
 const OLD_SOURCE: Given<'static> = Given(SOURCE, "0101000000000000000141");
@@ -133,8 +133,9 @@ fn stale_outcomes_are_refused(rt: HostRuntime) {
 #[test]
 fn events_are_replayed(rt: HostRuntime) {
     let run = &[NEW_SOURCE];
-    assert!(rt; replayed(rt.alloc(), &WITHOUT_PAST, HEADER, run, true) == Ok(Ok(3)));
+    assert!(rt; replay_run(rt.alloc(), &WITHOUT_PAST, HEADER, run, true) == Ok(Ok(3)));
     assert!(rt;
-        replayed(rt.alloc(), &WITHOUT_PAST, HEADER, run, false) == Ok(Err(ReplayFault::Illegal(1)))
+        replay_run(rt.alloc(), &WITHOUT_PAST, HEADER, run, false)
+            == Ok(Err(ReplayFault::Illegal(1)))
     );
 }
