@@ -1,8 +1,7 @@
 //! Values that are made of copies of their parts.
 
 use crate::unfit::Unfit;
-use crate::values::{bytes_of, is_encoded, is_text, value_of};
-use answer_bytes::WholeAnswer;
+use crate::values::{bytes_of, is_encoded, share, shared_of};
 use item_ids::Kind;
 use mj_answer::{Answer, ClassAnswer, copy_faults, render};
 use mj_lexer::Name;
@@ -49,13 +48,13 @@ fn copy_of(alloc: Global, value: &Value) -> Result<Value, Unfit> {
 
 /// Whether the digits tell what spells a value, and its copy too.
 pub fn is_copied(alloc: Global, kind: Kind, digits: &str) -> Result<bool, Unfit> {
-    let value = value_of(alloc, kind, digits)?;
+    let value = shared_of(alloc, kind, digits)?;
     has_spelled_copy(alloc, &value, digits)
 }
 
 /// Whether the digits tell the spelling of the value's copy.
 fn has_spelled_copy(alloc: Global, value: &Value, digits: &str) -> Result<bool, Unfit> {
-    let copy = copy_of(alloc, value)?;
+    let copy = share(alloc, copy_of(alloc, value)?)?;
     are_encoded(alloc, &copy, digits)
 }
 
@@ -95,12 +94,18 @@ fn is_copy_text(alloc: Global, answer: &Answer, text: &str) -> Result<bool, Allo
     Ok(render(alloc, &copy)?.as_str() == text)
 }
 
-/// Whether the digits tell what spells an answer whose copy is printed as this text.
-pub fn is_printed_again(alloc: Global, digits: &str, text: &str) -> Result<bool, Unfit> {
-    match value_of(alloc, Kind::Answer, digits)? {
-        Value::Answer(whole) => Ok(is_copy_text(alloc, whole.answer(), text)?),
+/// Whether the value is an answer whose copy is printed as this text.
+fn is_text_again(alloc: Global, value: &Value, text: &str) -> Result<bool, AllocError> {
+    match value {
+        Value::Answer(whole) => is_copy_text(alloc, whole.answer(), text),
         _ => Ok(false),
     }
+}
+
+/// Whether the digits tell what spells an answer whose copy is printed as this text.
+pub fn is_printed_again(alloc: Global, digits: &str, text: &str) -> Result<bool, Unfit> {
+    let value = shared_of(alloc, Kind::Answer, digits)?;
+    Ok(is_text_again(alloc, &value, text)?)
 }
 
 fn name_of(alloc: Global, text: &str) -> Result<Name, Unfit> {
@@ -125,8 +130,16 @@ fn is_body(
     method: &str,
     digits: &str,
 ) -> Result<bool, Unfit> {
-    let body = body_of(alloc, tree, class, method)?;
+    let body = share(alloc, body_of(alloc, tree, class, method)?)?;
     are_encoded(alloc, &body, digits)
+}
+
+/// The tree of a file that the value is.
+fn tree_in(value: &Value) -> Result<&Tree, Unfit> {
+    match value {
+        Value::Tree(Some(tree)) => Ok(tree),
+        _ => Err(Unfit),
+    }
 }
 
 /// Whether `body` tells the spelling of what a class and a method name in the tree that `tree` tells.
@@ -137,8 +150,6 @@ pub fn has_body(
     method: &str,
     body: &str,
 ) -> Result<bool, Unfit> {
-    match value_of(alloc, Kind::Tree, tree)? {
-        Value::Tree(Some(tree)) => is_body(alloc, &tree, class, method, body),
-        _ => Ok(false),
-    }
+    let value = shared_of(alloc, Kind::Tree, tree)?;
+    is_body(alloc, tree_in(&value)?, class, method, body)
 }

@@ -3,11 +3,11 @@ ghost use Rattle.std.specs.Prelude.{◌≡◌, IfOk};
 ghost use Rattle.result_bytes.specs.Values.{kind_of};
 
 use crate::unfit::Unfit;
-use answer_bytes::WholeAnswer;
 use item_ids::Kind;
 use mj_answer::render;
 use result_bytes::{Refusal, Value, decode, encode};
-use std::alloc::{AllocError, Global};
+use std::alloc::{AllocError, AllocFailed, Global};
+use std::sync::Arc;
 
 /// The bytes of hexadecimal digits.
 pub fn bytes_of(alloc: Global, digits: &str) -> Result<Vec<u8>, Unfit> {
@@ -15,6 +15,31 @@ pub fn bytes_of(alloc: Global, digits: &str) -> Result<Vec<u8>, Unfit> {
         Ok(bytes) => Ok(bytes),
         Err(_) => Err(Unfit),
     }
+}
+
+/// The value, shared: a function that drops a value itself is dear to prove, as it writes out the drops of all arms.
+pub(crate) fn share(alloc: Global, value: Value) -> Result<Arc<Value>, AllocError> {
+    Ok(Arc::new(alloc, value)?)
+}
+
+fn share_read(alloc: Global, value: Value) -> Result<Arc<Value>, Refusal> {
+    match share(alloc, value) {
+        Ok(shared) => Ok(shared),
+        Err(_) => Err(Refusal::OutOfMemory),
+    }
+}
+
+/// The value of the kind that the bytes spell. Its contract says nothing, which makes its callers' proofs short.
+fn read(alloc: Global, kind: Kind, bytes: &[u8]) -> Result<Arc<Value>, Refusal> {
+    match decode(alloc, kind, bytes) {
+        Ok(value) => share_read(alloc, value),
+        Err(refusal) => Err(refusal),
+    }
+}
+
+/// The value's canonical bytes. Its contract says nothing either.
+fn write(alloc: Global, value: &Value) -> Result<Vec<u8>, AllocError> {
+    encode(alloc, value)
 }
 
 /// The value of the kind that these digits spell.
@@ -28,14 +53,21 @@ pub fn value_of(alloc: Global, kind: Kind, digits: &str) -> Result<Value, Unfit>
     }
 }
 
+/// The same, shared.
+pub(crate) fn shared_of(alloc: Global, kind: Kind, digits: &str) -> Result<Arc<Value>, Unfit> {
+    let value = value_of(alloc, kind, digits)?;
+    Ok(share(alloc, value)?)
+}
+
 /// Whether the value's canonical bytes are these.
 pub(crate) fn is_encoded(alloc: Global, value: &Value, want: &[u8]) -> Result<bool, AllocError> {
-    Ok(encode(alloc, value)?.as_slice() == want)
+    let bytes = write(alloc, value)?;
+    Ok(bytes.as_slice() == want)
 }
 
 /// Whether the bytes spell a value of the kind, and `want` is its spelling.
 fn is_spelled_as(alloc: Global, kind: Kind, bytes: &[u8], want: &[u8]) -> Result<bool, AllocError> {
-    match decode(alloc, kind, bytes) {
+    match read(alloc, kind, bytes) {
         Ok(value) => is_encoded(alloc, &value, want),
         Err(_) => Ok(false),
     }
@@ -54,23 +86,24 @@ pub fn is_spelling(alloc: Global, kind: Kind, digits: &str) -> Result<bool, Unfi
 
 /// Why the bytes spell no value of the kind, or `None` where they spell one.
 pub fn refusal_of(alloc: Global, kind: Kind, bytes: &[u8]) -> Option<Refusal> {
-    match decode(alloc, kind, bytes) {
+    match read(alloc, kind, bytes) {
         Ok(_) => None,
         Err(refusal) => Some(refusal),
     }
 }
 
-/// Whether the answer is printed as this text.
-pub(crate) fn is_text(alloc: Global, answer: &WholeAnswer, text: &str) -> Result<bool, AllocError> {
-    Ok(render(alloc, answer.answer())?.as_str() == text)
+/// Whether the value is an answer that is printed as this text.
+fn is_text(alloc: Global, value: &Value, text: &str) -> Result<bool, AllocError> {
+    match value {
+        Value::Answer(whole) => Ok(render(alloc, whole.answer())?.as_str() == text),
+        _ => Ok(false),
+    }
 }
 
 /// Whether the digits tell what spells an answer that is printed as this text.
 pub fn is_printed(alloc: Global, digits: &str, text: &str) -> Result<bool, Unfit> {
-    match value_of(alloc, Kind::Answer, digits)? {
-        Value::Answer(answer) => Ok(is_text(alloc, &answer, text)?),
-        _ => Ok(false),
-    }
+    let value = shared_of(alloc, Kind::Answer, digits)?;
+    Ok(is_text(alloc, &value, text)?)
 }
 
 // What is turned in a byte: its lowest bit, its highest, or all of them.

@@ -43,10 +43,7 @@ pub fn digest_of(
 
 /// Why the bytes are no file of a session, or `None` where they are one.
 pub fn fault_of(alloc: Global, bytes: &[u8]) -> Option<FileFault> {
-    match read(alloc, bytes) {
-        Ok(_) => None,
-        Err(fault) => Some(fault),
-    }
+    read(alloc, bytes).err()
 }
 
 /// Whether the bytes are read as a session, and its file has just these bytes.
