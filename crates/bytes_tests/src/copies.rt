@@ -1,12 +1,7 @@
-use crate::values::{ANSWERS, CLASS_OF_EVERY_PHRASE, EVERY_PHRASE, bytes_of, is_encoded};
+use crate::values::{ANSWERS, CLASS_OF_EVERY_PHRASE, EVERY_PHRASE};
+use answer_samples::{has_body, is_copied, is_printed_again};
 use item_ids::Kind;
-use mj_answer::{Answer, ClassAnswer, copy_faults, render};
-use mj_lexer::Name;
-use mj_tree::{Field, copy_types};
-use result_bytes::{Header, Signature, Value, decode};
-use std::alloc::AllocError;
 use std::test::*;
-use tree_bytes::Tree;
 
 // What spells values that are made of copies of their parts.
 const COPIED: &[(Kind, &str)] = &[
@@ -78,130 +73,31 @@ const NAMED: &[Named] = &[
     },
 ];
 
-fn copied_header(rt: HostRuntime, header: &Header) -> Result<Header, AllocError> {
-    let fields = copied_fields(rt, header.fields())?;
-    Ok(Header::new(header.is_main(), None, fields, Vec::new(rt.alloc())))
-}
-
-fn copied_fields(rt: HostRuntime, fields: &[Field]) -> Result<Vec<Field>, AllocError> {
-    let mut copies = Vec::new(rt.alloc());
-    for field in fields {
-        copies.push(field.copy(rt.alloc())?)?;
-    }
-    Ok(copies)
-}
-
-fn copied_signature(rt: HostRuntime, signature: &Signature) -> Result<Signature, AllocError> {
-    let formals = copy_types(rt.alloc(), signature.formals())?;
-    Ok(Signature::new(formals, signature.returns().copy(rt.alloc())?))
-}
-
-// The value with copies for its parts.
-fn copied(rt: HostRuntime, value: &Value) -> Result<Option<Value>, AllocError> {
-    match value {
-        Value::Header(Some(header)) => Ok(Some(Value::Header(Some(copied_header(rt, header)?)))),
-        Value::Sig(Some(types)) => Ok(Some(Value::Sig(Some(copied_signature(rt, types)?)))),
-        Value::Method(Some(body)) => Ok(Some(Value::Method(Some(body.copy(rt.alloc())?)))),
-        _ => Ok(None),
-    }
-}
-
-fn is_copied(rt: HostRuntime, value: &Value, want: &[u8]) -> Result<bool, Fail> {
-    match copied(rt, value)? {
-        Some(copy) => is_encoded(rt, &copy, want),
-        None => Ok(false),
-    }
-}
-
-// Whether the bytes spell a value whose copy they spell too.
-fn has_copy(rt: HostRuntime, kind: Kind, digits: &str) -> Result<bool, Fail> {
-    let bytes = bytes_of(rt, digits)?;
-    match decode(rt.alloc(), kind, &bytes) {
-        Ok(value) => is_copied(rt, &value, &bytes),
-        Err(_refusal) => Ok(false),
-    }
-}
-
 #[test]
 fn parts_of_values(rt: HostRuntime) -> Result<(), Fail> {
     for (kind, digits) in COPIED {
-        assert!(rt; has_copy(rt, *kind, digits)?, "{digits}");
+        assert!(rt; is_copied(rt.alloc(), *kind, digits)?, "{digits}");
     }
     Ok(())
-}
-
-fn copied_class(rt: HostRuntime, class: &ClassAnswer) -> Result<ClassAnswer, AllocError> {
-    let faults = copy_faults(rt.alloc(), class.faults())?;
-    let table = class.table().copy(rt.alloc())?;
-    Ok(ClassAnswer::new(class.name().copy(rt.alloc())?, table, faults))
-}
-
-fn copied_classes(
-    rt: HostRuntime,
-    classes: &[ClassAnswer],
-) -> Result<Vec<ClassAnswer>, AllocError> {
-    let mut copies = Vec::new(rt.alloc());
-    for class in classes {
-        copies.push(copied_class(rt, class)?)?;
-    }
-    Ok(copies)
-}
-
-fn copied_answer(rt: HostRuntime, answer: &Answer) -> Result<Answer, AllocError> {
-    let faults = copy_faults(rt.alloc(), answer.faults())?;
-    Ok(Answer::new(faults, copied_classes(rt, answer.classes())?))
-}
-
-fn is_copied_text(rt: HostRuntime, answer: &Answer, want: &str) -> Result<bool, Fail> {
-    let copy = copied_answer(rt, answer)?;
-    Ok(render(rt.alloc(), &copy)?.as_str() == want)
-}
-
-// Whether the text is printed for an answer of copies of what the bytes spell.
-fn is_printed_again(rt: HostRuntime, digits: &str, want: &str) -> Result<bool, Fail> {
-    let bytes = bytes_of(rt, digits)?;
-    match decode(rt.alloc(), Kind::Answer, &bytes) {
-        Ok(Value::Answer(whole)) => is_copied_text(rt, whole.answer(), want),
-        _ => Ok(false),
-    }
 }
 
 #[test]
 fn tables_and_faults(rt: HostRuntime) -> Result<(), Fail> {
     for (digits, text) in ANSWERS {
-        assert!(rt; is_printed_again(rt, digits, text)?, "{digits}");
+        assert!(rt; is_printed_again(rt.alloc(), digits, text)?, "{digits}");
     }
     Ok(())
-}
-
-// Whether this is the body that is named in the tree.
-fn is_body(rt: HostRuntime, tree: &Tree, row: &Named) -> Result<bool, Fail> {
-    let class = name(rt, row.class)?;
-    let method = name(rt, row.method)?;
-    let body = Value::Method(tree.body(rt.alloc(), &class, &method)?);
-    are_encoded(rt, &body, row.body)
-}
-
-fn are_encoded(rt: HostRuntime, value: &Value, digits: &str) -> Result<bool, Fail> {
-    is_encoded(rt, value, &bytes_of(rt, digits)?)
-}
-
-fn has_body(rt: HostRuntime, row: &Named) -> Result<bool, Fail> {
-    let bytes = bytes_of(rt, row.tree)?;
-    match decode(rt.alloc(), Kind::Tree, &bytes) {
-        Ok(Value::Tree(Some(tree))) => is_body(rt, &tree, row),
-        _ => Ok(false),
-    }
 }
 
 #[test]
 fn named_bodies(rt: HostRuntime) -> Result<(), Fail> {
     for row in NAMED {
-        assert!(rt; has_body(rt, row)?, "{} {}", row.class, row.method);
+        assert!(rt;
+            has_body(rt.alloc(), row.tree, row.class, row.method, row.body)?,
+            "{} {}",
+            row.class,
+            row.method
+        );
     }
     Ok(())
-}
-
-fn name(rt: HostRuntime, text: &str) -> Result<Name, Fail> {
-    Ok(Name::try_new(rt.alloc(), text)?.ok_or("a name")?)
 }

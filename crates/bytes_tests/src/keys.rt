@@ -1,5 +1,5 @@
-use item_ids::{Key, Kind, keys_in_order, rank, ranks_in_order};
-use mj_lexer::Name;
+use answer_samples::{Asked, has_copy, is_less, is_made, is_named};
+use item_ids::{Kind, keys_in_order, rank, ranks_in_order};
 use std::test::*;
 
 // Each kind with its number and its rank.
@@ -19,32 +19,6 @@ const KINDS: &[(Kind, u8, u8)] = &[
     (Kind::Answer, 12, 8),
 ];
 
-// A kind and its names, each empty where there is none.
-type Asked<'a> = (Kind, &'a str, &'a str);
-
-fn name(rt: HostRuntime, text: &str) -> Result<Option<Name>, Fail> {
-    if text.is_empty() {
-        return Ok(None);
-    }
-    if text.len() > Name::MOST {
-        return Err("a name".into());
-    }
-    Ok(Some(Name::new(rt.alloc(), text)?))
-}
-
-fn made(rt: HostRuntime, asked: &Asked) -> Result<Option<Key>, Fail> {
-    let (kind, class, member) = asked;
-    let class = name(rt, class)?;
-    Ok(Key::new(*kind, class, name(rt, member)?))
-}
-
-fn key(rt: HostRuntime, asked: &Asked) -> Result<Key, Fail> {
-    match made(rt, asked)? {
-        Some(key) => Ok(key),
-        None => Err("names of the kind".into()),
-    }
-}
-
 #[test]
 fn numbers_and_ranks(rt: HostRuntime) {
     for (kind, number, of) in KINDS {
@@ -56,62 +30,49 @@ fn numbers_and_ranks(rt: HostRuntime) {
 
 // Pairs of keys, the lesser one first.
 const PAIRS: &[(Asked, Asked)] = &[
-    ((Kind::Source, "B.java", ""), (Kind::Source, "a.java", "")),
-    ((Kind::Header, "z", ""), (Kind::Method, "A", "a")),
-    ((Kind::Method, "A", "z"), (Kind::Method, "B", "a")),
-    ((Kind::Method, "A", "b"), (Kind::Method, "Aa", "a")),
-    ((Kind::Files, "", ""), (Kind::Source, "A", "")),
-    ((Kind::Diags, "z", ""), (Kind::Answer, "", "")),
+    (
+        Asked(Kind::Source, "B.java", ""),
+        Asked(Kind::Source, "a.java", ""),
+    ),
+    (Asked(Kind::Header, "z", ""), Asked(Kind::Method, "A", "a")),
+    (Asked(Kind::Method, "A", "z"), Asked(Kind::Method, "B", "a")),
+    (
+        Asked(Kind::Method, "A", "b"),
+        Asked(Kind::Method, "Aa", "a"),
+    ),
+    (Asked(Kind::Files, "", ""), Asked(Kind::Source, "A", "")),
+    (Asked(Kind::Diags, "z", ""), Asked(Kind::Answer, "", "")),
 ];
-
-fn is_less(rt: HostRuntime, lesser: &Asked, greater: &Asked) -> Result<bool, Fail> {
-    let a = key(rt, lesser)?;
-    let b = key(rt, greater)?;
-    Ok(a < b && a != b)
-}
-
-fn has_copy(rt: HostRuntime, asked: &Asked) -> Result<bool, Fail> {
-    let key = key(rt, asked)?;
-    let copy = key.copy(rt.alloc())?;
-    Ok(key == copy)
-}
 
 #[test]
 fn lesser_keys(rt: HostRuntime) -> Result<(), Fail> {
     for (lesser, greater) in PAIRS {
         assert!(rt;
-            is_less(rt, lesser, greater)? && has_copy(rt, lesser)?,
+            is_less(rt.alloc(), *lesser, *greater)? && has_copy(rt.alloc(), *lesser)?,
             "{lesser:?}"
         );
     }
     Ok(())
 }
 
-fn is_key(key: &Key, kind: Kind, class: &str, member: &str) -> bool {
-    key.kind() == kind
-        && key.class().is_some_and(|name| name.as_str() == class)
-        && key.member().is_some_and(|name| name.as_str() == member)
-}
-
 #[test]
 fn names_of_a_key(rt: HostRuntime) -> Result<(), Fail> {
-    let body = key(rt, &(Kind::CheckBody, "A", "f"))?;
-    assert!(rt; is_key(&body, Kind::CheckBody, "A", "f"));
+    assert!(rt; is_named(rt.alloc(), Asked(Kind::CheckBody, "A", "f"))?);
     Ok(())
 }
 
 const UNFIT: &[Asked] = &[
-    (Kind::Method, "A", ""),
-    (Kind::Answer, "A", ""),
-    (Kind::Header, "", ""),
-    (Kind::Tree, "A", "f"),
-    (Kind::Sig, "", "f"),
+    Asked(Kind::Method, "A", ""),
+    Asked(Kind::Answer, "A", ""),
+    Asked(Kind::Header, "", ""),
+    Asked(Kind::Tree, "A", "f"),
+    Asked(Kind::Sig, "", "f"),
 ];
 
 #[test]
 fn names_that_fit_no_kind(rt: HostRuntime) -> Result<(), Fail> {
     for asked in UNFIT {
-        assert!(rt; made(rt, asked)?.is_none(), "{asked:?}");
+        assert!(rt; !is_made(rt.alloc(), *asked)?, "{asked:?}");
     }
     Ok(())
 }

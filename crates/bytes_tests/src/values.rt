@@ -1,7 +1,7 @@
-use answer_bytes::WholeAnswer;
+use answer_samples::{Unfit, bytes_of, is_printed, is_spelling, is_tight, refusal_of, spells};
 use item_ids::Kind;
-use mj_answer::render;
-use result_bytes::{Refusal, Value, decode, encode};
+use result_bytes::Refusal;
+use std::alloc::AllocError;
 use std::test::*;
 
 // What spells a value. The project of the first rows is the file M.java with the main class M, whose statement prints 1.
@@ -227,48 +227,18 @@ pub const ANSWERS: &[(&str, &str)] = &[
     ),
 ];
 
-pub(crate) fn bytes_of(rt: HostRuntime, digits: &str) -> Result<Vec<u8>, Fail> {
-    Ok(
-        hex::decode(rt.alloc(), digits)
-            .ok()
-            .ok_or("hexadecimal digits")?,
-    )
-}
-
-pub(crate) fn is_encoded(rt: HostRuntime, value: &Value, want: &[u8]) -> Result<bool, Fail> {
-    Ok(encode(rt.alloc(), value)?.as_slice() == want)
-}
-
-// Whether the bytes spell a value whose spelling is this.
-fn is_spelled_as(rt: HostRuntime, kind: Kind, bytes: &[u8], want: &[u8]) -> Result<bool, Fail> {
-    match decode(rt.alloc(), kind, bytes) {
-        Ok(value) => is_encoded(rt, &value, want),
-        Err(_refusal) => Ok(false),
-    }
-}
-
-// Whether the bytes spell a value that has just this spelling.
-fn is_spelling(rt: HostRuntime, kind: Kind, bytes: &[u8]) -> Result<bool, Fail> {
-    is_spelled_as(rt, kind, bytes, bytes)
-}
-
-fn are_spelling(rt: HostRuntime, kind: Kind, digits: &str) -> Result<bool, Fail> {
-    let bytes = bytes_of(rt, digits)?;
-    is_spelling(rt, kind, &bytes)
-}
-
 #[test]
 fn spellings(rt: HostRuntime) -> Result<(), Fail> {
     for (kind, digits) in SPELLINGS.iter().chain(EVERY_PHRASES) {
-        assert!(rt; are_spelling(rt, *kind, digits)?, "{digits}");
+        assert!(rt; is_spelling(rt.alloc(), *kind, digits)?, "{digits}");
     }
     Ok(())
 }
 
 // Whether the bytes are refused so.
-fn is_refused(rt: HostRuntime, kind: Kind, digits: &str, want: Refusal) -> Result<bool, Fail> {
-    let bytes = bytes_of(rt, digits)?;
-    Ok(decode(rt.alloc(), kind, &bytes).err() == Some(want))
+fn is_refused(rt: HostRuntime, kind: Kind, digits: &str, want: Refusal) -> Result<bool, Unfit> {
+    let bytes = bytes_of(rt.alloc(), digits)?;
+    Ok(refusal_of(rt.alloc(), kind, &bytes) == Some(want))
 }
 
 #[test]
@@ -279,73 +249,28 @@ fn refusals(rt: HostRuntime) -> Result<(), Fail> {
     Ok(())
 }
 
-fn is_text(rt: HostRuntime, whole: &WholeAnswer, want: &str) -> Result<bool, Fail> {
-    Ok(render(rt.alloc(), whole.answer())?.as_str() == want)
-}
-
-// Whether the bytes spell an answer of this text.
-fn is_printed(rt: HostRuntime, digits: &str, want: &str) -> Result<bool, Fail> {
-    let bytes = bytes_of(rt, digits)?;
-    match decode(rt.alloc(), Kind::Answer, &bytes) {
-        Ok(Value::Answer(whole)) => is_text(rt, &whole, want),
-        _ => Ok(false),
-    }
-}
-
 // The bytes were made from the text that is printed for each example, by another program.
 #[test]
 fn answers(rt: HostRuntime) -> Result<(), Fail> {
     for (digits, text) in ANSWERS {
-        let is_both = are_spelling(rt, Kind::Answer, digits)? && is_printed(rt, digits, text)?;
-        assert!(rt; is_both, "{digits}");
+        assert!(rt; is_spelling(rt.alloc(), Kind::Answer, digits)?, "{digits}");
+        assert!(rt; is_printed(rt.alloc(), digits, text)?, "{digits}");
     }
     Ok(())
-}
-
-// The bytes with one byte changed.
-fn changed(rt: HostRuntime, bytes: &[u8], at: usize, flip: u8) -> Result<Vec<u8>, Fail> {
-    let mut other = bytes.to_vec(rt.alloc())?;
-    if let Some(byte) = other.get_mut(at) {
-        *byte ^= flip;
-    }
-    Ok(other)
-}
-
-// Whether a change of this byte leaves the value as it was.
-fn is_idle(rt: HostRuntime, kind: Kind, bytes: &[u8], at: usize, flip: u8) -> Result<bool, Fail> {
-    let other = changed(rt, bytes, at, flip)?;
-    is_spelled_as(rt, kind, &other, bytes)
-}
-
-// Whether each byte counts.
-fn is_tight(rt: HostRuntime, kind: Kind, bytes: &[u8]) -> Result<bool, Fail> {
-    for at in 0..bytes.len() {
-        for flip in [0x01, 0x80, 0xff] {
-            if is_idle(rt, kind, bytes, at, flip)? {
-                return Ok(false);
-            }
-        }
-    }
-    Ok(true)
-}
-
-fn are_tight(rt: HostRuntime, kind: Kind, digits: &str) -> Result<bool, Fail> {
-    let bytes = bytes_of(rt, digits)?;
-    is_tight(rt, kind, &bytes)
 }
 
 // No byte of a tree can be another one without a refusal or another value.
 #[test]
 fn each_byte_of_a_tree(rt: HostRuntime) -> Result<(), Fail> {
     for (kind, digits) in EVERY_PHRASES {
-        assert!(rt; are_tight(rt, *kind, digits)?, "{kind:?}");
+        assert!(rt; is_tight(rt.alloc(), *kind, digits)?, "{kind:?}");
     }
     Ok(())
 }
 
 // The bytes of a main class whose statement prints 1 behind so many `!`.
-fn nested(rt: HostRuntime, levels: usize) -> Result<Vec<u8>, Fail> {
-    let mut bytes = bytes_of(rt, "050100030000000b")?;
+fn nested(rt: HostRuntime, levels: usize) -> Result<Vec<u8>, AllocError> {
+    let mut bytes = [0x05, 0x01, 0x00, 0x03, 0, 0, 0, 0x0b].to_vec(rt.alloc())?;
     for _ in 0..levels {
         bytes.extend_from_slice(&[0x0f, 0, 0, 0, 1])?;
     }
@@ -356,14 +281,14 @@ fn nested(rt: HostRuntime, levels: usize) -> Result<Vec<u8>, Fail> {
 #[test]
 fn deepest_tree(rt: HostRuntime) -> Result<(), Fail> {
     let deepest = nested(rt, 498)?;
-    assert!(rt; is_spelling(rt, Kind::Method, &deepest)?);
+    assert!(rt; spells(rt.alloc(), Kind::Method, &deepest)?);
     Ok(())
 }
 
 #[test]
 fn tree_that_is_too_deep(rt: HostRuntime) -> Result<(), Fail> {
     let deeper = nested(rt, 499)?;
-    let refusal = decode(rt.alloc(), Kind::Method, &deeper).err();
+    let refusal = refusal_of(rt.alloc(), Kind::Method, &deeper);
     assert!(rt; refusal == Some(Refusal::NotCanonical(2503)));
     Ok(())
 }

@@ -3,5 +3,3 @@
 
 #[cfg(test)]
 mod bodies;
-#[cfg(test)]
-mod given;

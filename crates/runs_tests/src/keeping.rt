@@ -1,70 +1,36 @@
-ghost use Rattle.std.specs.Prelude.{◌≡◌};
-
-use crate::given::{Given, is_read, is_spelled, key_of, list_of, sealed_of};
-use fingerprint::{OpenFault, Sealed};
-use item_ids::{Key, Kind, is_key};
-use recorder::{AnswerList, ReadFault, RunFault, programs_read_alike};
+use answer_samples::Asked;
+use fingerprint::OpenFault;
+use item_ids::Kind;
+use recorder::{ReadFault, RunFault, programs_read_alike};
 use result_bytes::Refusal;
+use run_samples::{Given, are_apart, are_same, holds};
 use std::fmt::Display;
-use std::sync::Arc;
 use std::test::*;
 
-const FULL: Given = ((Kind::Source, "a", ""), "0101000000000000000141");
+const FULL: Given = Given(Asked(Kind::Source, "a", ""), "0101000000000000000141");
 
-const EMPTY: Given = ((Kind::Source, "b", ""), "01010000000000000000");
+const EMPTY: Given = Given(Asked(Kind::Source, "b", ""), "01010000000000000000");
 
-const MISSING: Given = ((Kind::Source, "c", ""), "0100");
-
-/// The sealed answer.
-fn answer(rt: HostRuntime, given: &Given) -> Result<Arc<Sealed>, Fail> {
-    let key = key_of(rt, &given.0)?;
-    is_key(&key);
-    sealed_of(rt, &key, given.1)
-}
-
-/// Whether two answers are one result with one print.
-fn are_same(rt: HostRuntime, one: &Given, other: &Given) -> Result<bool, Fail> {
-    let one = answer(rt, one)?;
-    let other = answer(rt, other)?;
-    Ok(one.same_result(&other) && one.same_print(&other))
-}
-
-/// Whether neither the results nor the prints of two answers are the same.
-fn are_apart(rt: HostRuntime, one: &Given, other: &Given) -> Result<bool, Fail> {
-    let one = answer(rt, one)?;
-    let other = answer(rt, other)?;
-    Ok(!one.same_result(&other) && !one.same_print(&other))
-}
+const MISSING: Given = Given(Asked(Kind::Source, "c", ""), "0100");
 
 #[test]
 fn same_results(rt: HostRuntime) -> Result<(), Fail> {
-    assert!(rt; are_same(rt, &FULL, &FULL)?);
-    assert!(rt; are_apart(rt, &FULL, &EMPTY)?);
+    assert!(rt; are_same(rt.alloc(), FULL, FULL)?);
+    assert!(rt; are_apart(rt.alloc(), FULL, EMPTY)?);
     Ok(())
-}
-
-/// Whether the list has this answer for its key.
-fn has(rt: HostRuntime, list: &AnswerList, given: &Given) -> Result<bool, Fail> {
-    let key = key_of(rt, &given.0)?;
-    match list.find(&key) {
-        Some(read) => is_read(rt, read, given),
-        None => Ok(false),
-    }
 }
 
 #[test]
 fn answers_found_by_key(rt: HostRuntime) -> Result<(), Fail> {
-    let list = list_of(rt, &[MISSING, EMPTY, FULL])?;
     for given in [FULL, EMPTY, MISSING] {
-        assert!(rt; has(rt, &list, &given)?);
+        assert!(rt; holds(rt.alloc(), &[MISSING, EMPTY, FULL], given)?);
     }
     Ok(())
 }
 
 #[test]
 fn answers_that_are_not_there(rt: HostRuntime) -> Result<(), Fail> {
-    let list = list_of(rt, &[MISSING, EMPTY])?;
-    assert!(rt; !has(rt, &list, &FULL)?);
+    assert!(rt; !holds(rt.alloc(), &[MISSING, EMPTY], FULL)?);
     Ok(())
 }
 

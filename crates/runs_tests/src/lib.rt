@@ -4,8 +4,6 @@
 #[cfg(test)]
 mod borrowing;
 #[cfg(test)]
-mod given;
-#[cfg(test)]
 mod keeping;
 #[cfg(test)]
 mod reading;

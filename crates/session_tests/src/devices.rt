@@ -2,8 +2,9 @@
 ghost use Rattle.std.specs.Prelude.{◌≡◌};
 ghost use Rattle.session_file.specs.Devices.{one_more};
 
-use crate::given::{FIRST, file_of, session_of};
-use session_file::{DeviceFault, Feed, FileFault, MemoryFeed, ReaderFeed, Sink, WriterSink, write};
+use crate::first::FIRST;
+use session_file::{DeviceFault, Feed, FileFault, MemoryFeed, ReaderFeed, Sink, WriterSink};
+use session_samples::{file_of, write_to};
 use std::alloc::Global;
 use std::test::*;
 
@@ -101,27 +102,33 @@ const TAKEN: &[Taken] = &[
     },
 ];
 
-fn has_beginning(rt: HostRuntime, sink: &Slow, bytes: usize) -> Result<bool, Fail> {
-    let file = file_of(rt, FIRST)?;
-    Ok(file.bytes().get(..bytes) == Some(sink.bytes.as_slice()))
+/// Whether the write ends as the row says.
+fn has_ended(alloc: Global, sink: &mut Slow, row: &Taken) -> bool {
+    match write_to(alloc, FIRST, sink) {
+        Ok(Ok(())) => row.whole && sink.failures() == 0,
+        Ok(Err(fault)) => !row.whole && fault == FileFault::Device && sink.failures() == 1,
+        Err(_) => false,
+    }
 }
 
-fn is_taken(rt: HostRuntime, row: &Taken) -> Result<bool, Fail> {
-    let mut sink = Slow::new(rt.alloc(), row.calls);
-    let session = session_of(rt, FIRST)?;
-    let ended = match write(&session, &mut sink) {
-        Ok(()) => row.whole && sink.failures() == 0,
-        Err(fault) => !row.whole && fault == FileFault::Device && sink.failures() == 1,
-    };
-    Ok(ended && has_beginning(rt, &sink, row.bytes)?)
+/// Whether the sink has so many bytes, which the file begins with.
+fn has_beginning(alloc: Global, sink: &Slow, bytes: usize) -> bool {
+    match file_of(alloc, FIRST) {
+        Ok(file) => file.bytes().get(..bytes) == Some(sink.bytes.as_slice()),
+        Err(_) => false,
+    }
+}
+
+fn is_taken(alloc: Global, row: &Taken) -> bool {
+    let mut sink = Slow::new(alloc, row.calls);
+    has_ended(alloc, &mut sink, row) && has_beginning(alloc, &sink, row.bytes)
 }
 
 #[test]
-fn sinks_take_a_few_bytes_and_fail(rt: HostRuntime) -> Result<(), Fail> {
+fn sinks_take_a_few_bytes_and_fail(rt: HostRuntime) {
     for row in TAKEN {
-        assert!(rt; is_taken(rt, row)?);
+        assert!(rt; is_taken(rt.alloc(), row));
     }
-    Ok(())
 }
 
 // Rooms of three bytes for five: all three, then two, then the end.
@@ -142,10 +149,9 @@ fn memory_is_a_feed(rt: HostRuntime) {
     assert!(rt; feed.rest().is_empty());
 }
 
-fn is_handed_on(rt: HostRuntime, bytes: &mut Vec<u8>) -> Result<bool, Fail> {
-    let session = session_of(rt, FIRST)?;
+fn is_handed_on(alloc: Global, bytes: &mut Vec<u8>) -> bool {
     let mut sink = WriterSink::new(bytes);
-    Ok(write(&session, &mut sink) == Ok(()) && sink.failures() == 0)
+    write_to(alloc, FIRST, &mut sink) == Ok(Ok(())) && sink.failures() == 0
 }
 
 fn is_fed(bytes: &[u8]) -> bool {
@@ -156,9 +162,8 @@ fn is_fed(bytes: &[u8]) -> bool {
 }
 
 #[test]
-fn writers_and_readers_are_devices(rt: HostRuntime) -> Result<(), Fail> {
+fn writers_and_readers_are_devices(rt: HostRuntime) {
     let mut bytes = Vec::new(rt.alloc());
-    assert!(rt; is_handed_on(rt, &mut bytes)?);
+    assert!(rt; is_handed_on(rt.alloc(), &mut bytes));
     assert!(rt; is_fed(&bytes));
-    Ok(())
 }

@@ -4,7 +4,7 @@
 #[cfg(test)]
 mod devices;
 #[cfg(test)]
-mod given;
+mod first;
 #[cfg(test)]
 mod reading;
 #[cfg(test)]

@@ -1,27 +1,23 @@
 //! Sessions from files, and what is no file.
 
-use crate::given::{FIRST, bytes_of, file_of, written};
-use session_file::{FileFault, read};
+use crate::first::{FIRST, file_of_first};
+use session_file::FileFault;
+use session_samples::{fault_of, file_of, is_read_again};
+use std::alloc::Global;
 use std::test::*;
 
-fn fault_of(rt: HostRuntime, bytes: &[u8]) -> Option<FileFault> {
-    read(rt.alloc(), bytes).err()
-}
-
-fn is_read_again(rt: HostRuntime, bytes: &[u8]) -> Result<bool, Fail> {
-    match read(rt.alloc(), bytes) {
-        Ok(session) => Ok(written(rt, &session)?.bytes() == bytes),
-        Err(_) => Ok(false),
+fn is_file_read(alloc: Global, count: usize) -> bool {
+    match file_of_first(alloc, count) {
+        Ok(file) => is_read_again(alloc, file.bytes()),
+        Err(_) => false,
     }
 }
 
 #[test]
-fn files_are_read(rt: HostRuntime) -> Result<(), Fail> {
+fn files_are_read(rt: HostRuntime) {
     for count in [0, 2, 12] {
-        let file = file_of(rt, FIRST.get(..count).ok_or("so many records")?)?;
-        assert!(rt; is_read_again(rt, file.bytes())?);
+        assert!(rt; is_file_read(rt.alloc(), count));
     }
-    Ok(())
 }
 
 /// How the first file cut to so many bytes is refused.
@@ -33,12 +29,18 @@ fn fault_of_cut(count: usize) -> FileFault {
     }
 }
 
+fn is_cut_refused(alloc: Global, file: &[u8], count: usize) -> bool {
+    match file.get(..count) {
+        Some(front) => fault_of(alloc, front) == Some(fault_of_cut(count)),
+        None => false,
+    }
+}
+
 #[test]
 fn cut_files_are_refused(rt: HostRuntime) -> Result<(), Fail> {
-    let file = file_of(rt, FIRST)?;
+    let file = file_of(rt.alloc(), FIRST).ok().ok_or("a file")?;
     for count in 0..1192 {
-        let front = file.bytes().get(..count).ok_or("so many bytes")?;
-        assert!(rt; fault_of(rt, front) == Some(fault_of_cut(count)));
+        assert!(rt; is_cut_refused(rt.alloc(), file.bytes(), count));
     }
     Ok(())
 }
@@ -161,34 +163,47 @@ const CHANGED: &[Changed] = &[
     },
 ];
 
-fn is_refused(rt: HostRuntime, file: &[u8], row: &Changed) -> Result<bool, Fail> {
-    let mut bytes = file.to_vec(rt.alloc())?;
+fn has_changed(bytes: &mut [u8], row: &Changed) -> bool {
     match bytes.get_mut(row.at) {
-        Some(byte) => *byte = row.byte,
-        None => return Ok(false),
+        Some(byte) => {
+            *byte = row.byte;
+            true
+        }
+        None => false,
     }
-    Ok(fault_of(rt, &bytes) == Some(row.fault))
+}
+
+fn is_refused(alloc: Global, file: &[u8], row: &Changed) -> bool {
+    match file.to_vec(alloc) {
+        Ok(mut bytes) => {
+            has_changed(&mut bytes, row) && fault_of(alloc, &bytes) == Some(row.fault)
+        }
+        Err(_) => false,
+    }
 }
 
 #[test]
 fn changed_files_are_refused(rt: HostRuntime) -> Result<(), Fail> {
-    let file = file_of(rt, FIRST)?;
+    let file = file_of(rt.alloc(), FIRST).ok().ok_or("a file")?;
     for row in CHANGED {
-        assert!(rt; is_refused(rt, file.bytes(), row)?);
+        assert!(rt; is_refused(rt.alloc(), file.bytes(), row));
     }
     Ok(())
 }
 
-fn is_trailing(rt: HostRuntime, file: &[u8]) -> Result<bool, Fail> {
-    let mut bytes = file.to_vec(rt.alloc())?;
-    bytes.push(0)?;
-    Ok(fault_of(rt, &bytes) == Some(FileFault::Trailing))
+fn is_trailing_refused(alloc: Global, file: &[u8]) -> bool {
+    match file.to_vec(alloc) {
+        Ok(mut bytes) => {
+            bytes.push(0).is_ok() && fault_of(alloc, &bytes) == Some(FileFault::Trailing)
+        }
+        Err(_) => false,
+    }
 }
 
 #[test]
 fn bytes_behind_a_file_are_refused(rt: HostRuntime) -> Result<(), Fail> {
-    let file = file_of(rt, FIRST)?;
-    assert!(rt; is_trailing(rt, file.bytes())?);
+    let file = file_of(rt.alloc(), FIRST).ok().ok_or("a file")?;
+    assert!(rt; is_trailing_refused(rt.alloc(), file.bytes()));
     Ok(())
 }
 
@@ -196,13 +211,14 @@ fn bytes_behind_a_file_are_refused(rt: HostRuntime) -> Result<(), Fail> {
 const NO_FILES: &str =
     "4d4a5247000100000000000000000000000000000000000000000000000000000000000000000000000000000000000000010000000000000000000000003e7077fd2f66d689e0cee6a7cf5b37bf2dca7c979af356d0a31cbc5c85605c7d0000000000000009000000000000000000a67b99a530199faa9d031478038debdc7cf41ff74b6311e5116721beb47bee78";
 
-fn is_not_canonical(rt: HostRuntime) -> Result<bool, Fail> {
-    let bytes = bytes_of(rt, NO_FILES)?;
-    Ok(fault_of(rt, &bytes) == Some(FileFault::Result(0)))
+fn is_not_canonical(alloc: Global) -> bool {
+    match hex::decode(alloc, NO_FILES) {
+        Ok(bytes) => fault_of(alloc, &bytes) == Some(FileFault::Result(0)),
+        Err(_) => false,
+    }
 }
 
 #[test]
-fn results_that_are_not_canonical_are_refused(rt: HostRuntime) -> Result<(), Fail> {
-    assert!(rt; is_not_canonical(rt)?);
-    Ok(())
+fn results_that_are_not_canonical_are_refused(rt: HostRuntime) {
+    assert!(rt; is_not_canonical(rt.alloc()));
 }

@@ -1,8 +1,11 @@
 //! Files of sessions, and faults as texts.
 
-use crate::given::{FIRST, file_of, is_text, session_of};
+use crate::first::{FIRST, file_of_first};
+use answer_samples::is_print;
 use fingerprint::Print;
-use session_file::{FileFault, digest};
+use session_file::FileFault;
+use session_samples::digest_of;
+use std::alloc::Global;
 use std::test::*;
 
 /// A file of the first records of the first session: its length, and its SHA-256 by another program.
@@ -26,31 +29,40 @@ const WRITTEN: &[Written] = &[
     },
 ];
 
-fn is_written(rt: HostRuntime, row: &Written) -> Result<bool, Fail> {
-    let file = file_of(rt, FIRST.get(..row.records).ok_or("so many records")?)?;
-    let bytes = file.bytes();
-    Ok(bytes.len() == row.bytes && is_text(rt, &Print::of(bytes), row.print)?)
+fn is_written(alloc: Global, row: &Written) -> bool {
+    match file_of_first(alloc, row.records) {
+        Ok(file) => file.bytes().len() == row.bytes
+            && has_print(alloc, Print::of(file.bytes()), row),
+        Err(_) => false,
+    }
+}
+
+fn has_print(alloc: Global, print: Print, row: &Written) -> bool {
+    is_print(alloc, print, row.print) == Ok(true)
 }
 
 #[test]
-fn sessions_are_written(rt: HostRuntime) -> Result<(), Fail> {
+fn sessions_are_written(rt: HostRuntime) {
     for row in WRITTEN {
-        assert!(rt; is_written(rt, row)?);
+        assert!(rt; is_written(rt.alloc(), row));
     }
-    Ok(())
 }
 
-fn has_digest(rt: HostRuntime, row: &Written) -> Result<bool, Fail> {
-    let session = session_of(rt, FIRST.get(..row.records).ok_or("so many records")?)?;
-    is_text(rt, &Print(digest(&session)), row.print)
+fn has_digest(alloc: Global, row: &Written) -> bool {
+    match FIRST.get(..row.records) {
+        Some(front) => match digest_of(alloc, 0, [0; 32], front) {
+            Ok(digest) => has_print(alloc, Print(digest), row),
+            Err(_) => false,
+        },
+        None => false,
+    }
 }
 
 #[test]
-fn sessions_have_digests(rt: HostRuntime) -> Result<(), Fail> {
+fn sessions_have_digests(rt: HostRuntime) {
     for row in WRITTEN {
-        assert!(rt; has_digest(rt, row)?);
+        assert!(rt; has_digest(rt.alloc(), row));
     }
-    Ok(())
 }
 
 const TEXTS: &[(FileFault, &str)] = &[
@@ -69,15 +81,16 @@ const TEXTS: &[(FileFault, &str)] = &[
     (FileFault::OutOfMemory, "out of memory"),
 ];
 
-fn is_printed(rt: HostRuntime, fault: FileFault, want: &str) -> Result<bool, Fail> {
-    let text = format!(in rt.alloc(); "{fault}")?;
-    Ok(text.as_str() == want)
+fn is_printed(alloc: Global, fault: FileFault, want: &str) -> bool {
+    match format!(in alloc; "{fault}") {
+        Ok(text) => text.as_str() == want,
+        Err(_) => false,
+    }
 }
 
 #[test]
-fn faults_are_printed(rt: HostRuntime) -> Result<(), Fail> {
+fn faults_are_printed(rt: HostRuntime) {
     for (fault, want) in TEXTS {
-        assert!(rt; is_printed(rt, *fault, want)?);
+        assert!(rt; is_printed(rt.alloc(), *fault, want));
     }
-    Ok(())
 }

@@ -1,14 +1,10 @@
 //! What tables close with.
 
-use crate::calls::{Call, Row, Said, says, table_of};
-use crate::given::{ANSWER, CHECK, FILES, HEADER, HEADER_B, SOURCE};
-use crate::pasts::{Kept, session_of, table_over};
-use crate::runs::finish;
-use job_table::Table;
-use sample_runner::SampleRunner;
-use session_file::digest;
-use sessions::{Mark, Session};
+use crate::keys::{ANSWER, CHECK, FILES, HEADER, HEADER_B, SOURCE};
+use session_samples::Kept;
+use sessions::Mark;
 use std::test::*;
+use table_samples::{Call, Said, Saying, Start, Step, are_kept};
 
 const NAMES: &str = "0000000000000000010161";
 
@@ -22,16 +18,46 @@ const NO_CLASSES: &str = "0c00000000000000000000000000000000";
 
 // The answer read the names and a check, which read the names and the header of b. Nobody reads the header of a.
 const PAST: &[Kept] = &[
-    (FILES, NAMES, Mark::Input, &[]),
-    (SOURCE, BYTES, Mark::Input, &[]),
-    (HEADER, NO_FIELDS, Mark::Executed, &[1]),
-    (HEADER_B, NO_FIELDS, Mark::Executed, &[1]),
-    (CHECK, NO_FAULTS, Mark::Executed, &[0, 3]),
-    (ANSWER, NO_CLASSES, Mark::Executed, &[0, 4]),
+    Kept {
+        key: FILES,
+        mark: Mark::Input,
+        edges: &[],
+        digits: NAMES,
+    },
+    Kept {
+        key: SOURCE,
+        mark: Mark::Input,
+        edges: &[],
+        digits: BYTES,
+    },
+    Kept {
+        key: HEADER,
+        mark: Mark::Executed,
+        edges: &[1],
+        digits: NO_FIELDS,
+    },
+    Kept {
+        key: HEADER_B,
+        mark: Mark::Executed,
+        edges: &[1],
+        digits: NO_FIELDS,
+    },
+    Kept {
+        key: CHECK,
+        mark: Mark::Executed,
+        edges: &[0, 3],
+        digits: NO_FAULTS,
+    },
+    Kept {
+        key: ANSWER,
+        mark: Mark::Executed,
+        edges: &[0, 4],
+        digits: NO_CLASSES,
+    },
 ];
 
 // All of it is done, the header of a too.
-const MARKS: &[Row] = &[
+const MARKS: &[Saying] = &[
     (Call::Ask, 0, ANSWER, Said::Yours, 1),
     (Call::Ask, 0, CHECK, Said::Yours, 2),
     (Call::Ask, 0, HEADER_B, Said::Yours, 3),
@@ -44,47 +70,91 @@ const MARKS: &[Row] = &[
 
 // Without the header of a the others move up.
 const BEHIND: &[Kept] = &[
-    (FILES, NAMES, Mark::Input, &[]),
-    (SOURCE, BYTES, Mark::Input, &[]),
-    (HEADER_B, NO_FIELDS, Mark::Green, &[1]),
-    (CHECK, NO_FAULTS, Mark::Green, &[0, 2]),
-    (ANSWER, NO_CLASSES, Mark::Green, &[0, 3]),
+    Kept {
+        key: FILES,
+        mark: Mark::Input,
+        edges: &[],
+        digits: NAMES,
+    },
+    Kept {
+        key: SOURCE,
+        mark: Mark::Input,
+        edges: &[],
+        digits: BYTES,
+    },
+    Kept {
+        key: HEADER_B,
+        mark: Mark::Green,
+        edges: &[1],
+        digits: NO_FIELDS,
+    },
+    Kept {
+        key: CHECK,
+        mark: Mark::Green,
+        edges: &[0, 2],
+        digits: NO_FAULTS,
+    },
+    Kept {
+        key: ANSWER,
+        mark: Mark::Green,
+        edges: &[0, 3],
+        digits: NO_CLASSES,
+    },
 ];
 
 // The answer is run, and reads nothing.
-const RUNS: &[Row] = &[
+const RUNS: &[Saying] = &[
     (Call::Ask, 0, ANSWER, Said::Yours, 1),
     (Call::Begin, 0, ANSWER, Said::Done, 2),
 ];
 
 const FIRST: &[Kept] = &[
-    (FILES, NAMES, Mark::Input, &[]),
-    (SOURCE, BYTES, Mark::Input, &[]),
-    (ANSWER, NO_CLASSES, Mark::Executed, &[]),
+    Kept {
+        key: FILES,
+        mark: Mark::Input,
+        edges: &[],
+        digits: NAMES,
+    },
+    Kept {
+        key: SOURCE,
+        mark: Mark::Input,
+        edges: &[],
+        digits: BYTES,
+    },
+    Kept {
+        key: ANSWER,
+        mark: Mark::Executed,
+        edges: &[],
+        digits: NO_CLASSES,
+    },
 ];
 
-/// Whether the table closes with a session whose file has this digest.
-fn closes_with(table: &Table<SampleRunner>, wanted: &Session) -> bool {
-    match table.close() {
-        Ok(session) => digest(&session) == digest(wanted),
-        Err(_) => false,
-    }
+const OVER_PAST: Start = Start {
+    past: PAST,
+    file: "a",
+    text: "A",
+};
+
+const WITHOUT_PAST: Start = Start {
+    past: &[],
+    file: "a",
+    text: "A",
+};
+
+const ALL_MARKED: &[Step] = &[Step::Calls(MARKS), Step::Second(PAST, BEHIND)];
+
+const ANSWER_RUN: &[Step] = &[
+    Step::Calls(RUNS),
+    Step::Finish(ANSWER, &[], Said::Done),
+    Step::First(FIRST),
+];
+
+#[test]
+fn tables_close_with_what_answer_reads(rt: HostRuntime) {
+    assert!(rt; are_kept(rt.alloc(), &OVER_PAST, ALL_MARKED) == Ok(true));
 }
 
 #[test]
-fn tables_close_with_what_answer_reads(rt: HostRuntime) -> Result<(), Fail> {
-    let mut table = table_over(rt, PAST, "A")?;
-    assert!(rt; says(rt, &mut table, MARKS)?);
-    let link = digest(&session_of(rt, 0, [0; 32], PAST)?);
-    assert!(rt; closes_with(&table, &session_of(rt, 1, link, BEHIND)?));
-    Ok(())
-}
-
-#[test]
-fn tables_close_without_a_past(rt: HostRuntime) -> Result<(), Fail> {
-    let mut table = table_of(rt, "a", "A")?;
-    assert!(rt; says(rt, &mut table, RUNS)?);
-    assert!(rt; finish(rt, &mut table, ANSWER, &[])? == Ok(()));
-    assert!(rt; closes_with(&table, &session_of(rt, 0, [0; 32], FIRST)?));
-    Ok(())
+fn tables_close_without_a_past(rt: HostRuntime) {
+    assert!(rt; are_kept(rt.alloc(), &WITHOUT_PAST, ANSWER_RUN) == Ok(true));
 }

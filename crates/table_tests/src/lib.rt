@@ -6,8 +6,6 @@ mod calls;
 #[cfg(test)]
 mod closes;
 #[cfg(test)]
-mod given;
-#[cfg(test)]
-mod pasts;
+mod keys;
 #[cfg(test)]
 mod runs;

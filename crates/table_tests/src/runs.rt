@@ -1,47 +1,51 @@
 //! Runs over a past, outcomes that are stale, and replays.
 
-use crate::calls::{Call, Row, Said, says, table_of};
-use crate::given::{
-    CHECK, FILES, Given, HEADER, Named, SOURCE, key_of, outcome_of, project_of, sealed_of,
-};
-use crate::pasts::{Kept, table_over};
-use job_table::{Asked, Event, ReplayFault, Table, TableFault};
-use sample_runner::SampleRunner;
+use crate::keys::{CHECK, FILES, HEADER, SOURCE};
+use job_table::{ReplayFault, TableFault};
+use run_samples::Given;
+use session_samples::Kept;
 use sessions::Mark;
 use std::test::*;
+use table_samples::{Call, Said, Saying, Start, Step, are_kept, replay_run};
 
 // The file a with one byte, before and now.
-const OLD_SOURCE: Given = Given {
-    key: SOURCE,
-    digits: "0101000000000000000141",
-};
+const OLD_SOURCE: Given<'static> = Given(SOURCE, "0101000000000000000141");
 
-const NEW_SOURCE: Given = Given {
-    key: SOURCE,
-    digits: "0101000000000000000142",
-};
+const NEW_SOURCE: Given<'static> = Given(SOURCE, "0101000000000000000142");
 
 // What the check found before, and so finds now.
-const CHECKED: Given = Given {
-    key: CHECK,
-    digits: "090000000000000000",
-};
+const CHECKED: Given<'static> = Given(CHECK, "090000000000000000");
 
 // A session of the file a before: its header, and a check that read the files and the header.
 const PAST: &[Kept] = &[
-    (FILES, "0000000000000000010161", Mark::Input, &[]),
-    (SOURCE, "0101000000000000000141", Mark::Input, &[]),
-    (
-        HEADER,
-        "0401000000000000000000000000000000000000",
-        Mark::Executed,
-        &[1],
-    ),
-    (CHECK, "090000000000000000", Mark::Executed, &[0, 2]),
+    Kept {
+        key: FILES,
+        mark: Mark::Input,
+        edges: &[],
+        digits: "0000000000000000010161",
+    },
+    Kept {
+        key: SOURCE,
+        mark: Mark::Input,
+        edges: &[],
+        digits: "0101000000000000000141",
+    },
+    Kept {
+        key: HEADER,
+        mark: Mark::Executed,
+        edges: &[1],
+        digits: "0401000000000000000000000000000000000000",
+    },
+    Kept {
+        key: CHECK,
+        mark: Mark::Executed,
+        edges: &[0, 2],
+        digits: "090000000000000000",
+    },
 ];
 
 // Now the file has another byte: the check waits for the header, and the header has to run.
-const BEFORE: &[Row] = &[
+const BEFORE: &[Saying] = &[
     (Call::Ask, 0, CHECK, Said::Yours, 1),
     (Call::Ask, 0, HEADER, Said::Yours, 2),
     (
@@ -69,7 +73,7 @@ const BEFORE: &[Row] = &[
 ];
 
 // The header is as it was, so the check may not run.
-const BEHIND: &[Row] = &[
+const BEHIND: &[Saying] = &[
     (
         Call::Begin,
         0,
@@ -81,84 +85,57 @@ const BEHIND: &[Row] = &[
     (Call::Ask, 0, CHECK, Said::Done, 5),
 ];
 
-const HEADER_RUNS: &[Row] = &[
+const HEADER_RUNS: &[Saying] = &[
     (Call::Ask, 0, HEADER, Said::Yours, 1),
     (Call::Begin, 0, HEADER, Said::Done, 2),
 ];
 
-/// Ends the run of a key by its outcome over these answers.
-pub(crate) fn finish(
-    rt: HostRuntime,
-    table: &mut Table<SampleRunner>,
-    key: Named,
-    given: &[Given],
-) -> Result<Result<(), TableFault>, Fail> {
-    let outcome = outcome_of(rt, key, given)?;
-    Ok(table.finish(0, outcome))
-}
+const OVER_PAST: Start = Start {
+    past: PAST,
+    file: "a",
+    text: "B",
+};
 
-/// Whether the key is done with the result that these digits spell.
-fn is_done(rt: HostRuntime, table: &mut Table<SampleRunner>, given: Given) -> Result<bool, Fail> {
-    let key = key_of(rt, given.key)?;
-    let wanted = sealed_of(rt, &key, given.digits)?;
-    match table.ask(0, &key) {
-        Ok(Asked::Done(sealed)) => Ok(sealed.same_result(&wanted)),
-        _ => Ok(false),
-    }
-}
+const WITHOUT_PAST: Start = Start {
+    past: &[],
+    file: "a",
+    text: "B",
+};
 
-/// Whether the table has the past that it was opened with.
-fn has_past(table: &Table<SampleRunner>) -> Result<bool, Fail> {
-    match table.past()? {
-        Some(past) => Ok(past.records().len() == PAST.len()),
-        None => Ok(false),
-    }
+const CHECK_MARKED: &[Step] = &[
+    Step::Calls(BEFORE),
+    Step::Finish(HEADER, &[NEW_SOURCE], Said::Done),
+    Step::Calls(BEHIND),
+    Step::Done(CHECKED),
+    Step::Done(NEW_SOURCE),
+    Step::Past(4),
+];
+
+const STALE: &[Step] = &[
+    Step::Calls(HEADER_RUNS),
+    Step::Finish(
+        HEADER,
+        &[OLD_SOURCE],
+        Said::Refused(TableFault::StaleRead(0)),
+    ),
+];
+
+#[test]
+fn calls_behind_a_past(rt: HostRuntime) {
+    assert!(rt; are_kept(rt.alloc(), &OVER_PAST, CHECK_MARKED) == Ok(true));
 }
 
 #[test]
-fn calls_behind_a_past(rt: HostRuntime) -> Result<(), Fail> {
-    let mut table = table_over(rt, PAST, "B")?;
-    assert!(rt; says(rt, &mut table, BEFORE)?);
-    assert!(rt; finish(rt, &mut table, HEADER, &[NEW_SOURCE])? == Ok(()));
-    assert!(rt; says(rt, &mut table, BEHIND)?);
-    assert!(rt; is_done(rt, &mut table, CHECKED)? && is_done(rt, &mut table, NEW_SOURCE)?);
-    assert!(rt; has_past(&table)?);
-    Ok(())
+fn stale_outcomes_are_refused(rt: HostRuntime) {
+    assert!(rt; are_kept(rt.alloc(), &WITHOUT_PAST, STALE) == Ok(true));
 }
 
 #[test]
-fn stale_outcomes_are_refused(rt: HostRuntime) -> Result<(), Fail> {
-    let mut table = table_of(rt, "a", "B")?;
-    assert!(rt; says(rt, &mut table, HEADER_RUNS)?);
-    let said = finish(rt, &mut table, HEADER, &[OLD_SOURCE])?;
-    assert!(rt; said == Err(TableFault::StaleRead(0)));
-    Ok(())
-}
-
-/// The events of a claim and an outcome, with a begin between them or without.
-fn events_of(rt: HostRuntime, begins: bool) -> Result<Vec<Event<SampleRunner>>, Fail> {
-    let mut events = Vec::new(rt.alloc());
-    events.push(Event::Claim(0, key_of(rt, HEADER)?))?;
-    if begins {
-        events.push(Event::Begin(0, key_of(rt, HEADER)?))?;
-    }
-    events.push(Event::Finish(0, outcome_of(rt, HEADER, &[NEW_SOURCE])?))?;
-    Ok(events)
-}
-
-/// How many events the replay of them has, or why there is none.
-fn replayed(rt: HostRuntime, begins: bool) -> Result<Result<usize, ReplayFault>, Fail> {
-    let project = project_of(rt, "a", "B")?;
-    let events = events_of(rt, begins)?;
-    Ok(match Table::replay(rt.alloc(), None, &project, &events) {
-        Ok(table) => Ok(table.history().len()),
-        Err(fault) => Err(fault),
-    })
-}
-
-#[test]
-fn events_are_replayed(rt: HostRuntime) -> Result<(), Fail> {
-    assert!(rt; replayed(rt, true)? == Ok(3));
-    assert!(rt; replayed(rt, false)? == Err(ReplayFault::Illegal(1)));
-    Ok(())
+fn events_are_replayed(rt: HostRuntime) {
+    let run = &[NEW_SOURCE];
+    assert!(rt; replay_run(rt.alloc(), &WITHOUT_PAST, HEADER, run, true) == Ok(Ok(3)));
+    assert!(rt;
+        replay_run(rt.alloc(), &WITHOUT_PAST, HEADER, run, false)
+            == Ok(Err(ReplayFault::Illegal(1)))
+    );
 }

@@ -1,0 +1,167 @@
+//! A recorder over a reader that counts what it is asked.
+
+use crate::answers::list_of;
+use crate::reads::Given;
+use crate::refusals::{Kept, keeps};
+use answer_samples::{Asked, Unfit, key_of};
+use fingerprint::Sealed;
+use item_ids::{Key, Kind};
+use recorder::{ReadFault, Reader, Recorder, RunFault, ask_key};
+use sample_runner::AnswerList;
+use std::alloc::Global;
+use std::sync::Arc;
+
+/// A reader over a list, which counts what it was asked.
+#[derive(Drop)]
+struct Counting {
+    list: AnswerList,
+    count: u64,
+}
+
+impl Reader for Counting {
+    ghost use Rattle.std.specs.Prelude.{◌≡◌, ◌⊎◌, Contains, refl};
+    ghost use Rattle.std.proofs.Common.{◌∙◌, sym, subst};
+    ghost use Rattle.recorder.specs.Recording.{IsUnread};
+    ghost use Rattle.recorder.specs.declared.reader.ReadFault.TheVariants.{NotHeld, OutOfMemory};
+
+    ghost answers = { λ r q v. Contains r.list (record { key = q; value = v }) };
+
+    ghost faults = { λ r q f. (f ≡ OutOfMemory) ⊎ ((f ≡ NotHeld) × IsUnread q r.list) };
+
+    ghost follows = { λ old new. new.list ≡ old.list };
+
+    ghost reflexive = { λ s. refl };
+
+    ghost transitive = { λ s t u e f. f ∙ e };
+
+    ghost kept = { λ s t q v e a. subst (λ list. Contains list (record { key = q; value = v })) (sym e) a };
+
+    fn read(&mut self, key: &Key) -> Result<Arc<Sealed>, ReadFault> {
+        self.count = self.count.wrapping_add(1);
+        self.list.read(key)
+    }
+}
+
+/// A key that a recorder is asked for, and what becomes of it.
+#[derive(Clone, Copy, Debug)]
+pub enum Ask<'a> {
+    /// It has an answer, a source, which a step of a program is given again.
+    Again(Asked<'a>),
+    /// It has an answer.
+    Answered(Asked<'a>),
+    /// No answer is held.
+    NotHeld(Asked<'a>),
+    /// A step of a program gives up, as no answer is held.
+    GivesUp(Asked<'a>),
+}
+
+/// Whether a step that asks the key is given this answer.
+fn is_given_again(recorder: &mut Recorder<Counting>, key: &Key, answer: &Arc<Sealed>) -> bool {
+    match ask_key(recorder, key) {
+        Ok(again) => again.bytes() == answer.bytes(),
+        Err(_) => false,
+    }
+}
+
+/// Whether the key has an answer, a source, which is given again.
+fn is_answered_twice(recorder: &mut Recorder<Counting>, key: &Key) -> bool {
+    match recorder.read(key) {
+        Ok(answer) => {
+            answer.value().kind() == Kind::Source && is_given_again(recorder, key, &answer)
+        }
+        Err(_) => false,
+    }
+}
+
+/// Why the key has no answer.
+fn read_fault<R: Reader>(reader: &mut R, key: &Key) -> Option<ReadFault> {
+    match reader.read(key) {
+        Ok(_) => None,
+        Err(fault) => Some(fault),
+    }
+}
+
+/// Why a step that asks the key gives up.
+fn step_fault(recorder: &mut Recorder<Counting>, key: &Key) -> Option<RunFault> {
+    match ask_key(recorder, key) {
+        Ok(_) => None,
+        Err(fault) => Some(fault),
+    }
+}
+
+/// Whether this becomes of the key.
+fn becomes(alloc: Global, recorder: &mut Recorder<Counting>, ask: Ask) -> Result<bool, Unfit> {
+    match ask {
+        Ask::Again(asked) => Ok(is_answered_twice(recorder, &key_of(alloc, asked)?)),
+        Ask::Answered(asked) => Ok(read_fault(recorder, &key_of(alloc, asked)?).is_none()),
+        Ask::NotHeld(asked) => {
+            let fault = read_fault(recorder, &key_of(alloc, asked)?);
+            Ok(fault == Some(ReadFault::NotHeld))
+        }
+        Ask::GivesUp(asked) => {
+            let fault = step_fault(recorder, &key_of(alloc, asked)?);
+            Ok(fault == Some(RunFault::Read(ReadFault::NotHeld)))
+        }
+    }
+}
+
+/// Whether this becomes of the keys, one after the other.
+fn all_become(
+    alloc: Global,
+    recorder: &mut Recorder<Counting>,
+    asks: &[Ask],
+) -> Result<bool, Unfit> {
+    for ask in asks {
+        if !becomes(alloc, recorder, *ask)? {
+            return Ok(false);
+        }
+    }
+    Ok(true)
+}
+
+/// A recorder over the list of these answers.
+fn recorder_of(alloc: Global, answers: &[Given]) -> Result<Recorder<Counting>, Unfit> {
+    let list = list_of(alloc, answers)?;
+    Ok(Recorder::new(alloc, Counting { list, count: 0 }))
+}
+
+/// The reader of a recorder behind what becomes of these keys.
+fn reader_after(alloc: Global, answers: &[Given], asks: &[Ask]) -> Result<Counting, Unfit> {
+    let mut recorder = recorder_of(alloc, answers)?;
+    match all_become(alloc, &mut recorder, asks) {
+        Ok(true) => Ok(recorder.into_reader()),
+        _ => Err(Unfit),
+    }
+}
+
+/// Whether this becomes of the keys, of which a recorder over the list of these answers keeps just this.
+pub fn keeps_after(
+    alloc: Global,
+    answers: &[Given],
+    asks: &[Ask],
+    kept: Kept,
+) -> Result<bool, Unfit> {
+    let mut recorder = recorder_of(alloc, answers)?;
+    Ok(all_become(alloc, &mut recorder, asks)? && keeps(alloc, &recorder, kept)?)
+}
+
+/// How often the reader of such a recorder was asked.
+pub fn count_after(alloc: Global, answers: &[Given], asks: &[Ask]) -> Result<u64, Unfit> {
+    Ok(reader_after(alloc, answers, asks)?.count)
+}
+
+/// Whether the reader of such a recorder has an answer for the key.
+pub fn answers_after(
+    alloc: Global,
+    answers: &[Given],
+    asks: &[Ask],
+    asked: Asked,
+) -> Result<bool, Unfit> {
+    let mut reader = reader_after(alloc, answers, asks)?;
+    is_answered(alloc, &mut reader, asked)
+}
+
+fn is_answered(alloc: Global, reader: &mut Counting, asked: Asked) -> Result<bool, Unfit> {
+    let key = key_of(alloc, asked)?;
+    Ok(read_fault(reader, &key).is_none())
+}

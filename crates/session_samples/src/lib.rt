@@ -1,0 +1,8 @@
+//! Sessions for tests: made from short texts, written and read, and asked what tests want to know of them.
+#![tactic(auto)]
+
+mod files;
+mod records;
+
+pub use files::{digest_of, fault_of, file_of, is_read_again, write_to};
+pub use records::{Kept, session_of};
