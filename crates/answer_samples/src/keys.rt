@@ -13,7 +13,7 @@ pub struct Asked<'a>(pub Kind, pub &'a str, pub &'a str);
 
 /// The key, or `None` where the names don't fit its kind.
 fn perhaps_key(alloc: Global, asked: Asked) -> Result<Option<Key>, AllocError>
-    ensures { IfOk result (λ key. IfSome key (λ key. kind_of key ≡ asked.0)) }
+    ensures { IfOk result (λ key. IfSome key (λ key. kind_of key ≡ asked.entry.0)) }
 {
     let Asked(kind, class, member) = asked;
     let class = Name::try_new(alloc, class)?;
@@ -37,7 +37,7 @@ fn with_member(
 
 /// The key of this kind with these names.
 pub fn key_of(alloc: Global, asked: Asked) -> Result<Key, Unfit>
-    ensures { IfOk result (λ key. kind_of key ≡ asked.0) }
+    ensures { IfOk result (λ key. kind_of key ≡ asked.entry.0) }
 {
     match perhaps_key(alloc, asked) {
         Ok(Some(key)) => Ok(key),
