@@ -49,6 +49,18 @@ pub fn is_sealed(alloc: Global, kind: Kind, digits: &str, print: &str) -> Result
     Ok(has_bytes(&sealed, kind, bytes.as_slice()) && is_print(alloc, sealed.print(), print)?)
 }
 
+/// Whether it is a result of the kind, with these bytes and this print.
+fn is_result(
+    alloc: Global,
+    sealed: Sealed,
+    kind: Kind,
+    bytes: &[u8],
+    print: Print,
+) -> Result<bool, AllocError> {
+    let shared = Arc::new(alloc, sealed)?;
+    Ok(has_bytes(&shared, kind, bytes) && shared.print() == print)
+}
+
 /// Whether the bytes and the print are opened as a result of the kind with these bytes and this print.
 pub fn is_opened(
     alloc: Global,
@@ -58,7 +70,7 @@ pub fn is_opened(
 ) -> Result<bool, AllocError> {
     let copy = bytes.to_vec(alloc)?;
     match open_sealed(alloc, kind, copy, print) {
-        Ok(sealed) => Ok(has_bytes(&sealed, kind, bytes) && sealed.print() == print),
+        Ok(sealed) => is_result(alloc, sealed, kind, bytes, print),
         Err(_) => Ok(false),
     }
 }
@@ -71,8 +83,5 @@ pub fn open_fault(
     print: Print,
 ) -> Result<Option<OpenFault>, AllocError> {
     let copy = bytes.to_vec(alloc)?;
-    match open_sealed(alloc, kind, copy, print) {
-        Ok(_) => Ok(None),
-        Err(fault) => Ok(Some(fault)),
-    }
+    Ok(open_sealed(alloc, kind, copy, print).err())
 }

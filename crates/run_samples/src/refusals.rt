@@ -48,10 +48,7 @@ fn wants(
     requires unread { recorder.old.told ≡ [] }
     requires unrefused { recorder.old.refused ≡ None }
 {
-    match runner.run(alloc, key, recorder) {
-        Ok(_) => false,
-        Err(fault) => fault == RunFault::Read(ReadFault::NotHeld),
-    }
+    runner.run(alloc, key, recorder).err() == Some(RunFault::Read(ReadFault::NotHeld))
 }
 
 /// Whether the key's run over the list wants an answer that isn't held, and the recorder keeps just this.
@@ -111,10 +108,7 @@ fn is_ended(
     requires unread { recorder.old.told ≡ [] }
     requires unrefused { recorder.old.refused ≡ None }
 {
-    match record(alloc, runner, key, recorder) {
-        Ok(_) => false,
-        Err(end) => end == RunFault::Read(fault),
-    }
+    record(alloc, runner, key, recorder).err() == Some(RunFault::Read(fault))
 }
 
 /// Whether a run whose reads are refused with this fault ends so and is logged, and the recorder keeps no read, this

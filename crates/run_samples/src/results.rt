@@ -37,10 +37,6 @@ pub fn wants(
     recorder: Recorder<AnswerList>,
     kept: Kept,
 ) -> Result<bool, Unfit> {
-    match end {
-        Ok(_) => Ok(false),
-        Err(fault) => Ok(
-            fault == RunFault::Read(ReadFault::NotHeld) && keeps(alloc, &recorder, kept)?,
-        ),
-    }
+    let is_wanting = end.err() == Some(RunFault::Read(ReadFault::NotHeld));
+    Ok(is_wanting && keeps(alloc, &recorder, kept)?)
 }
