@@ -5,3 +5,5 @@
 mod bodies;
 #[cfg(test)]
 mod given;
+#[cfg(test)]
+mod texts;
