@@ -3,6 +3,8 @@ pub mod TreeTie
 pub mod SigTie
 pub mod Files
 pub mod Firsts
+pub mod FirstRows
+pub mod Headers
 pub mod Indexes
 pub mod ClassTrees
 pub mod HeaderTie

@@ -1,5 +1,5 @@
 -- Each class with the file that declares it.
-use Rattle.std.specs.Prelude.{List, [], ◌∷◌, ◌++◌, map, filter_map, find, Option, Some, None}
+use Rattle.std.specs.Prelude.{List, [], ◌∷◌, ◌++◌, map, filter_map, find, Option, Some, None, option_map}
 use Rattle.std.specs.Str.{bytes_eq}
 use Rattle.item_ids.specs.declared.key.Key.TheVariants as keys
 use Rattle.mj_tree.specs.Trees.{Name, File}
@@ -23,6 +23,10 @@ file_rows file (Some tree) = map (row_in file) (class_names (classes_of 0 tree))
 -- Tree of one more file, and the rows of its classes
 abbrev pub rows_step : Name → List IndexRow → (List IndexRow → Prog) → Prog
 rows_step file rows k = Ask (keys.Tree file) (λ v. k (rows ++ file_rows file (tree_in v)))
+
+-- the file in the first row of a class
+abbrev pub first_file : List IndexRow → Name → Option Name
+first_file rows c = option_map (λ row. row.file) (find (λ row. bytes_eq row.class c) rows)
 
 -- the first row of each class, in the order of the classes
 unfoldable pub first_rows : List IndexRow → List IndexRow

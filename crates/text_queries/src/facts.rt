@@ -2,11 +2,21 @@
 ghost use Rattle.std.specs.Prelude.{◌≡◌, find, position, option_copied};
 ghost use Rattle.std.specs.Str.{bytes_eq};
 ghost use Rattle.mj_answer.specs.Order.{IsAscendingByName};
-ghost use Rattle.text_queries.specs.Facts.{bytes_in as bytes_told, tree_in as tree_told, file_in as file_told, body_in as body_told};
+ghost use Rattle.text_queries.specs.Facts.{names_in as names_told, bytes_in as bytes_told, tree_in as tree_told, file_in as file_told, body_in as body_told};
 
 use mj_lexer::Name;
 use result_bytes::{IndexRow, Text, Value};
 use tree_bytes::{Body, Tree};
+
+/// The names of the files that an answer tells.
+pub fn names_in(value: &Value) -> &[Name]
+    ensures { result.now ≡ names_told value.now }
+{
+    match value {
+        Value::Files(files) => files.names(),
+        _ => &[],
+    }
+}
 
 /// The bytes of a file that an answer tells.
 pub fn bytes_in(value: &Value) -> Option<&Text>

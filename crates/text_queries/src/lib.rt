@@ -3,11 +3,15 @@
 
 mod class_trees;
 mod facts;
+mod header;
+mod index;
 mod laws;
 mod method;
 mod sig;
 mod tree;
 
+pub use header::run_header;
+pub use index::run_index;
 pub use laws::{header_ties, index_ties, method_ties, sig_ties, tree_ties};
 pub use method::run_method;
 pub use sig::run_sig;

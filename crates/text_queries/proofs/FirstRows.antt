@@ -1,0 +1,141 @@
+-- The first row of each class.
+use Rattle.std.proofs.Common.{◌≡◌, ℕ, suc, Bool, true, false, cond, List, [], ◌∷◌, ◌++◌, length, map, find, Option, Some, None, option_map, refl, sym, ap, ◌∙◌, subst, arith, append_assoc}
+use Rattle.std.specs.Prelude.{is_some}
+use Rattle.std.specs.Option.{option_or}
+use Rattle.std.specs.Map.{lookup, keys_of, values_of}
+use Rattle.std.specs.BTreeMap.{is_at}
+use Rattle.std.specs.Ordering.{nat_cmp, is_eq}
+use Rattle.std.specs.Cmp.Lexicographic.{slice_cmp}
+use Rattle.std.specs.Str.{bytes_eq}
+use Rattle.std.proofs.lemmas.Map.Lookups.{exact_bytes}
+use Rattle.std.proofs.lemmas.Map.Views.{tells_apart}
+use Rattle.mj_tree.specs.Trees.{Name, Main, Class, File}
+use Rattle.mj_tree.specs.Views.{main_view, class_view, file_view}
+use Rattle.mj_tree.specs.declared.tree.MainTree.{MainTree}
+use Rattle.mj_tree.specs.declared.tree.ClassTree.{ClassTree}
+use Rattle.mj_tree.specs.declared.tree.FileTree.{FileTree}
+use Rattle.mj_answer.specs.Order.{NameBefore, IsAscendingBy, IsAscendingByName}
+use Rattle.mj_classes.specs.Declarations.{number_classes, main_first, classes_of}
+use Rattle.mj_classes.proofs.Positions.{names_tie, same_name}
+use Rattle.mj_classes.proofs.Tables.{by_bytes, under}
+use Rattle.mj_rules.specs.FaultLists.{class_names}
+use Rattle.mj_rules.proofs.TableLaws.{found_name}
+use Rattle.result_bytes.specs.declared.files.IndexRow.{IndexRow}
+use Rattle.text_queries.specs.Index.{row_in, file_rows, first_file, first_rows}
+use Rattle.text_queries.proofs.Firsts.{ordered_entries, values_are, firsts_ascend}
+
+-- ---- the rows of a file
+
+numbered_rows : (file : Name) (number : ℕ) (cs : List ClassTree) → map (λ (k : ClassTree). row_in file k.name) cs ≡ map (row_in file) (class_names (number_classes 0 number (map class_view cs)))
+numbered_rows file number [] = refl
+numbered_rows file number (k ∷ cs) = ap (λ rows. row_in file k.name ∷ rows) (numbered_rows file (suc number) cs)
+
+abbrev rows_by_main : Name → List ClassTree → Option MainTree → List IndexRow
+rows_by_main file cs o = map (row_in file) (class_names (main_first 0 (option_map main_view o) (map class_view cs)))
+
+module _ (file : Name) (root : FileTree) (tree : File) (seen : file_view root ≡ tree) (old new : List IndexRow) (classes : List ClassTree) (all : classes ≡ root.classes.items) where
+  -- those of a file without a main class
+  pub rows_alone : root.main ≡ None → new ≡ old ++ map (λ (k : ClassTree). row_in file k.name) classes → new ≡ old ++ file_rows file (Some tree)
+  rows_alone none added =
+      added
+      ∙ ap (λ (rows : List IndexRow). old ++ rows)
+      (ap (map (λ (k : ClassTree). row_in file k.name)) all
+      ∙ (numbered_rows file 0 root.classes.items ∙ (ap (rows_by_main file root.classes.items) (sym none) ∙ ap (λ (t : File). file_rows file (Some t)) seen)))
+
+  -- those of a file with one
+  pub rows_with_main : (main : MainTree) (mid : List IndexRow) → root.main ≡ Some main → mid ≡ old ++ row_in file main.name ∷ [] → new ≡ mid ++ map (λ (k : ClassTree). row_in file k.name) classes → new ≡ old ++ file_rows file (Some tree)
+  rows_with_main main mid some first added =
+      added
+      ∙ (ap (λ (rows : List IndexRow). rows ++ map (λ (k : ClassTree). row_in file k.name) classes) first
+      ∙ (append_assoc old (row_in file main.name ∷ []) (map (λ (k : ClassTree). row_in file k.name) classes)
+      ∙ ap (λ (rows : List IndexRow). old ++ rows)
+      (ap (λ (ks : List ClassTree). row_in file main.name ∷ map (λ (k : ClassTree). row_in file k.name) ks) all
+      ∙ (ap (λ (rows : List IndexRow). row_in file main.name ∷ rows) (numbered_rows file 1 root.classes.items)
+      ∙ (ap (rows_by_main file root.classes.items) (sym some) ∙ ap (λ (t : File). file_rows file (Some t)) seen)))))
+
+-- ---- the files by their classes, one row after the other
+
+-- a class that has no file yet gets one
+pub file_kept : (found after : Name → Option Name) (c file : Name) → is_some (found c) ≡ false
+    → ((q : Name) → after q ≡ cond (is_eq (slice_cmp nat_cmp c q)) (Some file) (found q)) → (q : Name) → after q ≡ option_or (found q) (cond (bytes_eq c q) (Some file) None)
+file_kept found after c file new puts q = puts q ∙ (ap (λ b. cond b (Some file) (found q)) (names_tie c q) ∙ by_test (bytes_eq c q) refl)
+  where
+    none_of : (o : Option Name) → is_some o ≡ false → o ≡ None
+    none_of None e = refl
+    none_of (Some n) e = absurd cc
+
+    by_file : (o : Option Name) → o ≡ option_or o None
+    by_file None = refl
+    by_file (Some n) = refl
+
+    by_test : (b : Bool) → bytes_eq c q ≡ b → cond b (Some file) (found q) ≡ option_or (found q) (cond b (Some file) None)
+    by_test true t =
+        let nothing : found q ≡ None = ap found (sym (same_name c q t)) ∙ none_of (found c) new in
+        sym (ap (λ o. option_or o (Some file)) nothing)
+    by_test false t = by_file (found q)
+
+-- what one row more says, and the rest
+pub row_more : (old new : Option Name) (row : IndexRow) (rest : List IndexRow) (c : Name) → new ≡ option_or old (cond (bytes_eq row.class c) (Some row.file) None)
+    → option_or new (first_file rest c) ≡ option_or old (first_file (row ∷ rest) c)
+row_more old new row rest c e = ap (λ o. option_or o (first_file rest c)) e ∙ by_file old (bytes_eq row.class c)
+  where
+    by_file : (o : Option Name) (b : Bool) → option_or (option_or o (cond b (Some row.file) None)) (first_file rest c) ≡ option_or o (option_map (λ (r : IndexRow). r.file) (cond b (Some row) (find (λ (r : IndexRow). bytes_eq r.class c) rest)))
+    by_file (Some n) b = refl
+    by_file None true = refl
+    by_file None false = refl
+
+pub no_row_more : (o : Option Name) → option_or o None ≡ o
+no_row_more None = refl
+no_row_more (Some n) = refl
+
+pub nothing_left : {X : Type 0} (xs : List X) → length xs ≡ 0 → xs ≡ []
+nothing_left [] h = refl
+nothing_left (x ∷ xs) h = absurd (omega arith)
+
+-- ---- the entries of the map, as rows
+
+abbrev pub row_of : Name × Name → IndexRow
+row_of e = row_in e.1 e.0
+
+abbrev entry_of : Name × Name → Name × IndexRow
+entry_of e = (e.0, row_of e)
+
+same_keys : (es : List (Name × Name)) → keys_of es ≡ keys_of (map entry_of es)
+same_keys [] = refl
+same_keys (e ∷ es) = ap (λ (ns : List Name). e.0 ∷ ns) (same_keys es)
+
+same_rows : (es : List (Name × Name)) → map row_of es ≡ values_of (map entry_of es)
+same_rows [] = refl
+same_rows (e ∷ es) = ap (λ (rows : List IndexRow). row_of e ∷ rows) (same_rows es)
+
+-- the row under a class has its name and the file that is stored
+row_under : (n : Name) (es : List (Name × Name)) → under n (map entry_of es) ≡ option_map (λ f. row_in f n) (lookup (is_at (by_bytes n)) es)
+row_under n [] = refl
+row_under n (e ∷ es) = by_test (is_eq (by_bytes n e.0)) refl (row_under n es)
+  where
+    by_test : (b : Bool) → is_eq (by_bytes n e.0) ≡ b → under n (map entry_of es) ≡ option_map (λ f. row_in f n) (lookup (is_at (by_bytes n)) es)
+        → cond b (Some (row_of e)) (under n (map entry_of es)) ≡ option_map (λ f. row_in f n) (cond b (Some e.1) (lookup (is_at (by_bytes n)) es))
+    by_test true t h = ap (λ (m : Name). Some (row_in e.1 m)) (sym (tells_apart exact_bytes n e.0 t))
+    by_test false t h = h
+
+module _ (rows : List IndexRow) where
+  abbrev first_row : Name → Option IndexRow
+  first_row n = find (λ (row : IndexRow). bytes_eq row.class n) rows
+
+  row_found : (n : Name) (o : Option IndexRow) → first_row n ≡ o → option_map (λ f. row_in f n) (option_map (λ (row : IndexRow). row.file) o) ≡ o
+  row_found n None e = refl
+  row_found n (Some row) e = ap (λ (m : Name). Some (row_in row.file m)) (sym (found_name (λ (r : IndexRow). r.class) n rows row e))
+
+  module _ (es : List (Name × Name)) (up : IsAscendingBy NameBefore (keys_of es)) (says : (n : Name) → lookup (is_at (by_bytes n)) es ≡ first_file rows n) where
+    -- entries that ascend and say the first file of each class are the first rows
+    pub first_are : map row_of es ≡ first_rows rows
+    unfolding first_rows
+    first_are =
+        same_rows es
+        ∙ values_are (λ (row : IndexRow). row.class) rows (map entry_of es) (subst (IsAscendingBy NameBefore) (same_keys es) up)
+        (λ n. row_under n es ∙ (ap (option_map (λ f. row_in f n)) (says n) ∙ row_found n (first_row n) refl))
+
+    -- and they ascend
+    pub first_ascend : IsAscendingByName (λ (row : IndexRow). row.class) (map row_of es)
+    unfolding first_rows
+    first_ascend = subst (IsAscendingByName (λ (row : IndexRow). row.class)) (sym first_are) (firsts_ascend (λ (row : IndexRow). row.class) rows)

@@ -1,0 +1,131 @@
+//! The header of a class.
+ghost use Rattle.std.specs.Prelude.{◌≡◌, IfOk, IfErr, map, find, option_map, option_copied, option_and_then};
+ghost use Rattle.std.specs.Str.{bytes_eq};
+ghost use Rattle.mj_tree.specs.Views.{class_view};
+ghost use Rattle.recorder.specs.Programs.{Goes, GivesUp};
+ghost use Rattle.query_rules.specs.Items.{header_of};
+ghost use Rattle.text_queries.specs.ClassTrees.{class_named};
+ghost use Rattle.text_queries.specs.NamedHeaders.{main_header, class_header, header_among, header_named};
+ghost use Rattle.text_queries.specs.Header.{header_steps};
+
+use crate::class_trees::{ask_class_tree, tree_of};
+use mj_lexer::Name;
+use mj_tree::{ClassTree, Field, MethodTree};
+use recorder::{Reader, Recorder, RunFault};
+use result_bytes::{Header, Value};
+use std::alloc::{AllocError, Global};
+use tree_bytes::Tree;
+
+/// The class that a class extends.
+fn copy_superclass(alloc: Global, superclass: Option<&Name>) -> Result<Option<Name>, AllocError>
+    ensures { IfOk result (λ copy. copy ≡ option_copied superclass.entry) }
+{
+    match superclass {
+        Some(name) => Ok(Some(name.copy(alloc)?)),
+        None => Ok(None),
+    }
+}
+
+/// Equal fields in the same order.
+fn copy_fields(alloc: Global, fields: &[Field]) -> Result<Vec<Field>, AllocError>
+    ensures { IfOk result (λ copies. copies.items ≡ fields.now) }
+{
+    let mut copies = Vec::new(alloc);
+    for field in fields {
+        copies.push(field.copy(alloc)?)?;
+    }
+    Ok(copies)
+}
+
+/// The names of methods.
+fn method_names(alloc: Global, methods: &[MethodTree]) -> Result<Vec<Name>, AllocError>
+    ensures { IfOk result (λ names. names.items ≡ map (λ m. m.name) methods.now) }
+{
+    let mut names = Vec::new(alloc);
+    for method in methods {
+        names.push(method.name.copy(alloc)?)?;
+    }
+    Ok(names)
+}
+
+/// The header of the main class.
+fn header_of_main(alloc: Global) -> Header
+    ensures { result ≡ main_header }
+{
+    Header::new(true, None, Vec::new(alloc), Vec::new(alloc))
+}
+
+/// The header of a class that isn't the main class.
+fn header_of_class(alloc: Global, class: &ClassTree) -> Result<Header, AllocError>
+    ensures { IfOk result (λ header. header ≡ class_header (class_view class.now)) }
+{
+    let superclass = copy_superclass(alloc, class.superclass.as_ref())?;
+    let fields = copy_fields(alloc, &class.fields)?;
+    let methods = method_names(alloc, &class.methods)?;
+    Ok(Header::new(false, superclass, fields, methods))
+}
+
+/// The first of the classes that has this name.
+fn first_class<'t>(classes: &'t [ClassTree], name: &Name) -> Option<&'t ClassTree>
+    ensures { option_copied result ≡ find (λ class. bytes_eq class.name name.now) classes.now }
+{
+    classes.iter().find(|class| &class.name == name)
+}
+
+/// The header of the first of the classes that has this name.
+fn header_among(
+    alloc: Global,
+    classes: &[ClassTree],
+    name: &Name,
+) -> Result<Option<Header>, AllocError>
+    ensures { IfOk result (λ header.
+        header ≡ header_among name.now (map class_view classes.now)) }
+{
+    match first_class(classes, name) {
+        Some(class) => Ok(Some(header_of_class(alloc, class)?)),
+        None => Ok(None),
+    }
+}
+
+/// The header of the first class of this name in a tree. The main class comes first.
+fn header_in(alloc: Global, tree: &Tree, class: &Name) -> Result<Option<Header>, AllocError>
+    ensures { IfOk result (λ header. header ≡ header_named class.now tree.now) }
+{
+    let root = tree.root();
+    match &root.main {
+        Some(main) if &main.name == class => Ok(Some(header_of_main(alloc))),
+        _ => header_among(alloc, &root.classes, class),
+    }
+}
+
+/// The header of the class of this name in a tree that is there.
+fn header_for(
+    alloc: Global,
+    tree: Option<&Tree>,
+    class: &Name,
+) -> Result<Option<Header>, AllocError>
+    ensures { IfOk result (λ header. header
+        ≡ option_map header_of (option_and_then (class_named class.now)
+        (option_copied tree.entry))) }
+{
+    match tree {
+        Some(tree) => header_in(alloc, tree, class),
+        None => Ok(None),
+    }
+}
+
+/// The header of a class, by the index and the tree of the class's file.
+pub fn run_header<D: Reader>(
+    alloc: Global,
+    recorder: &mut Recorder<D>,
+    class: &Name,
+) -> Result<Value, RunFault>
+    ensures ok { IfOk result (λ v. Goes (header_steps class.now) recorder.old v recorder.new) }
+    ensures err { IfErr result (λ e. GivesUp (header_steps class.now) recorder.old e
+        recorder.new) }
+    ensures follows { D.follows recorder.old.inner recorder.new.inner }
+{
+    let answer = ask_class_tree(alloc, recorder, class)?;
+    let header = header_for(alloc, tree_of(&answer), class)?;
+    Ok(Value::Header(header))
+}
