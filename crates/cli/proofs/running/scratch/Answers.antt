@@ -11,6 +11,6 @@ returns-clause-reports g c = record {
   named = ap names_of c.in_ok-project.ensures.accepted ∙ names_of_sources _ ∙ c.in_ok-read_files.ensures.named;
   rules = c.in_ok-answer.ensures;
   text = c.in_ok-answer_report.ensures.answer;
-  lines = c.in_ok-answer_report.ensures.notes;
+  lines = rw c.in_ok-read.ensures at c.in_ok-answer_report.ensures.notes;
   status = c.in_ok-answer_report.ensures.status;
 }
