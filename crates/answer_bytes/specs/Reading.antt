@@ -30,13 +30,17 @@ abbrev pub method_row_of : List ℕ × (List ℕ × (List Ty × Ty)) → MethodR
 method_row_of x = record { name = x.0; owner = x.1.0; formals = x.1.1.0; returns = x.1.1.1 }
 
 abbrev pub method_row_at : Decoder MethodRowValue
-method_row_at bytes = made_at method_row_of (pair_at name_at (pair_at name_at (pair_at (list_at ty_at any) ty_at))) bytes
+method_row_at bytes =
+    made_at method_row_of (pair_at name_at
+        (pair_at name_at (pair_at (list_at ty_at any) ty_at))) bytes
 
 abbrev pub table_of : List FieldRow × List MethodRowValue → ClassTableValue
 table_of x = record { fields = x.0; methods = x.1 }
 
 unfoldable pub table_at : Decoder ClassTableValue
-table_at bytes = made_at table_of (pair_at (list_at field_row_at (is_after (by_name (λ row. row.name)))) (list_at method_row_at (is_after (by_name (λ row. row.name))))) bytes
+table_at bytes =
+    made_at table_of (pair_at (list_at field_row_at (is_after (by_name (λ row. row.name))))
+        (list_at method_row_at (is_after (by_name (λ row. row.name))))) bytes
 
 abbrev pub class_of : List ℕ × ℕ → Place
 class_of x = places.ClassOf x.0 x.1
@@ -90,10 +94,13 @@ abbrev pub class_answer_of : List ℕ × (ClassTableValue × List Diagnostic) �
 class_answer_of x = record { name = x.0; table = x.1.0; faults = x.1.1 }
 
 abbrev pub class_answer_at : Decoder ClassAnswerValue
-class_answer_at bytes = made_at class_answer_of (pair_at name_at (pair_at table_at class_faults_at)) bytes
+class_answer_at bytes =
+    made_at class_answer_of (pair_at name_at (pair_at table_at class_faults_at)) bytes
 
 abbrev pub answer_of : List Diagnostic × List ClassAnswerValue → AnswerValue
 answer_of x = record { faults = x.0; classes = x.1 }
 
 unfoldable pub answer_at : Decoder AnswerValue
-answer_at bytes = made_at answer_of (pair_at project_faults_at (list_at class_answer_at (is_after (by_name (λ class. class.name))))) bytes
+answer_at bytes =
+    made_at answer_of (pair_at project_faults_at
+        (list_at class_answer_at (is_after (by_name (λ class. class.name))))) bytes

@@ -1,4 +1,5 @@
--- Which tables, faults and answers have a spelling: names, numbers in four bytes, and lists in their order.
+-- Which tables, faults and answers have a spelling: names, numbers in four bytes, and lists in
+-- their order.
 use Rattle.std.specs.Prelude.{ℕ, ◌<◌, ◌^◌, List, length}
 use Rattle.std.specs.List.{AllByRecursion}
 use Rattle.mj_tree.specs.declared.place.Place.{Place}
@@ -15,7 +16,8 @@ abbrev pub IsCount : ℕ → Type 0
 IsCount n = n < 2 ^ 64
 
 -- items that fit, in ascending order, and not too many of them
-pub record OrderedFits {A : Type 0} (P : A → Type 0) (B : A → A → Type 0) (items : List A) : Type 0 where
+pub record OrderedFits {A : Type 0} (P : A → Type 0) (B : A → A → Type 0)
+    (items : List A) : Type 0 where
   pub few : IsCount (length items)
   pub each : AllByRecursion P items
   pub order : IsAscendingBy B items

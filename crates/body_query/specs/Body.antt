@@ -29,12 +29,15 @@ faults_in m mistakes = map (fault_in m) mistakes
 -- what is asked of a body
 abbrev pub check_of : Name → Option BodyValue → Check
 check_of c None = Concludes []
-check_of c (Some (OfMain statement)) = statement_step main_scope statement [] (λ mistakes. Concludes mistakes)
+check_of c (Some (OfMain statement)) =
+    statement_step main_scope statement [] (λ mistakes. Concludes mistakes)
 check_of c (Some (OfMethod tree)) = method_check c tree
 
 -- Method(c, m), then what is asked of the body that it tells
 abbrev pub body_steps : Name → Name → (Value → Prog) → Prog
-body_steps c m k = Ask (keys.Method c m) (λ v. reads_of (check_of c (body_in v)) (λ mistakes. k (values.CheckBody (fault_set (faults_in m mistakes)))))
+body_steps c m k =
+    Ask (keys.Method c m) (λ v. reads_of (check_of c (body_in v))
+        (λ mistakes. k (values.CheckBody (fault_set (faults_in m mistakes)))))
 
 -- the program of a key of this kind
 abbrev pub body_prog : Key → Prog

@@ -26,4 +26,5 @@ bounded_faults faults = map bounded_fault faults
 -- faults whose numbers have four bytes are left as they are
 pub record BoundsLaw : Type 0 where
   pub class : (faults : List Diagnostic) → AreClassFaults faults → bounded_faults faults ≡ faults
-  pub project : (faults : List Diagnostic) → AreProjectFaults faults → bounded_faults faults ≡ faults
+  pub project : (faults : List Diagnostic) → AreProjectFaults faults
+      → bounded_faults faults ≡ faults

@@ -35,7 +35,8 @@ fn bounded_place(place: Place) -> Place
 /// One more fault. A number in its place that hasn't four bytes is written as the greatest that has.
 pub fn note_fault(faults: &mut Vec<Diagnostic>, place: Place, code: Code) -> Result<(), AllocError>
     ensures { OnOk result
-        (faults.new.items ≡ faults.old.items ++ record { place = bounded_place place; code = code } ∷ []) }
+        (faults.new.items ≡ faults.old.items
+            ++ record { place = bounded_place place; code = code } ∷ []) }
 {
     faults.push(Diagnostic {
         place: bounded_place(place),

@@ -12,8 +12,10 @@ pub record Takes (bytes text rest : List ℕ) : Type 0 where
   pub rest_fits : IsBytes rest
 
 -- what is read is spelled so, and what is spelled so is read
-pub record Lawful {A : Type 0} (part : Decoder A) (spell : A → List ℕ) (Storable : A → Type 0) : Type 0 where
-  pub takes : (bytes : List ℕ) (a : A) (rest : List ℕ) → IsBytes bytes → part bytes ≡ Ok (a, rest) → Takes bytes (spell a) rest × Storable a
+pub record Lawful {A : Type 0} (part : Decoder A) (spell : A → List ℕ)
+    (Storable : A → Type 0) : Type 0 where
+  pub takes : (bytes : List ℕ) (a : A) (rest : List ℕ) → IsBytes bytes → part bytes ≡ Ok (a, rest)
+      → Takes bytes (spell a) rest × Storable a
   pub again : (a : A) (rest : List ℕ) → Storable a → part (spell a ++ rest) ≡ Ok (a, rest)
 
 -- each is admitted behind those before it
@@ -22,7 +24,8 @@ Admitted admits front [] = Unit {0}
 Admitted admits front (a ∷ as1) = (admits front a ≡ true) × Admitted admits (front ++ a ∷ []) as1
 
 -- each item fits and is admitted, and the number of items has a spelling
-pub record FitsList {A : Type 0} (P : A → Type 0) (admits : List A → A → Bool) (as1 : List A) : Type 0 where
+pub record FitsList {A : Type 0} (P : A → Type 0) (admits : List A → A → Bool)
+    (as1 : List A) : Type 0 where
   pub few : length as1 < 2 ^ 64
   pub fit : AllByRecursion P as1
   pub admitted : Admitted admits [] as1

@@ -18,7 +18,8 @@ abbrev pub Fails : {Y : Type 0} → ReadError → Result Y Breach → Type 0
 Fails errors.Memory read = Unit {0}
 Fails (errors.Breach b) read = read ≡ Err b
 
-abbrev pub Decodes : {X Y : Type 0} → (X → Y) → Result (X × Bor (List ℕ)) ReadError → Result (Y × List ℕ) Breach → Type 0
+abbrev pub Decodes : {X Y : Type 0} → (X → Y) → Result (X × Bor (List ℕ)) ReadError
+    → Result (Y × List ℕ) Breach → Type 0
 Decodes view (Ok x) read = read ≡ Ok (view x.0, x.1.now)
 Decodes view (Err e) read = Fails e read
 
@@ -35,7 +36,9 @@ byte_at [] = Err Short
 byte_at (b ∷ rest) = Ok (b, rest)
 
 abbrev pub number_at : Width → Decoder ℕ
-number_at w bytes = if nat_lt (length bytes) (byte_len w) then Err Short else Ok (from_be_bytes w (take (byte_len w) bytes), drop (byte_len w) bytes)
+number_at w bytes =
+    if nat_lt (length bytes) (byte_len w)
+    then Err Short else Ok (from_be_bytes w (take (byte_len w) bytes), drop (byte_len w) bytes)
 
 unfoldable pub two_at : Decoder ℕ
 two_at bytes = number_at w16 bytes
@@ -68,12 +71,15 @@ name_at bytes = do
       (if nat_lt (length n.1) n.0 then Err Short else
       (if is_utf8 (take n.0 n.1) then Ok (take n.0 n.1, drop n.0 n.1) else not_canonical bytes))
 
--- items that are admitted, each after the ones before it; an item that isn't is refused from its first byte on
-unfoldable pub list_from : {A : Type 0} → Decoder A → (List A → A → Bool) → List A → ℕ → Decoder (List A)
+-- items that are admitted, each after the ones before it; an item that isn't is refused from its
+-- first byte on
+unfoldable pub list_from : {A : Type 0} → Decoder A → (List A → A → Bool) → List A → ℕ
+    → Decoder (List A)
 list_from part admits front zero bytes = Ok (front, bytes)
 list_from part admits front (suc n) bytes = do
   item ← part bytes
-  if admits front item.0 then list_from part admits (front ++ item.0 ∷ []) n item.1 else not_canonical bytes
+  if admits front item.0 then list_from part admits (front ++ item.0 ∷ []) n item.1
+      else not_canonical bytes
 
 unfoldable pub list_at : {A : Type 0} → Decoder A → (List A → A → Bool) → Decoder (List A)
 list_at part admits bytes = do

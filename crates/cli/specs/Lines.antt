@@ -24,7 +24,8 @@ line_text line =
     ++ decimal (code_number line.code) ++ codes "\n"
 
 -- the lines of the answer's faults, each at its place in the files
-pub record IsFaultText (files : List SourceFile) (answer : AnswerValue) (text : List ℕ) : Type 0 where
+pub record IsFaultText (files : List SourceFile) (answer : AnswerValue)
+    (text : List ℕ) : Type 0 where
   pub lines : List FaultLine
   pub each : AreLinesOf files answer lines
   pub joined : text ≡ flat_map line_text lines

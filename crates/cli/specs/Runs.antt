@@ -10,7 +10,8 @@ use Rattle.cli.specs.declared.report.Report.{Report}
 use Rattle.cli.specs.declared.report.Status.{Status}
 use Rattle.cli.specs.declared.report.Status.TheVariants as status
 
--- The answer that the rules give files of these names: its text, a line for each of its faults with its place, and the status that it ends with.
+-- The answer that the rules give files of these names: its text, a line for each of its faults with
+-- its place, and the status that it ends with.
 pub record ReportsOn (names : List (List ℕ)) (report : Report) : Type 0 where
   pub files : List SourceFile
   pub answer : AnswerValue
@@ -21,7 +22,8 @@ pub record ReportsOn (names : List (List ℕ)) (report : Report) : Type 0 where
   pub status : report.status ≡ status_of_answer (is_clean answer)
 
 -- Both texts of a report stand behind what the two streams held before.
-pub record IsWritten (report : Report) (out_old out_new err_old err_new : Option (List ℕ)) : Type 0 where
+pub record IsWritten (report : Report)
+    (out_old out_new err_old err_new : Option (List ℕ)) : Type 0 where
   pub notes : Appends err_old err_new (string_bytes report.notes)
   pub answer : Appends out_old out_new (string_bytes report.answer)
 
@@ -33,7 +35,8 @@ status_number status.Refused = 2
 status_number status.OutOfMemory = 4
 
 -- A report on files of these names is written, and the run ends with its status.
-pub record Prints (names : List (List ℕ)) (status : ℕ) (out_old out_new err_old err_new : Option (List ℕ)) : Type 0 where
+pub record Prints (names : List (List ℕ)) (status : ℕ)
+    (out_old out_new err_old err_new : Option (List ℕ)) : Type 0 where
   pub report : Report
   pub reports : ReportsOn names report
   pub written : IsWritten report out_old out_new err_old err_new

@@ -5,4 +5,5 @@ use Rattle.clap.specs.declared.ArgMatches.{ArgMatches}
 
 -- the FILEs of the subcommand that was met
 abbrev pub files_in : ArgMatches → Option (List Text)
-files_in m = option_and_then (λ (p : Text × List Row). all_of (codes "FILE") p.1) (subcommand_rows_of m)
+files_in m =
+    option_and_then (λ (p : Text × List Row). all_of (codes "FILE") p.1) (subcommand_rows_of m)

@@ -67,8 +67,8 @@ spot_in_class files (Some k) place = spot_in_file (slice_get files k.file) k.num
 abbrev pub file_named : List SourceFile → Name → Option SourceFile
 file_named files name = find (λ f. bytes_eq f.name name) files
 
--- Of two files with main classes the later one is at fault at its main class, a file that is no sentence where
--- reading it stopped.
+-- Of two files with main classes the later one is at fault at its main class, a file that is no
+-- sentence where reading it stopped.
 pub record IsFileSpot (f : SourceFile) (code : Code) (spot : Spot) : Type 0 where
   pub file : spot.file ≡ Some f.name
   pub main : code ≡ E103 → spot.at ≡ spot_in f.bytes 0 places.Class

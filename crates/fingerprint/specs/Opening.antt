@@ -8,10 +8,12 @@ use Rattle.fingerprint.specs.declared.sealed.OpenFault.{OpenFault}
 use Rattle.fingerprint.specs.declared.sealed.OpenFault.TheVariants.{Refused, WrongPrint}
 use Rattle.fingerprint.specs.Prints.{print_of}
 
--- what refused the bytes is the refusal of reading them; a wrong print comes only where they spell a value
+-- what refused the bytes is the refusal of reading them; a wrong print comes only where they spell
+-- a value
 abbrev pub IsOpened : Kind → List ℕ → List ℕ → Result Value OpenFault → Type 0
 IsOpened kind bytes print (Ok v) = (decoding kind bytes ≡ Ok v) × (print ≡ print_of v)
-IsOpened kind bytes print (Err WrongPrint) = (v : Value) × (decoding kind bytes ≡ Ok v) × (print ≢ print_of v)
+IsOpened kind bytes print (Err WrongPrint) =
+    (v : Value) × (decoding kind bytes ≡ Ok v) × (print ≢ print_of v)
 IsOpened kind bytes print (Err (Refused OutOfMemory)) = Unit {0}
 IsOpened kind bytes print (Err (Refused refusal)) = decoding kind bytes ≡ Err refusal
 

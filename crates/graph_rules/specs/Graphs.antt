@@ -21,7 +21,8 @@ pub data IsRoot (p : Project) : Key → Type 0 where
 -- a root, or a key that edges of done keys lead to from one
 pub data IsReached (p : Project) (s : State) : Key → Type 0 where
   root : (q : Key) → IsRoot p q → IsReached p s q
-  edge : (q : Key) (v : Value) (es : List Key) (m : Mark) (e : Key) → IsReached p s q → s.at q ≡ Done v es m → Contains es e → IsReached p s e
+  edge : (q : Key) (v : Value) (es : List Key) (m : Mark) (e : Key) → IsReached p s q
+      → s.at q ≡ Done v es m → Contains es e → IsReached p s e
 
 abbrev pub KeyBefore : Key → Key → Type 0
 KeyBefore a b = key_cmp a b ≡ Less

@@ -10,7 +10,8 @@ use Rattle.graph_rules.specs.Steps.{Status, Done, State, Event, Claim, MarkGreen
 
 -- what is done stays done as it is
 abbrev pub Keeps : State → State → Type 0
-Keeps s t = (q : Key) (v : Value) (es : List Key) (m : Mark) → s.at q ≡ Done v es m → t.at q ≡ Done v es m
+Keeps s t =
+    (q : Key) (v : Value) (es : List Key) (m : Mark) → s.at q ≡ Done v es m → t.at q ≡ Done v es m
 
 -- the event makes the key done
 abbrev pub MakesDone : Event → Key → Type 0
@@ -25,6 +26,10 @@ HasEdgesDone s _ = ⊥
 
 -- No key becomes done twice, and none before its edges.
 pub record IsOrderly (past : Past) (p : Project) (history : List Event) : Type 0 where
-  pub stays : (front rest : List Event) → front ++ rest ≡ history → Keeps (state_after past p front) (state_after past p history)
-  pub once : (front : List Event) (e : Event) (rest : List Event) (q : Key) → front ++ e ∷ rest ≡ history → MakesDone e q → IsNotDone ((state_after past p front).at q)
-  pub edges_first : (front : List Event) (e : Event) (rest : List Event) (q : Key) → front ++ e ∷ rest ≡ history → MakesDone e q → HasEdgesDone (state_after past p front) ((after past (state_after past p front) e).at q)
+  pub stays : (front rest : List Event) → front ++ rest ≡ history
+      → Keeps (state_after past p front) (state_after past p history)
+  pub once : (front : List Event) (e : Event) (rest : List Event) (q : Key)
+      → front ++ e ∷ rest ≡ history → MakesDone e q → IsNotDone ((state_after past p front).at q)
+  pub edges_first : (front : List Event) (e : Event) (rest : List Event) (q : Key)
+      → front ++ e ∷ rest ≡ history → MakesDone e q
+      → HasEdgesDone (state_after past p front) ((after past (state_after past p front) e).at q)

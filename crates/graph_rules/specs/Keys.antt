@@ -13,7 +13,8 @@ use Rattle.recorder.specs.Projects.{Project, bytes_at}
 unfoldable pub same_key : Key → Key → Bool
 same_key a b = is_eq (key_cmp a b)
 
--- The value of a key that is an input: the names of the files, or the bytes of a file. Other keys are none.
+-- The value of a key that is an input: the names of the files, or the bytes of a file. Other keys
+-- are none.
 unfoldable pub input_of : Project → Key → Option Value
 input_of p Files = Some (values.Files (names_of p))
 input_of p (Source file) = Some (values.Source (bytes_at p file))

@@ -18,19 +18,25 @@ use Rattle.graph_rules.specs.Graphs.{IsRoot, AreAscending}
 pub record AreSources (past : Past) (p : Project) : Type 0 where
   pub project : IsProject p
   pub files : (r : Entry) × (past Files ≡ Some r) × (r.value ≡ values.Files (names_of p))
-  pub each : (file : List ℕ) → Contains (names_of p) file → (r : Entry) × (past (Source file) ≡ Some r) × (r.value ≡ values.Source (bytes_at p file))
-  pub others : (file : List ℕ) (r : Entry) → past (Source file) ≡ Some r → Contains (names_of p) file
+  pub each : (file : List ℕ) → Contains (names_of p) file
+      → (r : Entry) × (past (Source file) ≡ Some r) × (r.value ≡ values.Source (bytes_at p file))
+  pub others : (file : List ℕ) (r : Entry) → past (Source file) ≡ Some r
+      → Contains (names_of p) file
 
 -- each key has the value and the reads that the project gives it
 abbrev pub AreMeant : Meaning → ReadLists → Past → Project → Type 0
-AreMeant mean reads past p = (q : Key) (r : Entry) → past q ≡ Some r → (r.value ≡ mean p q) × (r.reads ≡ reads p q)
+AreMeant mean reads past p =
+    (q : Key) (r : Entry) → past q ≡ Some r → (r.value ≡ mean p q) × (r.reads ≡ reads p q)
 
--- A session is that of a project: it holds its files, and its keys have the project's values and reads.
-pub record IsOfProject (mean : Meaning) (reads : ReadLists) (past : Past) (p : Project) : Type 0 where
+-- A session is that of a project: it holds its files, and its keys have the project's values and
+-- reads.
+pub record IsOfProject (mean : Meaning) (reads : ReadLists) (past : Past)
+    (p : Project) : Type 0 where
   pub sources : AreSources past p
   pub meant : AreMeant mean reads past p
 
--- A green key stands in the past with the same edges and print, and each edge has the same print in both sessions.
+-- A green key stands in the past with the same edges and print, and each edge has the same print in
+-- both sessions.
 pub record StandsIn (past now : Past) (r : Entry) : Type 0 where
   pub had : Entry
   pub past_has : past r.key ≡ Some had
@@ -38,7 +44,8 @@ pub record StandsIn (past now : Past) (r : Entry) : Type 0 where
   pub print : print_of had.value ≡ print_of r.value
   pub same : (e : Key) → Contains r.reads e → print_in past e ≡ print_in now e
 
--- The session is right over the past: it is that of its sources, and its green keys stand in the past.
+-- The session is right over the past: it is that of its sources, and its green keys stand in the
+-- past.
 pub record IsRight (mean : Meaning) (reads : ReadLists) (past now : Past) : Type 0 where
   pub project : Project
   pub of_project : IsOfProject mean reads now project
@@ -57,13 +64,17 @@ pub data IsReadIn (reads : ReadLists) (p : Project) : Key → Type 0 where
 
 -- Of the past's values and those of the next session, no two that differ have one print.
 abbrev pub AreApart : Meaning → ReadLists → Past → Project → Type 0
-AreApart mean reads past p = (q k : Key) (r : Entry) → IsReadIn reads p q → past k ≡ Some r → print_of r.value ≡ print_of (mean p q) → r.value ≡ mean p q
+AreApart mean reads past p =
+    (q k : Key) (r : Entry) → IsReadIn reads p q → past k ≡ Some r
+    → print_of r.value ≡ print_of (mean p q) → r.value ≡ mean p q
 
 -- The past has the key, and each of its past edges is in the next session with the same print.
-pub record IsUnchanged (mean : Meaning) (reads : ReadLists) (past : Past) (p : Project) (q : Key) : Type 0 where
+pub record IsUnchanged (mean : Meaning) (reads : ReadLists) (past : Past) (p : Project)
+    (q : Key) : Type 0 where
   pub had : Entry
   pub past_has : past q ≡ Some had
-  pub same : (e : Key) → Contains had.reads e → IsReadIn reads p e × (print_in past e ≡ Some (print_of (mean p e)))
+  pub same : (e : Key) → Contains had.reads e
+      → IsReadIn reads p e × (print_in past e ≡ Some (print_of (mean p e)))
 
 -- An input is marked so; another key is green where it is unchanged, else executed.
 abbrev pub HasMark : Meaning → ReadLists → Past → Project → Key → Mark → Type 0
@@ -71,14 +82,16 @@ HasMark mean reads past p q Input = rank q ≡ 0
 HasMark mean reads past p q Green = (0 < rank q) × IsUnchanged mean reads past p q
 HasMark mean reads past p q Executed = (0 < rank q) × (IsUnchanged mean reads past p q → ⊥)
 
-pub record IsNextEntry (mean : Meaning) (reads : ReadLists) (past : Past) (p : Project) (r : Entry) : Type 0 where
+pub record IsNextEntry (mean : Meaning) (reads : ReadLists) (past : Past) (p : Project)
+    (r : Entry) : Type 0 where
   pub reached : IsReadIn reads p r.key
   pub value : r.value ≡ mean p r.key
   pub edges : r.reads ≡ reads p r.key
   pub mark : HasMark mean reads past p r.key r.mark
 
 -- the entries of the next session, which know no event
-pub record AreNext (mean : Meaning) (reads : ReadLists) (past : Past) (p : Project) (entries : List Entry) : Type 0 where
+pub record AreNext (mean : Meaning) (reads : ReadLists) (past : Past) (p : Project)
+    (entries : List Entry) : Type 0 where
   pub ascending : AreAscending entries
   pub each : (r : Entry) → Contains entries r → IsNextEntry mean reads past p r
   pub all : (q : Key) → IsReadIn reads p q → (r : Entry) × Contains entries r × (r.key ≡ q)

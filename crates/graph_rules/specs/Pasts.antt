@@ -14,11 +14,12 @@ Past = Key → Option Entry
 abbrev pub print_in : Past → Key → Option (List ℕ)
 print_in past q = option_map (λ r. print_of r.value) (past q)
 
--- What every session keeps: values are of their key's kind, and edges lead to keys of lower rank that it holds, to none
--- twice.
+-- What every session keeps: values are of their key's kind, and edges lead to keys of lower rank
+-- that it holds, to none twice.
 pub record IsGraph (past : Past) : Type 0 where
   pub key : (q : Key) (r : Entry) → past q ≡ Some r → r.key ≡ q
   pub kind : (q : Key) (r : Entry) → past q ≡ Some r → IsOfKind q r.value
   pub lower : (q : Key) (r : Entry) → past q ≡ Some r → AreLower q r.reads
   pub once : (q : Key) (r : Entry) → past q ≡ Some r → NoneTwice (λ k. k) r.reads
-  pub closed : (q : Key) (r : Entry) (e : Key) → past q ≡ Some r → Contains r.reads e → (x : Entry) × (past e ≡ Some x)
+  pub closed : (q : Key) (r : Entry) (e : Key) → past q ≡ Some r → Contains r.reads e
+      → (x : Entry) × (past e ≡ Some x)

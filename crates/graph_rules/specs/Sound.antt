@@ -32,7 +32,8 @@ pub record IsGreen (past : Past) (s : State) (q : Key) (v : Value) (es : List Ke
   pub unchanged : walk past s es ≡ AllUnchanged
 
 -- An executed key had to run, and its value follows from answers that are the values of its edges.
-pub record IsExecuted (mean : Meaning) (reads : ReadLists) (past : Past) (s : State) (q : Key) (v : Value) (es : List Key) : Type 0 where
+pub record IsExecuted (mean : Meaning) (reads : ReadLists) (past : Past) (s : State) (q : Key)
+    (v : Value) (es : List Key) : Type 0 where
   pub told : List ReadValue
   pub outcome : IsOutcome mean reads (record { key = q; told = told; value = v })
   pub edges : keys told ≡ es
@@ -46,13 +47,14 @@ IsSoundAt mean reads past p s q (Claimed w) = 0 < rank q
 IsSoundAt mean reads past p s q (Running w) = (0 < rank q) × MayRun (past_walk past s q)
 IsSoundAt mean reads past p s q (Done v es Input) = (input_of p q ≡ Some v) × (es ≡ [])
 IsSoundAt mean reads past p s q (Done v es Green) = (0 < rank q) × IsGreen past s q v es
-IsSoundAt mean reads past p s q (Done v es Executed) = (0 < rank q) × IsExecuted mean reads past s q v es
+IsSoundAt mean reads past p s q (Done v es Executed) =
+    (0 < rank q) × IsExecuted mean reads past s q v es
 
 abbrev pub IsSound : Meaning → ReadLists → Past → Project → State → Type 0
 IsSound mean reads past p s = (q : Key) → IsSoundAt mean reads past p s q (s.at q)
 
--- a done key's value is of its kind, its mark is Input just where it is an input, and its edges are done and of lower
--- rank, and none is there twice
+-- a done key's value is of its kind, its mark is Input just where it is an input, and its edges are
+-- done and of lower rank, and none is there twice
 pub record IsDoneInOrder (s : State) (q : Key) (v : Value) (es : List Key) (m : Mark) : Type 0 where
   pub kind : IsOfKind q v
   pub marked : is_input_mark m ≡ is_input (kind_of q)

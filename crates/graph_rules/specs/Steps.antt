@@ -13,7 +13,8 @@ use Rattle.sessions.specs.Sessions.{Entry}
 use Rattle.graph_rules.specs.Keys.{same_key, input_of}
 use Rattle.graph_rules.specs.Pasts.{Past, print_in}
 
--- A key is unknown, claimed by a worker, running by a worker, or done with a value, the keys read for it, and a mark.
+-- A key is unknown, claimed by a worker, running by a worker, or done with a value, the keys read
+-- for it, and a mark.
 pub data Status : Type 0 where
   Unknown : Status
   Claimed : ℕ → Status
@@ -72,7 +73,8 @@ pub data EdgeState : Type 0 where
   Unchanged : EdgeState
   Changed : EdgeState
 
--- A past edge is open while its key isn't done; then it is unchanged or changed, as the two prints are equal or not.
+-- A past edge is open while its key isn't done; then it is unchanged or changed, as the two prints
+-- are equal or not.
 abbrev pub edge_at : Option (List ℕ) → Status → EdgeState
 edge_at print Unknown = Open
 edge_at print (Claimed w) = Open
@@ -127,7 +129,8 @@ AreHeld s told = AllByRecursion (λ t. IsDoneWith t.value (s.at t.key)) told
 -- the event is a step in the state
 abbrev pub MayStep : Past → State → Event → Type 0
 MayStep past s (Claim w q) = (s.failed ≡ false) × (s.at q ≡ Unknown) × IsBelow s w q
-MayStep past s (MarkGreen w q) = (s.failed ≡ false) × (s.at q ≡ Claimed w) × (past_walk past s q ≡ Some AllUnchanged)
+MayStep past s (MarkGreen w q) =
+    (s.failed ≡ false) × (s.at q ≡ Claimed w) × (past_walk past s q ≡ Some AllUnchanged)
 MayStep past s (Begin w q) = (s.failed ≡ false) × (s.at q ≡ Claimed w) × MayRun (past_walk past s q)
 MayStep past s (Finish w o) = (s.failed ≡ false) × (s.at o.key ≡ Running w) × AreHeld s o.told
 MayStep past s (Fail w) = s.failed ≡ false

@@ -66,7 +66,11 @@ member_text key = text_of (member_of key)
 
 -- by the number of the kind, then by class, then by member
 abbrev pub key_cmp : Key → Key → Ordering
-key_cmp = then_cmp (then_cmp (on number nat_cmp) (on class_text (slice_cmp nat_cmp))) (on member_text (slice_cmp nat_cmp))
+key_cmp =
+    then_cmp (then_cmp (on number nat_cmp) (on class_text (slice_cmp nat_cmp)))
+        (on member_text (slice_cmp nat_cmp))
 
 pub key_total : IsTotalOrder key_cmp
-key_total = then_total (then_total (on_total number nat_cmp_total) (on_texts class_text)) (on_texts member_text)
+key_total =
+    then_total (then_total (on_total number nat_cmp_total) (on_texts class_text))
+        (on_texts member_text)

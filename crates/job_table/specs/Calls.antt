@@ -37,14 +37,18 @@ IsClaimed t w q = ((state_of t).failed ≡ false) × ((state_of t).at q ≡ Clai
 abbrev pub IsRunning : TableValue → ℕ → Key → Type 0
 IsRunning t w q = ((state_of t).failed ≡ false) × ((state_of t).at q ≡ Running w)
 
--- ask: only Yours changes the table, by a claim; memory is taken for a claim, and to hand out a result
+-- ask: only Yours changes the table, by a claim; memory is taken for a claim, and to hand out a
+-- result
 abbrev pub AskGives : TableValue → ℕ → Key → Result Asked TableFault → TableValue → Type 0
 AskGives t w q (Ok asked.Stopped) u = ((state_of t).failed ≡ true) × (u ≡ t)
-AskGives t w q (Ok (asked.Done v)) u = ((state_of t).failed ≡ false) × IsDoneWith (arc_value v) ((state_of t).at q) × (u ≡ t)
+AskGives t w q (Ok (asked.Done v)) u =
+    ((state_of t).failed ≡ false) × IsDoneWith (arc_value v) ((state_of t).at q) × (u ≡ t)
 AskGives t w q (Err fault.OutOfRank) u = IsWanted t q × ¬ IsBelow (state_of t) w q × (u ≡ t)
-AskGives t w q (Ok asked.Busy) u = IsWanted t q × IsBelow (state_of t) w q × ((state_of t).at q ≡ Unknown → ⊥) × (u ≡ t)
+AskGives t w q (Ok asked.Busy) u =
+    IsWanted t q × IsBelow (state_of t) w q × ((state_of t).at q ≡ Unknown → ⊥) × (u ≡ t)
 AskGives t w q (Ok asked.Yours) u = IsStep t (Claim w q) × (u ≡ adds t (Claim w q))
-AskGives t w q (Err fault.OutOfMemory) u = ((state_of t).failed ≡ false) × (IsNotDone ((state_of t).at q) → IsStep t (Claim w q)) × (u ≡ t)
+AskGives t w q (Err fault.OutOfMemory) u =
+    ((state_of t).failed ≡ false) × (IsNotDone ((state_of t).at q) → IsStep t (Claim w q)) × (u ≡ t)
 AskGives t w q (Err _) u = ⊥
 
 -- how the walk over the key's past edges ends, where the past has the key
@@ -52,13 +56,19 @@ abbrev pub walk_in : TableValue → Key → Option Walk
 walk_in t q = past_walk (past_of t) (state_of t) q
 
 -- mark: it answers the past's result, with which the key is done
-abbrev pub MarkGives : TableValue → ℕ → Key → Result (Arc Value Global) TableFault → TableValue → Type 0
-MarkGives t w q (Ok v) u = IsStep t (MarkGreen w q) × (u ≡ adds t (MarkGreen w q)) × IsDoneWith (arc_value v) ((state_of u).at q)
+abbrev pub MarkGives : TableValue → ℕ → Key → Result (Arc Value Global) TableFault → TableValue
+    → Type 0
+MarkGives t w q (Ok v) u =
+    IsStep t (MarkGreen w q) × (u ≡ adds t (MarkGreen w q))
+    × IsDoneWith (arc_value v) ((state_of u).at q)
 MarkGives t w q (Err fault.Failed) u = ((state_of t).failed ≡ true) × (u ≡ t)
-MarkGives t w q (Err fault.NotYours) u = ((state_of t).failed ≡ false) × ((state_of t).at q ≡ Claimed w → ⊥) × (u ≡ t)
+MarkGives t w q (Err fault.NotYours) u =
+    ((state_of t).failed ≡ false) × ((state_of t).at q ≡ Claimed w → ⊥) × (u ≡ t)
 MarkGives t w q (Err fault.NotInPast) u = IsClaimed t w q × (walk_in t q ≡ None) × (u ≡ t)
-MarkGives t w q (Err (fault.EdgeOpen i)) u = IsClaimed t w q × (walk_in t q ≡ Some (OpenAt i)) × (u ≡ t)
-MarkGives t w q (Err (fault.EdgeChanged i)) u = IsClaimed t w q × (walk_in t q ≡ Some (ChangedAt i)) × (u ≡ t)
+MarkGives t w q (Err (fault.EdgeOpen i)) u =
+    IsClaimed t w q × (walk_in t q ≡ Some (OpenAt i)) × (u ≡ t)
+MarkGives t w q (Err (fault.EdgeChanged i)) u =
+    IsClaimed t w q × (walk_in t q ≡ Some (ChangedAt i)) × (u ≡ t)
 MarkGives t w q (Err fault.OutOfMemory) u = IsStep t (MarkGreen w q) × (u ≡ t)
 MarkGives t w q (Err _) u = ⊥
 
@@ -66,9 +76,12 @@ MarkGives t w q (Err _) u = ⊥
 abbrev pub BeginGives : TableValue → ℕ → Key → Result (Unit {0}) TableFault → TableValue → Type 0
 BeginGives t w q (Ok _) u = IsStep t (Begin w q) × (u ≡ adds t (Begin w q))
 BeginGives t w q (Err fault.Failed) u = ((state_of t).failed ≡ true) × (u ≡ t)
-BeginGives t w q (Err fault.NotYours) u = ((state_of t).failed ≡ false) × ((state_of t).at q ≡ Claimed w → ⊥) × (u ≡ t)
-BeginGives t w q (Err (fault.EdgeOpen i)) u = IsClaimed t w q × (walk_in t q ≡ Some (OpenAt i)) × (u ≡ t)
-BeginGives t w q (Err fault.NothingChanged) u = IsClaimed t w q × (walk_in t q ≡ Some AllUnchanged) × (u ≡ t)
+BeginGives t w q (Err fault.NotYours) u =
+    ((state_of t).failed ≡ false) × ((state_of t).at q ≡ Claimed w → ⊥) × (u ≡ t)
+BeginGives t w q (Err (fault.EdgeOpen i)) u =
+    IsClaimed t w q × (walk_in t q ≡ Some (OpenAt i)) × (u ≡ t)
+BeginGives t w q (Err fault.NothingChanged) u =
+    IsClaimed t w q × (walk_in t q ≡ Some AllUnchanged) × (u ≡ t)
 BeginGives t w q (Err fault.OutOfMemory) u = IsStep t (Begin w q) × (u ≡ t)
 BeginGives t w q (Err _) u = ⊥
 
@@ -79,11 +92,14 @@ IsFirstStale s (r ∷ rs) zero = ¬ IsDoneWith r.value (s.at r.key)
 IsFirstStale s (r ∷ rs) (suc i) = IsDoneWith r.value (s.at r.key) × IsFirstStale s rs i
 
 -- finish
-abbrev pub FinishGives : TableValue → ℕ → OutcomeValue → Result (Unit {0}) TableFault → TableValue → Type 0
+abbrev pub FinishGives : TableValue → ℕ → OutcomeValue → Result (Unit {0}) TableFault → TableValue
+    → Type 0
 FinishGives t w o (Ok _) u = IsStep t (Finish w o) × (u ≡ adds t (Finish w o))
 FinishGives t w o (Err fault.Failed) u = ((state_of t).failed ≡ true) × (u ≡ t)
-FinishGives t w o (Err fault.NotYours) u = ((state_of t).failed ≡ false) × ((state_of t).at o.key ≡ Running w → ⊥) × (u ≡ t)
-FinishGives t w o (Err (fault.StaleRead i)) u = IsRunning t w o.key × IsFirstStale (state_of t) o.told i × (u ≡ t)
+FinishGives t w o (Err fault.NotYours) u =
+    ((state_of t).failed ≡ false) × ((state_of t).at o.key ≡ Running w → ⊥) × (u ≡ t)
+FinishGives t w o (Err (fault.StaleRead i)) u =
+    IsRunning t w o.key × IsFirstStale (state_of t) o.told i × (u ≡ t)
 FinishGives t w o (Err fault.OutOfMemory) u = IsStep t (Finish w o) × (u ≡ t)
 FinishGives t w o (Err _) u = ⊥
 

@@ -36,8 +36,10 @@ abbrev pub next_link : Option SessionValue → List ℕ
 next_link None = replicate 32 0
 next_link (Some past) = digest_of past
 
--- Number and link follow the past, and the session tells how just the keys are done that the inputs and Answer lead to.
-pub record IsClosing (past : Option SessionValue) (p : Project) (state : State) (s : SessionValue) : Type 0 where
+-- Number and link follow the past, and the session tells how just the keys are done that the inputs
+-- and Answer lead to.
+pub record IsClosing (past : Option SessionValue) (p : Project) (state : State)
+    (s : SessionValue) : Type 0 where
   pub number : s.number ≡ next_number past
   pub link : s.link ≡ next_link past
   pub closed : AreClosed p state (entries s)
@@ -47,5 +49,6 @@ abbrev pub CloseGives : TableValue → Result SessionValue CloseFault → Type 0
 CloseGives t (Ok s) = MayClose (state_of t) × IsClosing t.past t.project (state_of t) s
 CloseGives t (Err close.Failed) = (state_of t).failed ≡ true
 CloseGives t (Err close.StillRunning) = ((state_of t).failed ≡ false) × ¬ AreQuiet (state_of t)
-CloseGives t (Err close.NoAnswer) = ((state_of t).failed ≡ false) × AreQuiet (state_of t) × IsNotDone ((state_of t).at Answer)
+CloseGives t (Err close.NoAnswer) =
+    ((state_of t).failed ≡ false) × AreQuiet (state_of t) × IsNotDone ((state_of t).at Answer)
 CloseGives t (Err close.OutOfMemory) = MayClose (state_of t)

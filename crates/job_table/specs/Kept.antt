@@ -21,8 +21,10 @@ event_of (stored.Begin w q) = Begin w q
 event_of (stored.Finish w o) = Finish w (arc_value o)
 event_of (stored.Fail w) = Fail w
 
--- The history is legal, and inputs and nodes stand as it leads to. No key has two nodes, and no input has one.
-pub record IsKept (past : Past) (p : Project) (ns : List Node) (failed : Bool) (history : List Event) : Type 0 where
+-- The history is legal, and inputs and nodes stand as it leads to. No key has two nodes, and no
+-- input has one.
+pub record IsKept (past : Past) (p : Project) (ns : List Node) (failed : Bool)
+    (history : List Event) : Type 0 where
   pub project : IsProject p
   pub legal : Legal past p history
   pub status : (q : Key) → status_at p ns q ≡ (state_after past p history).at q

@@ -36,7 +36,9 @@ AreReached p s ks = (q : Key) → Contains ks q ↔ IsReached p s q
 
 -- where q is done, the list has all keys that were read for it
 abbrev pub HasEdges : State → List Key → Key → Type 0
-HasEdges s ks q = (v : Value) (es : List Key) (m : Mark) (e : Key) → s.at q ≡ Done v es m → Contains es e → Contains ks e
+HasEdges s ks q =
+    (v : Value) (es : List Key) (m : Mark) (e : Key) → s.at q ≡ Done v es m → Contains es e
+    → Contains ks e
 
 -- the roots and other keys that are reached, among them all that the first i were read for
 pub record Spreads (p : Project) (s : State) (ks : List Key) (i : ℕ) : Type 0 where

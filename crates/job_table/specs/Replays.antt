@@ -52,8 +52,12 @@ pub record IsFirstIllegal (past : Past) (p : Project) (events : List Event) (i :
   pub illegal : ¬ MayStep past (state_after past p front) event
 
 -- replay: a table of just these events where they are legal, else the first that is no step
-abbrev pub ReplayGives : Option SessionValue → Project → List Event → Result TableValue ReplayFault → Type 0
-ReplayGives past p events (Ok t) = ¬ IsFull past × Legal (past_entry past) p events × (t ≡ record { past = past; project = p; history = events })
-ReplayGives past p events (Err (replay.Illegal i)) = ¬ IsFull past × IsFirstIllegal (past_entry past) p events i
+abbrev pub ReplayGives : Option SessionValue → Project → List Event → Result TableValue ReplayFault
+    → Type 0
+ReplayGives past p events (Ok t) =
+    ¬ IsFull past × Legal (past_entry past) p events
+    × (t ≡ record { past = past; project = p; history = events })
+ReplayGives past p events (Err (replay.Illegal i)) =
+    ¬ IsFull past × IsFirstIllegal (past_entry past) p events i
 ReplayGives past p events (Err replay.ChainFull) = IsFull past
 ReplayGives past p events (Err replay.OutOfMemory) = ¬ IsFull past

@@ -52,7 +52,8 @@ field_line row =
 --   method m(int, boolean): int from A
 abbrev pub method_line : MethodRowValue → List ℕ
 method_line row =
-    codes "  method " ++ row.name ++ codes "(" ++ types_text row.formals ++ codes "): " ++ type_text row.returns
+    codes "  method " ++ row.name ++ codes "(" ++ types_text row.formals ++ codes "): "
+        ++ type_text row.returns
     ++ codes " from " ++ row.owner ++ codes "\n"
 
 -- a class: its name, its fields, its methods, its faults

@@ -7,7 +7,8 @@ use Rattle.mj_tree.specs.declared.tree.Ty.{Ty}
 use Rattle.mj_tree.specs.declared.tree.Ty.TheVariants.{Int, Boolean, IntArray, Class}
 use Rattle.mj_classes.specs.Declarations.{ClassDecl, decl}
 
--- How a chain ends: its last class extends nothing, a name that is not declared, or a class of the chain.
+-- How a chain ends: its last class extends nothing, a name that is not declared, or a class of the
+-- chain.
 pub data EndOf : Type 0 where
   Top : EndOf
   Undeclared : (name : Name) → EndOf
@@ -32,15 +33,16 @@ abbrev pub AreDistinct : List Name → Type 0
 AreDistinct [] = Unit {0}
 AreDistinct (c ∷ cs) = (Contains cs c → ⊥) × AreDistinct cs
 
--- The chain of a declared class begins with it. Each next class is the one that the former extends, all are declared
--- and distinct, and it is as long as it can be.
+-- The chain of a declared class begins with it. Each next class is the one that the former extends,
+-- all are declared and distinct, and it is as long as it can be.
 pub record IsChain (cs : List ClassDecl) (c : Name) (chain : List Name) (end : EndOf) : Type 0 where
   pub rest : List Name
   pub first : chain ≡ c ∷ rest
   pub links : Links cs chain chain end
   pub distinct : AreDistinct chain
 
--- A type is accepted by another: they are equal, or classes of which the second stands in the chain of the first.
+-- A type is accepted by another: they are equal, or classes of which the second stands in the chain
+-- of the first.
 abbrev pub Sub : List ClassDecl → Ty → Ty → Type 0
 Sub cs (Class t) (Class u) =
     (t ≡ u) ⊎ ((chain : List Name) × (end : EndOf) × IsChain cs t chain end × Contains chain u)
@@ -62,7 +64,8 @@ on_from on names u (Some k) = on names k
 abbrev pub on_by : List ClassDecl → (List Name → ClassDecl → Chain) → List Name → Option Name
     → Chain
 on_by cs on names None = (names, Top)
-on_by cs on names (Some u) = if is_in names u then (names, Repeated u) else on_from on names u (decl cs u)
+on_by cs on names (Some u) =
+    if is_in names u then (names, Repeated u) else on_from on names u (decl cs u)
 
 -- the chain that goes on from these names with this class
 unfoldable pub chain_from : List ClassDecl → ℕ → List Name → ClassDecl → Chain

@@ -4,8 +4,9 @@ use Rattle.std.specs.Str.{bytes_eq}
 use Rattle.mj_tree.specs.Trees.{Name, Statement, Method, Main, Class, File}
 use Rattle.mj_tree.specs.declared.tree.Field.{Field}
 
--- A class and where it is declared: the number of its file in the project, and its number in the file. Both are
--- counted from 0, and a main class comes first in its file. `main` is what a main class has: its statement.
+-- A class and where it is declared: the number of its file in the project, and its number in the
+-- file. Both are counted from 0, and a main class comes first in its file. `main` is what a main
+-- class has: its statement.
 pub record ClassDecl : Type 0 where
   pub file : ℕ
   pub number : ℕ

@@ -13,8 +13,10 @@ own_field x k = find (λ f. bytes_eq f.name x) k.fields
 abbrev pub own_method : Name → ClassDecl → Option Method
 own_method m k = find (λ f. bytes_eq f.name m) k.methods
 
--- The first class of the chain of c in which something is found is the owner, and this is found in it.
-pub record IsNearest {A : Type 0} (own : ClassDecl → Option A) (cs : List ClassDecl) (c owner : Name) (found : A) : Type 0 where
+-- The first class of the chain of c in which something is found is the owner, and this is found in
+-- it.
+pub record IsNearest {A : Type 0} (own : ClassDecl → Option A) (cs : List ClassDecl)
+    (c owner : Name) (found : A) : Type 0 where
   pub nearer : List Name
   pub farther : List Name
   pub end : EndOf

@@ -14,7 +14,8 @@ abbrev pub AreAscending : List Name → Type 0
 AreAscending ns = IsStrictlySortedBy (slice_cmp nat_cmp) ns
 
 -- The rows, owners and what they declare, are these members, each name once, ascending by name.
-pub record IsTable {A : Type 0} (name : A → Name) (IsMember : Name → A → Type 0) (rows : List (Name × A)) : Type 0 where
+pub record IsTable {A : Type 0} (name : A → Name) (IsMember : Name → A → Type 0)
+    (rows : List (Name × A)) : Type 0 where
   pub ascending : AreAscending (map (λ r. name r.1) rows)
   pub members : (owner : Name) (a : A) → Contains rows (owner, a) ↔ IsMember owner a
 

@@ -40,7 +40,8 @@ and_front [] = Wrong problems.Byte
 and_front (b ∷ text) = if b == 38 then Word (kinds.Terminal And) 2 else Wrong problems.Byte
 
 abbrev pub name_front : List ℕ → ℕ → Front
-name_front text n = if nat_lt most_name_bytes n then Wrong problems.Name else Word (kind_of_word (take n text)) n
+name_front text n =
+    if nat_lt most_name_bytes n then Wrong problems.Name else Word (kind_of_word (take n text)) n
 
 abbrev pub number_front : List ℕ → ℕ → Front
 number_front text n = Word (kinds.Literal (literal_value (take n text))) n

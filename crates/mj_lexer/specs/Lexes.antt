@@ -9,14 +9,15 @@ use Rattle.mj_lexer.specs.declared.lexer.LexFault.{LexFault}
 use Rattle.mj_lexer.specs.declared.lexer.LexFault.TheVariants.{BadByte, OpenComment, NameTooLong, FileTooLong, OutOfMemory}
 use Rattle.mj_lexer.specs.Pieces.{Stands}
 
--- From a place on, the text is cut into these tokens up to a later place, where this rest is left: what stands at each
--- place is the longest piece there.
+-- From a place on, the text is cut into these tokens up to a later place, where this rest is left:
+-- what stands at each place is the longest piece there.
 pub data Cuts : ℕ → List ℕ → List Token → ℕ → List ℕ → Type 0 where
   here : {at : ℕ} {text : List ℕ} → Cuts at text [] at text
   blank : {at : ℕ} {text : List ℕ} {tokens : List Token} {till : ℕ} {rest : List ℕ} (n : ℕ)
       → Stands text (Blank n) → Cuts (at + n) (drop n text) tokens till rest
       → Cuts at text tokens till rest
-  word : {at : ℕ} {text : List ℕ} {tokens : List Token} {till : ℕ} {rest : List ℕ} (kind : Kind) (n : ℕ)
+  word : {at : ℕ} {text : List ℕ} {tokens : List Token} {till : ℕ} {rest : List ℕ}
+      (kind : Kind) (n : ℕ)
       → Stands text (Word kind n) → Cuts (at + n) (drop n text) tokens till rest
       → Cuts at text (record { kind = kind; start = at; end = at + n } ∷ tokens) till rest
 

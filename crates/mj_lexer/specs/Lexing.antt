@@ -33,7 +33,8 @@ lexing_from (suc pieces) at text =
 
 -- a text has no more pieces than bytes
 unfoldable pub lexing_of : List ℕ → Lexing
-lexing_of text = if nat_lt limit (length text) then Err FileTooLong else lexing_from (length text) 0 text
+lexing_of text =
+    if nat_lt limit (length text) then Err FileTooLong else lexing_from (length text) 0 text
 
 abbrev pub tokens_of : List ℕ → Option (List Token)
 tokens_of text = result_ok (lexing_of text)

@@ -1,4 +1,5 @@
--- The pieces that a text is cut into, and that the one at its front is the longest that stands there.
+-- The pieces that a text is cut into, and that the one at its front is the longest that stands
+-- there.
 use Rattle.std.specs.Prelude.{◌≡◌, ◌≢◌, ℕ, ◌<◌, ◌≤◌, Bool, false, ◌&&◌, IsTrue, List, [], ◌∷◌, ◌++◌, length, take, Some, ◌⊎◌}
 use Rattle.std.specs.List.{list_all}
 use Rattle.mj_lexer.specs.declared.token.Kind.{Kind}

@@ -1,4 +1,5 @@
--- The grammar of declarations and files, one case a production. A method's tokens are numbered from its `public`.
+-- The grammar of declarations and files, one case a production. A method's tokens are numbered from
+-- its `public`.
 use Rattle.std.specs.Prelude.{◌≡◌, ℕ, ◌+◌, ◌≤◌, max, Bool, true, ◌&&◌, is_some, List, [], ◌∷◌, length, drop, Option, Some, None, codes}
 use Rattle.mj_lexer.specs.declared.token.Token.{Token}
 use Rattle.mj_lexer.specs.declared.token.Terminal.TheVariants as terminals
@@ -190,8 +191,8 @@ file_size f = main_part_size f.main + row_size class_size f.classes
 abbrev pub file_height : File → ℕ
 file_height f = max (main_part_height f.main) (row_height class_height f.classes)
 
--- The tokens are those of the file, in which no phrase has a level over `most_levels`. A statement in a body and the
--- returned expression have level 1, a part of a phrase one more than the phrase.
+-- The tokens are those of the file, in which no phrase has a level over `most_levels`. A statement
+-- in a body and the returned expression have level 1, a part of a phrase one more than the phrase.
 pub record Derives (ts : List Token) (f : File) : Type 0 where
   pub main : IsMainPart ts f.main
   pub classes : InRow (IsClass ts) class_size (main_part_size f.main) f.classes

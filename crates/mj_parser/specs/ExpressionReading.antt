@@ -1,4 +1,5 @@
--- Reading an expression. A part is read by a function that is handed in, so that each level stands on the one below it.
+-- Reading an expression. A part is read by a function that is handed in, so that each level stands
+-- on the one below it.
 use Rattle.std.specs.Prelude.{ℕ, zero, suc, ◌+◌, Bool, true, false, ◌&&◌, not, nat_le, ◌==◌, List, length, Option, Some, None, if◌then◌else◌, codes}
 use Rattle.mj_lexer.specs.declared.token.Token.{Token}
 use Rattle.mj_lexer.specs.declared.token.Terminal.{Terminal}
@@ -27,15 +28,19 @@ close ts mark make x = when (has ts x.1 mark) (Some (make x.0, x.1 + 1))
 unfoldable pub new_at : TierParser → List Token → ℕ → Reading
 new_at part ts i =
     if has ts (i + 1) terminals.Int
-    then when (has ts (i + 2) terminals.LeftBracket) (part any_tier (i + 3) >>= close ts terminals.RightBracket (NewArray i))
-    else (name_at ts (i + 1) >>= λ name. when (has ts (i + 2) terminals.LeftParenthesis && has ts (i + 3) terminals.RightParenthesis) (Some (NewObject i name, i + 4)))
+    then when (has ts (i + 2) terminals.LeftBracket)
+        (part any_tier (i + 3) >>= close ts terminals.RightBracket (NewArray i))
+    else (name_at ts (i + 1) >>= λ name. when
+        (has ts (i + 2) terminals.LeftParenthesis && has ts (i + 3) terminals.RightParenthesis)
+            (Some (NewObject i name, i + 4)))
 
 unfoldable pub terminal_at : TierParser → List Token → ℕ → Terminal → Reading
 terminal_at part ts i terminals.True = Some (Boolean i true, i + 1)
 terminal_at part ts i terminals.False = Some (Boolean i false, i + 1)
 terminal_at part ts i terminals.This = Some (This i, i + 1)
 terminal_at part ts i terminals.New = new_at part ts i
-terminal_at part ts i terminals.LeftParenthesis = part any_tier (i + 1) >>= close ts terminals.RightParenthesis (Parenthesized i)
+terminal_at part ts i terminals.LeftParenthesis =
+    part any_tier (i + 1) >>= close ts terminals.RightParenthesis (Parenthesized i)
 terminal_at part ts i _ = None
 
 abbrev pub prim_of : TierParser → List Token → ℕ → Option Kind → Reading
@@ -54,7 +59,8 @@ index_at part ts left j = part any_tier (j + 1) >>= close ts terminals.RightBrac
 unfoldable pub member_at : TierParser → List Token → Expression → ℕ → Reading
 member_at part ts left mark = name_at ts mark >>= λ name.
     if has ts (mark + 1) terminals.LeftParenthesis
-    then (listed_at (part any_tier) ts (mark + 2) >>= λ x. Some (Call mark left name (expressions_of x.0), x.1))
+    then (listed_at (part any_tier) ts (mark + 2)
+        >>= λ x. Some (Call mark left name (expressions_of x.0), x.1))
     else when (says ts mark (codes "length")) (Some (Length mark left, mark + 1))
 
 abbrev pub takes_index : List Token → Expression → ℕ → Bool
@@ -65,9 +71,11 @@ unfoldable pub post_from : ℕ → TierParser → List Token → ℕ → Express
 post_from zero part ts room left j = None
 post_from (suc gas) part ts room left j =
     if takes_index ts left j
-    then when (nat_le (height left) room) (index_at part ts left j >>= λ x. post_from gas part ts room x.0 x.1)
+    then when (nat_le (height left) room)
+        (index_at part ts left j >>= λ x. post_from gas part ts room x.0 x.1)
     else (if has ts j terminals.Dot
-    then when (nat_le (height left) room) (member_at part ts left (j + 1) >>= λ x. post_from gas part ts room x.0 x.1)
+    then when (nat_le (height left) room)
+        (member_at part ts left (j + 1) >>= λ x. post_from gas part ts room x.0 x.1)
     else Some (left, j))
 
 unfoldable pub post_at : TierParser → List Token → ℕ → ℕ → Reading
@@ -95,13 +103,20 @@ binary_from zero part ts room d left j = None
 binary_from (suc gas) part ts room d left j =
     elim (operator_at ts j d) [
       | None ↦ Some (left, j)
-      | Some operator ↦ when (nat_le (height left) room) (part d (j + 1) >>= λ x. binary_from gas part ts room d (Binary operator j left x.0) x.1)
+      | Some operator ↦
+          when (nat_le (height left) room)
+              (part d (j + 1) >>= λ x. binary_from gas part ts room d
+              (Binary operator j left x.0) x.1)
     ]
 
 unfoldable pub tier_at : TierParser → List Token → ℕ → ℕ → ℕ → Reading
 tier_at part ts room zero i = post_at part ts room i
-tier_at part ts room (suc zero) i = if has ts i terminals.Not then (part unary_tier (i + 1) >>= λ x. Some (Not i x.0, x.1)) else post_at part ts room i
-tier_at part ts room (suc (suc d)) i = tier_at part ts room (suc d) i >>= λ x. binary_from (suc (length ts)) part ts room (suc d) x.0 x.1
+tier_at part ts room (suc zero) i =
+    if has ts i terminals.Not then (part unary_tier (i + 1) >>= λ x. Some (Not i x.0, x.1))
+    else post_at part ts room i
+tier_at part ts room (suc (suc d)) i =
+    tier_at part ts room (suc d) i
+    >>= λ x. binary_from (suc (length ts)) part ts room (suc d) x.0 x.1
 
 -- an expression of a tier, of no more than so many levels
 unfoldable pub exp_at : ℕ → List Token → ℕ → ℕ → Reading

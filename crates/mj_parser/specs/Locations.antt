@@ -45,12 +45,16 @@ before (suc at) = Some at
 
 -- the name before a semicolon of the class
 abbrev pub field_name : List Token → ℕ → ℕ → Option ℕ
-field_name ts class number = class_start ts class >>= λ start. slice_get (all_in_class ts terminals.Semicolon start) number >>= before
+field_name ts class number =
+    class_start ts class >>= λ start. slice_get (all_in_class ts terminals.Semicolon start) number
+    >>= before
 
 -- the name of the method, or the word `main`, behind a `public`
 abbrev pub method_name : List Token → ℕ → ℕ
 method_name ts start =
-    if has ts (start + 1) terminals.Static then start + 3 else (if has ts (start + 2) terminals.LeftBracket then start + 4 else start + 2)
+    if has ts (start + 1) terminals.Static
+        then start + 3 else (if has ts (start + 2) terminals.LeftBracket
+        then start + 4 else start + 2)
 
 abbrev pub begins_method : List Token → Name → ℕ → Bool
 begins_method ts name at =
@@ -58,11 +62,15 @@ begins_method ts name at =
 
 -- where the first method of this name begins
 abbrev pub method_start : List Token → ℕ → Name → Option ℕ
-method_start ts class name = class_start ts class >>= λ start. find (begins_method ts name) (numbers start (class_end ts start))
+method_start ts class name =
+    class_start ts class >>= λ start. find (begins_method ts name)
+        (numbers start (class_end ts start))
 
 -- the name behind a `public` of the class
 abbrev pub name_of_method : List Token → ℕ → ℕ → Option ℕ
-name_of_method ts class number = class_start ts class >>= λ start. slice_get (all_in_class ts terminals.Public start) number >>= λ method. existing ts (method_name ts method)
+name_of_method ts class number =
+    class_start ts class >>= λ start. slice_get (all_in_class ts terminals.Public start) number
+    >>= λ method. existing ts (method_name ts method)
 
 -- the token of a place in a class of a file
 abbrev pub token_of : List Token → ℕ → Place → Option ℕ
@@ -72,4 +80,5 @@ token_of ts class (place.ClassOf name number) = class_name ts number
 token_of ts class place.Class = class_name ts class
 token_of ts class (place.Field number) = field_name ts class number
 token_of ts class (place.Method number) = name_of_method ts class number
-token_of ts class (place.Inside method token) = method_start ts class method >>= λ start. existing ts (start + token)
+token_of ts class (place.Inside method token) =
+    method_start ts class method >>= λ start. existing ts (start + token)

@@ -33,7 +33,9 @@ abbrev pub at_comma : List Token → ℕ → Bool
 at_comma ts i = has ts i terminals.Comma
 
 abbrev pub more_listed : {A : Type 0} → PartParser A → List Token → A × ℕ → Option (List A × ℕ)
-more_listed part ts x = items_from (suc (length ts)) (behind_comma part) (at_comma ts) x.1 >>= λ y. when (has ts y.1 terminals.RightParenthesis) (Some (x.0 ∷ y.0, y.1 + 1))
+more_listed part ts x =
+    items_from (suc (length ts)) (behind_comma part) (at_comma ts) x.1
+    >>= λ y. when (has ts y.1 terminals.RightParenthesis) (Some (x.0 ∷ y.0, y.1 + 1))
 
 -- parts with a comma between each two, and the parenthesis that closes them
 unfoldable pub listed_at : {A : Type 0} → PartParser A → List Token → ℕ → Option (List A × ℕ)
@@ -42,8 +44,8 @@ listed_at part ts i =
     then Some ([], i + 1)
     else (part i >>= more_listed part ts)
 
--- What a function returned, seen by view, is what reading finds; a refusal says that it finds nothing, unless memory
--- ran out.
+-- What a function returned, seen by view, is what reading finds; a refusal says that it finds
+-- nothing, unless memory ran out.
 abbrev pub Fails : {A : Type 0} → ParseFault → Option A → Type 0
 Fails OutOfMemory found = Unit {0}
 Fails (NotAFile k) found = found ≡ None

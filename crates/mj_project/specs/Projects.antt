@@ -44,7 +44,8 @@ IsRepeated names k name = Contains (take k names) name
 pub record IsProject (files : List SourceFile) : Type 0 where
   pub size : HasProjectSize files
   pub names : All IsFileName (names_of files)
-  pub distinct : (k : ℕ) (name : List ℕ) → slice_get (names_of files) k ≡ Some name → IsRepeated (names_of files) k name → ⊥
+  pub distinct : (k : ℕ) (name : List ℕ) → slice_get (names_of files) k ≡ Some name
+      → IsRepeated (names_of files) k name → ⊥
 
 -- ---- refusals
 
@@ -53,12 +54,16 @@ pub record IsFirst (Holds : ℕ → List ℕ → Type 0) (names : List (List ℕ
   pub name : List ℕ
   pub here : slice_get names i ≡ Some name
   pub holds : Holds i name
-  pub none_before : (k : ℕ) (earlier : List ℕ) → k < i → slice_get names k ≡ Some earlier → Holds k earlier → ⊥
+  pub none_before : (k : ℕ) (earlier : List ℕ) → k < i → slice_get names k ≡ Some earlier
+      → Holds k earlier → ⊥
 
 -- Why files are no project: the first of these reasons, in this order.
 abbrev pub Refuses : List SourceFile → ProjectFault → Type 0
 Refuses files NoFiles = files ≡ []
 Refuses files TooManyFiles = most_files < length files
-Refuses files (BadFileName i) = HasProjectSize files × IsFirst (λ k name. IsFileName name → ⊥) (names_of files) i
-Refuses files (RepeatedFile i) = HasProjectSize files × All IsFileName (names_of files) × IsFirst (IsRepeated (names_of files)) (names_of files) i
+Refuses files (BadFileName i) =
+    HasProjectSize files × IsFirst (λ k name. IsFileName name → ⊥) (names_of files) i
+Refuses files (RepeatedFile i) =
+    HasProjectSize files × All IsFileName (names_of files)
+    × IsFirst (IsRepeated (names_of files)) (names_of files) i
 Refuses files OutOfMemory = ⊥

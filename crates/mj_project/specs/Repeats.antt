@@ -9,7 +9,8 @@ is_in names name = list_any (λ n. bytes_eq n name) names
 
 abbrev pub repeats_behind : List (List ℕ) → List (List ℕ) → List Bool
 repeats_behind before [] = []
-repeats_behind before (name ∷ names) = is_in before name ∷ repeats_behind (before ++ name ∷ []) names
+repeats_behind before (name ∷ names) =
+    is_in before name ∷ repeats_behind (before ++ name ∷ []) names
 
 -- for each name, whether it stands before itself
 unfoldable pub repeats : List (List ℕ) → List Bool

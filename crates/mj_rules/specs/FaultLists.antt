@@ -66,7 +66,8 @@ repeated_class None number = []
 repeated_class (Some f) number = fault (places.ClassOf f.name number) E104 ∷ []
 
 abbrev pub repeated_class_faults : List SourceFile → ℕ → Bool → ClassDecl → List Diagnostic
-repeated_class_faults files n repeated d = if repeated then repeated_class (slice_get files d.file) d.number else []
+repeated_class_faults files n repeated d =
+    if repeated then repeated_class (slice_get files d.file) d.number else []
 
 abbrev pub class_names : List ClassDecl → List Name
 class_names cs = map (λ k. k.name) cs
@@ -74,7 +75,9 @@ class_names cs = map (λ k. k.name) cs
 unfoldable pub project_faults : List SourceFile → List Diagnostic
 project_faults files =
     files_faults false files
-    ++ (each_numbered (repeated_class_faults files) 0 (classes_in files) (repeats (class_names (classes_in files))) ++ when_fault (not (any_main files)) places.Project E102)
+    ++ (each_numbered (repeated_class_faults files) 0 (classes_in files)
+        (repeats (class_names (classes_in files)))
+    ++ when_fault (not (any_main files)) places.Project E102)
 
 -- ---- a class
 
@@ -133,7 +136,8 @@ nearest_sig ks m = option_map (λ found. sig_of found.1) (nearest (own_method m)
 
 -- what is wrong with a method, where these are the methods of the rest of the chain by their names
 abbrev pub method_faults_of : (Name → Option Sig) → ℕ → Bool → Method → List Diagnostic
-method_faults_of overridden n repeated m = if repeated then fault (places.Method n) E204 ∷ [] else override_faults n m (overridden m.name)
+method_faults_of overridden n repeated m =
+    if repeated then fault (places.Method n) E204 ∷ [] else override_faults n m (overridden m.name)
 
 abbrev pub field_names : ClassDecl → List Name
 field_names k = map (λ f. f.name) k.fields
@@ -143,8 +147,11 @@ method_names k = map (λ m. m.name) k.methods
 
 unfoldable pub declaration_faults : List ClassDecl → ClassDecl → List Diagnostic
 declaration_faults cs k =
-    superclass_faults cs k.superclass ++ (chain_faults (chain_of cs k.name) ++ (each_numbered (field_faults cs) 0 k.fields (repeats (field_names k))
-    ++ each_numbered (method_faults_of (nearest_sig (rest_of cs k.name))) 0 k.methods (repeats (method_names k))))
+    superclass_faults cs k.superclass
+        ++ (chain_faults (chain_of cs k.name)
+        ++ (each_numbered (field_faults cs) 0 k.fields (repeats (field_names k))
+    ++ each_numbered (method_faults_of (nearest_sig (rest_of cs k.name))) 0 k.methods
+        (repeats (method_names k))))
 
 -- ---- bodies
 
@@ -153,7 +160,8 @@ abbrev pub inside : Name → List Mistake → List Diagnostic
 inside m mistakes = map (λ x. fault (places.Inside m x.mark) x.code) mistakes
 
 abbrev pub body_faults_of : List ClassDecl → Name → ℕ → Bool → Method → List Diagnostic
-body_faults_of cs c n repeated m = if repeated then [] else inside m.name (method_faults (world_of cs) c m)
+body_faults_of cs c n repeated m =
+    if repeated then [] else inside m.name (method_faults (world_of cs) c m)
 
 abbrev pub main_method_faults : List ClassDecl → ClassDecl → Option Statement → List Diagnostic
 main_method_faults cs k None = []

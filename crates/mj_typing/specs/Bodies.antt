@@ -21,7 +21,8 @@ variables_of m = m.formals ++ m.locals
 abbrev pub return_type_mark : ℕ
 return_type_mark = 1
 
--- a variable's name stands behind its type, of which `int[]` has three tokens; no number of a token is above 2 ^ 64 - 1
+-- a variable's name stands behind its type, of which `int[]` has three tokens; no number of a token
+-- is above 2 ^ 64 - 1
 abbrev pub name_mark : Variable → ℕ
 name_mark v = min (v.mark + type_len v.ty) (2 ^ 64 - 1)
   where
@@ -57,7 +58,8 @@ MainFault w m x = FaultInSome w (main_phrases m) x
 
 -- behind these mistakes, that a type at the mark is an undeclared class
 abbrev pub add_undeclared : World → List Mistake → ℕ → Ty → List Mistake
-add_undeclared w mistakes mark (ty.Class c) = if w.is_declared c then mistakes else mistakes ++ record { mark = mark; code = E206 } ∷ []
+add_undeclared w mistakes mark (ty.Class c) =
+    if w.is_declared c then mistakes else mistakes ++ record { mark = mark; code = E206 } ∷ []
 add_undeclared w mistakes mark ty.Int = mistakes
 add_undeclared w mistakes mark ty.Boolean = mistakes
 add_undeclared w mistakes mark ty.IntArray = mistakes
@@ -69,7 +71,9 @@ add_undeclared_each w mistakes (v ∷ vs) =
 
 -- that a variable's name stands before it
 abbrev pub add_repeated : List Mistake → List Variable → Variable → List Mistake
-add_repeated mistakes before v = if has_name before v.name then mistakes ++ record { mark = name_mark v; code = E207 } ∷ [] else mistakes
+add_repeated mistakes before v =
+    if has_name before v.name then mistakes
+    ++ record { mark = name_mark v; code = E207 } ∷ [] else mistakes
 
 abbrev pub add_repeated_each : List Mistake → List Variable → List Variable → List Mistake
 add_repeated_each mistakes before [] = mistakes
@@ -79,7 +83,9 @@ add_repeated_each mistakes before (v ∷ vs) =
 abbrev pub method_faults : World → Name → Method → List Mistake
 method_faults w class m =
     let repeated = add_repeated_each [] [] (variables_of m) in
-    let undeclared = add_undeclared_each w (add_undeclared_each w (add_undeclared w repeated return_type_mark m.returns) m.formals) m.locals in
+    let undeclared =
+        add_undeclared_each w (add_undeclared_each w
+            (add_undeclared w repeated return_type_mark m.returns) m.formals) m.locals in
     add_each w undeclared (method_phrases class m)
 
 abbrev pub main_faults : World → Main → List Mistake
@@ -89,7 +95,9 @@ main_faults w m = add_each w [] (main_phrases m)
 
 -- a class type is asked for
 abbrev pub type_step : ℕ → Ty → List Mistake → (List Mistake → Check) → Check
-type_step mark (ty.Class c) mistakes next = AsksDeclared c (λ declared. next (if declared then mistakes else mistakes ++ record { mark = mark; code = E206 } ∷ []))
+type_step mark (ty.Class c) mistakes next =
+    AsksDeclared c (λ declared. next
+        (if declared then mistakes else mistakes ++ record { mark = mark; code = E206 } ∷ []))
 type_step mark ty.Int mistakes next = next mistakes
 type_step mark ty.Boolean mistakes next = next mistakes
 type_step mark ty.IntArray mistakes next = next mistakes

@@ -9,7 +9,8 @@ use Rattle.mj_tree.specs.declared.tree.Variable.{Variable}
 use Rattle.mj_typing.specs.Inquiries.{World, Sig}
 use Rattle.mj_typing.specs.Table.{Scope, method_scope, main_scope}
 
--- the first type is accepted by the second: they are equal, or the second class stands in the chain of the first
+-- the first type is accepted by the second: they are equal, or the second class stands in the chain
+-- of the first
 abbrev pub Accepted : World → Ty → Ty → Type 0
 Accepted w t u =
     (t ≡ u) ⊎ ((c d : Name) × (t ≡ ty.Class c) × (u ≡ ty.Class d) × (w.descends c d ≡ true))
@@ -23,7 +24,8 @@ abbrev pub IsNoLocal : List Variable → Name → Type 0
 IsNoLocal [] x = Unit {0}
 IsNoLocal (v ∷ vs) x = (v.name ≢ x) × IsNoLocal vs x
 
--- the name is a formal or a local of this type, or else a field of it that the class has; nothing in main
+-- the name is a formal or a local of this type, or else a field of it that the class has; nothing
+-- in main
 abbrev pub IsVariable : World → Scope → Name → Ty → Type 0
 IsVariable w s x t =
     IsLocal s.variables x t

@@ -147,12 +147,14 @@ finding_of mistakes mark verdict = record {
 }
 
 -- where all parts have types the phrase's demands are asked in their order
-abbrev pub own_step : ℕ → (List Ty → Inquiry Verdict) → Finding (List Ty) → (Finding Ty → Check) → Check
+abbrev pub own_step : ℕ → (List Ty → Inquiry Verdict) → Finding (List Ty) → (Finding Ty → Check)
+    → Check
 own_step mark row found next = of_types found.type
   where
     of_types : Option (List Ty) → Check
     of_types None = next (record { type = None; mistakes = found.mistakes })
-    of_types (Some ts) = and_then (row ts) (λ verdict. next (finding_of found.mistakes mark verdict))
+    of_types (Some ts) =
+        and_then (row ts) (λ verdict. next (finding_of found.mistakes mark verdict))
 
 -- the parts in their order, then the phrase
 unfoldable mutual
@@ -163,4 +165,6 @@ unfoldable mutual
   pub parts_step : Phrases → List Mistake → (Finding (List Ty) → Check) → Check
   parts_step nothing mistakes next = next (record { type = Some []; mistakes = mistakes })
   parts_step (part p ps) mistakes next =
-      phrase_step p mistakes (λ first. parts_step ps first.mistakes (λ others. next (record { type = and_type first.type others.type; mistakes = others.mistakes })))
+      phrase_step p mistakes (λ first. parts_step ps first.mistakes
+          (λ others. next (record { type = and_type first.type others.type;
+          mistakes = others.mistakes })))

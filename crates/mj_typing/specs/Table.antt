@@ -13,7 +13,8 @@ use Rattle.mj_typing.specs.Types.{is_same, is_int, is_boolean, is_int_array, cla
 use Rattle.mj_typing.specs.Inquiries.{Sig, Inquiry, Concludes, AsksDescent, AsksField, AsksMethod, AsksDeclared, and_then}
 use Rattle.mj_typing.specs.Phrases.{demand, demand_asked, demand_some, is, fine, Phrase, Phrases, phrase, nothing, part}
 
--- where a phrase stands: in a method of a class, whose formals and locals are these, or in main, which has neither
+-- where a phrase stands: in a method of a class, whose formals and locals are these, or in main,
+-- which has neither
 pub record Scope : Type 0 where
   pub class : Option Name
   pub variables : List Variable
@@ -36,13 +37,15 @@ accepts ty.IntArray wanted = Concludes (is_int_array wanted)
 accepts (ty.Class c) ty.Int = Concludes false
 accepts (ty.Class c) ty.Boolean = Concludes false
 accepts (ty.Class c) ty.IntArray = Concludes false
-accepts (ty.Class c) (ty.Class d) = if is_same c d then Concludes true else AsksDescent c d (λ descends. Concludes descends)
+accepts (ty.Class c) (ty.Class d) =
+    if is_same c d then Concludes true else AsksDescent c d (λ descends. Concludes descends)
 
 -- each is accepted by its formal, up to the first that isn't
 unfoldable pub accepts_all : List Ty → List Ty → Inquiry Bool
 accepts_all [] us = Concludes true
 accepts_all (t ∷ ts) [] = Concludes true
-accepts_all (t ∷ ts) (u ∷ us) = and_then (accepts t u) (λ ok. if ok then accepts_all ts us else Concludes false)
+accepts_all (t ∷ ts) (u ∷ us) =
+    and_then (accepts t u) (λ ok. if ok then accepts_all ts us else Concludes false)
 
 -- ---- what an expression comes to, by the types of its immediate expressions
 
@@ -51,7 +54,8 @@ literal value = demand (nat_le value 2147483647) E315 (is ty.Int)
 
 abbrev pub local_or_field : Option Ty → Option Name → Name → Inquiry Verdict
 local_or_field (Some t) class x = is t
-local_or_field None class x = demand_some class E303 (λ c. AsksField c x (λ field. demand_some field E303 is))
+local_or_field None class x =
+    demand_some class E303 (λ c. AsksField c x (λ field. demand_some field E303 is))
 
 unfoldable pub variable : Scope → Name → Inquiry Verdict
 variable scope x = local_or_field (local_of scope.variables x) scope.class x
@@ -86,7 +90,8 @@ arguments s ts =
 
 unfoldable pub call : Name → Ty → List Ty → Inquiry Verdict
 call m a ts =
-    demand_some (class_in a) E310 (λ c. AsksMethod c m (λ method. demand_some method E311 (λ s. arguments s ts)))
+    demand_some (class_in a) E310 (λ c. AsksMethod c m
+        (λ method. demand_some method E311 (λ s. arguments s ts)))
 
 unfoldable pub new_array : Ty → Inquiry Verdict
 new_array a = demand (is_int a) E314 (is ty.IntArray)

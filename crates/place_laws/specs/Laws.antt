@@ -22,8 +22,9 @@ pub record MethodTokens (ts : List Token) (m : Part Method) : Type 0 where
   pub within : m.at + method_size m.item ≤ length ts
   pub marks : MethodMarksBelow (method_size m.item) m.item
 
--- The class with this number was derived where it stands. Its token, and those of its fields and methods, are their
--- names; a token in a method is counted from the `public` of the first method of that name.
+-- The class with this number was derived where it stands. Its token, and those of its fields and
+-- methods, are their names; a token in a method is counted from the `public` of the first method of
+-- that name.
 pub record ClassTokens (ts : List Token) (number : ℕ) (c : Part Class) : Type 0 where
   pub derived : IsClass ts c.at c.item
   pub class : IsNameFound ts (token_of ts number place.Class) (class_name_place c) c.item.name
@@ -39,8 +40,9 @@ pub record ClassTokens (ts : List Token) (number : ℕ) (c : Part Class) : Type 
       → token_of ts number (place.Inside name n)
       ≡ (method_named name (method_parts c) >>= λ m. existing ts (m.at + n))
 
--- The main class has number 0 and its name at place 1. Its only method, `main`, begins at place 3 by
--- `public static void main`; each mark in its statement is the number of one of the tokens from there on.
+-- The main class has number 0 and its name at place 1. Its only method, `main`, begins at place 3
+-- by `public static void main`; each mark in its statement is the number of one of the tokens from
+-- there on.
 pub record MainTokens (ts : List Token) (m : Main) : Type 0 where
   pub class : IsNameFound ts (token_of ts 0 place.Class) 1 m.name
   pub method : IsNameFound ts (token_of ts 0 (place.Method 0)) (3 + 3) (codes "main")

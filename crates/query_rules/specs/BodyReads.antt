@@ -1,5 +1,5 @@
--- Which keys the check of a body reads, in the words of its text. Where a phrase has a part without a type, the phrase
--- itself reads nothing.
+-- Which keys the check of a body reads, in the words of its text. Where a phrase has a part without
+-- a type, the phrase itself reads nothing.
 use Rattle.std.specs.Prelude.{length, nat_eq, List, [], ◌∷◌, ◌++◌, flat_map, Option, Some, None, if◌then◌else◌}
 use Rattle.item_ids.specs.declared.key.Key.{Key}
 use Rattle.item_ids.specs.declared.key.Key.TheVariants as keys
@@ -29,7 +29,8 @@ field_reads None (Some c) = keys.Members c ∷ []
 abbrev pub name_reads : Scope → Name → List Key
 name_reads s x = field_reads (local_of s.variables x) s.class
 
--- a value of one type where another is wanted: the chain of its class, where both are classes and differ
+-- a value of one type where another is wanted: the chain of its class, where both are classes and
+-- differ
 abbrev pub accept_reads : Ty → Ty → List Key
 accept_reads (types.Class c) (types.Class d) = if is_same c d then [] else keys.Supers c ∷ []
 accept_reads t u = []
@@ -49,7 +50,8 @@ arguments_reads w (t ∷ ts) (u ∷ us) =
 -- where the method is there and the count is right
 abbrev pub called_reads : World → List Ty → Option Sig → List Key
 called_reads w ts None = []
-called_reads w ts (Some s) = if nat_eq (length ts) (length s.formals) then arguments_reads w ts s.formals else []
+called_reads w ts (Some s) =
+    if nat_eq (length ts) (length s.formals) then arguments_reads w ts s.formals else []
 
 -- a call on a class: its members, then the arguments
 abbrev pub call_reads : World → Name → Option Ty → Option (List Ty) → List Key
@@ -61,7 +63,8 @@ abbrev mutual
   pub exp_reads : World → Scope → Expression → List Key
   exp_reads w s (Named mark x) = name_reads s x
   exp_reads w s (Call mark e m es) =
-      exp_reads w s e ++ (exps_reads w s es ++ call_reads w m (type_of w (phrase_of s e)) (types_of w (phrases_of s es)))
+      exp_reads w s e ++ (exps_reads w s es
+          ++ call_reads w m (type_of w (phrase_of s e)) (types_of w (phrases_of s es)))
   exp_reads w s (NewObject mark c) = keys.Header c ∷ []
   exp_reads w s (Parenthesized mark e) = exp_reads w s e
   exp_reads w s (Not mark e) = exp_reads w s e
@@ -81,12 +84,15 @@ abbrev mutual
 abbrev mutual
   pub statement_reads : World → Scope → Statement → List Key
   statement_reads w s (Block mark ss) = statements_reads w s ss
-  statement_reads w s (If mark e a b) = exp_reads w s e ++ (statement_reads w s a ++ statement_reads w s b)
+  statement_reads w s (If mark e a b) =
+      exp_reads w s e ++ (statement_reads w s a ++ statement_reads w s b)
   statement_reads w s (While mark e a) = exp_reads w s e ++ statement_reads w s a
   statement_reads w s (Print mark e) = exp_reads w s e
   statement_reads w s (Assign mark x x_mark e) =
-      name_reads s x ++ (exp_reads w s e ++ value_reads (type_of w (phrase_of s e)) (type_of w (name_phrase s x_mark x)))
-  statement_reads w s (Store mark x x_mark i e) = name_reads s x ++ (exp_reads w s i ++ exp_reads w s e)
+      name_reads s x ++ (exp_reads w s e
+          ++ value_reads (type_of w (phrase_of s e)) (type_of w (name_phrase s x_mark x)))
+  statement_reads w s (Store mark x x_mark i e) =
+      name_reads s x ++ (exp_reads w s i ++ exp_reads w s e)
 
   pub statements_reads : World → Scope → Statements → List Key
   statements_reads w s done = []
@@ -103,7 +109,8 @@ types_reads vs = flat_map (λ v. type_reads v.ty) vs
 abbrev pub method_reads : World → Name → Method → List Key
 method_reads w c m =
     type_reads m.returns ++ (types_reads m.formals ++ (types_reads m.locals
-    ++ (statements_reads w (method_scope c m) m.body ++ return_reads w (method_scope c m) m.returns m.returned)))
+    ++ (statements_reads w (method_scope c m) m.body
+    ++ return_reads w (method_scope c m) m.returns m.returned)))
 
 -- a body of a class
 abbrev pub body_reads : World → Name → Option BodyValue → List Key

@@ -48,7 +48,9 @@ abbrev pub index_of : Project → List IndexRow
 index_of p = map (index_row p) (first_classes (classes_in p))
 
 abbrev pub header_of : ClassDecl → HeaderValue
-header_of k = record { is_main = is_some k.main; superclass = k.superclass; fields = k.fields; methods = method_names k }
+header_of k =
+    record { is_main = is_some k.main; superclass = k.superclass; fields = k.fields;
+    methods = method_names k }
 
 abbrev pub end_value : EndOf → ChainEnd
 end_value chains.Top = ends.Top
@@ -74,12 +76,14 @@ body_at p c m = option_and_then (body_in m) (class_at p c)
 -- the types of a method; the statement of main has none
 abbrev pub signature_of : BodyValue → Option SignatureValue
 signature_of (OfMain statement) = None
-signature_of (OfMethod m) = Some (record { formals = map (λ v. v.ty) m.formals; returns = m.returns })
+signature_of (OfMethod m) =
+    Some (record { formals = map (λ v. v.ty) m.formals; returns = m.returns })
 
 -- the mistakes in a body of a class
 abbrev pub mistakes_in : World → Name → Option BodyValue → List Mistake
 mistakes_in w c None = []
-mistakes_in w c (Some (OfMain statement)) = main_faults w (record { name = c; statement = statement })
+mistakes_in w c (Some (OfMain statement)) =
+    main_faults w (record { name = c; statement = statement })
 mistakes_in w c (Some (OfMethod m)) = method_faults w c m
 
 -- ---- faults

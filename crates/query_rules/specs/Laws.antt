@@ -12,7 +12,8 @@ use Rattle.query_rules.specs.Reads.{reads}
 pub record QueryLaws : Type 0 where
   -- the inputs are the names and the bytes of the files, and read nothing
   pub files : (p : Project) → mean p keys.Files ≡ values.Files (names_of p)
-  pub source : (p : Project) (file : List ℕ) → mean p (keys.Source file) ≡ values.Source (bytes_at p file)
+  pub source : (p : Project) (file : List ℕ)
+      → mean p (keys.Source file) ≡ values.Source (bytes_at p file)
   pub no_reads : (p : Project) (q : Key) → rank q ≡ 0 → reads p q ≡ []
   -- each key has a value of its kind, and reads keys of lower rank, none twice
   pub kind : (p : Project) (q : Key) → IsOfKind q (mean p q)

@@ -70,7 +70,9 @@ answer_parts k = keys.Members k.name ∷ keys.Diags k.name ∷ []
 
 abbrev pub class_check_reads : Project → Name → Option ClassDecl → List Key
 class_check_reads p c None = []
-class_check_reads p c (Some k) = keys.Supers c ∷ (field_headers k.fields ++ overriding k.methods (chain_names (chain_of (classes_in p) c)))
+class_check_reads p c (Some k) =
+    keys.Supers c ∷ (field_headers k.fields
+    ++ overriding k.methods (chain_names (chain_of (classes_in p) c)))
 
 abbrev pub diagnosis_reads : Name → Option ClassDecl → List Key
 diagnosis_reads c None = []
@@ -90,9 +92,12 @@ asked_keys p (keys.Sig c m) = keys.Method c m ∷ []
 asked_keys p (keys.Supers c) = keys.Index ∷ chain_headers p c
 asked_keys p (keys.Members c) = keys.Supers c ∷ (chain_headers p c ++ signatures p c)
 asked_keys p (keys.CheckClass c) = keys.Header c ∷ class_check_reads p c (class_at p c)
-asked_keys p (keys.CheckBody c m) = keys.Method c m ∷ body_reads (world_of (classes_in p)) c (body_at p c m)
+asked_keys p (keys.CheckBody c m) =
+    keys.Method c m ∷ body_reads (world_of (classes_in p)) c (body_at p c m)
 asked_keys p (keys.Diags c) = keys.Header c ∷ diagnosis_reads c (class_at p c)
-asked_keys p keys.Answer = keys.Files ∷ (all_trees p ++ (keys.Index ∷ flat_map answer_parts (first_classes (classes_in p))))
+asked_keys p keys.Answer =
+    keys.Files ∷ (all_trees p ++ (keys.Index
+    ∷ flat_map answer_parts (first_classes (classes_in p))))
 
 -- each key where it stands first, but for those seen
 abbrev pub firsts : List Key → List Key → List Key

@@ -7,8 +7,8 @@ use Rattle.recorder.specs.Programs.{Prog, runs, asks, Fits}
 use Rattle.query_rules.specs.Meaning.{mean}
 use Rattle.query_rules.specs.Reads.{reads}
 
--- Where the other queries have their values, the program of q gives q its value and asks what q reads. Whatever the
--- answers, it asks keys of lower rank than q and gives a value of its kind.
+-- Where the other queries have their values, the program of q gives q its value and asks what q
+-- reads. Whatever the answers, it asks keys of lower rank than q and gives a value of its kind.
 pub record Ties (q : Key) (prog : Prog) : Type 0 where
   pub means : (p : Project) → IsProject p → mean p q ≡ runs prog (mean p)
   pub asked : (p : Project) → IsProject p → reads p q ≡ asks prog (mean p) []

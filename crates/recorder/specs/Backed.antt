@@ -41,8 +41,8 @@ NoneTwice key (x ∷ xs) = AllByRecursion (λ y. key y ≢ key x) xs × NoneTwic
 abbrev pub Alike : (Key → Value) → (Key → Value) → List Key → Type 0
 Alike m n ks = AllByRecursion (λ k. m k ≡ n k) ks
 
--- Where p by one pair of meaning and reads and r by another agree on the first i reads of q in p, these
--- are its first reads in r too, and both lists end there or go on with the same key.
+-- Where p by one pair of meaning and reads and r by another agree on the first i reads of q in p,
+-- these are its first reads in r too, and both lists end there or go on with the same key.
 abbrev pub NextAlike
     : Meaning → ReadLists → Meaning → ReadLists → Project → Project → Key → ℕ → Type 0
 NextAlike m l n k p r q i =
@@ -55,21 +55,23 @@ ValueAlike m l n k p r q =
     IsProject p → IsProject r → 0 < rank q → Alike (m p) (n r) (l p q) → m p q ≡ n r q
 
 -- what two pairs of meaning and reads keep at a key
-pub record ReadLaws (m : Meaning) (l : ReadLists) (n : Meaning) (k : ReadLists) (q : Key) : Type 0 where
+pub record ReadLaws (m : Meaning) (l : ReadLists) (n : Meaning) (k : ReadLists)
+    (q : Key) : Type 0 where
   pub next : (p r : Project) (i : ℕ) → NextAlike m l n k p r q i
   pub same : (p r : Project) → ValueAlike m l n k p r q
 
 pub record RunnerLaws (mean : Meaning) (reads : ReadLists) : Type 0 where
   -- the inputs are the names and the bytes of the files, and read nothing
   pub files : (p : Project) → IsProject p → mean p Files ≡ values.Files (names_of p)
-  pub source : (p : Project) (file : List ℕ) → IsProject p → mean p (Source file) ≡ values.Source (bytes_at p file)
+  pub source : (p : Project) (file : List ℕ) → IsProject p
+      → mean p (Source file) ≡ values.Source (bytes_at p file)
   pub no_reads : (p : Project) (q : Key) → IsProject p → rank q ≡ 0 → reads p q ≡ []
   -- each key has a value of its kind, and reads keys of lower rank, none twice
   pub kind : (p : Project) (q : Key) → IsProject p → IsOfKind q (mean p q)
   pub lower : (p : Project) (q : Key) → IsProject p → AreLower q (reads p q)
   pub once : (p : Project) (q : Key) → IsProject p → NoneTwice (λ k. k) (reads p q)
-  -- two projects that agree on what a key reads first read alike, and where they agree on all reads of
-  -- it, they have one value
+  -- two projects that agree on what a key reads first read alike, and where they agree on all reads
+  -- of it, they have one value
   pub next : (p r : Project) (q : Key) (i : ℕ) → NextAlike mean reads mean reads p r q i
   pub same : (p r : Project) (q : Key) → ValueAlike mean reads mean reads p r q
 
@@ -102,15 +104,19 @@ BeginsWith front all = (rest : List Key) × (front ++ rest ≡ all)
 
 -- each key is the next read of q in every project that gives the answers before it
 abbrev pub Asked : Meaning → ReadLists → Key → List ReadValue → Type 0
-Asked mean reads q told = (i : ℕ) → i < length told → (p : Project) → Gives mean p (take i told) → BeginsWith (keys (take (suc i) told)) (reads p q)
+Asked mean reads q told =
+    (i : ℕ) → i < length told → (p : Project) → Gives mean p (take i told)
+    → BeginsWith (keys (take (suc i) told)) (reads p q)
 
 -- k is the next read of q in every project that gives these answers
 abbrev pub IsNext : Meaning → ReadLists → Key → List ReadValue → Key → Type 0
-IsNext mean reads q told k = (p : Project) → Gives mean p told → BeginsWith (keys told ++ k ∷ []) (reads p q)
+IsNext mean reads q told k =
+    (p : Project) → Gives mean p told → BeginsWith (keys told ++ k ∷ []) (reads p q)
 
--- v follows from these reads: in every project that gives their answers they are the reads of q, one after the other,
--- and v is its value
-pub record Backed (mean : Meaning) (reads : ReadLists) (q : Key) (told : List ReadValue) (v : Value) : Type 0 where
+-- v follows from these reads: in every project that gives their answers they are the reads of q,
+-- one after the other, and v is its value
+pub record Backed (mean : Meaning) (reads : ReadLists) (q : Key) (told : List ReadValue)
+    (v : Value) : Type 0 where
   pub asked : Asked mean reads q told
   pub whole : (p : Project) → Gives mean p told → reads p q ≡ keys told
   pub means : (p : Project) → Gives mean p told → mean p q ≡ v

@@ -32,7 +32,8 @@ is_seen (x ∷ xs) k = if is_eq (key_cmp x k) then true else is_seen xs k
 -- the keys that are asked after those seen, each where it is asked first
 unfoldable pub asks : Prog → (Key → Value) → List Key → List Key
 asks (Ret v) m seen = []
-asks (Ask k f) m seen = if is_seen seen k then asks (f (m k)) m seen else k ∷ asks (f (m k)) m (seen ++ k ∷ [])
+asks (Ask k f) m seen =
+    if is_seen seen k then asks (f (m k)) m seen else k ∷ asks (f (m k)) m (seen ++ k ∷ [])
 
 -- whatever the answers, keys of lower rank than q are asked and a value of q's kind comes out
 unfoldable pub Fits : Key → Prog → Type 0
@@ -42,10 +43,13 @@ Fits q (Ask k f) = (rank k < rank q) × ((v : Value) → Fits q (f v))
 -- The values and the reads of the keys that are no inputs are those of their programs.
 pub record Tied (prog_of : Key → Prog) (mean : Meaning) (reads : ReadLists) : Type 0 where
   pub files : (p : Project) → IsProject p → mean p Files ≡ values.Files (names_of p)
-  pub source : (p : Project) (file : List ℕ) → IsProject p → mean p (Source file) ≡ values.Source (bytes_at p file)
+  pub source : (p : Project) (file : List ℕ) → IsProject p
+      → mean p (Source file) ≡ values.Source (bytes_at p file)
   pub no_reads : (p : Project) (q : Key) → IsProject p → rank q ≡ 0 → reads p q ≡ []
-  pub means : (p : Project) (q : Key) → IsProject p → 0 < rank q → mean p q ≡ runs (prog_of q) (mean p)
-  pub asked : (p : Project) (q : Key) → IsProject p → 0 < rank q → reads p q ≡ asks (prog_of q) (mean p) []
+  pub means : (p : Project) (q : Key) → IsProject p → 0 < rank q
+      → mean p q ≡ runs (prog_of q) (mean p)
+  pub asked : (p : Project) (q : Key) → IsProject p → 0 < rank q
+      → reads p q ≡ asks (prog_of q) (mean p) []
   pub fits : (q : Key) → 0 < rank q → Fits q (prog_of q)
 
 -- ---- how far a run has come
@@ -53,8 +57,12 @@ pub record Tied (prog_of : Key → Prog) (mean : Meaning) (reads : ReadLists) : 
 -- after these first reads the program stands at the last one
 pub data Reached (prog : Prog) : List ReadValue → Prog → Type 0 where
   Start : Reached prog [] prog
-  Again : (told : List ReadValue) (k : Key) (f : Value → Prog) (v : Value) → Reached prog told (Ask k f) → Contains told (record { key = k; value = v }) → Reached prog told (f v)
-  First : (told : List ReadValue) (k : Key) (f : Value → Prog) (v : Value) → Reached prog told (Ask k f) → IsUnread k told → Reached prog (told ++ record { key = k; value = v } ∷ []) (f v)
+  Again : (told : List ReadValue) (k : Key) (f : Value → Prog) (v : Value)
+      → Reached prog told (Ask k f) → Contains told (record { key = k; value = v })
+      → Reached prog told (f v)
+  First : (told : List ReadValue) (k : Key) (f : Value → Prog) (v : Value)
+      → Reached prog told (Ask k f) → IsUnread k told
+      → Reached prog (told ++ record { key = k; value = v } ∷ []) (f v)
 
 -- with this recorder a run of prog stands at p
 pub record Stands {D : Type 0} (prog : Prog) (r : Recording D) (p : Prog) : Type 0 where
@@ -75,15 +83,18 @@ pub record Halts {D : Type 0} (prog : Prog) (e : RunFault) (r : Recording D) : T
 -- ---- steps: parts of a program, which go on with the value that they give
 
 -- Whatever program begins with the step stands behind it, with its value x.
-pub record Goes {X D : Type 0} (step : (X → Prog) → Prog) (old : Recording D) (x : X) (new : Recording D) : Type 0 where
+pub record Goes {X D : Type 0} (step : (X → Prog) → Prog) (old : Recording D) (x : X)
+    (new : Recording D) : Type 0 where
   pub goes : (prog : Prog) (k : X → Prog) → Stands prog old (step k) → Stands prog new (k x)
 
 -- Whatever program begins with the step has given up in it.
-pub record GivesUp {X D : Type 0} (step : (X → Prog) → Prog) (old : Recording D) (e : RunFault) (new : Recording D) : Type 0 where
+pub record GivesUp {X D : Type 0} (step : (X → Prog) → Prog) (old : Recording D) (e : RunFault)
+    (new : Recording D) : Type 0 where
   pub halts : (prog : Prog) (k : X → Prog) → Stands prog old (step k) → Halts prog e new
 
 -- With a recorder that hadn't read, a step was performed that is the whole of prog.
-pub record Performs {D : Type 0} (prog : Prog) (old : Recording D) (result : Result Value RunFault) (new : Recording D) : Type 0 where
+pub record Performs {D : Type 0} (prog : Prog) (old : Recording D) (result : Result Value RunFault)
+    (new : Recording D) : Type 0 where
   pub unread : old.told ≡ []
   pub unrefused : old.refused ≡ None
   pub step : (Value → Prog) → Prog
@@ -97,5 +108,7 @@ each step [] s k = k s
 each step (a ∷ rest) s k = step a s (λ t. each step rest t k)
 
 -- A loop over xs that began with s at old stands before the item i, with t at new.
-pub record LoopAt {A S D : Type 0} (step : A → S → (S → Prog) → Prog) (xs : List A) (s : S) (old : Recording D) (i : ℕ) (t : S) (new : Recording D) : Type 0 where
-  pub goes : (prog : Prog) (k : S → Prog) → Stands prog old (each step xs s k) → Stands prog new (each step (drop i xs) t k)
+pub record LoopAt {A S D : Type 0} (step : A → S → (S → Prog) → Prog) (xs : List A) (s : S)
+    (old : Recording D) (i : ℕ) (t : S) (new : Recording D) : Type 0 where
+  pub goes : (prog : Prog) (k : S → Prog) → Stands prog old (each step xs s k)
+      → Stands prog new (each step (drop i xs) t k)

@@ -35,7 +35,8 @@ abbrev pub IsByReader : (Key → ReadFault → Type 0) → Key → Refused → T
 IsByReader MayRefuse k r = (r.key ≡ Some k) × (r.fault ≢ OutOfMemory) × MayRefuse k r.fault
 
 -- what a recorder keeps over a reader with these answers and faults
-pub record Keeps (MayAnswer : Key → Value → Type 0) (MayRefuse : Key → ReadFault → Type 0) (told : List ReadValue) (refused : Option Refused) : Type 0 where
+pub record Keeps (MayAnswer : Key → Value → Type 0) (MayRefuse : Key → ReadFault → Type 0)
+    (told : List ReadValue) (refused : Option Refused) : Type 0 where
   pub answers : AllByRecursion (λ t. MayAnswer t.key t.value) told
   pub held : AllByRecursion IsTold told
   pub kinds : AllByRecursion (λ t. IsOfKind t.key t.value) told
@@ -45,18 +46,23 @@ pub record Keeps (MayAnswer : Key → Value → Type 0) (MayRefuse : Key → Rea
 -- ---- a read of k
 
 -- It is answered by v, by what was told before and nothing more, or as one more read.
-pub record Answers {D : Type 0} (old : Recording D) (k : Key) (v : Value) (new : Recording D) : Type 0 where
+pub record Answers {D : Type 0} (old : Recording D) (k : Key) (v : Value)
+    (new : Recording D) : Type 0 where
   pub before : old.refused ≡ None
   pub after : new.refused ≡ None
-  pub told : ((new ≡ old) × Contains old.told (record { key = k; value = v })) ⊎ ((new.told ≡ old.told ++ record { key = k; value = v } ∷ []) × IsUnread k old.told)
+  pub told : ((new ≡ old) × Contains old.told (record { key = k; value = v }))
+      ⊎ ((new.told ≡ old.told ++ record { key = k; value = v } ∷ []) × IsUnread k old.told)
 
 -- It is refused for the first time: memory ran out, or the reader refuses k, which wasn't read.
-pub record RefusesFirst {D : Type 0} (MayRefuse : Key → ReadFault → Type 0) (old : Recording D) (k : Key) (new : Recording D) : Type 0 where
+pub record RefusesFirst {D : Type 0} (MayRefuse : Key → ReadFault → Type 0) (old : Recording D)
+    (k : Key) (new : Recording D) : Type 0 where
   pub before : old.refused ≡ None
-  pub kept : IfSome new.refused (λ r. IsForMemory r ⊎ (IsByReader MayRefuse k r × IsUnread k old.told))
+  pub kept : IfSome new.refused (λ r. IsForMemory r
+      ⊎ (IsByReader MayRefuse k r × IsUnread k old.told))
 
 -- It is refused with f, which is kept, or as a read before it.
-pub record Refuses {D : Type 0} (MayRefuse : Key → ReadFault → Type 0) (old : Recording D) (k : Key) (f : ReadFault) (new : Recording D) : Type 0 where
+pub record Refuses {D : Type 0} (MayRefuse : Key → ReadFault → Type 0) (old : Recording D) (k : Key)
+    (f : ReadFault) (new : Recording D) : Type 0 where
   pub told : new.told ≡ old.told
   pub fault : fault_of new ≡ Some f
   pub since : (new ≡ old) ⊎ RefusesFirst MayRefuse old k new

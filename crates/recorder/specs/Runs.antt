@@ -13,7 +13,8 @@ use Rattle.recorder.specs.declared.runner.RunFault.TheVariants.{Read, OutOfMemor
 
 -- the key that is kept of a refused read is the next read of q, and of lower rank
 abbrev pub IsNextRefused : Meaning → ReadLists → Key → {D : Type 0} → Recording D → Type 0
-IsNextRefused mean reads q r = IfSome (key_of r) (λ k. (rank k < rank q) × IsNext mean reads q r.told k)
+IsNextRefused mean reads q r =
+    IfSome (key_of r) (λ k. (rank k < rank q) × IsNext mean reads q r.told k)
 
 -- a fault of the reader is the one that the recorder keeps
 abbrev pub IsFaultKept : {D : Type 0} → Recording D → RunFault → Type 0
@@ -25,7 +26,8 @@ IsReadFault r (Read f) = fault_of r ≡ Some f
 IsReadFault r OutOfMemory = ⊥
 
 -- a run of q that left this recorder and this result
-pub record IsRun (mean : Meaning) (reads : ReadLists) (q : Key) {D : Type 0} (r : Recording D) (result : Result Value RunFault) : Type 0 where
+pub record IsRun (mean : Meaning) (reads : ReadLists) (q : Key) {D : Type 0} (r : Recording D)
+    (result : Result Value RunFault) : Type 0 where
   -- each key asked, a refused one too, is the next read of q, and of lower rank
   pub asked : Asked mean reads q r.told
   pub lower : AreLower q (keys r.told)

@@ -55,7 +55,10 @@ impl<D: Reader> Recorder<D> {
     /// The first reads in order.
     pub fn reads(&self) -> &[Read]
         ensures value { result.now ≡ self.now.told }
-        ensures keeps { Keeps (D.answers self.now.inner) (D.faults self.now.inner) self.now.told self.now.refused }
+        ensures keeps {
+            Keeps (D.answers self.now.inner) (D.faults self.now.inner) self.now.told
+                self.now.refused
+        }
     {
         self.reads.as_slice()
     }
@@ -117,7 +120,9 @@ impl<D: Reader> Reader for Recorder<D> {
 
         // What is kept of the read.
         ensures ok { IfOk result (λ a. Answers self.old key.now (arc_value a) self.new) }
-        ensures err { IfErr result (λ f. Refuses (D.faults self.new.inner) self.old key.now f self.new) }
+        ensures err {
+            IfErr result (λ f. Refuses (D.faults self.new.inner) self.old key.now f self.new)
+        }
 
         // A key that was read isn't asked again.
         ensures again { IsUnread key.now self.old.told ⊎ (self.new.inner ≡ self.old.inner) }
@@ -153,7 +158,8 @@ fn answer_of<D: Reader>(
         ⊎ ((reads.new ≡ reads.old ++ record { key = key.now; value = arc_value a } ∷ [])
         × IsUnread key.now reads.old)) }
     ensures err { IfErr result (λ r. (reads.new ≡ reads.old)
-        × (IsForMemory r ⊎ (IsByReader (D.faults inner.new) key.now r × IsUnread key.now reads.old))) }
+        × (IsForMemory r ⊎ (IsByReader (D.faults inner.new) key.now r
+        × IsUnread key.now reads.old))) }
     ensures again { IsUnread key.now reads.old ⊎ (inner.new ≡ inner.old) }
     ensures follows { D.follows inner.old inner.new }
 {
@@ -196,7 +202,8 @@ fn first_answer<D: Reader>(
     requires keeps { Keeps (D.answers inner.old) (D.faults inner.old) reads.old None }
     requires unread { IsUnread key.now reads.old }
     ensures keeps { Keeps (D.answers inner.new) (D.faults inner.new) reads.new None }
-    ensures ok { IfOk result (λ a. (reads.new ≡ reads.old ++ record { key = key.now; value = arc_value a } ∷ [])
+    ensures ok { IfOk result (λ a.
+        (reads.new ≡ reads.old ++ record { key = key.now; value = arc_value a } ∷ [])
         × IsOfKind key.now (arc_value a) × D.answers inner.new key.now (arc_value a)) }
     ensures err { IfErr result (λ r. (reads.new ≡ reads.old)
         × (IsForMemory r ⊎ IsByReader (D.faults inner.new) key.now r)) }

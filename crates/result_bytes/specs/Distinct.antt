@@ -23,7 +23,8 @@ not_true true e = absurd cc
 not_true false e = refl
 
 -- a new name isn't among those in front
-absent : (front : List (List ℕ)) (x : List ℕ) → list_any (λ other. bytes_eq other x) front ≡ false → Contains front x → ⊥
+absent : (front : List (List ℕ)) (x : List ℕ) → list_any (λ other. bytes_eq other x) front ≡ false
+    → Contains front x → ⊥
 absent [] x e h = nowhere x h
 absent (y ∷ front) x e h =
     let f = or_false (bytes_eq y x) _ e in
@@ -37,24 +38,34 @@ not_equal a b h true e = absurd (h ((bytes_eq-Decides a b).0 e))
 not_equal a b h false e = refl
 
 -- a name that isn't among those in front is new
-is_absent : (front : List (List ℕ)) (x : List ℕ) → (Contains front x → ⊥) → list_any (λ other. bytes_eq other x) front ≡ false
+is_absent : (front : List (List ℕ)) (x : List ℕ) → (Contains front x → ⊥)
+    → list_any (λ other. bytes_eq other x) front ≡ false
 is_absent [] x h = refl
 is_absent (y ∷ front) x h =
-    rw (not_equal y x (λ same. h (subst (λ (z : List ℕ). Contains (y ∷ front) z) same (Contains-first y front))) (bytes_eq y x) refl) (is_absent front x (λ k. h (Contains-later y front x k)))
+    rw (not_equal y x (λ same. h (subst (λ (z : List ℕ). Contains (y ∷ front) z) same
+        (Contains-first y front))) (bytes_eq y x) refl)
+            (is_absent front x (λ k. h (Contains-later y front x k)))
 
-no_later : (front : List (List ℕ)) (x : List ℕ) (names : List (List ℕ)) → Contains front x → Admitted is_new front names → Contains names x → ⊥
+no_later : (front : List (List ℕ)) (x : List ℕ) (names : List (List ℕ)) → Contains front x
+    → Admitted is_new front names → Contains names x → ⊥
 no_later front x [] k h c = nowhere x c
 no_later front x (y ∷ names) k h c =
     elim (Contains-cases y names x c) [
-      | inl same ↦ absent front y (not_true _ h.0) (subst (λ (z : List ℕ). Contains front z) (sym same) k)
-      | inr later ↦ no_later (front ++ y ∷ []) x names (Contains-append_left front (y ∷ []) x k) h.1 later
+      | inl same ↦
+          absent front y (not_true _ h.0) (subst (λ (z : List ℕ). Contains front z) (sym same) k)
+      | inr later ↦
+          no_later (front ++ y ∷ []) x names (Contains-append_left front (y ∷ []) x k) h.1 later
     ]
 
 pub to_distinct : (front names : List (List ℕ)) → Admitted is_new front names → AreDistinct names
 to_distinct front [] h = tt
-to_distinct front (x ∷ names) h = (λ c. no_later (front ++ x ∷ []) x names (Contains-push front x) h.1 c, to_distinct (front ++ x ∷ []) names h.1)
+to_distinct front (x ∷ names) h =
+    (λ c. no_later (front ++ x ∷ []) x names (Contains-push front x) h.1 c,
+    to_distinct (front ++ x ∷ []) names h.1)
 
-pub from_distinct : (front names : List (List ℕ)) → ((x : List ℕ) → Contains front x → Contains names x → ⊥) → AreDistinct names → Admitted is_new front names
+pub from_distinct : (front names : List (List ℕ))
+    → ((x : List ℕ) → Contains front x → Contains names x → ⊥) → AreDistinct names
+    → Admitted is_new front names
 from_distinct front [] apart h = tt
 from_distinct front (x ∷ names) apart h = (
   ap not (is_absent front x (λ k. apart x k (Contains-first x names))),

@@ -52,7 +52,9 @@ abbrev pub header_value : Bool × (Option (List ℕ) × (List Field × List (Lis
 header_value x = record { is_main = x.0; superclass = x.1.0; fields = x.1.1.0; methods = x.1.1.1 }
 
 unfoldable pub header_at : Decoder HeaderValue
-header_at bytes = made_at header_value (pair_at boolean_at (pair_at (option_at name_at) (pair_at (list_at field_at any) (list_at name_at any)))) bytes
+header_at bytes =
+    made_at header_value (pair_at boolean_at
+        (pair_at (option_at name_at) (pair_at (list_at field_at any) (list_at name_at any)))) bytes
 
 abbrev pub signature_value : List Ty × Ty → SignatureValue
 signature_value x = record { formals = x.0; returns = x.1 }

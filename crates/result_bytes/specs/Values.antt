@@ -103,7 +103,9 @@ whole len (Err breach) = Err (refusal len breach)
 -- the value of a kind that the bytes spell, or the first breach
 unfoldable pub decoding : Kind → List ℕ → Result Value Refusal
 decoding kind [] = Err Short
-decoding kind (b ∷ bytes) = if b == number_of kind then whole (length (b ∷ bytes)) (content_at kind bytes) else Err WrongKind
+decoding kind (b ∷ bytes) =
+    if b == number_of kind then whole (length (b ∷ bytes)) (content_at kind bytes)
+    else Err WrongKind
 
 -- the answer, unless memory ran out
 abbrev pub IsUnlessMemory : Result Value Refusal → Result Value Refusal → Type 0

@@ -16,7 +16,8 @@ use Rattle.sample_runner.specs.Phrases.{Phrase, Phrases, Named, Called, NoMore, 
 -- a file that is there has a header, which says of an empty one that it is main
 abbrev pub header_of : Option (List ℕ) → Option HeaderValue
 header_of None = None
-header_of (Some bytes) = Some (record { is_main = length bytes == 0; superclass = None; fields = []; methods = [] })
+header_of (Some bytes) =
+    Some (record { is_main = length bytes == 0; superclass = None; fields = []; methods = [] })
 
 abbrev pub header_at : Project → List ℕ → Option HeaderValue
 header_at p file = header_of (bytes_at p file)
@@ -25,10 +26,13 @@ abbrev pub is_main : Option HeaderValue → Bool
 is_main None = false
 is_main (Some h) = h.is_main
 
--- a file that is there has a signature: it takes a number unless the file is empty, and says whether the other is there
+-- a file that is there has a signature: it takes a number unless the file is empty, and says
+-- whether the other is there
 abbrev pub signature_of : Option HeaderValue → Option HeaderValue → Option SignatureValue
 signature_of None other = None
-signature_of (Some h) other = Some (record { formals = if h.is_main then [] else Int ∷ []; returns = if is_some other then Boolean else Int })
+signature_of (Some h) other =
+    Some (record { formals = if h.is_main then [] else Int ∷ [];
+    returns = if is_some other then Boolean else Int })
 
 abbrev pub signature_at : Project → List ℕ → List ℕ → Option SignatureValue
 signature_at p file other = signature_of (header_at p file) (header_at p other)
@@ -38,11 +42,13 @@ abbrev pub any_main : Project → List (List ℕ) → Bool
 any_main p [] = false
 any_main p (n ∷ ns) = is_main (header_at p n) || any_main p ns
 
--- the type that two parts have together: that of the second, where both have one, and the first has a signature with it
+-- the type that two parts have together: that of the second, where both have one, and the first has
+-- a signature with it
 abbrev pub meet : Project → Option (List ℕ) → Option (List ℕ) → Option (List ℕ)
 meet p None t = None
 meet p (Some s) None = None
-meet p (Some s) (Some t) = if bytes_eq s t then Some s else if is_some (signature_at p s t) then Some t else None
+meet p (Some s) (Some t) =
+    if bytes_eq s t then Some s else if is_some (signature_at p s t) then Some t else None
 
 abbrev mutual
   pub type_of : Project → Phrase → Option (List ℕ)

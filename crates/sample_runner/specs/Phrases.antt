@@ -16,4 +16,5 @@ phrases_of (e ∷ rest) = More e (phrases_of rest)
 
 -- the phrase that is looked at for two names
 abbrev pub phrase_for : List ℕ → List ℕ → Phrase
-phrase_for f g = Called (Named f) (More (Named g) (More (Called (Named g) (More (Named f) NoMore)) NoMore))
+phrase_for f g =
+    Called (Named f) (More (Named g) (More (Called (Named g) (More (Named f) NoMore)) NoMore))

@@ -36,7 +36,9 @@ header_steps f k = Ask (keys.Source f) (λ v. k (Header (header_of (bytes_in v))
 
 -- Sig(f, g): Header of f, and where f is there, Header of g and that of f again
 abbrev pub sig_both : List ℕ → List ℕ → (Value → Prog) → Prog
-sig_both f g k = Ask (keys.Header g) (λ w. Ask (keys.Header f) (λ v. k (Sig (signature_of (header_in v) (header_in w)))))
+sig_both f g k =
+    Ask (keys.Header g) (λ w. Ask (keys.Header f)
+        (λ v. k (Sig (signature_of (header_in v) (header_in w)))))
 
 abbrev pub sig_rest : List ℕ → List ℕ → Option HeaderValue → (Value → Prog) → Prog
 sig_rest f g None k = k (Sig None)
@@ -50,13 +52,17 @@ abbrev pub main_step : List ℕ → Bool → (Bool → Prog) → Prog
 main_step n found k = Ask (keys.Header n) (λ v. k (found || is_main (header_in v)))
 
 abbrev pub class_steps : (Value → Prog) → Prog
-class_steps k = Ask keys.Files (λ v. each main_step (names_in v) false (λ found. k (CheckClass (faults_if found))))
+class_steps k =
+    Ask keys.Files (λ v. each main_step (names_in v) false
+        (λ found. k (CheckClass (faults_if found))))
 
 -- two parts: Sig of their types, where both have one and these differ
 abbrev pub meet_step : Option (List ℕ) → Option (List ℕ) → (Option (List ℕ) → Prog) → Prog
 meet_step None t k = k None
 meet_step (Some s) None k = k None
-meet_step (Some s) (Some t) k = if bytes_eq s t then k (Some s) else Ask (keys.Sig s t) (λ v. k (if is_some (signature_in v) then Some t else None))
+meet_step (Some s) (Some t) k =
+    if bytes_eq s t then k (Some s)
+    else Ask (keys.Sig s t) (λ v. k (if is_some (signature_in v) then Some t else None))
 
 abbrev pub name_step : List ℕ → (Option (List ℕ) → Prog) → Prog
 name_step n k = Ask (keys.Header n) (λ v. k (if is_some (header_in v) then Some n else None))

@@ -16,15 +16,18 @@ use Rattle.sample_runner.specs.Programs.{names_in, header_in, signature_in, head
 
 -- ---- what each program computes
 
-header_runs : (p : Project) (f : List ℕ) → runs (header_steps f Ret) (sample_mean p) ≡ Header (header_at p f)
+header_runs : (p : Project) (f : List ℕ)
+    → runs (header_steps f Ret) (sample_mean p) ≡ Header (header_at p f)
 unfolding runs sample_mean
 header_runs p f = refl
 
-sig_runs : (p : Project) (f g : List ℕ) → runs (sig_steps f g Ret) (sample_mean p) ≡ Sig (signature_at p f g)
+sig_runs : (p : Project) (f g : List ℕ)
+    → runs (sig_steps f g Ret) (sample_mean p) ≡ Sig (signature_at p f g)
 unfolding runs sample_mean
 sig_runs p f g = go (header_at p f) refl
   where
-    go : (h : Option HeaderValue) → header_at p f ≡ h → runs (sig_rest f g h Ret) (sample_mean p) ≡ Sig (signature_of h (header_at p g))
+    go : (h : Option HeaderValue) → header_at p f ≡ h
+        → runs (sig_rest f g h Ret) (sample_mean p) ≡ Sig (signature_of h (header_at p g))
     go None e = refl
     go (Some x) e = ap (λ h. Sig (signature_of h (header_at p g))) e
 
@@ -36,42 +39,57 @@ or_assoc : (a b c : Bool) → ((a || b) || c) ≡ (a || (b || c))
 or_assoc true b c = refl
 or_assoc false b c = refl
 
-mains_found : (p : Project) (ns : List (List ℕ)) (found : Bool) → fold_of (λ n b. b || is_main (header_at p n)) ns found ≡ (found || any_main p ns)
+mains_found : (p : Project) (ns : List (List ℕ)) (found : Bool)
+    → fold_of (λ n b. b || is_main (header_at p n)) ns found ≡ (found || any_main p ns)
 unfolding fold_of
 mains_found p [] found = or_false found
-mains_found p (n ∷ ns) found = mains_found p ns (found || is_main (header_at p n)) ∙ or_assoc found (is_main (header_at p n)) (any_main p ns)
+mains_found p (n ∷ ns) found =
+    mains_found p ns (found || is_main (header_at p n))
+    ∙ or_assoc found (is_main (header_at p n)) (any_main p ns)
 
-class_runs : (p : Project) → runs (class_steps Ret) (sample_mean p) ≡ CheckClass (faults_if (any_main p (names_of p)))
+class_runs : (p : Project) → runs (class_steps Ret) (sample_mean p)
+    ≡ CheckClass (faults_if (any_main p (names_of p)))
 unfolding runs sample_mean
 class_runs p =
-    each_runs main_step (sample_mean p) (λ n b. b || is_main (header_at p n)) (λ n b k. refl) (names_of p) false (λ b. Ret (CheckClass (faults_if b)))
+    each_runs main_step (sample_mean p) (λ n b. b || is_main (header_at p n)) (λ n b k. refl)
+        (names_of p) false (λ b. Ret (CheckClass (faults_if b)))
     ∙ ap (λ b. CheckClass (faults_if b)) (mains_found p (names_of p) false)
 
-meet_runs : (p : Project) (s t : Option (List ℕ)) (k : Option (List ℕ) → Prog) → runs (meet_step s t k) (sample_mean p) ≡ runs (k (meet p s t)) (sample_mean p)
+meet_runs : (p : Project) (s t : Option (List ℕ)) (k : Option (List ℕ) → Prog)
+    → runs (meet_step s t k) (sample_mean p) ≡ runs (k (meet p s t)) (sample_mean p)
 unfolding runs sample_mean
 meet_runs p None t k = refl
 meet_runs p (Some s) None k = refl
 meet_runs p (Some s) (Some t) k = go (bytes_eq s t)
   where
-    go : (b : Bool) → runs (if b then k (Some s) else Ask (keys.Sig s t) (λ v. k (if is_some (signature_in v) then Some t else None))) (sample_mean p) ≡ runs (k (if b then Some s else if is_some (signature_at p s t) then Some t else None)) (sample_mean p)
+    go : (b : Bool) → runs (if b then k (Some s)
+        else Ask (keys.Sig s t) (λ v. k (if is_some (signature_in v) then Some t else None)))
+            (sample_mean p) ≡ runs
+            (k (if b then Some s else if is_some (signature_at p s t) then Some t else None))
+            (sample_mean p)
     go true = refl
     go false = refl
 
 mutual
   unfolding runs sample_mean phrase_step phrases_step
 
-  phrase_runs : (p : Project) (e : Phrase) (k : Option (List ℕ) → Prog) → runs (phrase_step e k) (sample_mean p) ≡ runs (k (type_of p e)) (sample_mean p)
+  phrase_runs : (p : Project) (e : Phrase) (k : Option (List ℕ) → Prog)
+      → runs (phrase_step e k) (sample_mean p) ≡ runs (k (type_of p e)) (sample_mean p)
   phrase_runs p (Named n) k = refl
-  phrase_runs p (Called e rest) k = phrase_runs p e (λ s. phrases_step rest s k) ∙ phrases_runs p rest (type_of p e) k
+  phrase_runs p (Called e rest) k =
+      phrase_runs p e (λ s. phrases_step rest s k) ∙ phrases_runs p rest (type_of p e) k
 
-  phrases_runs : (p : Project) (es : Phrases) (s : Option (List ℕ)) (k : Option (List ℕ) → Prog) → runs (phrases_step es s k) (sample_mean p) ≡ runs (k (types_of p es s)) (sample_mean p)
+  phrases_runs : (p : Project) (es : Phrases) (s : Option (List ℕ)) (k : Option (List ℕ) → Prog)
+      → runs (phrases_step es s k) (sample_mean p) ≡ runs (k (types_of p es s)) (sample_mean p)
   phrases_runs p NoMore s k = refl
   phrases_runs p (More e rest) s k =
       phrase_runs p e (λ t. meet_step s t (λ u. phrases_step rest u k))
       ∙ meet_runs p s (type_of p e) (λ u. phrases_step rest u k)
       ∙ phrases_runs p rest (meet p s (type_of p e)) k
 
-body_runs : (p : Project) (f g : List ℕ) → runs (body_steps f g Ret) (sample_mean p) ≡ CheckBody (faults_if (is_none (type_of p (phrase_for f g))))
+body_runs : (p : Project) (f g : List ℕ)
+    → runs (body_steps f g Ret) (sample_mean p)
+    ≡ CheckBody (faults_if (is_none (type_of p (phrase_for f g))))
 unfolding runs
 body_runs p f g = phrase_runs p (phrase_for f g) (λ t. Ret (CheckBody (faults_if (is_none t))))
 
@@ -91,33 +109,49 @@ sig_fits f g = (omega arith, λ v. go (header_in v))
 
 class_fits : (f : List ℕ) → Fits (keys.CheckClass f) (class_steps Ret)
 unfolding Fits
-class_fits f = (omega arith, λ v. each_fits (keys.CheckClass f) main_step (λ n b k h. (omega arith, λ w. h (b || is_main (header_in w)))) (names_in v) false (λ b. Ret (CheckClass (faults_if b))) (λ b. refl))
+class_fits f =
+    (omega arith, λ v. each_fits (keys.CheckClass f) main_step
+        (λ n b k h. (omega arith, λ w. h (b || is_main (header_in w)))) (names_in v) false
+        (λ b. Ret (CheckClass (faults_if b))) (λ b. refl))
 
 module _ (f g : List ℕ) where
-  meet_fits : (s t : Option (List ℕ)) (k : Option (List ℕ) → Prog) → ((u : Option (List ℕ)) → Fits (keys.CheckBody f g) (k u)) → Fits (keys.CheckBody f g) (meet_step s t k)
+  meet_fits : (s t : Option (List ℕ)) (k : Option (List ℕ) → Prog)
+      → ((u : Option (List ℕ)) → Fits (keys.CheckBody f g) (k u))
+      → Fits (keys.CheckBody f g) (meet_step s t k)
   unfolding Fits
   meet_fits None t k h = h None
   meet_fits (Some s) None k h = h None
   meet_fits (Some s) (Some t) k h = go (bytes_eq s t)
     where
-      go : (b : Bool) → Fits (keys.CheckBody f g) (if b then k (Some s) else Ask (keys.Sig s t) (λ v. k (if is_some (signature_in v) then Some t else None)))
+      go : (b : Bool) → Fits (keys.CheckBody f g)
+          (if b then k (Some s) else Ask (keys.Sig s t)
+              (λ v. k (if is_some (signature_in v) then Some t else None)))
       go true = h (Some s)
       go false = (omega arith, λ v. h (if is_some (signature_in v) then Some t else None))
 
   mutual
     unfolding Fits phrase_step phrases_step
 
-    phrase_fits : (e : Phrase) (k : Option (List ℕ) → Prog) → ((u : Option (List ℕ)) → Fits (keys.CheckBody f g) (k u)) → Fits (keys.CheckBody f g) (phrase_step e k)
-    phrase_fits (Named n) k h = (omega arith, λ v. h (if is_some (header_in v) then Some n else None))
-    phrase_fits (Called e rest) k h = phrase_fits e (λ s. phrases_step rest s k) (λ s. phrases_fits rest s k h)
+    phrase_fits : (e : Phrase) (k : Option (List ℕ) → Prog)
+        → ((u : Option (List ℕ)) → Fits (keys.CheckBody f g) (k u))
+        → Fits (keys.CheckBody f g) (phrase_step e k)
+    phrase_fits (Named n) k h =
+        (omega arith, λ v. h (if is_some (header_in v) then Some n else None))
+    phrase_fits (Called e rest) k h =
+        phrase_fits e (λ s. phrases_step rest s k) (λ s. phrases_fits rest s k h)
 
-    phrases_fits : (es : Phrases) (s : Option (List ℕ)) (k : Option (List ℕ) → Prog) → ((u : Option (List ℕ)) → Fits (keys.CheckBody f g) (k u)) → Fits (keys.CheckBody f g) (phrases_step es s k)
+    phrases_fits : (es : Phrases) (s : Option (List ℕ)) (k : Option (List ℕ) → Prog)
+        → ((u : Option (List ℕ)) → Fits (keys.CheckBody f g) (k u))
+        → Fits (keys.CheckBody f g) (phrases_step es s k)
     phrases_fits NoMore s k h = h s
-    phrases_fits (More e rest) s k h = phrase_fits e (λ t. meet_step s t (λ u. phrases_step rest u k)) (λ t. meet_fits s t (λ u. phrases_step rest u k) (λ u. phrases_fits rest u k h))
+    phrases_fits (More e rest) s k h =
+        phrase_fits e (λ t. meet_step s t (λ u. phrases_step rest u k))
+            (λ t. meet_fits s t (λ u. phrases_step rest u k) (λ u. phrases_fits rest u k h))
 
   body_fits : Fits (keys.CheckBody f g) (body_steps f g Ret)
   unfolding Fits
-  body_fits = phrase_fits (phrase_for f g) (λ t. Ret (CheckBody (faults_if (is_none t)))) (λ t. refl)
+  body_fits =
+      phrase_fits (phrase_for f g) (λ t. Ret (CheckBody (faults_if (is_none t)))) (λ t. refl)
 
 -- ---- all kinds
 

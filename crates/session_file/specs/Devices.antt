@@ -18,7 +18,8 @@ pub record IsCount (bytes : List ℕ) (n : ℕ) : Type 0 where
   pub some : 0 < length bytes → 0 < n
 
 -- the first bytes are appended, or none
-abbrev pub PutsSome : {E : Type 0} → (List ℕ → Type 0) → (List ℕ → Type 0) → List ℕ → Result ℕ E → Type 0
+abbrev pub PutsSome : {E : Type 0} → (List ℕ → Type 0) → (List ℕ → Type 0) → List ℕ → Result ℕ E
+    → Type 0
 PutsSome old new bytes (Ok n) = (front : List ℕ) → old front → new (front ++ take n bytes)
 PutsSome old new bytes (Err e) = (front : List ℕ) → old front → new front
 
@@ -30,7 +31,8 @@ pub record Begins (new : List ℕ → Type 0) (front bytes : List ℕ) : Type 0 
   pub holds : new (front ++ part)
 
 -- all of the bytes are appended; else a beginning of them
-abbrev pub Puts : {A E : Type 0} → (List ℕ → Type 0) → (List ℕ → Type 0) → List ℕ → Result A E → Type 0
+abbrev pub Puts : {A E : Type 0} → (List ℕ → Type 0) → (List ℕ → Type 0) → List ℕ → Result A E
+    → Type 0
 Puts old new bytes (Ok a) = (front : List ℕ) → old front → new (front ++ bytes)
 Puts old new bytes (Err e) = (front : List ℕ) → old front → Begins new front bytes
 
@@ -44,6 +46,8 @@ pub record Moves (new : List ℕ → Type 0) (bytes before after : List ℕ) (n 
   pub end : 0 < length before → n ≡ 0 → bytes ≡ []
 
 -- the room has the first of the bytes at its front, and none only at the end; or nothing was moved
-abbrev pub Takes : {E : Type 0} → (List ℕ → Type 0) → (List ℕ → Type 0) → List ℕ → List ℕ → Result ℕ E → Type 0
-Takes old new before after (Ok n) = (n ≤ length before) × ((bytes : List ℕ) → old bytes → Moves new bytes before after n)
+abbrev pub Takes : {E : Type 0} → (List ℕ → Type 0) → (List ℕ → Type 0) → List ℕ → List ℕ
+    → Result ℕ E → Type 0
+Takes old new before after (Ok n) =
+    (n ≤ length before) × ((bytes : List ℕ) → old bytes → Moves new bytes before after n)
 Takes old new before after (Err e) = (bytes : List ℕ) → old bytes → new bytes

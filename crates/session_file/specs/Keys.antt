@@ -11,7 +11,10 @@ use Rattle.sessions.specs.declared.mark.Mark.TheVariants.{Input, Executed, Green
 use Rattle.sessions.specs.Marks.{number_of as mark_number}
 
 abbrev pub all_kinds : List Kind
-all_kinds = kinds.Files ∷ kinds.Source ∷ kinds.Tree ∷ kinds.Index ∷ kinds.Header ∷ kinds.Method ∷ kinds.Sig ∷ kinds.Supers ∷ kinds.Members ∷ kinds.CheckClass ∷ kinds.CheckBody ∷ kinds.Diags ∷ kinds.Answer ∷ []
+all_kinds =
+    kinds.Files ∷ kinds.Source ∷ kinds.Tree ∷ kinds.Index ∷ kinds.Header ∷ kinds.Method ∷ kinds.Sig
+    ∷ kinds.Supers ∷ kinds.Members ∷ kinds.CheckClass ∷ kinds.CheckBody ∷ kinds.Diags ∷ kinds.Answer
+    ∷ []
 
 -- the kind of this number
 unfoldable pub kind_with : ℕ → Option Kind
@@ -33,7 +36,8 @@ same false false = true
 
 -- a name is there just where the kind has one
 abbrev pub are_names : Kind → Option (List ℕ) → Option (List ℕ) → Bool
-are_names kind class member = same (is_some class) (has_class kind) && same (is_some member) (has_member kind)
+are_names kind class member =
+    same (is_some class) (has_class kind) && same (is_some member) (has_member kind)
 
 -- the key of a kind, with those of the names that the kind has
 abbrev pub key_of_parts : Kind → List ℕ → List ℕ → Key
@@ -52,12 +56,16 @@ key_of_parts kinds.Diags class member = Diags class
 key_of_parts kinds.Answer class member = Answer
 
 abbrev pub key_of_kind : Kind → List ℕ → List ℕ → Option Key
-key_of_kind kind class member = if are_names kind (name_with class) (name_with member) then Some (key_of_parts kind class member) else None
+key_of_kind kind class member =
+    if are_names kind (name_with class) (name_with member)
+    then Some (key_of_parts kind class member) else None
 
 abbrev pub key_of_some : Option Kind → List ℕ → List ℕ → Option Key
 key_of_some None class member = None
-key_of_some (Some kind) class member = if is_utf8 class && is_utf8 member then key_of_kind kind class member else None
+key_of_some (Some kind) class member =
+    if is_utf8 class && is_utf8 member then key_of_kind kind class member else None
 
--- the key of the kind of this number with these names, where no name is missing or one too many, and each is a text
+-- the key of the kind of this number with these names, where no name is missing or one too many,
+-- and each is a text
 unfoldable pub key_with : ℕ → List ℕ → List ℕ → Option Key
 key_with n class member = key_of_some (kind_with n) class member

@@ -21,7 +21,8 @@ use Rattle.session_file.specs.declared.stop.Stop.TheVariants as stops
 use Rattle.session_file.specs.Keys.{same, key_with, mark_with}
 
 infixl 10 ◌>>=◌
-abbrev pub ◌>>=◌ : {A B : Type 0} → Result A FileFault → (A → Result B FileFault) → Result B FileFault
+abbrev pub ◌>>=◌ : {A B : Type 0} → Result A FileFault → (A → Result B FileFault)
+    → Result B FileFault
 (Ok x) >>= f = f x
 (Err e) >>= f = Err e
 
@@ -52,7 +53,8 @@ whole (Err breach) = Err Truncated
 
 -- so many bytes
 unfoldable pub bytes_at : ℕ → Reader (List ℕ)
-bytes_at n bytes = if nat_lt (length bytes) n then Err Truncated else Ok (take n bytes, drop n bytes)
+bytes_at n bytes =
+    if nat_lt (length bytes) n then Err Truncated else Ok (take n bytes, drop n bytes)
 
 -- one byte of length, and so many bytes
 unfoldable pub text_at : Reader (List ℕ)
@@ -105,14 +107,17 @@ is_among (d ∷ ds) e = (d == e) || is_among ds e
 
 -- e is the index of a record in front whose key has a lower rank, and none of those before it
 abbrev pub is_next_edge : List RecordValue → Key → List ℕ → ℕ → Bool
-is_next_edge front key edges e = nat_lt e (length front) && (nat_lt (rank (key_at front e)) (rank key) && not (is_among edges e))
+is_next_edge front key edges e =
+    nat_lt e (length front) && (nat_lt (rank (key_at front e)) (rank key) && not (is_among edges e))
 
 -- so many edges, behind those before them
 unfoldable pub edges_from : List RecordValue → Key → List ℕ → ℕ → Reader (List ℕ)
 edges_from front key edges zero bytes = Ok (edges, bytes)
 edges_from front key edges (suc n) bytes = do
   e ← whole (eight_at bytes)
-  if is_next_edge front key edges e.0 then edges_from front key (edges ++ e.0 ∷ []) n e.1 else Err (BadEdge (length front) (length edges))
+  if is_next_edge front key edges e.0
+      then edges_from front key (edges ++ e.0 ∷ []) n e.1
+      else Err (BadEdge (length front) (length edges))
 
 unfoldable pub edges_at : List RecordValue → Key → Reader (List ℕ)
 edges_at front key bytes = do
@@ -147,7 +152,8 @@ record_at front bytes = do
   item ← item_at (length front) bytes
   place ← check_place front item.0
   rest ← rest_at front item.0.key item.1
-  Ok (record { key = item.0.key; mark = item.0.mark; edges = rest.0.edges; value = rest.0.value }, rest.1)
+  Ok (record { key = item.0.key; mark = item.0.mark; edges = rest.0.edges; value = rest.0.value },
+      rest.1)
 
 -- ---- the file
 
@@ -169,7 +175,9 @@ magic = 0x4d ∷ 0x4a ∷ 0x52 ∷ 0x47 ∷ []
 
 -- what stands behind the first four bytes
 unfoldable pub magic_at : List ℕ → Result (List ℕ) FileFault
-magic_at bytes = if nat_lt (length bytes) 4 then Err BadMagic else (if bytes_eq (take 4 bytes) magic then Ok (drop 4 bytes) else Err BadMagic)
+magic_at bytes =
+    if nat_lt (length bytes) 4 then Err BadMagic
+    else (if bytes_eq (take 4 bytes) magic then Ok (drop 4 bytes) else Err BadMagic)
 
 unfoldable pub head_at : Reader HeadValue
 head_at bytes = do

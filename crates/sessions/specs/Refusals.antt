@@ -7,7 +7,8 @@ use Rattle.sessions.specs.Sessions.{RecordValue, IsAbove, IsMarked, IsOfKind, Ar
 use Rattle.sessions.specs.Edges.{AreEdges}
 
 -- j is the place of the first edge that is none, or was there before
-pub record IsFirstBadEdge (front : List RecordValue) (key : Key) (edges : List ℕ) (j : ℕ) : Type 0 where
+pub record IsFirstBadEdge (front : List RecordValue) (key : Key) (edges : List ℕ)
+    (j : ℕ) : Type 0 where
   pub inside : j < length edges
   pub before : AreEdges front key (take j edges)
   pub bad : ¬ AreEdges front key (take (j + 1) edges)
@@ -16,8 +17,11 @@ pub record IsFirstBadEdge (front : List RecordValue) (key : Key) (edges : List �
 abbrev pub RefusesRecord : List RecordValue → RecordValue → SessionFault → Type 0
 RefusesRecord front r (KeyOrder i) = (i ≡ length front) × (¬ IsAbove front r.key)
 RefusesRecord front r (InputKind i) = (i ≡ length front) × IsAbove front r.key × (¬ IsMarked r)
-RefusesRecord front r (BadEdge i j) = (i ≡ length front) × IsAbove front r.key × IsMarked r × IsFirstBadEdge front r.key r.edges j
-RefusesRecord front r (Result i) = (i ≡ length front) × IsAbove front r.key × IsMarked r × AreEdges front r.key r.edges × (¬ IsOfKind r)
+RefusesRecord front r (BadEdge i j) =
+    (i ≡ length front) × IsAbove front r.key × IsMarked r × IsFirstBadEdge front r.key r.edges j
+RefusesRecord front r (Result i) =
+    (i ≡ length front) × IsAbove front r.key × IsMarked r × AreEdges front r.key r.edges
+    × (¬ IsOfKind r)
 RefusesRecord front r Number = ⊥
 RefusesRecord front r OutOfMemory = ⊥
 
@@ -26,7 +30,8 @@ pub record RefusesRecords (records : List RecordValue) (fault : SessionFault) : 
   pub index : ℕ
   pub inside : index < length records
   pub before : AreRecords (take index records)
-  pub refused : (r : RecordValue) → RefusesRecord (take index records) (slice_index_or records index r) fault
+  pub refused : (r : RecordValue) → RefusesRecord (take index records)
+      (slice_index_or records index r) fault
 
 -- the number is looked at first
 abbrev pub IsRefused : ℕ → List RecordValue → SessionFault → Type 0

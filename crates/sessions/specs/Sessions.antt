@@ -13,7 +13,8 @@ use Rattle.sessions.specs.declared.mark.Mark.{Mark}
 use Rattle.sessions.specs.Marks.{is_input, is_input_mark}
 use Rattle.sessions.specs.Keys.{HasNames}
 
--- a key, how it became done, the indices of the records of the keys that it read, in order, and its result
+-- a key, how it became done, the indices of the records of the keys that it read, in order, and its
+-- result
 pub record RecordValue : Type 0 where
   pub key : Key
   pub mark : Mark
@@ -78,7 +79,9 @@ pub record FitsBehind (front : List RecordValue) (r : RecordValue) : Type 0 wher
 
 -- each record fits behind those in front of it
 abbrev pub AreRecords : List RecordValue → Type 0
-AreRecords records = (i : ℕ) (r : RecordValue) → i < length records → FitsBehind (take i records) (slice_index_or records i r)
+AreRecords records =
+    (i : ℕ) (r : RecordValue) → i < length records
+    → FitsBehind (take i records) (slice_index_or records i r)
 
 pub record IsSession (s : SessionValue) : Type 0 where
   pub number : s.number ≤ most_number
@@ -97,7 +100,8 @@ pub record Entry : Type 0 where
 
 -- what a record tells among these
 abbrev pub entry_of : List RecordValue → RecordValue → Entry
-entry_of records r = record { key = r.key; mark = r.mark; reads = map (key_at records) r.edges; value = r.value }
+entry_of records r =
+    record { key = r.key; mark = r.mark; reads = map (key_at records) r.edges; value = r.value }
 
 abbrev pub entries : SessionValue → List Entry
 entries s = map (entry_of s.records) s.records

@@ -24,7 +24,8 @@ unfoldable pub result_bytes : Value → List ℕ
 result_bytes v = print_of v ++ (eight (length (canon v)) ++ canon v)
 
 unfoldable pub record_bytes : RecordValue → List ℕ
-record_bytes r = key_bytes r.key ++ (mark_number r.mark ∷ (list eight r.edges ++ result_bytes r.value))
+record_bytes r =
+    key_bytes r.key ++ (mark_number r.mark ∷ (list eight r.edges ++ result_bytes r.value))
 
 -- what stands before the records: the session's number, its link, and the number of the records
 unfoldable pub head_bytes : SessionValue → List ℕ

@@ -7,4 +7,6 @@ use Rattle.mj_parser.specs.Declarations.{Derives}
 use Rattle.tree_bytes.specs.Storable.{FileFits}
 
 abbrev pub StorableLaw : Type 0
-StorableLaw = (text : List ℕ) (tokens : List Token) (tree : File) → Lexes text tokens → Derives tokens tree → FileFits tree
+StorableLaw =
+    (text : List ℕ) (tokens : List Token) (tree : File) → Lexes text tokens → Derives tokens tree
+    → FileFits tree

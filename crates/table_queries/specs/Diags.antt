@@ -1,4 +1,5 @@
--- All faults of a class: its header, the check of its declarations, then the check of each of its bodies.
+-- All faults of a class: its header, the check of its declarations, then the check of each of its
+-- bodies.
 use Rattle.std.specs.Prelude.{List, [], ◌∷◌, ◌++◌, Option, Some, None, if◌then◌else◌}
 use Rattle.item_ids.specs.declared.key.Key.TheVariants as keys
 use Rattle.mj_tree.specs.Trees.{Name}
@@ -24,7 +25,8 @@ bodies_steps c h faults k = each (body_step c) (bodies_in h) faults k
 
 -- of a class that is declared
 abbrev pub declared_steps : Name → HeaderValue → (List Diagnostic → Prog) → Prog
-declared_steps c h k = Ask (keys.CheckClass c) (λ v. bodies_steps c h (faults_in v) (λ faults. k (fault_set faults)))
+declared_steps c h k =
+    Ask (keys.CheckClass c) (λ v. bodies_steps c h (faults_in v) (λ faults. k (fault_set faults)))
 
 abbrev pub diags_by : Name → Option HeaderValue → (Value → Prog) → Prog
 diags_by c None k = k (values.Diags [])

@@ -9,4 +9,6 @@ use Rattle.text_queries.specs.ClassTrees.{class_tree_step, class_named}
 
 -- the tree of the class's file, then the header of the first class of the name in it
 abbrev pub header_steps : Name → (Value → Prog) → Prog
-header_steps c k = class_tree_step c (λ tree. k (values.Header (option_map header_of (option_and_then (class_named c) tree))))
+header_steps c k =
+    class_tree_step c (λ tree. k (values.Header
+        (option_map header_of (option_and_then (class_named c) tree))))

@@ -7,6 +7,9 @@ use Rattle.result_bytes.specs.declared.value.Value.TheVariants as values
 use Rattle.recorder.specs.Programs.{Prog}
 use Rattle.text_queries.specs.ClassTrees.{class_tree_step}
 
--- the tree of the class's file, then the first method of the name in the first class of the name in it
+-- the tree of the class's file, then the first method of the name in the first class of the name in
+-- it
 abbrev pub method_steps : Name → Name → (Value → Prog) → Prog
-method_steps c m k = class_tree_step c (λ tree. k (values.Method (option_and_then (λ file. body_named file c m) tree)))
+method_steps c m k =
+    class_tree_step c (λ tree. k (values.Method
+        (option_and_then (λ file. body_named file c m) tree)))

@@ -23,7 +23,8 @@ header_among c classes = option_map class_header (first_class c classes)
 -- the main class stands before the other classes
 abbrev pub header_behind : Option Main → Name → List Class → Option HeaderValue
 header_behind None c classes = header_among c classes
-header_behind (Some main) c classes = if bytes_eq main.name c then Some main_header else header_among c classes
+header_behind (Some main) c classes =
+    if bytes_eq main.name c then Some main_header else header_among c classes
 
 abbrev pub header_named : Name → File → Option HeaderValue
 header_named c f = header_behind f.main c f.classes

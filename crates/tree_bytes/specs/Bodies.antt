@@ -27,7 +27,8 @@ from_sum-to_sum (OfMain s) = refl
 from_sum-to_sum (OfMethod m) = refl
 
 abbrev pub body_code : Coded BodyValue
-body_code = code_by (Statement ⊎ Method) (coded⊎ statement_code method_code) to_sum from_sum from_sum-to_sum
+body_code =
+    code_by (Statement ⊎ Method) (coded⊎ statement_code method_code) to_sum from_sum from_sum-to_sum
 
 abbrev pub BodyFits : BodyValue → Type 0
 BodyFits (OfMain s) = TopStmtFits s

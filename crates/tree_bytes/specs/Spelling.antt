@@ -74,7 +74,8 @@ abbrev mutual
   stmts done = []
   stmts (next s ss) = stmt s ++ stmts ss
 
--- a method: its name, return type, formals, locals, statements, returned expression, and the token `return`
+-- a method: its name, return type, formals, locals, statements, returned expression, and the token
+-- `return`
 unfoldable pub method : Method → List ℕ
 method m =
     name m.name ++ (ty m.returns ++ (list variable m.formals ++ (list variable m.locals

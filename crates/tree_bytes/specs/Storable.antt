@@ -1,4 +1,5 @@
--- Which trees have a spelling: tokens in four bytes, literals up to the greatest, names, and at most so many levels.
+-- Which trees have a spelling: tokens in four bytes, literals up to the greatest, names, and at
+-- most so many levels.
 use Rattle.std.specs.Prelude.{ℕ, zero, suc, ◌<◌, ◌≤◌, ◌^◌, length, IfSome}
 use Rattle.std.specs.List.{AllByRecursion}
 use Rattle.mj_tree.specs.declared.tree.Ty.{Ty}

@@ -12,10 +12,12 @@ use Rattle.tree_bytes.specs.declared.tag.StmtTag.TheVariants as statements
 use Rattle.tree_bytes.specs.Tags.{exp_byte, exp_tags, exp_tag_of, stmt_byte, stmt_tags, stmt_tag_of}
 
 pub exp_byte_is : (b : ℕ) (tag : ExpTag) → exp_tag_of b ≡ Some tag → exp_byte tag ≡ b
-exp_byte_is b tag e = eqb-true _ _ (found_passes (λ (x : ExpTag). eqb (exp_byte x) b) exp_tags tag e)
+exp_byte_is b tag e =
+    eqb-true _ _ (found_passes (λ (x : ExpTag). eqb (exp_byte x) b) exp_tags tag e)
 
 pub stmt_byte_is : (b : ℕ) (tag : StmtTag) → stmt_tag_of b ≡ Some tag → stmt_byte tag ≡ b
-stmt_byte_is b tag e = eqb-true _ _ (found_passes (λ (x : StmtTag). eqb (stmt_byte x) b) stmt_tags tag e)
+stmt_byte_is b tag e =
+    eqb-true _ _ (found_passes (λ (x : StmtTag). eqb (stmt_byte x) b) stmt_tags tag e)
 
 pub exp_tag_back : (tag : ExpTag) → exp_tag_of (exp_byte tag) ≡ Some tag
 exp_tag_back (Two (Binary And)) = refl

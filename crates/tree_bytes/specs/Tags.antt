@@ -44,8 +44,10 @@ exp_byte NewObject = 0x0e
 
 abbrev pub exp_tags : List ExpTag
 exp_tags =
-    Two (Binary And) ∷ Two (Binary Less) ∷ Two (Binary Plus) ∷ Two (Binary Minus) ∷ Two (Binary Times) ∷ Two Index ∷ One Length ∷ Call ∷ Literal
-    ∷ Boolean true ∷ Boolean false ∷ Variable ∷ This ∷ One NewArray ∷ NewObject ∷ One Not ∷ One Parenthesized ∷ []
+    Two (Binary And) ∷ Two (Binary Less) ∷ Two (Binary Plus) ∷ Two (Binary Minus)
+        ∷ Two (Binary Times) ∷ Two Index ∷ One Length ∷ Call ∷ Literal
+    ∷ Boolean true ∷ Boolean false ∷ Variable ∷ This ∷ One NewArray ∷ NewObject ∷ One Not
+    ∷ One Parenthesized ∷ []
 
 -- the tag that has the byte
 abbrev pub exp_tag_of : ℕ → Option ExpTag
@@ -60,7 +62,9 @@ stmt_byte statements.Assign = 0x04
 stmt_byte statements.Store = 0x05
 
 abbrev pub stmt_tags : List StmtTag
-stmt_tags = statements.Block ∷ statements.If ∷ statements.While ∷ statements.Print ∷ statements.Assign ∷ statements.Store ∷ []
+stmt_tags =
+    statements.Block ∷ statements.If ∷ statements.While ∷ statements.Print ∷ statements.Assign
+    ∷ statements.Store ∷ []
 
 -- the tag that has the byte
 abbrev pub stmt_tag_of : ℕ → Option StmtTag
