@@ -110,7 +110,7 @@ pub fn is_printed(alloc: Global, digits: &str, text: &str) -> Result<bool, Unfit
 const FLIPS: [u8; 3] = [0x01, 0x80, 0xff];
 
 /// The bytes with one byte changed.
-fn changed(alloc: Global, bytes: &[u8], at: usize, flip: u8) -> Result<Vec<u8>, AllocError> {
+fn flip_bits(alloc: Global, bytes: &[u8], at: usize, flip: u8) -> Result<Vec<u8>, AllocError> {
     let mut other = bytes.to_vec(alloc)?;
     if let Some(byte) = other.get_mut(at) {
         *byte ^= flip;
@@ -126,7 +126,7 @@ fn is_idle(
     at: usize,
     flip: u8,
 ) -> Result<bool, AllocError> {
-    let other = changed(alloc, bytes, at, flip)?;
+    let other = flip_bits(alloc, bytes, at, flip)?;
     is_spelled_as(alloc, kind, other.as_slice(), bytes)
 }
 

@@ -269,7 +269,7 @@ fn each_byte_of_a_tree(rt: HostRuntime) -> Result<(), Fail> {
 }
 
 // The bytes of a main class whose statement prints 1 behind so many `!`.
-fn nested(rt: HostRuntime, levels: usize) -> Result<Vec<u8>, AllocError> {
+fn negated_statement(rt: HostRuntime, levels: usize) -> Result<Vec<u8>, AllocError> {
     let mut bytes = [0x05, 0x01, 0x00, 0x03, 0, 0, 0, 0x0b].to_vec(rt.alloc())?;
     for _ in 0..levels {
         bytes.extend_from_slice(&[0x0f, 0, 0, 0, 1])?;
@@ -280,14 +280,14 @@ fn nested(rt: HostRuntime, levels: usize) -> Result<Vec<u8>, AllocError> {
 
 #[test]
 fn deepest_tree(rt: HostRuntime) -> Result<(), Fail> {
-    let deepest = nested(rt, 498)?;
+    let deepest = negated_statement(rt, 498)?;
     assert!(rt; spells(rt.alloc(), Kind::Method, &deepest)?);
     Ok(())
 }
 
 #[test]
 fn tree_that_is_too_deep(rt: HostRuntime) -> Result<(), Fail> {
-    let deeper = nested(rt, 499)?;
+    let deeper = negated_statement(rt, 499)?;
     let refusal = refusal_of(rt.alloc(), Kind::Method, &deeper);
     assert!(rt; refusal == Some(Refusal::NotCanonical(2503)));
     Ok(())

@@ -38,9 +38,9 @@ spot_in text class place = option_and_then (spot_among text class place) (tokens
 
 -- those of the byte at which reading the text stopped
 pub record IsStopSpot (text : List ℕ) (at : Option (ℕ × ℕ)) : Type 0 where
-  pub stopped : Option ℕ
-  pub stop : IsStop text stopped
-  pub at_stop : at ≡ option_map (line_column text) stopped
+  pub stop : Option ℕ
+  pub is_stop : IsStop text stop
+  pub at_stop : at ≡ option_map (line_column text) stop
 
 -- ---- files
 
@@ -72,7 +72,7 @@ file_named files name = find (λ f. bytes_eq f.name name) files
 pub record IsFileSpot (f : SourceFile) (code : Code) (spot : Spot) : Type 0 where
   pub file : spot.file ≡ Some f.name
   pub main : code ≡ E103 → spot.at ≡ spot_in f.bytes 0 places.Class
-  pub stopped : code ≢ E103 → IsStopSpot f.bytes spot.at
+  pub stop : code ≢ E103 → IsStopSpot f.bytes spot.at
 
 abbrev pub IsSpotOfFile : Option SourceFile → Code → Spot → Type 0
 IsSpotOfFile None code spot = spot ≡ nowhere

@@ -19,7 +19,7 @@ use std::marker::Model;
 pub struct ReadText<'a> {
     file: &'a (String, Vec<u8>),
     tokens: Vec<Token>,
-    stopped: Option<usize>,
+    stop: Option<usize>,
 }
 
 impl<'a> Model for ReadText<'a> {
@@ -33,7 +33,7 @@ impl<'a> Model for ReadText<'a> {
 
     ghost invariant = { λ t.
         (t.tokens.items ≡ tokens_or_none (source_view t.file.now).bytes)
-        × IsStop (source_view t.file.now).bytes t.stopped };
+        × IsStop (source_view t.file.now).bytes t.stop };
 }
 
 impl<'a> ReadText<'a> {
@@ -61,10 +61,10 @@ impl<'a> ReadText<'a> {
     }
 
     /// Where reading the file stopped, if it is no sentence.
-    pub fn stopped(&self) -> Option<usize>
+    pub fn stop(&self) -> Option<usize>
         ensures { IsStop self.now.bytes result }
     {
-        self.stopped
+        self.stop
     }
 }
 
@@ -82,12 +82,12 @@ fn read_source<'a>(
     let ReadFile {
         tokens,
         tree,
-        stopped,
+        stop,
     } = found;
     let text = ReadText {
         file,
         tokens,
-        stopped,
+        stop,
     };
     Ok((text, tree))
 }

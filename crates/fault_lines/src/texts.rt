@@ -21,7 +21,7 @@ pub struct IndexedText<'a, 't> {
     name: &'a str,
     lines: LinedText<'a>,
     tokens: TokenIndex<'t>,
-    stopped: Option<usize>,
+    stop: Option<usize>,
 }
 
 impl<'a, 't> Model for IndexedText<'a, 't> {
@@ -33,7 +33,7 @@ impl<'a, 't> Model for IndexedText<'a, 't> {
 
     ghost view = { λ t. record { name = t.name.now; bytes = t.lines } };
 
-    ghost invariant = { λ t. (t.tokens ≡ tokens_or_none t.lines) × IsStop t.lines t.stopped };
+    ghost invariant = { λ t. (t.tokens ≡ tokens_or_none t.lines) × IsStop t.lines t.stop };
 }
 
 impl<'a, 't> IndexedText<'a, 't> {
@@ -45,7 +45,7 @@ impl<'a, 't> IndexedText<'a, 't> {
             name: text.name(),
             lines: LinedText::new(alloc, text.bytes())?,
             tokens: TokenIndex::new(alloc, text.tokens())?,
-            stopped: text.stopped(),
+            stop: text.stop(),
         })
     }
 
@@ -68,7 +68,7 @@ impl<'a, 't> IndexedText<'a, 't> {
     pub fn stop(&self) -> Option<(usize, usize)>
         ensures { IsStopSpot self.now.bytes result }
     {
-        let at = self.stopped?;
+        let at = self.stop?;
         Some(self.lines.line_col(at))
     }
 }

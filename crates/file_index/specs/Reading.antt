@@ -24,8 +24,8 @@ token_start ts end number = unwrap_or (option_map (λ t. t.start) (slice_get ts 
 
 -- Reading the tokens of a text stops at one of them or at its end, or has no place where it stops.
 abbrev pub IsTokenStop : List Token → ℕ → Option ℕ → Type 0
-IsTokenStop ts end stopped =
-    (stopped ≡ None) ⊎ ((number : ℕ) × (stopped ≡ Some (token_start ts end number)))
+IsTokenStop ts end stop =
+    (stop ≡ None) ⊎ ((number : ℕ) × (stop ≡ Some (token_start ts end number)))
 
 -- The tree is the one that the grammar derives from the tokens, where there is one.
 pub record IsTreeOf (ts : List Token) (tree : Option FileTree) : Type 0 where
@@ -33,9 +33,9 @@ pub record IsTreeOf (ts : List Token) (tree : Option FileTree) : Type 0 where
   pub only : (t : File) → Derives ts t → option_map file_view tree ≡ Some t
 
 -- where reading a text that is no sentence stops
-pub record IsStop (text : List ℕ) (stopped : Option ℕ) : Type 0 where
-  pub cut : (ts : List Token) → lexing_of text ≡ Ok ts → IsTokenStop ts (length text) stopped
-  pub uncut : (fault : LexFault) → lexing_of text ≡ Err fault → stopped ≡ lexing_stop fault
+pub record IsStop (text : List ℕ) (stop : Option ℕ) : Type 0 where
+  pub cut : (ts : List Token) → lexing_of text ≡ Ok ts → IsTokenStop ts (length text) stop
+  pub uncut : (fault : LexFault) → lexing_of text ≡ Err fault → stop ≡ lexing_stop fault
 
 -- the tokens of a text, none if it isn't cut into tokens
 abbrev pub tokens_or_none : List ℕ → List Token
@@ -46,4 +46,4 @@ pub record IsReading (text : List ℕ) (file : ReadFile) : Type 0 where
   pub tokens : file.tokens.items ≡ tokens_or_none text
   pub tree : (ts : List Token) → lexing_of text ≡ Ok ts → IsTreeOf ts file.tree
   pub no_tree : (fault : LexFault) → lexing_of text ≡ Err fault → file.tree ≡ None
-  pub stop : IsStop text file.stopped
+  pub stop : IsStop text file.stop

@@ -17,7 +17,7 @@ pub struct ReadFile {
     /// Its tree, if the bytes are a sentence.
     pub tree: Option<FileTree>,
     /// The byte at which reading stopped, if the bytes are no sentence and it stopped at one.
-    pub stopped: Option<usize>,
+    pub stop: Option<usize>,
 }
 
 /// The byte at which cutting into tokens stopped. A file that is too long has none.
@@ -37,14 +37,14 @@ fn lexing_stop(fault: LexFault) -> Result<Option<usize>, AllocError>
 fn without_tokens(alloc: Global, fault: LexFault) -> Result<ReadFile, AllocError>
     ensures tokens { IfOk result (λ file. file.tokens.items ≡ []) }
     ensures tree { IfOk result (λ file. file.tree ≡ None) }
-    ensures stopped { IfOk result (λ file. file.stopped ≡ lexing_stop fault) }
+    ensures stop { IfOk result (λ file. file.stop ≡ lexing_stop fault) }
     ensures memory { IfOk result (λ _. fault ≢ lexing.OutOfMemory) }
 {
-    let stopped = lexing_stop(fault)?;
+    let stop = lexing_stop(fault)?;
     Ok(ReadFile {
         tokens: Vec::new(alloc),
         tree: None,
-        stopped,
+        stop,
     })
 }
 
@@ -78,20 +78,20 @@ fn parsing_stop(
 fn read_tokens(alloc: Global, tokens: Vec<Token>, end: usize) -> Result<ReadFile, AllocError>
     ensures tokens { IfOk result (λ file. file.tokens ≡ tokens) }
     ensures tree { IfOk result (λ file. IsTreeOf tokens.items file.tree) }
-    ensures stopped { IfOk result (λ file. IsTokenStop tokens.items end file.stopped) }
+    ensures stop { IfOk result (λ file. IsTokenStop tokens.items end file.stop) }
 {
     match parse(alloc, &tokens) {
         Ok(tree) => Ok(ReadFile {
             tokens,
             tree: Some(tree),
-            stopped: None,
+            stop: None,
         }),
         Err(fault) => {
-            let stopped = parsing_stop(fault, &tokens, end)?;
+            let stop = parsing_stop(fault, &tokens, end)?;
             Ok(ReadFile {
                 tokens,
                 tree: None,
-                stopped,
+                stop,
             })
         }
     }

@@ -84,7 +84,7 @@ const LONG_FILES: &[(&str, &str, &str)] = &[
 ];
 
 /// A text with a part as often as said between two others.
-fn repeated(alloc: Global, row: &(&str, &str, &str), count: usize) -> Result<String, AllocError> {
+fn with_repeats(alloc: Global, row: &(&str, &str, &str), count: usize) -> Result<String, AllocError> {
     let (before, part, after) = row;
     let parts = part.repeat(alloc, count)?;
     format!(in alloc; "{before}{parts}{after}")
@@ -97,7 +97,7 @@ fn is_file(alloc: Global, text: &str) -> Result<bool, LexFault> {
 }
 
 fn is_long_file(alloc: Global, row: &(&str, &str, &str)) -> Result<bool, LexFault> {
-    let text = repeated(alloc, row, 100000)?;
+    let text = with_repeats(alloc, row, 100000)?;
     is_file(alloc, text.as_str())
 }
 

@@ -27,7 +27,7 @@ use Rattle.query_rules.specs.Items.{class_at, header_of, body_at, mistakes_in, f
 use Rattle.query_rules.specs.Meaning.{mean}
 use Rattle.query_rules.specs.Reads.{bodies_of, diagnosis_reads, asked_keys, firsts, reads}
 use Rattle.body_query.proofs.Sets.{Same}
-use Rattle.table_queries.specs.Facts.{header_in, faults_in, unrepeated, first_names}
+use Rattle.table_queries.specs.Facts.{header_in, faults_in, without_repeats, first_names}
 use Rattle.table_queries.specs.Diags.{bodies_in, body_step, bodies_steps, declared_steps, diags_by, diags_steps}
 use Rattle.table_queries.specs.Laws.{DiagsTies}
 use Rattle.table_queries.proofs.Passes.{Passes, Stays, Reads, passes_each, flat_one, ties_by}
@@ -56,7 +56,7 @@ module _ (p : Project) (c : Name) where
     flags_behind done rest = repeats_behind (map name_of done) (map name_of rest)
 
     each_body : (done rest : List Method) (n : ℕ) → k.main ≡ None → k.methods ≡ done ++ rest
-        → flat_map body_list (unrepeated (map name_of rest) (flags_behind done rest)) ≡ each_numbered (body_faults_of cs k.name) n rest (flags_behind done rest)
+        → flat_map body_list (without_repeats (map name_of rest) (flags_behind done rest)) ≡ each_numbered (body_faults_of cs k.name) n rest (flags_behind done rest)
     each_body done [] n none is = refl
     each_body done (m ∷ rest) n none is = by_flag (later (each_body (done ++ m ∷ []) rest (n + 1) none (is ∙ sym (append_assoc done (m ∷ []) rest)))) (is_in (map name_of done) m.name) refl
       where
@@ -64,7 +64,7 @@ module _ (p : Project) (c : Name) where
         others = repeats_behind (map name_of done ++ m.name ∷ []) (map name_of rest)
 
         Later : List Bool → Type 0
-        Later flags = flat_map body_list (unrepeated (map name_of rest) flags) ≡ each_numbered (body_faults_of cs k.name) (n + 1) rest flags
+        Later flags = flat_map body_list (without_repeats (map name_of rest) flags) ≡ each_numbered (body_faults_of cs k.name) (n + 1) rest flags
 
         later : Later (flags_behind (done ++ m ∷ []) rest) → Later others
         later h = subst (λ (names : List Name). Later (repeats_behind names (map name_of rest))) (map-append name_of done (m ∷ [])) h
@@ -76,7 +76,7 @@ module _ (p : Project) (c : Name) where
             ∙ ap (λ (x : Name). inside m.name (method_faults (world_of cs) x m)) (sym (decl_name cs c k e))
 
         by_flag : Later others → (b : Bool) → is_in (map name_of done) m.name ≡ b
-            → flat_map body_list (if b then unrepeated (map name_of rest) others else m.name ∷ unrepeated (map name_of rest) others)
+            → flat_map body_list (if b then without_repeats (map name_of rest) others else m.name ∷ without_repeats (map name_of rest) others)
             ≡ (if b then [] else inside m.name (method_faults (world_of cs) k.name m)) ++ each_numbered (body_faults_of cs k.name) (n + 1) rest others
         by_flag behind true f = behind
         by_flag behind false f = ap₂ (λ (xs ys : List Diagnostic). xs ++ ys) (here f) behind

@@ -8,7 +8,7 @@ use Rattle.mj_project.proofs.RepeatLemmas.{Contains-is_in, is_in-Contains}
 use Rattle.recorder.specs.Programs.{is_seen}
 use Rattle.recorder.proofs.Seen.{unseen_last}
 use Rattle.query_rules.specs.Reads.{firsts}
-use Rattle.table_queries.specs.Facts.{unrepeated, first_names}
+use Rattle.table_queries.specs.Facts.{without_repeats, first_names}
 
 seen_grows : (ks : List Key) (k x : Key) → is_seen ks x ≡ true → is_seen (ks ++ k ∷ []) x ≡ true
 seen_grows ks k x h = by_test (is_seen (ks ++ k ∷ []) x) refl
@@ -40,12 +40,12 @@ module _ (key : Name → Key) where
     | inr same ↦ subst (λ (y : Name). is_seen seen (key y) ≡ true) same s
   ]
 
-  firsts_behind : (before ns : List Name) (seen : List Key) → AreSeen seen before → firsts seen (map key (unrepeated ns (repeats_behind before ns))) ≡ firsts seen (map key ns)
+  firsts_behind : (before ns : List Name) (seen : List Key) → AreSeen seen before → firsts seen (map key (without_repeats ns (repeats_behind before ns))) ≡ firsts seen (map key ns)
   firsts_behind before [] seen h = refl
   firsts_behind before (n ∷ ns) seen h = by_flag (λ seen h. firsts_behind (before ++ n ∷ []) ns seen h) (is_in before n) refl
     where
       others : List Name
-      others = unrepeated ns (repeats_behind (before ++ n ∷ []) ns)
+      others = without_repeats ns (repeats_behind (before ++ n ∷ []) ns)
 
       Behind : Type 0
       Behind = (seen : List Key) → AreSeen seen (before ++ n ∷ []) → firsts seen (map key others) ≡ firsts seen (map key ns)

@@ -40,11 +40,12 @@ faults_in _ = []
 -- ---- names
 
 -- the names whose flags say that they don't stand before themselves
-abbrev pub unrepeated : List Name → List Bool → List Name
-unrepeated [] flags = []
-unrepeated (n ∷ ns) [] = []
-unrepeated (n ∷ ns) (flag ∷ flags) = if flag then unrepeated ns flags else n ∷ unrepeated ns flags
+abbrev pub without_repeats : List Name → List Bool → List Name
+without_repeats [] flags = []
+without_repeats (n ∷ ns) [] = []
+without_repeats (n ∷ ns) (flag ∷ flags) =
+    if flag then without_repeats ns flags else n ∷ without_repeats ns flags
 
 -- each name where it stands first
 unfoldable pub first_names : List Name → List Name
-first_names names = unrepeated names (repeats names)
+first_names names = without_repeats names (repeats names)

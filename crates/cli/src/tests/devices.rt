@@ -25,7 +25,7 @@ pub struct Opened<'a> {
     rest: &'a [u8],
 }
 
-fn refused<T>() -> io::Result<T>
+fn refuse<T>() -> io::Result<T>
     ensures { IsErr result }
 {
     Err(io::Error::from(ErrorKind::Unsupported))
@@ -44,7 +44,7 @@ impl Read for Opened<'_> {
 
 impl Write for Opened<'_> {
     fn write(&mut self, _buf: &[u8]) -> io::Result<usize> {
-        refused()
+        refuse()
     }
 
     fn flush(&mut self) -> io::Result<()> {
@@ -54,17 +54,17 @@ impl Write for Opened<'_> {
 
 impl Seek for Opened<'_> {
     fn seek(&mut self, _to: SeekFrom) -> io::Result<u64> {
-        refused()
+        refuse()
     }
 }
 
 impl OpenFile for Opened<'_> {
     fn metadata(&self) -> io::Result<Metadata> {
-        refused()
+        refuse()
     }
 
     fn set_len(&self, _size: u64) -> io::Result<()> {
-        refused()
+        refuse()
     }
 
     fn sync_all(&self) -> io::Result<()> {
@@ -94,39 +94,39 @@ impl<'a> Files for Memory<'a> {
     }
 
     fn open_dir(&self, _path: &str) -> io::Result<io::Empty> {
-        refused()
+        refuse()
     }
 
     fn metadata(&self, _path: &str) -> io::Result<Metadata> {
-        refused()
+        refuse()
     }
 
     fn symlink_metadata(&self, _path: &str) -> io::Result<Metadata> {
-        refused()
+        refuse()
     }
 
     fn copy(&self, _from: &str, _to: &str) -> io::Result<u64> {
-        refused()
+        refuse()
     }
 
     fn rename(&self, _from: &str, _to: &str) -> io::Result<()> {
-        refused()
+        refuse()
     }
 
     fn remove_file(&self, _path: &str) -> io::Result<()> {
-        refused()
+        refuse()
     }
 
     fn create_dir(&self, _path: &str) -> io::Result<()> {
-        refused()
+        refuse()
     }
 
     fn remove_dir(&self, _path: &str) -> io::Result<()> {
-        refused()
+        refuse()
     }
 
     fn remove_dir_all<B: Allocator>(&self, _alloc: B, _path: &str) -> io::Result<()> {
-        refused()
+        refuse()
     }
 }
 
