@@ -2,8 +2,10 @@
 //! its faults.
 #![tactic(auto)]
 
+mod facts;
 mod laws;
 mod supers;
 
+pub use facts::{chain_in, faults_in, header_in, rows_in, signature_in};
 pub use laws::{diags_ties, members_ties, supers_ties};
 pub use supers::Climb;

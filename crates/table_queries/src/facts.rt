@@ -1,0 +1,58 @@
+//! What answers tell the queries that are put together from them.
+ghost use Rattle.std.specs.Prelude.{◌≡◌, option_copied};
+ghost use Rattle.table_queries.specs.Facts.{rows_in as rows_told, header_in as header_told, chain_in as chain_told, signature_in as signature_told, faults_in as faults_told};
+
+use mj_answer::Diagnostic;
+use result_bytes::{Header, IndexRow, Signature, Supers, Value};
+
+/// The rows of the index that an answer tells.
+pub fn rows_in(value: &Value) -> &[IndexRow]
+    ensures { result.now ≡ rows_told value.now }
+{
+    match value {
+        Value::Index(index) => index.rows(),
+        _ => &[],
+    }
+}
+
+/// The header that an answer tells.
+pub fn header_in(value: &Value) -> Option<&Header>
+    ensures { option_copied result ≡ header_told value.now }
+{
+    match value {
+        Value::Header(header) => header.as_ref(),
+        _ => None,
+    }
+}
+
+/// The chain that an answer tells.
+pub fn chain_in(value: &Value) -> Option<&Supers>
+    ensures { option_copied result ≡ chain_told value.now }
+{
+    match value {
+        Value::Supers(chain) => chain.as_ref(),
+        _ => None,
+    }
+}
+
+/// The types of a method that an answer tells.
+pub fn signature_in(value: &Value) -> Option<&Signature>
+    ensures { option_copied result ≡ signature_told value.now }
+{
+    match value {
+        Value::Sig(signature) => signature.as_ref(),
+        _ => None,
+    }
+}
+
+/// The faults in an answer that is a list of faults.
+pub fn faults_in(value: &Value) -> &[Diagnostic]
+    ensures { result.now ≡ faults_told value.now }
+{
+    match value {
+        Value::CheckClass(faults) => faults.list(),
+        Value::CheckBody(faults) => faults.list(),
+        Value::Diags(faults) => faults.list(),
+        _ => &[],
+    }
+}
