@@ -1,5 +1,4 @@
 pub mod Tables
-pub mod Inputs
 pub mod Nodes
 pub mod Kept
 pub mod Walks

@@ -12,10 +12,10 @@ ghost use Rattle.job_table.specs.Nodes.{status_at, state_of_nodes};
 ghost use Rattle.job_table.specs.Closes.{next_number, next_link, IsClosing};
 ghost use Rattle.job_table.specs.Reached.{Ascend, key_in, AreRoots, AreReached, HasEdges, Adds, IsRecordOf, AreRecordsOf};
 
-use crate::inputs::Inputs;
 use crate::nodes::{Entry, Node, entry_of};
 use item_ids::{Key, ranks_in_order};
 use mj_answer::ascending;
+use project_inputs::Inputs;
 use session_file::digest;
 use sessions::{Record, Session, check_kept};
 use std::alloc::{AllocError, Global};

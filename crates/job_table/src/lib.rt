@@ -4,7 +4,6 @@
 mod closing;
 mod event;
 mod fault;
-mod inputs;
 mod nodes;
 mod reads;
 mod replay;

@@ -9,9 +9,9 @@ ghost use Rattle.job_table.specs.Nodes.{status_of, status_in, status_at, AreApar
 ghost use Rattle.job_table.specs.Closes.{IsQuiet};
 ghost use Rattle.job_table.specs.Reached.{AllQuiet};
 
-use crate::inputs::Inputs;
 use fingerprint::Sealed;
 use item_ids::{Key, rank};
+use project_inputs::Inputs;
 use sessions::Mark;
 use std::sync::Arc;
 

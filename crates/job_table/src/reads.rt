@@ -4,8 +4,8 @@ ghost use Rattle.graph_rules.specs.Steps.{IsDoneWith, AreHeld};
 ghost use Rattle.job_table.specs.Nodes.{status_at, state_of_nodes};
 ghost use Rattle.job_table.specs.Calls.{IsFirstStale};
 
-use crate::inputs::Inputs;
 use crate::nodes::{Node, result_of};
+use project_inputs::Inputs;
 use recorder::Read;
 
 /// The place of the first read whose key isn't done with the result that was read.

@@ -8,11 +8,11 @@ ghost use Rattle.sessions.specs.Sessions.{AreInside, key_at};
 ghost use Rattle.job_table.specs.Kept.{event_of};
 
 use crate::event::Event;
-use crate::inputs::Inputs;
 use crate::nodes::Node;
 use fingerprint::Sealed;
 use item_ids::Key;
 use mj_project::Project;
+use project_inputs::Inputs;
 use recorder::{Outcome, Read, Runner};
 use sessions::{Record, Session};
 use std::alloc::{AllocError, Global};

@@ -7,7 +7,6 @@ ghost use Rattle.job_table.specs.Kept.{event_of};
 use crate::closing::{check_past, session_of};
 use crate::event::Event;
 use crate::fault::{Asked, CloseFault, OpenFault, TableFault};
-use crate::inputs::Inputs;
 use crate::nodes::{
     Node, Standing, are_quiet, find, find_claimed, find_running, is_below, put, result_of,
 };
@@ -20,6 +19,7 @@ use crate::walks::{WalkEnd, walk_edges, why_not};
 use fingerprint::Sealed;
 use item_ids::Key;
 use mj_project::Project;
+use project_inputs::Inputs;
 use recorder::{Outcome, Runner};
 use sessions::{Mark, Session};
 use std::alloc::{AllocError, Global};

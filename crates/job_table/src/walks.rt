@@ -8,9 +8,9 @@ ghost use Rattle.job_table.specs.Nodes.{status_at, state_of_nodes};
 ghost use Rattle.job_table.specs.Walks.{edge_of, walk_of, IsWhyNot};
 
 use crate::fault::TableFault;
-use crate::inputs::Inputs;
 use crate::nodes::{Node, result_of};
 use item_ids::Key;
+use project_inputs::Inputs;
 use sessions::Session;
 use std::sync::Arc;
 

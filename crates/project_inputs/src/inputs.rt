@@ -19,7 +19,7 @@ use std::sync::Arc;
 
 /// A file's name, and the sealed result of its source. Contracts see the file.
 #[derive(Drop)]
-pub struct Source {
+struct Source {
     name: Name,
     sealed: Arc<Sealed>,
 }
@@ -29,7 +29,7 @@ impl Model for Source {
     ghost use Rattle.std.specs.Arc.{arc_value};
     ghost use Rattle.result_bytes.specs.declared.value.Value.TheVariants as values;
     ghost use Rattle.mj_project.specs.Projects.{SourceFile};
-    ghost use Rattle.job_table.specs.Inputs.{bytes_in};
+    ghost use Rattle.project_inputs.specs.Inputs.{bytes_in};
 
     ghost Value = { SourceFile };
 

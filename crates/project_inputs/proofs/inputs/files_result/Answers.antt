@@ -1,8 +1,8 @@
 use Rattle.std.proofs.Common.{sym, ap, ◌∙◌, subst}
 use Rattle.result_bytes.specs.Storable.{AreDistinct}
 use Rattle.mj_project.specs.Projects.{names_of}
-use Rattle.job_table.proofs.InputRules.{distinct_names}
-use Rattle.job_table.proofs.inputs.files_result.Goals as goal
+use Rattle.project_inputs.proofs.InputRules.{distinct_names}
+use Rattle.project_inputs.proofs.inputs.files_result.Goals as goal
 
 pub new-requires-clause-distinct : goal.new-requires-clause-distinct
 new-requires-clause-distinct c =

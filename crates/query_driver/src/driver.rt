@@ -1,0 +1,177 @@
+//! The driver.
+ghost use Rattle.std.specs.Prelude.{◌≡◌, IfOk};
+ghost use Rattle.std.specs.Arc.{arc_value};
+ghost use Rattle.item_ids.specs.declared.key.Key.TheVariants as keys;
+
+use crate::steps::take_step;
+use fingerprint::Sealed;
+use item_ids::Key;
+use mj_lexer::Name;
+use project_inputs::Inputs;
+use recorder::{AnswerList, ReadFault, RunFault, Runner};
+use result_bytes::{IndexRow, Value};
+use std::alloc::{AllocError, Global};
+use std::marker::Model;
+use std::sync::Arc;
+
+/// Brings the results of queries of a project, each by one run more than it reads keys that weren't held. Contracts see
+/// the project.
+#[derive(Drop)]
+pub struct Driver<R: Runner> {
+    alloc: Global,
+    inputs: Inputs,
+    runner: R,
+    held: AnswerList,
+}
+
+impl<R: Runner> Model for Driver<R> {
+    ghost use Rattle.mj_project.specs.Projects.{IsProject};
+    ghost use Rattle.recorder.specs.Backed.{GivesEach};
+    ghost use Rattle.recorder.specs.Projects.{Project};
+
+    ghost Value = { Project };
+
+    ghost view = { λ d. d.inputs };
+
+    ghost invariant = { λ d. IsProject d.inputs × GivesEach (R.mean d.inputs) d.held };
+}
+
+impl<R: Runner> Driver<R> {
+    /// A driver of the queries of the project with these inputs, which holds no result.
+    pub fn new(alloc: Global, inputs: Inputs, runner: R) -> Self
+        ensures { result ≡ inputs }
+    {
+        inputs.project();
+        Driver {
+            alloc,
+            inputs,
+            runner,
+            held: AnswerList::new(alloc),
+        }
+    }
+
+    /// The result of a key, which is what the runner means by it in this project.
+    pub fn result(&mut self, key: &Key) -> Result<Arc<Sealed>, RunFault>
+        ensures result { IfOk result (λ a. arc_value a ≡ R.mean self.old key.now) }
+        ensures same { self.new ≡ self.old }
+    {
+        self.bring(key)?;
+        match self.held.find(key) {
+            Some(read) => Ok(Arc::try_clone(read.answer())?),
+            None => Err(RunFault::Read(ReadFault::NotHeld)),
+        }
+    }
+
+    /// Brings the key's result, and before it each that a run of it wants.
+    fn bring(&mut self, key: &Key) -> Result<(), RunFault>
+        ensures same { self.new ≡ self.old }
+    {
+        if self.held.find(key).is_some() {
+            return Ok(());
+        }
+        let open = only(self.alloc, key)?;
+        self.bring_all(open)
+    }
+
+    /// Brings the results of the keys, the last one first.
+    fn bring_all(&mut self, open: Vec<Key>) -> Result<(), RunFault>
+        ensures same { self.new ≡ self.old }
+    {
+        let mut open = open;
+        for _ in 0..usize::MAX {
+            let Some(key) = open.pop() else {
+                return Ok(());
+            };
+            if let Some(wanted) = self.step(&key)? {
+                open_both(&mut open, key, wanted)?;
+            }
+        }
+        Ok(())
+    }
+
+    /// Holds the key's result, or names a key that is wanted first.
+    fn step(&mut self, key: &Key) -> Result<Option<Key>, RunFault>
+        ensures same { self.new ≡ self.old }
+    {
+        take_step(
+            self.alloc,
+            &self.inputs,
+            &mut self.runner,
+            &mut self.held,
+            key,
+        )
+    }
+
+    /// The result of Answer. What it reads is brought before it, so that no run is made again for each of these keys.
+    pub fn answer(&mut self) -> Result<Arc<Sealed>, RunFault>
+        ensures result { IfOk result (λ a. arc_value a ≡ R.mean self.old keys.Answer) }
+        ensures same { self.new ≡ self.old }
+    {
+        let files = self.result(&Key::Files)?;
+        self.bring_trees(names_in(files.value()))?;
+        let index = self.result(&Key::Index)?;
+        self.bring_classes(rows_in(index.value()))?;
+        self.result(&Key::Answer)
+    }
+
+    /// Brings the tree of each file.
+    fn bring_trees(&mut self, files: &[Name]) -> Result<(), RunFault>
+        ensures same { self.new ≡ self.old }
+    {
+        for file in files {
+            let key = Key::Tree(file.copy(self.alloc)?);
+            self.bring(&key)?;
+        }
+        Ok(())
+    }
+
+    /// Brings the members and the faults of each class.
+    fn bring_classes(&mut self, rows: &[IndexRow]) -> Result<(), RunFault>
+        ensures same { self.new ≡ self.old }
+    {
+        for row in rows {
+            self.bring_class(&row.class)?;
+        }
+        Ok(())
+    }
+
+    /// Brings the members and the faults of a class.
+    fn bring_class(&mut self, class: &Name) -> Result<(), RunFault>
+        ensures same { self.new ≡ self.old }
+    {
+        let members = Key::Members(class.copy(self.alloc)?);
+        self.bring(&members)?;
+        let faults = Key::Diags(class.copy(self.alloc)?);
+        self.bring(&faults)
+    }
+}
+
+/// This key alone.
+fn only(alloc: Global, key: &Key) -> Result<Vec<Key>, AllocError> {
+    let mut open = Vec::new(alloc);
+    open.push(key.copy(alloc)?)?;
+    Ok(open)
+}
+
+/// Opens a key, and behind it the one that it wants first.
+fn open_both(open: &mut Vec<Key>, key: Key, wanted: Key) -> Result<(), AllocError> {
+    open.push(key)?;
+    open.push(wanted)?;
+    Ok(())
+}
+
+/// The names of the files that a result tells.
+fn names_in(value: &Value) -> &[Name] {
+    match value {
+        Value::Files(files) => files.names(),
+        _ => &[],
+    }
+}
+
+/// The rows of the index that a result tells.
+fn rows_in(value: &Value) -> &[IndexRow] {
+    match value {
+        Value::Index(index) => index.rows(),
+        _ => &[],
+    }
+}
