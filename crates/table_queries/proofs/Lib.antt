@@ -1,3 +1,8 @@
+pub mod Listing
+pub mod NameSets
+pub mod Firsts
+pub mod Climbs
+pub mod Places
 pub mod Passes
 pub mod Indexed
 pub mod SupersTie

@@ -1,4 +1,5 @@
 pub mod Facts
+pub mod Met
 pub mod Supers
 pub mod Members
 pub mod Diags

@@ -28,8 +28,10 @@ climb_by rows names (Some u) =
 -- the header of one more class: the names with it, and where the chain goes on
 abbrev pub climb_step : List IndexRow → List Name → Name → (List Name × Climb → Prog) → Prog
 climb_step rows names c k =
-    Ask (keys.Header c) (λ v. k (names ++ c ∷ [],
-    climb_by rows (names ++ c ∷ []) (option_and_then (λ h. h.superclass) (header_in v))))
+    Ask (keys.Header c) (λ v. k (
+      names ++ c ∷ [],
+      climb_by rows (names ++ c ∷ []) (option_and_then (λ h. h.superclass) (header_in v)),
+    ))
 
 abbrev pub climb_on : (List Name → Name → (ChainValue → Prog) → Prog) → List Name × Climb
     → (ChainValue → Prog) → Prog

@@ -1,18 +1,39 @@
 //! What answers tell the queries that are put together from them.
-ghost use Rattle.std.specs.Prelude.{◌≡◌, option_copied};
-ghost use Rattle.table_queries.specs.Facts.{rows_in as rows_told, header_in as header_told, chain_in as chain_told, signature_in as signature_told, faults_in as faults_told};
+ghost use Rattle.std.specs.Prelude.{◌≡◌, option_copied, position};
+ghost use Rattle.std.specs.Str.{bytes_eq};
+ghost use Rattle.mj_answer.specs.Order.{IsAscendingByName};
+ghost use Rattle.answer_bytes.specs.Storable.{AreClassFaults};
+ghost use Rattle.table_queries.specs.Facts.{rows_in as rows_told, is_listed, header_in as header_told, chain_in as chain_told, signature_in as signature_told, faults_in as faults_told};
 
 use mj_answer::Diagnostic;
+use mj_lexer::Name;
 use result_bytes::{Header, IndexRow, Signature, Supers, Value};
 
 /// The rows of the index that an answer tells.
 pub fn rows_in(value: &Value) -> &[IndexRow]
-    ensures { result.now ≡ rows_told value.now }
+    ensures value { result.now ≡ rows_told value.now }
+    ensures order { IsAscendingByName (λ row. row.class) result.now }
 {
     match value {
         Value::Index(index) => index.rows(),
         _ => &[],
     }
+}
+
+/// The place of a class's row, by halves, since the rows ascend.
+fn place_of(rows: &[IndexRow], class: &Name) -> Option<usize>
+    requires { IsAscendingByName (λ row. row.class) rows.now }
+    ensures { result ≡ position (λ row. bytes_eq row.class class.now) rows.now }
+{
+    rows.binary_search_by(|row| row.class.cmp(class)).ok()
+}
+
+/// Whether rows of an index have a class.
+pub fn is_listed(rows: &[IndexRow], class: &Name) -> bool
+    requires { IsAscendingByName (λ row. row.class) rows.now }
+    ensures { result ≡ is_listed rows.now class.now }
+{
+    place_of(rows, class).is_some()
 }
 
 /// The header that an answer tells.
@@ -47,7 +68,8 @@ pub fn signature_in(value: &Value) -> Option<&Signature>
 
 /// The faults in an answer that is a list of faults.
 pub fn faults_in(value: &Value) -> &[Diagnostic]
-    ensures { result.now ≡ faults_told value.now }
+    ensures value { result.now ≡ faults_told value.now }
+    ensures places { AreClassFaults result.now }
 {
     match value {
         Value::CheckClass(faults) => faults.list(),

@@ -2,10 +2,12 @@
 //! its faults.
 #![tactic(auto)]
 
+mod diags;
 mod facts;
 mod laws;
 mod supers;
 
+pub use diags::run_diags;
 pub use facts::{chain_in, faults_in, header_in, rows_in, signature_in};
 pub use laws::{diags_ties, members_ties, supers_ties};
-pub use supers::Climb;
+pub use supers::{Climb, run_supers};
