@@ -11,4 +11,5 @@ pub mod Repeats
 pub mod FaultSets
 pub mod Tables
 pub mod MembersTie
+pub mod MemberTables
 pub mod DiagsTie

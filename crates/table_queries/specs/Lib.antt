@@ -2,5 +2,6 @@ pub mod Facts
 pub mod Met
 pub mod Supers
 pub mod Members
+pub mod MemberTables
 pub mod Diags
 pub mod Laws
