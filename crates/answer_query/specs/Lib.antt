@@ -1,0 +1,4 @@
+pub mod Trees
+pub mod ProjectFaults
+pub mod Answer
+pub mod Laws

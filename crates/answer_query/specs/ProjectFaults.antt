@@ -1,0 +1,45 @@
+-- The faults of a project itself, by the trees of its files.
+use Rattle.std.specs.Prelude.{ℕ, Bool, false, not, ◌||◌, List, [], ◌∷◌, ◌++◌, Option, Some, None, slice_get, if◌then◌else◌}
+use Rattle.std.specs.List.{list_any}
+use Rattle.mj_tree.specs.declared.place.Place.TheVariants as places
+use Rattle.mj_answer.specs.declared.code.Code.TheVariants.{E102, E104}
+use Rattle.mj_answer.specs.declared.diagnostic.Diagnostic.{Diagnostic}
+use Rattle.mj_classes.specs.Declarations.{ClassDecl, declarations}
+use Rattle.mj_project.specs.Repeats.{repeats}
+use Rattle.mj_rules.specs.FaultLists.{fault, when_fault, each_numbered, has_main, file_faults, class_names}
+use Rattle.body_query.specs.Bounds.{bound}
+use Rattle.answer_query.specs.Trees.{NamedTree, trees_of}
+
+-- ---- files
+
+-- one of the files has a main class
+abbrev pub any_main : List NamedTree → Bool
+any_main files = list_any (λ f. has_main f.1) files
+
+-- what is wrong with the files, where an earlier one has a main class or none has
+abbrev pub files_faults : Bool → List NamedTree → List Diagnostic
+files_faults main_before [] = []
+files_faults main_before (f ∷ fs) =
+    file_faults main_before f.0 f.1 ++ files_faults (main_before || has_main f.1) fs
+
+-- ---- classes whose names earlier classes have
+
+abbrev pub repeated_class : Option NamedTree → ℕ → List Diagnostic
+repeated_class None number = []
+repeated_class (Some f) number = fault (places.ClassOf f.0 (bound number)) E104 ∷ []
+
+abbrev pub class_faults : List NamedTree → ℕ → Bool → ClassDecl → List Diagnostic
+class_faults files n repeated d =
+    if repeated then repeated_class (slice_get files d.file) d.number else []
+
+abbrev pub classes_faults : List NamedTree → List ClassDecl → List Diagnostic
+classes_faults files classes =
+    each_numbered (class_faults files) 0 classes (repeats (class_names classes))
+
+-- ---- all of them
+
+unfoldable pub project_faults : List NamedTree → List Diagnostic
+project_faults files =
+    files_faults false files
+    ++ (classes_faults files (declarations (trees_of files))
+    ++ when_fault (not (any_main files)) places.Project E102)
