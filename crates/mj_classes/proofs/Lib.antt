@@ -5,6 +5,7 @@ pub mod Closed
 pub mod Distinct
 pub mod Index
 pub mod Nearest
+pub mod Places
 pub mod Positions
 pub mod Rows
 pub mod Tables

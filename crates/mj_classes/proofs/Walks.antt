@@ -1,17 +1,17 @@
 -- Walks up the superclasses, which find what stands in a chain.
 use Rattle.std.proofs.Common.{◌≡◌, ℕ, zero, suc, ◌+◌, ◌-◌, ◌<◌, ◌≤◌, Bool, true, false, List, [], ◌∷◌, length, Option, Some, None, refl, sym, ap, ◌∙◌, subst, arith, ◌⊎◌, inl, inr, cond}
-use Rattle.std.specs.Prelude.{find, option_map, option_and_then, is_some, ◌||◌, map, if◌then◌else◌}
+use Rattle.std.specs.Prelude.{find, option_map, option_and_then, is_some, ◌||◌, map, if◌then◌else◌, slice_get}
 use Rattle.std.specs.Str.{bytes_eq}
 use Rattle.std.specs.List.{filter_map, cons_option}
 use Rattle.mj_tree.specs.Trees.{Name}
-use Rattle.mj_tree.specs.declared.tree.Ty.TheVariants.{Class}
-use Rattle.mj_classes.specs.Declarations.{ClassDecl, decl}
-use Rattle.mj_classes.specs.Walks.{above}
-use Rattle.mj_classes.specs.Chains.{EndOf, Links, IsChain, is_in, chain_names, chain_of, accepts, ancestry}
+use Rattle.std.proofs.lemmas.Option.{same_Some}
+use Rattle.mj_classes.specs.Declarations.{ClassDecl, decl, place, superclass_places}
+use Rattle.mj_classes.specs.Chains.{EndOf, Links, IsChain, is_in, chain_names, chain_of, ancestry}
 use Rattle.mj_classes.proofs.Distinct.{In}
 use Rattle.mj_classes.proofs.Climb.{decl_name, all_declared, links_declared, no_more, has_chain, has_none}
 use Rattle.mj_classes.proofs.Distinct.{contains_in}
 use Rattle.mj_classes.proofs.Closed.{closed}
+use Rattle.mj_classes.proofs.Places.{above, place_class, step_up, step_above, none_above}
 use Rattle.mj_classes.proofs.Nearest.{ancestry_of_chain, ancestry_by, ancestry_names}
 
 -- the first class that passes the test, of so many from this one up
@@ -210,6 +210,70 @@ walk_back cs p c left more k passed j w one fails_here e back =
     let same : passed ≡ j = let a = on.here in let b = on.before in cc in
     on.rest ∙ round_trip cs p (suc w.since.0) j (omega arith) (subst (λ (q : ClassDecl). (m : ℕ) → up cs p (suc w.since.0 + m) q ≡ up cs p m j) same on.since.1) more
 
+-- ---- by places
+
+pub record WalksAt (cs : List ClassDecl) (p : ClassDecl → Bool) (c : Name) (left at passed : ℕ) : Type 0 where
+  pub class : ClassDecl
+  pub here : slice_get cs at ≡ Some class
+  pub mark : ClassDecl
+  pub before : slice_get cs passed ≡ Some mark
+  pub walks : Walks cs p c left class mark
+
+pub at_start : (cs : List ClassDecl) (p : ClassDecl → Bool) (c : Name) (left at : ℕ) → left ≡ length cs → place cs c ≡ Some at → WalksAt cs p c left at at
+at_start cs p c left at all e =
+    let k = place_class cs c at e in
+    record { class = k.0; here = k.1; mark = k.0; before = k.1; walks = walk_starts cs p c left k.0 all k.2 }
+
+pub at_marks : (cs : List ClassDecl) (p : ClassDecl → Bool) (c : Name) (left at passed mark : ℕ) → WalksAt cs p c left at passed → (mark ≡ at) ⊎ (mark ≡ passed) → WalksAt cs p c left at mark
+at_marks cs p c left at passed mark w (inl e) =
+    record { class = w.class; here = w.here; mark = w.class; before = ap (slice_get cs) e ∙ w.here; walks = walk_marks cs p c left w.class w.mark w.class w.walks (inl refl) }
+at_marks cs p c left at passed mark w (inr e) =
+    record { class = w.class; here = w.here; mark = w.mark; before = ap (slice_get cs) e ∙ w.before; walks = w.walks }
+
+pub at_on : (cs : List ClassDecl) (p : ClassDecl → Bool) (c : Name) (left more at passed next : ℕ) (k : ClassDecl)
+    → WalksAt cs p c left at passed → left ≡ suc more → slice_get cs at ≡ Some k → p k ≡ false → slice_get (superclass_places cs) at ≡ Some (Some next) → WalksAt cs p c more next passed
+at_on cs p c left more at passed next k w one here fails_here e =
+    let same : w.class ≡ k = same_Some w.class k (sym w.here ∙ here) in
+    let step = step_up cs at w.class next w.here e in
+    record {
+      class = step.class;
+      here = step.here;
+      mark = w.mark;
+      before = w.before;
+      walks = walk_on cs p c left more w.class w.mark step.class w.walks one (ap p same ∙ fails_here) (step_above cs w.class next step);
+    }
+
+pub at_back : (cs : List ClassDecl) (p : ClassDecl → Bool) (c : Name) (left more at passed next : ℕ) (k : ClassDecl)
+    → WalksAt cs p c left at passed → left ≡ suc more → slice_get cs at ≡ Some k → p k ≡ false → slice_get (superclass_places cs) at ≡ Some (Some next) → next ≡ passed → find p (ancestry cs c) ≡ None
+at_back cs p c left more at passed next k w one here fails_here e back =
+    let same : w.class ≡ k = same_Some w.class k (sym w.here ∙ here) in
+    let step = step_up cs at w.class next w.here e in
+    let it : step.class ≡ w.mark = same_Some step.class w.mark (sym step.here ∙ (ap (slice_get cs) back ∙ w.before)) in
+    walk_back cs p c left more w.class w.mark step.class w.walks one (ap p same ∙ fails_here) (step_above cs w.class next step) (ap (λ (j : ClassDecl). j.name) it)
+
+-- the class at hand is found
+pub at_found : (cs : List ClassDecl) (p : ClassDecl → Bool) (c : Name) (left more at passed : ℕ) (k : ClassDecl)
+    → WalksAt cs p c left at passed → left ≡ suc more → slice_get cs at ≡ Some k → p k ≡ true → find p (ancestry cs c) ≡ Some k
+at_found cs p c left more at passed k w one here found =
+    let same : w.class ≡ k = same_Some w.class k (sym w.here ∙ here) in
+    w.walks.rest ∙ (ap (λ (n : ℕ). up cs p n w.class) one ∙ (ap (up cs p (suc more)) same ∙ first))
+  where
+    first : up cs p (suc more) k ≡ Some k
+    first = rw found refl
+
+-- no class stands above the one at hand
+pub at_top : (cs : List ClassDecl) (p : ClassDecl → Bool) (c : Name) (left more at passed : ℕ) (k : ClassDecl)
+    → WalksAt cs p c left at passed → left ≡ suc more → slice_get cs at ≡ Some k → p k ≡ false → slice_get (superclass_places cs) at ≡ Some None → find p (ancestry cs c) ≡ None
+at_top cs p c left more at passed k w one here fails_here none =
+    let same : w.class ≡ k = same_Some w.class k (sym w.here ∙ here) in
+    w.walks.rest ∙ (ap (λ (n : ℕ). up cs p n w.class) one ∙ (ap (up cs p (suc more)) same ∙ top))
+  where
+    top : up cs p (suc more) k ≡ None
+    top = let above_it = none_above cs at k here none in rw (fails_here, above_it) refl
+
+pub at_end : (cs : List ClassDecl) (p : ClassDecl → Bool) (c : Name) (left at passed : ℕ) → WalksAt cs p c left at passed → left ≡ 0 → find p (ancestry cs c) ≡ None
+at_end cs p c left at passed w none = w.walks.rest ∙ ap (λ (n : ℕ). up cs p n w.class) none
+
 -- ---- what stands in a chain, by the names
 
 is_some-find : (u : Name) (ks : List ClassDecl) → is_some (find (λ k. bytes_eq k.name u) ks) ≡ is_in (map (λ (k : ClassDecl). k.name) ks) u
@@ -226,7 +290,3 @@ stands_above cs t u = is_some-find u (ancestry cs t) ∙ ap (λ (ns : List Name)
 pub is_some_mapped : {A B : Type 0} (f : A → B) (o : Option A) → is_some (option_map f o) ≡ is_some o
 is_some_mapped f None = refl
 is_some_mapped f (Some a) = refl
-
--- of two classes that differ, the second stands above the first
-pub accepts_above : (cs : List ClassDecl) (t u : Name) (r : Bool) → bytes_eq t u ≡ false → r ≡ is_some (find (λ k. bytes_eq k.name u) (ancestry cs t)) → r ≡ accepts cs (Class t) (Class u)
-accepts_above cs t u r e h = rw e (h ∙ stands_above cs t u)

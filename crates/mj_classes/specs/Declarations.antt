@@ -1,5 +1,5 @@
 -- The classes that a project declares.
-use Rattle.std.specs.Prelude.{ℕ, suc, List, [], ◌∷◌, ◌++◌, find, Option, Some, None}
+use Rattle.std.specs.Prelude.{ℕ, suc, List, [], ◌∷◌, ◌++◌, map, find, position, Option, Some, None, option_and_then}
 use Rattle.std.specs.Str.{bytes_eq}
 use Rattle.mj_tree.specs.Trees.{Name, Statement, Method, Main, Class, File}
 use Rattle.mj_tree.specs.declared.tree.Field.{Field}
@@ -63,3 +63,13 @@ declarations files = declared_from 0 files
 -- The first class of a name.
 unfoldable pub decl : List ClassDecl → Name → Option ClassDecl
 decl cs c = find (λ k. bytes_eq k.name c) cs
+
+-- ---- by their places in the list
+
+-- the place of the first class of a name
+abbrev pub place : List ClassDecl → Name → Option ℕ
+place cs c = position (λ k. bytes_eq k.name c) cs
+
+-- for each class the place of the one that it extends, if that is declared
+abbrev pub superclass_places : List ClassDecl → List (Option ℕ)
+superclass_places cs = map (λ k. option_and_then (place cs) k.superclass) cs

@@ -1,7 +1,5 @@
 //! A declared class.
-ghost use Rattle.std.specs.Prelude.{◌≡◌, map, find, option_copied, option_map};
-ghost use Rattle.std.specs.Str.{bytes_eq};
-ghost use Rattle.mj_classes.specs.Members.{own_field, own_method};
+ghost use Rattle.std.specs.Prelude.{◌≡◌, map, option_copied};
 ghost use Rattle.mj_tree.specs.Views.{method_view};
 ghost use Rattle.mj_classes.specs.Classes.{class_ref_view};
 
@@ -65,25 +63,4 @@ impl<'a> ClassRef<'a> {
             Tree::Plain(class) => class.methods.as_slice(),
         }
     }
-
-    /// The first field of a name that the class itself declares.
-    pub fn field(&self, name: &Name) -> Option<&'a Field>
-        ensures { option_copied result ≡ own_field name.now (class_ref_view self.now) }
-    {
-        self.fields().iter().find(|field| &field.name == name)
-    }
-
-    /// The first method of a name that the class itself declares.
-    pub fn method(&self, name: &Name) -> Option<&'a MethodTree>
-        ensures { option_map method_view (option_copied result)
-            ≡ own_method name.now (class_ref_view self.now) }
-    {
-        first_method(self.methods(), name)
-    }
-}
-
-fn first_method<'a>(methods: &'a [MethodTree], name: &Name) -> Option<&'a MethodTree>
-    ensures { option_copied result ≡ find (λ m. bytes_eq m.name name.now) methods.now }
-{
-    methods.iter().find(|method| &method.name == name)
 }

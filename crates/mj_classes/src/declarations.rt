@@ -1,14 +1,15 @@
 //! The declared classes by their names.
-ghost use Rattle.std.specs.Prelude.{◌≡◌, ◌++◌, ℕ, List, map, position, option_map, OnOk, IfOk, ◌≤◌};
+ghost use Rattle.std.specs.Prelude.{◌≡◌, ◌++◌, ℕ, List, length, map, position, slice_get, Some, option_map, option_and_then, OnOk, IfOk, ◌≤◌, ◌<◌};
 ghost use Rattle.std.specs.Str.{bytes_eq};
 ghost use Rattle.std.specs.BTreeMap.{get};
 ghost use Rattle.std.specs.Cmp.Lexicographic.{slice_cmp};
 ghost use Rattle.std.specs.Ordering.{nat_cmp};
 ghost use Rattle.mj_tree.specs.Views.{class_view, file_view};
-ghost use Rattle.mj_classes.specs.Declarations.{classes_of, number_classes, declarations, decl};
+ghost use Rattle.mj_classes.specs.Declarations.{classes_of, number_classes, declarations, decl, place, superclass_places};
 ghost use Rattle.mj_classes.specs.Classes.{class_ref_view, classes_view, files_view};
 
 use crate::class::{ClassRef, Tree};
+use crate::own::OwnMembers;
 use mj_lexer::Name;
 use mj_tree::{ClassTree, FileTree};
 use std::alloc::{AllocError, Global};
@@ -19,8 +20,14 @@ use std::collections::BTreeMap;
 pub struct Declarations<'a> {
     classes: Vec<ClassRef<'a>>,
     by_name: BTreeMap<Name, usize>,
+    /// For each class the place of the one that it extends, if that is declared.
+    superclasses: Vec<Option<usize>>,
+    /// For each class what it declares itself.
+    members: Vec<OwnMembers<'a>>,
     ghost indexed: { (q : List ℕ) → get (slice_cmp nat_cmp) by_name q
         ≡ position (λ k. bytes_eq k.name q) (classes_view classes.items) },
+    ghost linked: { superclasses.items ≡ superclass_places (classes_view classes.items) },
+    ghost listed: { map (λ m. m.class) members.items ≡ classes.items },
 }
 
 impl<'a> Declarations<'a> {
@@ -32,7 +39,14 @@ impl<'a> Declarations<'a> {
     {
         let classes = all_classes(alloc, files)?;
         let by_name = index_by_name(alloc, &classes)?;
-        Ok(Declarations { classes, by_name })
+        let superclasses = link(alloc, &classes, &by_name)?;
+        let members = own_members(alloc, &classes)?;
+        Ok(Declarations {
+            classes,
+            by_name,
+            superclasses,
+            members,
+        })
     }
 
     /// All classes, in file order.
@@ -48,6 +62,37 @@ impl<'a> Declarations<'a> {
     {
         let at = *self.by_name.get(name)?;
         Some(self.classes[at])
+    }
+
+    /// The place of the first class of a name.
+    pub(crate) fn place(&self, name: &Name) -> Option<usize>
+        ensures { result ≡ place (declared_in self.now) name.now }
+    {
+        self.by_name.get(name).copied()
+    }
+
+    /// The class at this place.
+    pub(crate) fn class_at(&self, at: usize) -> ClassRef<'a>
+        requires { at < length (declared_in self.now) }
+        ensures { slice_get (declared_in self.now) at ≡ Some (class_ref_view result) }
+    {
+        self.classes[at]
+    }
+
+    /// The place of the class that the one at this place extends, if that is declared.
+    pub(crate) fn superclass_of(&self, at: usize) -> Option<usize>
+        requires { at < length (declared_in self.now) }
+        ensures { slice_get (superclass_places (declared_in self.now)) at ≡ Some result }
+    {
+        self.superclasses[at]
+    }
+
+    /// What the class at this place declares itself.
+    pub(crate) fn own_at(&self, at: usize) -> &OwnMembers<'a>
+        requires { at < length (declared_in self.now) }
+        ensures { slice_get (declared_in self.now) at ≡ Some (class_ref_view result.now.class) }
+    {
+        &self.members[at]
     }
 }
 
@@ -127,4 +172,45 @@ fn index_by_name(alloc: Global, classes: &[ClassRef]) -> Result<BTreeMap<Name, u
         }
     }
     Ok(by_name)
+}
+
+/// For each class the place of the one that it extends, if that is declared.
+fn link(
+    alloc: Global,
+    classes: &[ClassRef],
+    by_name: &BTreeMap<Name, usize>,
+) -> Result<Vec<Option<usize>>, AllocError>
+    requires { (q : List ℕ)
+        → get (slice_cmp nat_cmp) by_name.now q
+        ≡ position (λ k. bytes_eq k.name q) (classes_view classes.now) }
+    ensures { IfOk result (λ v. v.items ≡ superclass_places (classes_view classes.now)) }
+{
+    let mut places = Vec::new(alloc);
+    for class in classes {
+        places.push(superclass_place(class, by_name))?;
+    }
+    Ok(places)
+}
+
+/// Where this index has the name that a class extends.
+fn superclass_place(class: &ClassRef, by_name: &BTreeMap<Name, usize>) -> Option<usize>
+    ensures { result
+        ≡ option_and_then (get (slice_cmp nat_cmp) by_name.now)
+        (class_ref_view class.now).superclass }
+{
+    by_name.get(class.superclass()?).copied()
+}
+
+/// What each class declares itself.
+fn own_members<'a>(
+    alloc: Global,
+    classes: &[ClassRef<'a>],
+) -> Result<Vec<OwnMembers<'a>>, AllocError>
+    ensures { IfOk result (λ v. map (λ m. m.class) v.items ≡ classes.now) }
+{
+    let mut members = Vec::new(alloc);
+    for class in classes {
+        members.push(OwnMembers::new(alloc, *class)?)?;
+    }
+    Ok(members)
 }

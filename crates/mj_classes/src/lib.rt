@@ -7,6 +7,7 @@ mod declarations;
 mod laws;
 mod lookup;
 mod member;
+mod own;
 
 pub use chain::{ClassChain, End};
 pub use class::{ClassRef, Tree};

@@ -1,13 +1,13 @@
 //! Look-ups along the chain of a class, which take no memory.
 ghost use Rattle.std.specs.Prelude.{◌≡◌, find, option_map};
-ghost use Rattle.mj_classes.specs.Chains.{ancestry, accepts};
+ghost use Rattle.mj_classes.specs.Chains.{ancestry, chain_of, chain_names, is_in, accepts};
 ghost use Rattle.mj_classes.specs.Members.{field_of, method_of};
 ghost use Rattle.mj_classes.specs.Classes.{class_ref_view, field_member_view, method_member_view};
-ghost use Rattle.mj_classes.specs.Walks.{above, is_sought};
+ghost use Rattle.mj_classes.specs.Walks.{is_sought, own_view};
 
-use crate::class::ClassRef;
 use crate::declarations::Declarations;
 use crate::member::{FieldMember, MethodMember};
+use crate::own::OwnMembers;
 use mj_lexer::Name;
 use mj_tree::Ty;
 
@@ -20,13 +20,13 @@ enum Sought<'n> {
 }
 
 impl Sought<'_> {
-    fn is_found_in(&self, class: &ClassRef) -> bool
-        ensures { result ≡ is_sought self.now (class_ref_view class.now) }
+    fn is_found_in(&self, own: &OwnMembers) -> bool
+        ensures { result ≡ is_sought self.now (class_ref_view own.now.class) }
     {
         match *self {
-            Sought::Class(name) => class.name() == name,
-            Sought::Field(name) => class.field(name).is_some(),
-            Sought::Method(name) => class.method(name).is_some(),
+            Sought::Class(name) => own.class.name() == name,
+            Sought::Field(name) => own.field(name).is_some(),
+            Sought::Method(name) => own.method(name).is_some(),
         }
     }
 }
@@ -34,14 +34,20 @@ impl Sought<'_> {
 impl<'a> Declarations<'a> {
     ghost use Rattle.mj_classes.specs.Index.{declared_in};
 
+    /// Whether the second class stands in the chain of the first.
+    pub fn descends(&self, class: &Name, ancestor: &Name) -> bool
+        ensures { result
+            ≡ is_in (chain_names (chain_of (declared_in self.now) class.now)) ancestor.now }
+    {
+        self.nearest(class, &Sought::Class(ancestor)).is_some()
+    }
+
     /// Whether a value of one type may stand where another is wanted.
     pub fn accepts(&self, ty: &Ty, wanted: &Ty) -> bool
         ensures { result ≡ accepts (declared_in self.now) ty.now wanted.now }
     {
         match (ty, wanted) {
-            (Ty::Class(name), Ty::Class(other)) => {
-                name == other || self.nearest(name, &Sought::Class(other)).is_some()
-            }
+            (Ty::Class(name), Ty::Class(other)) => name == other || self.descends(name, other),
             _ => ty == wanted,
         }
     }
@@ -51,10 +57,10 @@ impl<'a> Declarations<'a> {
         ensures { option_map field_member_view result
             ≡ field_of (declared_in self.now) class.now name.now }
     {
-        let owner = self.nearest(class, &Sought::Field(name))?;
-        let field = owner.field(name)?;
+        let own = self.nearest(class, &Sought::Field(name))?;
+        let field = own.field(name)?;
         Some(FieldMember {
-            owner: owner.name(),
+            owner: own.class.name(),
             field,
         })
     }
@@ -64,42 +70,35 @@ impl<'a> Declarations<'a> {
         ensures { option_map method_member_view result
             ≡ method_of (declared_in self.now) class.now name.now }
     {
-        let owner = self.nearest(class, &Sought::Method(name))?;
-        let method = owner.method(name)?;
+        let own = self.nearest(class, &Sought::Method(name))?;
+        let method = own.method(name)?;
         Some(MethodMember {
-            owner: owner.name(),
+            owner: own.class.name(),
             method,
         })
     }
 
     /// The first class of a chain in which something is found. A walk that comes back to a class which it has passed
     /// has seen the whole chain; that class is replaced by a later one each time that twice as many steps were made.
-    fn nearest(&self, name: &Name, sought: &Sought) -> Option<ClassRef<'a>>
-        ensures { option_map class_ref_view result
+    fn nearest<'s>(&'s self, name: &Name, sought: &Sought) -> Option<&'s OwnMembers<'a>>
+        ensures { option_map own_view result
             ≡ find (is_sought sought.now) (ancestry (declared_in self.now) name.now) }
     {
-        let mut class = self.find(name)?;
-        let mut passed = class;
+        let mut at = self.place(name)?;
+        let mut passed = at;
         for step in 0..self.classes().len() {
-            if sought.is_found_in(&class) {
-                return Some(class);
+            let own = self.own_at(at);
+            if sought.is_found_in(own) {
+                return Some(own);
             }
             if step.is_power_of_two() {
-                passed = class;
+                passed = at;
             }
-            class = self.above(&class)?;
-            if class.name() == passed.name() {
+            at = self.superclass_of(at)?;
+            if at == passed {
                 return None;
             }
         }
         None
-    }
-
-    /// The declared class that a class extends.
-    fn above(&self, class: &ClassRef<'a>) -> Option<ClassRef<'a>>
-        ensures { option_map class_ref_view result
-            ≡ above (declared_in self.now) (class_ref_view class.now) }
-    {
-        self.find(class.superclass()?)
     }
 }

@@ -6,14 +6,14 @@ use Rattle.mj_classes.specs.Declarations.{ClassDecl}
 use Rattle.mj_classes.specs.Classes.{classes_view, class_ref_view, field_member_view}
 use Rattle.mj_classes.specs.Tables.{all_along, fields_along}
 use Rattle.mj_classes.specs.Rows.{field_rows, SayAlike}
-use Rattle.mj_classes.proofs.Index.{view_more}
+use Rattle.mj_classes.proofs.Index.{more}
 use Rattle.mj_classes.proofs.Rows.{class_added, table_of}
 use Rattle.mj_classes.proofs.member.field_table.Goals as goal
 
 pub loop-class-preserved : goal.loop-class-preserved
 loop-class-preserved c =
     class_added field_member_view (λ f. f.name) (λ k. k.fields) c.loop-class.rows.entries c.add_fields.new.rows.entries _ _ (class_ref_view c.class-item.result)
-    c.loop-class.invariant c.in_ok-add_fields.ensures (view_more c.args.classes.now c.loop-class.class-index c.class-item.result c.loop-class-test.true c.class-item.is)
+    c.loop-class.invariant c.in_ok-add_fields.ensures (more class_ref_view c.args.classes.now c.loop-class.class-index c.class-item.result c.loop-class-test.true c.class-item.is)
 
 pub returns : goal.returns
 unfolding fields_along

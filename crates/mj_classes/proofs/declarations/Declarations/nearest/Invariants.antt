@@ -1,9 +1,9 @@
 use Rattle.std.proofs.Common.{◌-◌, length}
-use Rattle.mj_classes.specs.Classes.{classes_view, class_ref_view}
+use Rattle.mj_classes.specs.Classes.{classes_view}
 use Rattle.mj_classes.specs.Walks.{is_sought}
-use Rattle.mj_classes.proofs.Walks.{Walks}
+use Rattle.mj_classes.proofs.Walks.{WalksAt}
 use Rattle.mj_classes.proofs.declarations.Declarations.nearest.Given as goal
 
 abbrev pub invariant-loop-step : goal.invariant-loop-step
 invariant-loop-step l =
-    Walks (classes_view l.self.classes.items) (is_sought l.sought) l.name (length (classes_view l.self.classes.items) - l.step) (class_ref_view l.class) (class_ref_view l.passed)
+    WalksAt (classes_view l.self.classes.items) (is_sought l.sought) l.name (length (classes_view l.self.classes.items) - l.step) l.at l.passed
