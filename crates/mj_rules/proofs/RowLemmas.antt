@@ -1,5 +1,5 @@
 -- A method found in a table is the nearest one.
-use Rattle.std.proofs.Common.{◌≡◌, ℕ, zero, suc, Bool, true, false, cond, List, [], ◌∷◌, map, slice_get, Option, Some, None, option_map, find, Contains, refl, sym, ap, ap₂, subst, ◌∙◌, bytes_eq, ◌||◌, ◌+◌, ◌++◌, drop, if◌then◌else◌}
+use Rattle.std.proofs.Common.{◌≡◌, ℕ, zero, suc, Bool, true, false, cond, List, [], ◌∷◌, map, slice_get, Option, Some, None, option_map, find, Contains, refl, sym, ap, ap₂, subst, ◌∙◌, bytes_eq, ◌+◌, ◌++◌, drop, if◌then◌else◌}
 use Rattle.std.proofs.lemmas.Option.{none-some, same_Some}
 use Rattle.std.proofs.lemmas.Slice.Eq.{bytes_eq-Decides}
 use Rattle.mj_tree.specs.Trees.{Name, Method}
@@ -17,8 +17,6 @@ use Rattle.mj_answer.specs.Order.{NameBefore, IsAscendingByName}
 use Rattle.mj_answer.proofs.Compared.{ascends}
 use Rattle.std.specs.Ordering.{nat_cmp}
 use Rattle.std.specs.Cmp.Lexicographic.{slice_cmp}
-use Rattle.std.specs.List.{list_any}
-use Rattle.mj_classes.specs.Chains.{is_in}
 use Rattle.mj_classes.specs.Classes.{classes_view, class_ref_view}
 use Rattle.mj_classes.specs.declared.class.ClassRef.{ClassRef}
 use Rattle.mj_rules.specs.Worlds.{sig_of}
@@ -111,8 +109,3 @@ methods_same ks rows e ms flags =
 pub view_behind : (cs : List ClassRef) → classes_view (drop 1 cs) ≡ drop 1 (classes_view cs)
 view_behind [] = refl
 view_behind (c ∷ cs) = refl
-
--- a class of this name is among these
-pub any_named : (ks : List ClassRef) (u : Name) → list_any (λ (k : ClassRef). bytes_eq (class_ref_view k).name u) ks ≡ is_in (map (λ (k : ClassRef). (class_ref_view k).name) ks) u
-any_named [] u = refl
-any_named (k ∷ ks) u = ap (λ b. bytes_eq (class_ref_view k).name u || b) (any_named ks u)

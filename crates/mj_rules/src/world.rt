@@ -1,11 +1,7 @@
 //! The declarations of a project, as the check of a body asks for them.
-ghost use Rattle.std.specs.Prelude.{◌≡◌};
-ghost use Rattle.std.specs.Str.{bytes_eq};
-ghost use Rattle.std.specs.List.{list_any};
-ghost use Rattle.mj_classes.specs.Classes.{class_ref_view};
 
 use crate::tables::formal_types;
-use mj_classes::{ClassRef, Declarations};
+use mj_classes::Declarations;
 use mj_lexer::Name;
 use mj_tree::Ty;
 use mj_typing::Signature;
@@ -30,14 +26,6 @@ impl Signature for MethodTypes {
     }
 }
 
-/// Whether a class of this name is among the classes.
-fn has_class(classes: &[ClassRef], name: &Name) -> bool
-    ensures { result
-        ≡ list_any (λ class. bytes_eq (class_ref_view class).name name.now) classes.now }
-{
-    classes.iter().any(|class| class.name() == name)
-}
-
 /// What the declarations of a project say.
 #[derive(Clone, Copy)]
 pub struct World<'d, 'a> {
@@ -52,11 +40,8 @@ impl<'d, 'a> mj_typing::Environment for World<'d, 'a> {
 
     ghost world = { λ world. world_of (declared_in world.declarations.now) };
 
-    fn descends(&self, alloc: Global, class: &Name, ancestor: &Name) -> Result<bool, AllocError> {
-        match self.declarations.chain(alloc, class)? {
-            Some(chain) => Ok(has_class(&chain.classes, ancestor)),
-            None => Ok(false),
-        }
+    fn descends(&self, _alloc: Global, class: &Name, ancestor: &Name) -> Result<bool, AllocError> {
+        Ok(self.declarations.descends(class, ancestor))
     }
 
     fn field(&self, alloc: Global, class: &Name, name: &Name) -> Result<Option<Ty>, AllocError> {
