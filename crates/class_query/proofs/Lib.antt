@@ -1,0 +1,6 @@
+pub mod Rests
+pub mod Overriding
+pub mod Counts
+pub mod CheckClassTie
+pub mod Places
+pub mod Added

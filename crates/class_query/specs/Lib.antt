@@ -1,0 +1,4 @@
+pub mod Signatures
+pub mod Told
+pub mod CheckClass
+pub mod Laws

@@ -1,0 +1,11 @@
+//! The query of the faults of a class's declarations: its superclass, its chain, its fields and its methods.
+#![tactic(auto)]
+
+mod fields;
+mod laws;
+mod overrides;
+mod query;
+mod told;
+
+pub use laws::check_class_ties;
+pub use query::run_check_class;
