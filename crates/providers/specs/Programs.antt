@@ -1,0 +1,36 @@
+-- The program of each query, by its kind.
+use Rattle.item_ids.specs.declared.key.Key.{Key}
+use Rattle.item_ids.specs.declared.key.Key.TheVariants as keys
+use Rattle.result_bytes.specs.declared.value.Value.{Value}
+use Rattle.result_bytes.specs.declared.value.Value.TheVariants as values
+use Rattle.std.specs.Prelude.{None}
+use Rattle.recorder.specs.Programs.{Prog, Ret}
+use Rattle.text_queries.specs.Tree.{tree_steps}
+use Rattle.text_queries.specs.Index.{index_steps}
+use Rattle.text_queries.specs.Header.{header_steps}
+use Rattle.text_queries.specs.Method.{method_steps}
+use Rattle.text_queries.specs.Sig.{sig_steps}
+use Rattle.table_queries.specs.Supers.{supers_steps}
+use Rattle.table_queries.specs.Members.{members_steps}
+use Rattle.table_queries.specs.Diags.{diags_steps}
+use Rattle.body_query.specs.Body.{body_steps}
+use Rattle.class_query.specs.CheckClass.{check_class_steps}
+use Rattle.answer_query.specs.Answer.{answer_steps}
+
+unfoldable pub steps_of : Key → (Value → Prog) → Prog
+steps_of (keys.Tree f) k = tree_steps f k
+steps_of keys.Index k = index_steps k
+steps_of (keys.Header c) k = header_steps c k
+steps_of (keys.Method c m) k = method_steps c m k
+steps_of (keys.Sig c m) k = sig_steps c m k
+steps_of (keys.Supers c) k = supers_steps c k
+steps_of (keys.Members c) k = members_steps c k
+steps_of (keys.CheckClass c) k = check_class_steps c k
+steps_of (keys.CheckBody c m) k = body_steps c m k
+steps_of (keys.Diags c) k = diags_steps c k
+steps_of keys.Answer k = answer_steps k
+-- an input isn't run
+steps_of _ k = k (values.Tree None)
+
+abbrev pub prog_of : Key → Prog
+prog_of q = steps_of q Ret

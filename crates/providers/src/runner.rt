@@ -1,0 +1,100 @@
+//! The runner.
+ghost use Rattle.std.specs.Prelude.{◌≡◌, ◌<◌, ◌++◌, ◌∷◌, [], List, IfOk, IfErr, OnOk, OnErr};
+ghost use Rattle.recorder.specs.Backed.{rank};
+ghost use Rattle.recorder.specs.Programs.{Goes, GivesUp};
+ghost use Rattle.providers.specs.Programs.{steps_of};
+
+use answer_query::run_answer;
+use body_query::check_body_steps;
+use class_query::run_check_class;
+use item_ids::Key;
+use recorder::{Reader, Recorder, RunFault, Runner};
+use result_bytes::Value;
+use std::alloc::{AllocError, AllocFailed, Global};
+use table_queries::{run_diags, run_members, run_supers};
+use text_queries::{run_header, run_index, run_method, run_sig, run_tree};
+
+/// The queries of MiniJava. It keeps the keys that it was asked to run.
+#[derive(Drop)]
+pub struct MiniJava {
+    log: Vec<Key>,
+}
+
+impl MiniJava {
+    /// A runner that was asked nothing yet.
+    pub fn new(alloc: Global) -> Self
+        ensures { result.log.items ≡ [] }
+    {
+        MiniJava {
+            log: Vec::new(alloc),
+        }
+    }
+
+    /// The keys that it was asked to run, in order.
+    pub fn log(&self) -> &[Key]
+        ensures { result.now ≡ self.now.log.items }
+    {
+        self.log.as_slice()
+    }
+}
+
+/// Logs the key.
+fn note(alloc: Global, log: &mut Vec<Key>, key: &Key) -> Result<(), AllocError>
+    ensures ok { OnOk result (log.new.items ≡ log.old.items ++ key.now ∷ []) }
+    ensures err { OnErr result (log.new.items ≡ log.old.items) }
+{
+    log.push(key.copy(alloc)?)?;
+    Ok(())
+}
+
+/// One run, by the program of the key's kind.
+#[tactic(auto, unfolding(crate::specs::Programs::steps_of))]
+fn run_kind<D: Reader>(
+    alloc: Global,
+    key: &Key,
+    recorder: &mut Recorder<D>,
+) -> Result<Value, RunFault>
+    requires no_input { 0 < rank key.now }
+    ensures ok { IfOk result (λ v. Goes (steps_of key.now) recorder.old v recorder.new) }
+    ensures err { IfErr result (λ e. GivesUp (steps_of key.now) recorder.old e recorder.new) }
+    ensures follows { D.follows recorder.old.inner recorder.new.inner }
+{
+    match key {
+        Key::Files | Key::Source(_) => unreachable!(),
+        Key::Tree(file) => run_tree(alloc, recorder, file),
+        Key::Index => run_index(alloc, recorder),
+        Key::Header(class) => run_header(alloc, recorder, class),
+        Key::Method(class, method) => run_method(alloc, recorder, class, method),
+        Key::Sig(class, method) => run_sig(alloc, recorder, class, method),
+        Key::Supers(class) => run_supers(alloc, recorder, class),
+        Key::Members(class) => run_members(alloc, recorder, class),
+        Key::CheckClass(class) => run_check_class(alloc, recorder, class),
+        Key::CheckBody(class, method) => check_body_steps(alloc, recorder, class, method),
+        Key::Diags(class) => run_diags(alloc, recorder, class),
+        Key::Answer => run_answer(alloc, recorder),
+    }
+}
+
+impl Runner for MiniJava {
+    ghost use Rattle.query_rules.specs.Meaning.{mean};
+    ghost use Rattle.query_rules.specs.Reads.{reads};
+    ghost use Rattle.providers.specs.Laws.{mini_java_laws};
+
+    ghost mean = { mean };
+
+    ghost reads = { reads };
+
+    ghost log = { λ r. r.log.items };
+
+    ghost laws = { mini_java_laws };
+
+    fn run<D: Reader>(
+        &mut self,
+        alloc: Global,
+        key: &Key,
+        recorder: &mut Recorder<D>,
+    ) -> Result<Value, RunFault> {
+        note(alloc, &mut self.log, key)?;
+        run_kind(alloc, key, recorder)
+    }
+}
