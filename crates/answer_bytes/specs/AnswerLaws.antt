@@ -27,10 +27,10 @@ pub leaf_takes : {A : Type 0} (sp : A → List ℕ) (P : A → Type 0) (b : ℕ)
     → done {A = A × List ℕ} (one, bytes) ≡ done (a, rest) → Takes (b ∷ bytes) (sp a) rest × P a
 leaf_takes {A} sp P b bytes one a rest spelled fit fits e =
     let whole : Takes (b ∷ bytes) (sp one) bytes =
-        subst (λ (x : List ℕ). Takes (b ∷ bytes) x bytes) (sym spelled)
-            (takes_behind b bytes [] bytes (takes_nothing bytes (IsBytes-rest b bytes fits))) in
+    subst (λ (x : List ℕ). Takes (b ∷ bytes) x bytes) (sym spelled)
+    (takes_behind b bytes [] bytes (takes_nothing bytes (IsBytes-rest b bytes fits))) in
     subst (λ (x : A × List ℕ). Takes (b ∷ bytes) (sp x.0) x.1 × P x.0)
-        (ok_is (one, bytes) (a, rest) e) (whole, fit)
+    (ok_is (one, bytes) (a, rest) e) (whole, fit)
 
 -- an item behind a tag
 pub tag_takes : {A B : Type 0} {p : Decoder A} {sp : A → List ℕ} {P : A → Type 0}
@@ -41,8 +41,8 @@ pub tag_takes : {A B : Type 0} {p : Decoder A} {sp : A → List ℕ} {P : A → 
 tag_takes {A} {B} {p} {sp} {P} law make sq Q b spelled fit bytes x rest fits e =
     let m = made_takes law make bytes x rest (IsBytes-rest b bytes fits) e in
     let one : Takes (b ∷ bytes) (sq (make m.0)) rest =
-        subst (λ (t : List ℕ). Takes (b ∷ bytes) t rest) (sym (spelled m.0))
-            (takes_behind b bytes (sp m.0) rest m.2) in
+    subst (λ (t : List ℕ). Takes (b ∷ bytes) t rest) (sym (spelled m.0))
+    (takes_behind b bytes (sp m.0) rest m.2) in
     subst (λ (y : B). Takes (b ∷ bytes) (sq y) rest × Q y) m.1 (one, fit m.0 m.3)
 
 -- ---- tables
@@ -50,24 +50,41 @@ tag_takes {A} {B} {p} {sp} {P} law make sq Q b spelled fit bytes x rest fits e =
 pub lawful_field_row : Lawful field_row_at field_row FieldRowFits
 lawful_field_row =
     lawful_made (lawful_pair lawful_name (lawful_pair lawful_name lawful_ty)) field_row_of
-        (λ row. (row.name, (row.owner, row.ty))) (λ _. refl) (λ _. refl)
+    (λ row. (row.name, (row.owner, row.ty))) (λ _. refl) (λ _. refl)
 
 pub lawful_method_row : Lawful method_row_at method_row MethodRowFits
 lawful_method_row =
     lawful_where (lawful_made (lawful_pair lawful_name
-        (lawful_pair lawful_name (lawful_pair (lawful_list lawful_ty any) lawful_ty))) method_row_of
-            (λ row. (row.name, (row.owner, (row.formals, row.returns)))) (λ _. refl) (λ _. refl))
-    (λ row f. record { name = f.0; owner = f.1.0; few = f.1.1.0.few; formals = f.1.1.0.fit;
-        returns = f.1.1.1 })
-    (λ row f. (f.name, (f.owner, (record { few = f.few; fit = f.formals;
-        admitted = any_admits [] row.formals }, f.returns))))
+    (lawful_pair lawful_name (lawful_pair (lawful_list lawful_ty any) lawful_ty))) method_row_of
+    (λ row. (row.name, (row.owner, (row.formals, row.returns)))) (λ _. refl) (λ _. refl))
+    (λ row f. record {
+      name = f.0;
+      owner = f.1.0;
+      few = f.1.1.0.few;
+      formals = f.1.1.0.fit;
+      returns = f.1.1.1;
+    })
+    (λ row f. (
+      f.name,
+      (
+        f.owner,
+        (
+          record {
+            few = f.few;
+            fit = f.formals;
+            admitted = any_admits [] row.formals;
+          },
+          f.returns,
+        ),
+      ),
+    ))
 
 pub lawful_table : Lawful table_at table TableFits
 unfolding table_at
 lawful_table =
     lawful_where (lawful_made (lawful_pair (lawful_by_name lawful_field_row (λ row. row.name))
-        (lawful_by_name lawful_method_row (λ row. row.name))) table_of (λ t. (t.fields, t.methods))
-            (λ _. refl) (λ _. refl))
+    (lawful_by_name lawful_method_row (λ row. row.name))) table_of (λ t. (t.fields, t.methods))
+    (λ _. refl) (λ _. refl))
     (λ t f. record { fields = f.0; methods = f.1 }) (λ t f. (f.fields, f.methods))
 
 -- ---- faults
@@ -79,14 +96,14 @@ unfolding project_place_at
 project_place_takes [] p rest fits e = absurd cc
 project_place_takes (zero ∷ bytes) p rest fits e =
     leaf_takes project_place (λ p. IsProjectPlace p × PlaceNameFits p) 0 bytes places.Project p rest
-        refl (tt, tt) fits e
+    refl (tt, tt) fits e
 project_place_takes (suc zero ∷ bytes) p rest fits e =
     tag_takes lawful_name places.File project_place (λ p. IsProjectPlace p × PlaceNameFits p) 1
-        (λ _. refl) (λ a h. (tt, h)) bytes p rest fits e
+    (λ _. refl) (λ a h. (tt, h)) bytes p rest fits e
 project_place_takes (suc (suc zero) ∷ bytes) p rest fits e =
     tag_takes (lawful_pair lawful_name lawful_four) class_of project_place
-        (λ p. IsProjectPlace p × PlaceNameFits p) 2 (λ _. refl) (λ a h. (h.1, h.0))
-            bytes p rest fits e
+    (λ p. IsProjectPlace p × PlaceNameFits p) 2 (λ _. refl) (λ a h. (h.1, h.0))
+    bytes p rest fits e
 project_place_takes (suc (suc (suc n)) ∷ bytes) p rest fits e = absurd cc
 
 project_place_again : (p : Place) (rest : List ℕ) → IsProjectPlace p × PlaceNameFits p
@@ -112,17 +129,17 @@ unfolding class_place_at
 class_place_takes [] p rest fits e = absurd cc
 class_place_takes (zero ∷ bytes) p rest fits e =
     leaf_takes class_place (λ p. IsClassPlace p × PlaceNameFits p) 0 bytes places.Class p rest refl
-        (tt, tt) fits e
+    (tt, tt) fits e
 class_place_takes (suc zero ∷ bytes) p rest fits e =
     tag_takes lawful_four places.Field class_place (λ p. IsClassPlace p × PlaceNameFits p) 1
-        (λ _. refl) (λ a h. (h, tt)) bytes p rest fits e
+    (λ _. refl) (λ a h. (h, tt)) bytes p rest fits e
 class_place_takes (suc (suc zero) ∷ bytes) p rest fits e =
     tag_takes lawful_four places.Method class_place (λ p. IsClassPlace p × PlaceNameFits p) 2
-        (λ _. refl) (λ a h. (h, tt)) bytes p rest fits e
+    (λ _. refl) (λ a h. (h, tt)) bytes p rest fits e
 class_place_takes (suc (suc (suc zero)) ∷ bytes) p rest fits e =
     tag_takes (lawful_pair lawful_name lawful_four) inside_of class_place
-        (λ p. IsClassPlace p × PlaceNameFits p) 3 (λ _. refl) (λ a h. (h.1, h.0))
-            bytes p rest fits e
+    (λ p. IsClassPlace p × PlaceNameFits p) 3 (λ _. refl) (λ a h. (h.1, h.0))
+    bytes p rest fits e
 class_place_takes (suc (suc (suc (suc n))) ∷ bytes) p rest fits e = absurd cc
 
 class_place_again : (p : Place) (rest : List ℕ) → IsClassPlace p × PlaceNameFits p
@@ -160,17 +177,19 @@ code_takes bytes code rest fits e =
     let t = lawful_two.takes bytes n.0.0 n.0.1 fits n.1 in
     let c = coded_is bytes n.0.1 (code_of n.0.0) code rest n.2 in
     let number : code_number code ≡ n.0.0 =
-        eqb-true _ _ (found_passes (λ (c : Code). eqb (code_number c) n.0.0) all_codes code c.0) in
-    (subst (λ (r : List ℕ). Takes bytes (two (code_number code)) r) c.1
-        (subst (λ (k : ℕ). Takes bytes (two k) n.0.1) (sym number) t.0), tt)
+    eqb-true _ _ (found_passes (λ (c : Code). eqb (code_number c) n.0.0) all_codes code c.0) in (
+      subst (λ (r : List ℕ). Takes bytes (two (code_number code)) r) c.1
+          (subst (λ (k : ℕ). Takes bytes (two k) n.0.1) (sym number) t.0),
+      tt,
+    )
 
 code_again : (code : Code) (rest : List ℕ) → Unit {0}
     → code_at (two (code_number code) ++ rest) ≡ Ok (code, rest)
 unfolding code_at
 code_again code rest h =
     rw (lawful_two.again (code_number code) rest (number_small code))
-        (ap (λ (o : Option Code). known_code (two (code_number code) ++ rest) o rest)
-        (code_back code))
+    (ap (λ (o : Option Code). known_code (two (code_number code) ++ rest) o rest)
+    (code_back code))
 
 lawful_code : Lawful code_at (λ code. two (code_number code)) (λ _. Unit {0})
 lawful_code = record { takes = code_takes; again = code_again }
@@ -178,12 +197,12 @@ lawful_code = record { takes = code_takes; again = code_again }
 pub lawful_project_fault : Lawful project_fault_at project_fault ProjectFaultFits
 lawful_project_fault =
     lawful_where (lawful_made (lawful_pair lawful_project_place lawful_code) fault_of
-        (λ d. (d.place, d.code)) (λ _. refl) (λ _. refl)) (λ d f. f.0) (λ d f. (f, tt))
+    (λ d. (d.place, d.code)) (λ _. refl) (λ _. refl)) (λ d f. f.0) (λ d f. (f, tt))
 
 pub lawful_class_fault : Lawful class_fault_at class_fault ClassFaultFits
 lawful_class_fault =
     lawful_where (lawful_made (lawful_pair lawful_class_place lawful_code) fault_of
-        (λ d. (d.place, d.code)) (λ _. refl) (λ _. refl)) (λ d f. f.0) (λ d f. (f, tt))
+    (λ d. (d.place, d.code)) (λ _. refl) (λ _. refl)) (λ d f. f.0) (λ d f. (f, tt))
 
 pub lawful_project_faults : Lawful project_faults_at (list project_fault) ProjectFaultsFit
 unfolding project_faults_at
@@ -198,15 +217,15 @@ lawful_class_faults = lawful_by_place lawful_class_fault
 pub lawful_class_answer : Lawful class_answer_at class_answer ClassAnswerFits
 lawful_class_answer =
     lawful_where (lawful_made (lawful_pair lawful_name
-        (lawful_pair lawful_table lawful_class_faults)) class_answer_of
-            (λ c. (c.name, (c.table, c.faults))) (λ _. refl) (λ _. refl))
+    (lawful_pair lawful_table lawful_class_faults)) class_answer_of
+    (λ c. (c.name, (c.table, c.faults))) (λ _. refl) (λ _. refl))
     (λ c f. record { name = f.0; table = f.1.0; faults = f.1.1 })
-        (λ c f. (f.name, (f.table, f.faults)))
+    (λ c f. (f.name, (f.table, f.faults)))
 
 pub lawful_answer : Lawful answer_at answer AnswerFits
 unfolding answer_at
 lawful_answer =
     lawful_where (lawful_made (lawful_pair lawful_project_faults
-        (lawful_by_name lawful_class_answer (λ class. class.name))) answer_of
-            (λ a. (a.faults, a.classes)) (λ _. refl) (λ _. refl))
+    (lawful_by_name lawful_class_answer (λ class. class.name))) answer_of
+    (λ a. (a.faults, a.classes)) (λ _. refl) (λ _. refl))
     (λ a f. record { faults = f.0; classes = f.1 }) (λ a f. (f.faults, f.classes))

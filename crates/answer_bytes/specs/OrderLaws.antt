@@ -35,9 +35,10 @@ is_after_push precedes (x ∷ (y ∷ front)) a b = is_after_push precedes (y ∷
 ascends_from : {A : Type 0} (precedes : A → A → Bool) (front : List A) (a : A) (items : List A)
     → Admitted (is_after precedes) (front ++ a ∷ []) items → Ascends precedes (a ∷ items)
 ascends_from precedes front a [] h = tt
-ascends_from precedes front a (b ∷ items) h =
-    (sym (is_after_push precedes front a b) ∙ h.0,
-    ascends_from precedes (front ++ a ∷ []) b items h.1)
+ascends_from precedes front a (b ∷ items) h = (
+  sym (is_after_push precedes front a b) ∙ h.0,
+  ascends_from precedes (front ++ a ∷ []) b items h.1,
+)
 
 admitted_from : {A : Type 0} (precedes : A → A → Bool) (front : List A) (a : A) (items : List A)
     → Ascends precedes (a ∷ items) → Admitted (is_after precedes) (front ++ a ∷ []) items
@@ -89,10 +90,16 @@ lawful_ascending : {A : Type 0} {p : Decoder A} {sp : A → List ℕ} {P : A →
     → Lawful (list_at p (is_after precedes)) (list sp) (OrderedFits P B)
 lawful_ascending {A} {p} {sp} {P} {precedes} {B} tests law =
     lawful_where (lawful_list law (is_after precedes))
-    (λ items h. record { few = h.few; each = h.fit;
-        order = in_order tests items (ascends precedes items h.admitted) })
-    (λ items h. record { few = h.few; fit = h.each;
-        admitted = admitted precedes items (each_next tests items h.order) })
+    (λ items h. record {
+      few = h.few;
+      each = h.fit;
+      order = in_order tests items (ascends precedes items h.admitted);
+    })
+    (λ items h. record {
+      few = h.few;
+      fit = h.each;
+      admitted = admitted precedes items (each_next tests items h.order);
+    })
 
 -- ---- by name and by place
 
@@ -110,7 +117,7 @@ by_name_tests name_of = record {
 
 pub lawful_by_name : {A : Type 0} {p : Decoder A} {sp : A → List ℕ} {P : A → Type 0} → Lawful p sp P
     → (name_of : A → List ℕ) → Lawful (list_at p (is_after (by_name name_of))) (list sp)
-        (OrderedFits P (ByName name_of))
+    (OrderedFits P (ByName name_of))
 lawful_by_name law name_of = lawful_ascending (by_name_tests name_of) law
 
 -- where the order tells all apart, what comes before another is less than it
@@ -136,7 +143,7 @@ by_place_tests = record {
   to = λ a b e. fault_less a b (less_is _ e);
   from =
       λ a b h. ap is_lt (less_from cmp-value.it Before faults fault_less fault_antisymm fault_exact
-          a b h (cmp-value.it a b) refl);
+      a b h (cmp-value.it a b) refl);
   transitive = λ a b c. faults.transitive a b c;
 }
 

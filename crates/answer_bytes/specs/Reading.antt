@@ -32,7 +32,7 @@ method_row_of x = record { name = x.0; owner = x.1.0; formals = x.1.1.0; returns
 abbrev pub method_row_at : Decoder MethodRowValue
 method_row_at bytes =
     made_at method_row_of (pair_at name_at
-        (pair_at name_at (pair_at (list_at ty_at any) ty_at))) bytes
+    (pair_at name_at (pair_at (list_at ty_at any) ty_at))) bytes
 
 abbrev pub table_of : List FieldRow × List MethodRowValue → ClassTableValue
 table_of x = record { fields = x.0; methods = x.1 }
@@ -40,7 +40,7 @@ table_of x = record { fields = x.0; methods = x.1 }
 unfoldable pub table_at : Decoder ClassTableValue
 table_at bytes =
     made_at table_of (pair_at (list_at field_row_at (is_after (by_name (λ row. row.name))))
-        (list_at method_row_at (is_after (by_name (λ row. row.name))))) bytes
+    (list_at method_row_at (is_after (by_name (λ row. row.name))))) bytes
 
 abbrev pub class_of : List ℕ × ℕ → Place
 class_of x = places.ClassOf x.0 x.1
@@ -103,4 +103,4 @@ answer_of x = record { faults = x.0; classes = x.1 }
 unfoldable pub answer_at : Decoder AnswerValue
 answer_at bytes =
     made_at answer_of (pair_at project_faults_at
-        (list_at class_answer_at (is_after (by_name (λ class. class.name))))) bytes
+    (list_at class_answer_at (is_after (by_name (λ class. class.name))))) bytes

@@ -37,7 +37,7 @@ check_of c (Some (OfMethod tree)) = method_check c tree
 abbrev pub body_steps : Name → Name → (Value → Prog) → Prog
 body_steps c m k =
     Ask (keys.Method c m) (λ v. reads_of (check_of c (body_in v))
-        (λ mistakes. k (values.CheckBody (fault_set (faults_in m mistakes)))))
+    (λ mistakes. k (values.CheckBody (fault_set (faults_in m mistakes)))))
 
 -- the program of a key of this kind
 abbrev pub body_prog : Key → Prog

@@ -40,9 +40,7 @@ pub fn descends_in(value: &Value, ancestor: &Name) -> bool
 
 /// The row of a field that an answer tells.
 fn field_row<'v>(value: &'v Value, name: &Name) -> Option<&'v FieldRow>
-    ensures {
-        option_copied result ≡ find (λ row. bytes_eq row.name name.now) (fields_told value.now)
-    }
+    ensures { option_copied result ≡ find (λ row. bytes_eq row.name name.now) (fields_told value.now) }
 {
     match value {
         Value::Members(Some(members)) => find_by_name(members.table().fields(), name),
@@ -52,9 +50,7 @@ fn field_row<'v>(value: &'v Value, name: &Name) -> Option<&'v FieldRow>
 
 /// The row of a method that an answer tells.
 fn method_row<'v>(value: &'v Value, name: &Name) -> Option<&'v MethodRow>
-    ensures {
-        option_copied result ≡ find (λ row. bytes_eq row.name name.now) (methods_told value.now)
-    }
+    ensures { option_copied result ≡ find (λ row. bytes_eq row.name name.now) (methods_told value.now) }
 {
     match value {
         Value::Members(Some(members)) => find_by_name(members.table().methods(), name),
@@ -83,10 +79,8 @@ impl Signature for MethodTypes {
 
 /// The types in a method's row.
 fn types_in(alloc: Global, row: &MethodRow) -> Result<MethodTypes, AllocError>
-    ensures {
-        IfOk result (λ types. (types.formals.items ≡ row.now.formals)
-            × (types.returns ≡ row.now.returns))
-    }
+    ensures { IfOk result (λ types. (types.formals.items ≡ row.now.formals)
+        × (types.returns ≡ row.now.returns)) }
 {
     let formals = copy_types(alloc, row.formals())?;
     let returns = row.returns().copy(alloc)?;
@@ -109,10 +103,8 @@ pub fn method_in(
     value: &Value,
     name: &Name,
 ) -> Result<Option<MethodTypes>, AllocError>
-    ensures {
-        IfOk result (λ types. option_map ⟦<MethodTypes as Signature>⟧.sig types
-            ≡ method_told value.now name.now)
-    }
+    ensures { IfOk result (λ types. option_map ⟦<MethodTypes as Signature>⟧.sig types
+        ≡ method_told value.now name.now) }
 {
     match method_row(value, name) {
         Some(row) => Ok(Some(types_in(alloc, row)?)),

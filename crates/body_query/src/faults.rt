@@ -36,7 +36,7 @@ fn bounded_place(place: Place) -> Place
 pub fn note_fault(faults: &mut Vec<Diagnostic>, place: Place, code: Code) -> Result<(), AllocError>
     ensures { OnOk result
         (faults.new.items ≡ faults.old.items
-            ++ record { place = bounded_place place; code = code } ∷ []) }
+        ++ record { place = bounded_place place; code = code } ∷ []) }
 {
     faults.push(Diagnostic {
         place: bounded_place(place),

@@ -36,14 +36,10 @@ fn check_told<D: Reader>(
     class: &Name,
     value: &Value,
 ) -> Result<Vec<Mistake>, RunFault>
-    ensures ok {
-        IfOk result (λ mistakes. Goes (reads_of (check_of class.now (body_told value.now)))
-            recorder.old mistakes.items recorder.new)
-    }
-    ensures err {
-        IfErr result (λ e. GivesUp (reads_of (check_of class.now (body_told value.now)))
-            recorder.old e recorder.new)
-    }
+    ensures ok { IfOk result (λ mistakes. Goes (reads_of (check_of class.now (body_told value.now)))
+        recorder.old mistakes.items recorder.new) }
+    ensures err { IfErr result (λ e. GivesUp (reads_of (check_of class.now (body_told value.now)))
+        recorder.old e recorder.new) }
     ensures follows { D.follows recorder.old.inner recorder.new.inner }
 {
     match body_in(value) {
@@ -69,12 +65,8 @@ pub fn check_body_steps<D: Reader>(
     class: &Name,
     method: &Name,
 ) -> Result<Value, RunFault>
-    ensures ok {
-        IfOk result (λ v. Goes (body_steps class.now method.now) recorder.old v recorder.new)
-    }
-    ensures err {
-        IfErr result (λ e. GivesUp (body_steps class.now method.now) recorder.old e recorder.new)
-    }
+    ensures ok { IfOk result (λ v. Goes (body_steps class.now method.now) recorder.old v recorder.new) }
+    ensures err { IfErr result (λ e. GivesUp (body_steps class.now method.now) recorder.old e recorder.new) }
     ensures follows { D.follows recorder.old.inner recorder.new.inner }
 {
     let key = Key::Method(class.copy(alloc)?, method.copy(alloc)?);

@@ -24,12 +24,8 @@ fn ask_declared<D: Reader>(
     recorder: &mut Recorder<D>,
     class: &Name,
 ) -> Result<bool, RunFault>
-    ensures ok {
-        IfOk result (λ answer. Goes (declared_step class.now) recorder.old answer recorder.new)
-    }
-    ensures err {
-        IfErr result (λ e. GivesUp (declared_step class.now) recorder.old e recorder.new)
-    }
+    ensures ok { IfOk result (λ answer. Goes (declared_step class.now) recorder.old answer recorder.new) }
+    ensures err { IfErr result (λ e. GivesUp (declared_step class.now) recorder.old e recorder.new) }
     ensures follows { D.follows recorder.old.inner recorder.new.inner }
 {
     let key = Key::Header(class.copy(alloc)?);
@@ -44,14 +40,10 @@ fn ask_descends<D: Reader>(
     class: &Name,
     ancestor: &Name,
 ) -> Result<bool, RunFault>
-    ensures ok {
-        IfOk result (λ answer. Goes (descends_step class.now ancestor.now) recorder.old
-            answer recorder.new)
-    }
-    ensures err {
-        IfErr result (λ e. GivesUp (descends_step class.now ancestor.now) recorder.old
-            e recorder.new)
-    }
+    ensures ok { IfOk result (λ answer. Goes (descends_step class.now ancestor.now) recorder.old
+        answer recorder.new) }
+    ensures err { IfErr result (λ e. GivesUp (descends_step class.now ancestor.now) recorder.old
+        e recorder.new) }
     ensures follows { D.follows recorder.old.inner recorder.new.inner }
 {
     let key = Key::Supers(class.copy(alloc)?);
@@ -66,13 +58,9 @@ fn ask_field<D: Reader>(
     class: &Name,
     name: &Name,
 ) -> Result<Option<Ty>, RunFault>
-    ensures ok {
-        IfOk result (λ answer. Goes (field_step class.now name.now) recorder.old
-            answer recorder.new)
-    }
-    ensures err {
-        IfErr result (λ e. GivesUp (field_step class.now name.now) recorder.old e recorder.new)
-    }
+    ensures ok { IfOk result (λ answer. Goes (field_step class.now name.now) recorder.old
+        answer recorder.new) }
+    ensures err { IfErr result (λ e. GivesUp (field_step class.now name.now) recorder.old e recorder.new) }
     ensures follows { D.follows recorder.old.inner recorder.new.inner }
 {
     let key = Key::Members(class.copy(alloc)?);
@@ -88,13 +76,9 @@ fn ask_method<D: Reader>(
     class: &Name,
     name: &Name,
 ) -> Result<Option<MethodTypes>, RunFault>
-    ensures ok {
-        IfOk result (λ answer. Goes (method_step class.now name.now) recorder.old
-            (option_map ⟦<MethodTypes as Signature>⟧.sig answer) recorder.new)
-    }
-    ensures err {
-        IfErr result (λ e. GivesUp (method_step class.now name.now) recorder.old e recorder.new)
-    }
+    ensures ok { IfOk result (λ answer. Goes (method_step class.now name.now) recorder.old
+        (option_map ⟦<MethodTypes as Signature>⟧.sig answer) recorder.new) }
+    ensures err { IfErr result (λ e. GivesUp (method_step class.now name.now) recorder.old e recorder.new) }
     ensures follows { D.follows recorder.old.inner recorder.new.inner }
 {
     let key = Key::Members(class.copy(alloc)?);
@@ -141,17 +125,16 @@ impl<'a, D: Reader, B: Began> Asking for Reads<'a, D, B> {
 
     ghost halts = { λ s start e. Ends B.told B.refused start e s.recorder.now };
 
-    ghost follows = {
-        λ s t. (t.recorder.ghost_name ≡ s.recorder.ghost_name)
-            × D.follows s.recorder.now.inner t.recorder.now.inner
-    };
+    ghost follows = { λ s t. (t.recorder.ghost_name ≡ s.recorder.ghost_name)
+        × D.follows s.recorder.now.inner t.recorder.now.inner };
 
     ghost reflexive = { λ s. (refl, D.reflexive s.recorder.now.inner) };
 
-    ghost transitive = {
-        λ s t u f g. (g.0 ∙ f.0, D.transitive s.recorder.now.inner t.recorder.now.inner
-            u.recorder.now.inner f.1 g.1)
-    };
+    ghost transitive = { λ s t u f g. (
+      g.0 ∙ f.0,
+      D.transitive s.recorder.now.inner t.recorder.now.inner
+          u.recorder.now.inner f.1 g.1,
+    ) };
 
     ghost wanting = { λ s start now h. wants B.told B.refused start now s.recorder.now h };
 
@@ -208,14 +191,10 @@ fn check_through<D: Reader, B: Began>(
 ) -> Result<Vec<Mistake>, RunFault>
     requires told { reads.old.recorder.now.told ≡ B.told }
     requires refused { reads.old.recorder.now.refused ≡ B.refused }
-    ensures ok {
-        IfOk result (λ mistakes. Goes (reads_of (method_check class.now (method_view method.now)))
-            reads.old.recorder.now mistakes.items reads.new.recorder.now)
-    }
-    ensures err {
-        IfErr result (λ e. GivesUp (reads_of (method_check class.now (method_view method.now)))
-            reads.old.recorder.now e reads.new.recorder.now)
-    }
+    ensures ok { IfOk result (λ mistakes. Goes (reads_of (method_check class.now (method_view method.now)))
+        reads.old.recorder.now mistakes.items reads.new.recorder.now) }
+    ensures err { IfErr result (λ e. GivesUp (reads_of (method_check class.now (method_view method.now)))
+        reads.old.recorder.now e reads.new.recorder.now) }
     ensures same_reference { reads.new.recorder.ghost_name ≡ reads.old.recorder.ghost_name }
     ensures follows { D.follows reads.old.recorder.now.inner reads.new.recorder.now.inner }
 {
@@ -235,14 +214,10 @@ fn check_method_since<D: Reader, B: Began>(
 ) -> Result<Vec<Mistake>, RunFault>
     requires told { recorder.old.told ≡ B.told }
     requires refused { recorder.old.refused ≡ B.refused }
-    ensures ok {
-        IfOk result (λ mistakes. Goes (reads_of (method_check class.now (method_view method.now)))
-            recorder.old mistakes.items recorder.new)
-    }
-    ensures err {
-        IfErr result (λ e. GivesUp (reads_of (method_check class.now (method_view method.now)))
-            recorder.old e recorder.new)
-    }
+    ensures ok { IfOk result (λ mistakes. Goes (reads_of (method_check class.now (method_view method.now)))
+        recorder.old mistakes.items recorder.new) }
+    ensures err { IfErr result (λ e. GivesUp (reads_of (method_check class.now (method_view method.now)))
+        recorder.old e recorder.new) }
     ensures follows { D.follows recorder.old.inner recorder.new.inner }
 {
     let mut reads = Reads::<D, B> {
@@ -259,14 +234,10 @@ pub fn check_method_by_reads<D: Reader>(
     class: &Name,
     method: &MethodTree,
 ) -> Result<Vec<Mistake>, RunFault>
-    ensures ok {
-        IfOk result (λ mistakes. Goes (reads_of (method_check class.now (method_view method.now)))
-            recorder.old mistakes.items recorder.new)
-    }
-    ensures err {
-        IfErr result (λ e. GivesUp (reads_of (method_check class.now (method_view method.now)))
-            recorder.old e recorder.new)
-    }
+    ensures ok { IfOk result (λ mistakes. Goes (reads_of (method_check class.now (method_view method.now)))
+        recorder.old mistakes.items recorder.new) }
+    ensures err { IfErr result (λ e. GivesUp (reads_of (method_check class.now (method_view method.now)))
+        recorder.old e recorder.new) }
     ensures follows { D.follows recorder.old.inner recorder.new.inner }
 {
     check_method_since::<D, Brand>(alloc, recorder, class, method)
@@ -280,17 +251,13 @@ fn check_main_through<D: Reader, B: Began>(
 ) -> Result<Vec<Mistake>, RunFault>
     requires told { reads.old.recorder.now.told ≡ B.told }
     requires refused { reads.old.recorder.now.refused ≡ B.refused }
-    ensures ok {
-        IfOk result (λ mistakes. Goes
-            (reads_of (statement_step main_scope (stmt_view statement.now) []
-                (λ mistakes. Concludes mistakes))) reads.old.recorder.now mistakes.items
-                reads.new.recorder.now)
-    }
-    ensures err {
-        IfErr result (λ e. GivesUp
-            (reads_of (statement_step main_scope (stmt_view statement.now) []
-                (λ mistakes. Concludes mistakes))) reads.old.recorder.now e reads.new.recorder.now)
-    }
+    ensures ok { IfOk result (λ mistakes. Goes
+        (reads_of (statement_step main_scope (stmt_view statement.now) []
+        (λ mistakes. Concludes mistakes))) reads.old.recorder.now mistakes.items
+        reads.new.recorder.now) }
+    ensures err { IfErr result (λ e. GivesUp
+        (reads_of (statement_step main_scope (stmt_view statement.now) []
+        (λ mistakes. Concludes mistakes))) reads.old.recorder.now e reads.new.recorder.now) }
     ensures same_reference { reads.new.recorder.ghost_name ≡ reads.old.recorder.ghost_name }
     ensures follows { D.follows reads.old.recorder.now.inner reads.new.recorder.now.inner }
 {
@@ -309,16 +276,12 @@ fn check_main_since<D: Reader, B: Began>(
 ) -> Result<Vec<Mistake>, RunFault>
     requires told { recorder.old.told ≡ B.told }
     requires refused { recorder.old.refused ≡ B.refused }
-    ensures ok {
-        IfOk result (λ mistakes. Goes
-            (reads_of (statement_step main_scope (stmt_view statement.now) []
-                (λ mistakes. Concludes mistakes))) recorder.old mistakes.items recorder.new)
-    }
-    ensures err {
-        IfErr result (λ e. GivesUp
-            (reads_of (statement_step main_scope (stmt_view statement.now) []
-                (λ mistakes. Concludes mistakes))) recorder.old e recorder.new)
-    }
+    ensures ok { IfOk result (λ mistakes. Goes
+        (reads_of (statement_step main_scope (stmt_view statement.now) []
+        (λ mistakes. Concludes mistakes))) recorder.old mistakes.items recorder.new) }
+    ensures err { IfErr result (λ e. GivesUp
+        (reads_of (statement_step main_scope (stmt_view statement.now) []
+        (λ mistakes. Concludes mistakes))) recorder.old e recorder.new) }
     ensures follows { D.follows recorder.old.inner recorder.new.inner }
 {
     let mut reads = Reads::<D, B> {
@@ -334,16 +297,12 @@ pub fn check_main_by_reads<D: Reader>(
     recorder: &mut Recorder<D>,
     statement: &Stmt,
 ) -> Result<Vec<Mistake>, RunFault>
-    ensures ok {
-        IfOk result (λ mistakes. Goes
-            (reads_of (statement_step main_scope (stmt_view statement.now) []
-                (λ mistakes. Concludes mistakes))) recorder.old mistakes.items recorder.new)
-    }
-    ensures err {
-        IfErr result (λ e. GivesUp
-            (reads_of (statement_step main_scope (stmt_view statement.now) []
-                (λ mistakes. Concludes mistakes))) recorder.old e recorder.new)
-    }
+    ensures ok { IfOk result (λ mistakes. Goes
+        (reads_of (statement_step main_scope (stmt_view statement.now) []
+        (λ mistakes. Concludes mistakes))) recorder.old mistakes.items recorder.new) }
+    ensures err { IfErr result (λ e. GivesUp
+        (reads_of (statement_step main_scope (stmt_view statement.now) []
+        (λ mistakes. Concludes mistakes))) recorder.old e recorder.new) }
     ensures follows { D.follows recorder.old.inner recorder.new.inner }
 {
     check_main_since::<D, Brand>(alloc, recorder, statement)

@@ -55,8 +55,10 @@ ok_is x y e = cc
 
 pub Takes-then : (a x b y c : List ℕ) → Takes a x b → Takes b y c → Takes a (x ++ y) c
 Takes-then a x b y c p q =
-    record { parts = p.parts ∙ ap (λ (t : List ℕ). x ++ t) q.parts ∙ sym (append_assoc x y c);
-    rest_fits = q.rest_fits }
+    record {
+      parts = p.parts ∙ ap (λ (t : List ℕ). x ++ t) q.parts ∙ sym (append_assoc x y c);
+      rest_fits = q.rest_fits;
+    }
 
 -- ---- numbers
 
@@ -97,30 +99,37 @@ lawful_number : (w : Width) (limit : ℕ) (wide : IsWide w limit)
 lawful_number w limit wide = record {
   takes = λ bytes n rest fits e.
       let g =
-          guard_ok (ltb (length bytes) (byte_len w)) Short
-              (Ok (from_be_bytes w (take (byte_len w) bytes), drop (byte_len w) bytes))
-              (n, rest) e in
+      guard_ok (ltb (length bytes) (byte_len w)) Short
+      (Ok (from_be_bytes w (take (byte_len w) bytes), drop (byte_len w) bytes))
+      (n, rest) e in
       let long : byte_len w ≤ length bytes = ltb-false _ _ g.0 in
       let pair =
-          ok_is (from_be_bytes w (take (byte_len w) bytes), drop (byte_len w) bytes)
-              (n, rest) g.1 in
+      ok_is (from_be_bytes w (take (byte_len w) bytes), drop (byte_len w) bytes)
+      (n, rest) g.1 in
       let n-is : from_be_bytes w (take (byte_len w) bytes) ≡ n =
-          ap (λ (p : ℕ × List ℕ). p.0) pair in
+      ap (λ (p : ℕ × List ℕ). p.0) pair in
       let rest-is : drop (byte_len w) bytes ≡ rest = ap (λ (p : ℕ × List ℕ). p.1) pair in
       let front : to_be_bytes w n ≡ take (byte_len w) bytes =
-          rw (← n-is) (wide.back (take (byte_len w) bytes)
-              (omega (arith, length-take (byte_len w) bytes))
-              (IsBytes-take (byte_len w) bytes fits)) in
-      (record { parts = rw (front, ← rest-is) (sym (take-append-drop (byte_len w) bytes));
-          rest_fits = rw (← rest-is) (IsBytes-drop (byte_len w) bytes fits) },
-          rw (← n-is) (wide.below (take (byte_len w) bytes)
-              (IsBytes-take (byte_len w) bytes fits)));
+      rw (← n-is) (wide.back (take (byte_len w) bytes)
+      (omega (arith, length-take (byte_len w) bytes))
+      (IsBytes-take (byte_len w) bytes fits)) in (
+        record {
+          parts = rw (front, ← rest-is) (sym (take-append-drop (byte_len w) bytes));
+          rest_fits = rw (← rest-is) (IsBytes-drop (byte_len w) bytes fits);
+        },
+        rw (← n-is) (wide.below (take (byte_len w) bytes)
+            (IsBytes-take (byte_len w) bytes fits)),
+      );
   again = λ n rest lt.
       let len = wide.len n in
       let long : ltb (length (to_be_bytes w n ++ rest)) (byte_len w) ≡ false =
-          le-ltb _ _ (omega (arith, length-append (to_be_bytes w n) rest)) in
-      rw (long, take_at (to_be_bytes w n) rest (byte_len w) len,
-          drop_at (to_be_bytes w n) rest (byte_len w) len, wide.again n lt) refl;
+      le-ltb _ _ (omega (arith, length-append (to_be_bytes w n) rest)) in
+      rw (
+        long,
+        take_at (to_be_bytes w n) rest (byte_len w) len,
+        drop_at (to_be_bytes w n) rest (byte_len w) len,
+        wide.again n lt,
+      ) refl;
 }
 
 pub lawful_two : Lawful two_at two (λ n. n < 2 ^ 16)
@@ -139,31 +148,34 @@ lawful_eight = lawful_number w64 (2 ^ 64) wide64
 
 name_parts : (bytes : List ℕ) (n : ℕ) (text rest : List ℕ)
     → cond (eqb n 0) (not_canonical {A = List ℕ × List ℕ} bytes)
-        (cond (ltb (length rest) n) (Err Short)
-        (cond (is_utf8 (take n rest)) (done (take n rest, drop n rest)) (not_canonical bytes)))
+    (cond (ltb (length rest) n) (Err Short)
+    (cond (is_utf8 (take n rest)) (done (take n rest, drop n rest)) (not_canonical bytes)))
     ≡ Ok (text, drop n rest)
     → (0 < n) × (n ≤ length rest) × (is_utf8 (take n rest) ≡ true) × (take n rest ≡ text)
 name_parts bytes n text rest e =
     let a = guard_ok (eqb n 0) (NotCanonical (length bytes)) _ (text, drop n rest) e in
     let b = guard_ok (ltb (length rest) n) Short _ (text, drop n rest) a.1 in
     let c =
-        guard_so (is_utf8 (take n rest)) (NotCanonical (length bytes))
-            (Ok (take n rest, drop n rest)) (text, drop n rest) b.1 in
-    (omega (arith, eqb-false _ _ a.0), ltb-false _ _ b.0, c.0,
-        ap (λ (p : List ℕ × List ℕ). p.0)
-            (ok_is (take n rest, drop n rest) (text, drop n rest) c.1))
+    guard_so (is_utf8 (take n rest)) (NotCanonical (length bytes))
+    (Ok (take n rest, drop n rest)) (text, drop n rest) b.1 in (
+      omega (arith, eqb-false _ _ a.0),
+      ltb-false _ _ b.0,
+      c.0,
+      ap (λ (p : List ℕ × List ℕ). p.0)
+          (ok_is (take n rest, drop n rest) (text, drop n rest) c.1),
+    )
 
 name_rest : (bytes : List ℕ) (n : ℕ) (text rest after : List ℕ)
     → cond (eqb n 0) (not_canonical {A = List ℕ × List ℕ} bytes)
-        (cond (ltb (length rest) n) (Err Short)
-        (cond (is_utf8 (take n rest)) (done (take n rest, drop n rest)) (not_canonical bytes)))
+    (cond (ltb (length rest) n) (Err Short)
+    (cond (is_utf8 (take n rest)) (done (take n rest, drop n rest)) (not_canonical bytes)))
     ≡ Ok (text, after) → drop n rest ≡ after
 name_rest bytes n text rest after e =
     let a = guard_ok (eqb n 0) (NotCanonical (length bytes)) _ (text, after) e in
     let b = guard_ok (ltb (length rest) n) Short _ (text, after) a.1 in
     let c =
-        guard_so (is_utf8 (take n rest)) (NotCanonical (length bytes))
-            (Ok (take n rest, drop n rest)) (text, after) b.1 in
+    guard_so (is_utf8 (take n rest)) (NotCanonical (length bytes))
+    (Ok (take n rest, drop n rest)) (text, after) b.1 in
     ap (λ (p : List ℕ × List ℕ). p.1) (ok_is (take n rest, drop n rest) (text, after) c.1)
 
 name_takes : (bytes text after : List ℕ) → IsBytes bytes → name_at bytes ≡ Ok (text, after)
@@ -176,11 +188,17 @@ name_takes (n ∷ rest) text after fits e =
     let len : length text ≡ n = rw (← p.3) (omega (arith, length-take n rest, p.1)) in
     let small : n < 256 = fits 0 in
     let whole : n ∷ rest ≡ name text ++ after =
-        rw (len, ← p.3, ← r) (ap (λ (x : List ℕ). n ∷ x) (sym (take-append-drop n rest))) in (
-      record { parts = whole; rest_fits =
-          rw (← r) (IsBytes-drop n rest (IsBytes-rest n rest fits)) },
-      record { some = omega (arith, len, p.0); short = omega (arith, len, small);
-          text = rw (← p.3) p.2 },
+    rw (len, ← p.3, ← r) (ap (λ (x : List ℕ). n ∷ x) (sym (take-append-drop n rest))) in (
+      record {
+        parts = whole;
+        rest_fits =
+            rw (← r) (IsBytes-drop n rest (IsBytes-rest n rest fits));
+      },
+      record {
+        some = omega (arith, len, p.0);
+        short = omega (arith, len, small);
+        text = rw (← p.3) p.2;
+      },
     )
 
 not_zero : (n : ℕ) → 0 < n → eqb n 0 ≡ false
@@ -192,9 +210,14 @@ lawful_name = record {
   takes = name_takes;
   again = λ text rest h.
       let long : ltb (length (text ++ rest)) (length text) ≡ false =
-          le-ltb _ _ (omega (arith, length-append text rest)) in
-      rw (not_zero (length text) h.some, long, take_at text rest (length text) refl,
-          drop_at text rest (length text) refl, h.text) refl;
+      le-ltb _ _ (omega (arith, length-append text rest)) in
+      rw (
+        not_zero (length text) h.some,
+        long,
+        take_at text rest (length text) refl,
+        drop_at text rest (length text) refl,
+        h.text,
+      ) refl;
 }
 
 -- ---- one behind the other
@@ -211,10 +234,10 @@ lawful_pair {A} {B} {p} {q} {sp} {sq} {P} {Q} one two = record {
       let made : (A × B) × List ℕ = ((a.0.0, b.0.0), b.0.1) in
       let both = Takes-then bytes (sp a.0.0) a.0.1 (sq b.0.0) b.0.1 t.0 u.0 in
       subst (λ (y : (A × B) × List ℕ). Takes bytes (sp y.0.0 ++ sq y.0.1) y.1 × (P y.0.0 × Q y.0.1))
-          (ok_is made (x, rest) b.2) (both, (t.1, u.1));
+      (ok_is made (x, rest) b.2) (both, (t.1, u.1));
   again = λ x rest h.
       ap (pair_at p q) (append_assoc (sp x.0) (sq x.1) rest)
-          ∙ rw (one.again x.0 (sq x.1 ++ rest) h.0, two.again x.1 rest h.1) refl;
+      ∙ rw (one.again x.0 (sq x.1 ++ rest) h.0, two.again x.1 rest h.1) refl;
 }
 
 -- what something was made of
@@ -225,9 +248,12 @@ made_takes {A} {B} {p} {sp} {P} law make bytes b rest fits e =
     let a = bind_ok (p bytes) (λ a. Ok (make a.0, a.1)) (b, rest) e in
     let t = law.takes bytes a.0.0 a.0.1 fits a.1 in
     let is = ok_is (make a.0.0, a.0.1) (b, rest) a.2 in
-    let r : a.0.1 ≡ rest = ap (λ (y : B × List ℕ). y.1) is in
-    (a.0.0, ap (λ (y : B × List ℕ). y.0) is, subst (λ (y : List ℕ). Takes bytes (sp a.0.0) y) r t.0,
-        t.1)
+    let r : a.0.1 ≡ rest = ap (λ (y : B × List ℕ). y.1) is in (
+      a.0.0,
+      ap (λ (y : B × List ℕ). y.0) is,
+      subst (λ (y : List ℕ). Takes bytes (sp a.0.0) y) r t.0,
+      t.1,
+    )
 
 pub made_again : {A B : Type 0} {p : Decoder A} {sp : A → List ℕ} {P : A → Type 0}
     (law : Lawful p sp P) (make : A → B) (a : A) (rest : List ℕ) → P a
@@ -243,15 +269,16 @@ unfolding option_at
 option_takes law [] o rest fits e = absurd cc
 option_takes {A} {p} {sp} {P} law (zero ∷ bytes) o rest fits e =
     subst (λ (x : Option A × List ℕ). Takes (0 ∷ bytes) (option sp x.0) x.1 × IfSome x.0 P)
-        (ok_is (None, bytes) (o, rest) e)
-            (record { parts = refl; rest_fits = IsBytes-rest 0 bytes fits }, tt)
+    (ok_is (None, bytes) (o, rest) e)
+    (record { parts = refl; rest_fits = IsBytes-rest 0 bytes fits }, tt)
 option_takes {A} {p} {sp} {P} law (suc zero ∷ bytes) o rest fits e =
     let b = bind_ok (p bytes) (λ a. Ok (Some a.0, a.1)) (o, rest) e in
     let t = law.takes bytes b.0.0 b.0.1 (IsBytes-rest 1 bytes fits) b.1 in
     subst (λ (x : Option A × List ℕ). Takes (1 ∷ bytes) (option sp x.0) x.1 × IfSome x.0 P)
-        (ok_is (Some b.0.0, b.0.1) (o, rest) b.2)
-            (record { parts = ap (λ (w : List ℕ). 1 ∷ w) t.0.parts; rest_fits = t.0.rest_fits },
-        t.1)
+    (ok_is (Some b.0.0, b.0.1) (o, rest) b.2) (
+      record { parts = ap (λ (w : List ℕ). 1 ∷ w) t.0.parts; rest_fits = t.0.rest_fits },
+      t.1,
+    )
 option_takes law (suc (suc b) ∷ bytes) o rest fits e = absurd cc
 
 option_again : {A : Type 0} {p : Decoder A} {sp : A → List ℕ} {P : A → Type 0} (law : Lawful p sp P)
@@ -277,7 +304,7 @@ pub record Listed {A : Type 0} (sp : A → List ℕ) (P : A → Type 0) (admits 
 
 pub list_takes : {A : Type 0} {p : Decoder A} {sp : A → List ℕ} {P : A → Type 0}
     (law : Lawful p sp P) (admits : List A → A → Bool) (n : ℕ) (front : List A) (bytes : List ℕ)
-        (whole : List A) (rest : List ℕ) → IsBytes bytes
+    (whole : List A) (rest : List ℕ) → IsBytes bytes
     → list_from p admits front n bytes ≡ Ok (whole, rest)
     → Listed sp P admits front n bytes whole rest
 unfolding list_from
@@ -288,19 +315,21 @@ list_takes {A} {p} {sp} {P} law admits zero front bytes whole rest fits e =
       whole_is = append-nil front ∙ ap (λ (x : List A × List ℕ). x.0) is;
       count_is = refl;
       takes =
-          record { parts = ap (λ (x : List A × List ℕ). x.1) is;
-          rest_fits = subst IsBytes (ap (λ (x : List A × List ℕ). x.1) is) fits };
+          record {
+            parts = ap (λ (x : List A × List ℕ). x.1) is;
+            rest_fits = subst IsBytes (ap (λ (x : List A × List ℕ). x.1) is) fits;
+          };
       fit = tt;
       admitted = tt;
     }
 list_takes {A} {p} {sp} {P} law admits (suc n) front bytes whole rest fits e =
     let a =
-        bind_ok (p bytes) (λ item. cond (admits front item.0)
-            (list_from p admits (front ++ item.0 ∷ []) n item.1) (not_canonical bytes))
-            (whole, rest) e in
+    bind_ok (p bytes) (λ item. cond (admits front item.0)
+    (list_from p admits (front ++ item.0 ∷ []) n item.1) (not_canonical bytes))
+    (whole, rest) e in
     let g =
-        guard_so (admits front a.0.0) (NotCanonical (length bytes))
-            (list_from p admits (front ++ a.0.0 ∷ []) n a.0.1) (whole, rest) a.2 in
+    guard_so (admits front a.0.0) (NotCanonical (length bytes))
+    (list_from p admits (front ++ a.0.0 ∷ []) n a.0.1) (whole, rest) a.2 in
     let t = law.takes bytes a.0.0 a.0.1 fits a.1 in
     let u = list_takes law admits n (front ++ a.0.0 ∷ []) a.0.1 whole rest t.0.rest_fits g.1 in
     record {
@@ -309,7 +338,7 @@ list_takes {A} {p} {sp} {P} law admits (suc n) front bytes whole rest fits e =
       count_is = ap (λ (k : ℕ). suc k) u.count_is;
       takes =
           rw flat_map-cons (Takes-then bytes (sp a.0.0) a.0.1 (flat_map sp u.items)
-              rest t.0 u.takes);
+          rest t.0 u.takes);
       fit = (t.1, u.fit);
       admitted = (g.0, u.admitted);
     }
@@ -323,26 +352,26 @@ list_again {A} {p} {sp} {P} law admits [] front rest fit h =
     ap (λ (x : List A). done (x, rest)) (sym (append-nil front))
 list_again {A} {p} {sp} {P} law admits (a ∷ as1) front rest fit h =
     let regrouped : flat_map sp (a ∷ as1) ++ rest ≡ sp a ++ (flat_map sp as1 ++ rest) =
-        ap (λ (x : List ℕ). x ++ rest) (flat_map-cons sp a as1)
-        ∙ append_assoc (sp a) (flat_map sp as1) rest in
+    ap (λ (x : List ℕ). x ++ rest) (flat_map-cons sp a as1)
+    ∙ append_assoc (sp a) (flat_map sp as1) rest in
     ap (list_from p admits front (suc (length as1))) regrouped
     ∙ rw (law.again a (flat_map sp as1 ++ rest) fit.0, h.0)
-        (list_again law admits as1 (front ++ a ∷ []) rest fit.1 h.1)
+    (list_again law admits as1 (front ++ a ∷ []) rest fit.1 h.1)
     ∙ ap (λ (x : List A). done (x, rest)) (append_assoc front (a ∷ []) as1)
 
 pub whole_list : {A : Type 0} {p : Decoder A} {sp : A → List ℕ} {P : A → Type 0}
     (law : Lawful p sp P) (admits : List A → A → Bool) (bytes : List ℕ) (n : ℕ) (after : List ℕ)
-        (as1 : List A) (rest : List ℕ) → Takes bytes (eight n) after → n < 2 ^ 64
+    (as1 : List A) (rest : List ℕ) → Takes bytes (eight n) after → n < 2 ^ 64
     → Listed sp P admits [] n after as1 rest
     → Takes bytes (eight (length as1) ++ flat_map sp as1) rest × FitsList P admits as1
 whole_list {A} {p} {sp} {P} law admits bytes n after as1 rest t lt u =
     let both : Takes bytes (eight (length u.items) ++ flat_map sp u.items) rest =
-        subst (λ (k : ℕ). Takes bytes (eight k ++ flat_map sp u.items) rest) (sym u.count_is)
-            (Takes-then bytes (eight n) after (flat_map sp u.items) rest t u.takes) in
+    subst (λ (k : ℕ). Takes bytes (eight k ++ flat_map sp u.items) rest) (sym u.count_is)
+    (Takes-then bytes (eight n) after (flat_map sp u.items) rest t u.takes) in
     let fit : FitsList P admits u.items =
-        record { few = omega (arith, u.count_is, lt); fit = u.fit; admitted = u.admitted } in
+    record { few = omega (arith, u.count_is, lt); fit = u.fit; admitted = u.admitted } in
     subst (λ (l : List A). Takes bytes (eight (length l) ++ flat_map sp l) rest
-        × FitsList P admits l) u.whole_is (both, fit)
+    × FitsList P admits l) u.whole_is (both, fit)
 
 pub lawful_list : {A : Type 0} {p : Decoder A} {sp : A → List ℕ} {P : A → Type 0} → Lawful p sp P
     → (admits : List A → A → Bool) → Lawful (list_at p admits) (list sp) (FitsList P admits)
@@ -356,7 +385,7 @@ lawful_list {A} {p} {sp} {P} law admits = record {
   again = λ as1 rest h.
       ap (list_at p admits) (append_assoc (eight (length as1)) (flat_map sp as1) rest)
       ∙ rw (lawful_eight.again (length as1) (flat_map sp as1 ++ rest) h.few)
-          (list_again law admits as1 [] rest h.fit h.admitted);
+      (list_again law admits as1 [] rest h.fit h.admitted);
 }
 
 -- where any item is admitted

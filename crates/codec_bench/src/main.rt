@@ -53,7 +53,8 @@ fn repeat_queries(rt: &HostRuntime, count: u32, files: &[String]) -> io::Result<
         queries::answer(rt.alloc(), &project)?;
     }
     let answer = queries::answer(rt.alloc(), &project)?;
-    rt.stdout().write_all(queries::text(rt.alloc(), answer.value())?.as_bytes())
+    rt.stdout()
+        .write_all(queries::text(rt.alloc(), answer.value())?.as_bytes())
 }
 
 /// The project of these files.

@@ -79,16 +79,8 @@ fn read_source<'a>(
 {
     let (_, bytes) = file;
     let found = read(alloc, bytes)?;
-    let ReadFile {
-        tokens,
-        tree,
-        stop,
-    } = found;
-    let text = ReadText {
-        file,
-        tokens,
-        stop,
-    };
+    let ReadFile { tokens, tree, stop } = found;
+    let text = ReadText { file, tokens, stop };
     Ok((text, tree))
 }
 

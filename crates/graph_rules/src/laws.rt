@@ -26,20 +26,16 @@ pub fn inputs_apart()
 /// In each state that a legal history reaches every key is as its status says: no key was marked over a changed or
 /// open edge, none was run where it could be marked, and each executed value follows from values in the state.
 pub fn histories_are_sound()
-    ensures {
-        (mean : Meaning) (reads : ReadLists) (past : Past) (p : Project) (h : List Event)
-            → Legal past p h → AreBacked mean reads h
-            → IsSound mean reads past p (state_after past p h)
-    }
+    ensures { (mean : Meaning) (reads : ReadLists) (past : Past) (p : Project) (h : List Event)
+        → Legal past p h → AreBacked mean reads h
+        → IsSound mean reads past p (state_after past p h) }
 {}
 
 /// In such a state a done key's value is of its kind, its mark is Input just where it is an input, and its edges are done
 /// and of lower rank, and none is there twice.
 pub fn sound_is_in_order()
-    ensures {
-        (mean : Meaning) (reads : ReadLists) (past : Past) (p : Project) (s : State) → IsGraph past
-            → IsSound mean reads past p s → IsInOrder s
-    }
+    ensures { (mean : Meaning) (reads : ReadLists) (past : Past) (p : Project) (s : State) → IsGraph past
+        → IsSound mean reads past p s → IsInOrder s }
 {}
 
 /// Every session is a graph: its edges lead to keys of lower rank that it holds.
@@ -55,19 +51,15 @@ pub fn histories_are_orderly()
 /// Where the past has the values and reads of a project, and no two values that differ have one print, what a sound
 /// state closes with is the next session, whatever the events were.
 pub fn closed_is_next()
-    ensures {
-        (mean : Meaning) (reads : ReadLists) → RunnerLaws mean reads
-            → (past : Past) (p old : Project) (s : State) (entries : List Entry) → IsProject p
-            → IsProject old → IsGraph past → IsSound mean reads past p s → AreClosed p s entries
-            → AreMeant mean reads past old → AreApart mean reads past p
-            → AreNext mean reads past p entries
-    }
+    ensures { (mean : Meaning) (reads : ReadLists) → RunnerLaws mean reads
+        → (past : Past) (p old : Project) (s : State) (entries : List Entry) → IsProject p
+        → IsProject old → IsGraph past → IsSound mean reads past p s → AreClosed p s entries
+        → AreMeant mean reads past old → AreApart mean reads past p
+        → AreNext mean reads past p entries }
 {}
 
 /// There is but one next session.
 pub fn one_next()
-    ensures {
-        (mean : Meaning) (reads : ReadLists) (past : Past) (p : Project) (a b : List Entry)
-            → AreNext mean reads past p a → AreNext mean reads past p b → a ≡ b
-    }
+    ensures { (mean : Meaning) (reads : ReadLists) (past : Past) (p : Project) (a b : List Entry)
+        → AreNext mean reads past p a → AreNext mean reads past p b → a ≡ b }
 {}

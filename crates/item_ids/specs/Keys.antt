@@ -68,9 +68,9 @@ member_text key = text_of (member_of key)
 abbrev pub key_cmp : Key → Key → Ordering
 key_cmp =
     then_cmp (then_cmp (on number nat_cmp) (on class_text (slice_cmp nat_cmp)))
-        (on member_text (slice_cmp nat_cmp))
+    (on member_text (slice_cmp nat_cmp))
 
 pub key_total : IsTotalOrder key_cmp
 key_total =
     then_total (then_total (on_total number nat_cmp_total) (on_texts class_text))
-        (on_texts member_text)
+    (on_texts member_text)

@@ -38,8 +38,8 @@ code_number E319 = 319
 abbrev pub all_codes : List Code
 all_codes =
     E101 ∷ E102 ∷ E103 ∷ E104 ∷ E201 ∷ E202 ∷ E203 ∷ E204 ∷ E205 ∷ E206 ∷ E207 ∷ E301 ∷ E302 ∷ E303
-        ∷ E304 ∷ E305 ∷ E306 ∷ E307 ∷ E308 ∷ E309 ∷ E310 ∷ E311 ∷ E312 ∷ E313 ∷ E314 ∷ E315 ∷ E316
-        ∷ E317 ∷ E318 ∷ E319 ∷ []
+    ∷ E304 ∷ E305 ∷ E306 ∷ E307 ∷ E308 ∷ E309 ∷ E310 ∷ E311 ∷ E312 ∷ E313 ∷ E314 ∷ E315 ∷ E316
+    ∷ E317 ∷ E318 ∷ E319 ∷ []
 
 -- the code with this number, if there is one
 abbrev pub code_of : ℕ → Option Code

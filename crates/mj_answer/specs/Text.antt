@@ -53,7 +53,7 @@ field_line row =
 abbrev pub method_line : MethodRowValue → List ℕ
 method_line row =
     codes "  method " ++ row.name ++ codes "(" ++ types_text row.formals ++ codes "): "
-        ++ type_text row.returns
+    ++ type_text row.returns
     ++ codes " from " ++ row.owner ++ codes "\n"
 
 -- a class: its name, its fields, its methods, its faults

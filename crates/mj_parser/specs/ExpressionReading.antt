@@ -29,10 +29,10 @@ unfoldable pub new_at : TierParser → List Token → ℕ → Reading
 new_at part ts i =
     if has ts (i + 1) terminals.Int
     then when (has ts (i + 2) terminals.LeftBracket)
-        (part any_tier (i + 3) >>= close ts terminals.RightBracket (NewArray i))
+    (part any_tier (i + 3) >>= close ts terminals.RightBracket (NewArray i))
     else (name_at ts (i + 1) >>= λ name. when
-        (has ts (i + 2) terminals.LeftParenthesis && has ts (i + 3) terminals.RightParenthesis)
-            (Some (NewObject i name, i + 4)))
+    (has ts (i + 2) terminals.LeftParenthesis && has ts (i + 3) terminals.RightParenthesis)
+    (Some (NewObject i name, i + 4)))
 
 unfoldable pub terminal_at : TierParser → List Token → ℕ → Terminal → Reading
 terminal_at part ts i terminals.True = Some (Boolean i true, i + 1)
@@ -60,7 +60,7 @@ unfoldable pub member_at : TierParser → List Token → Expression → ℕ → 
 member_at part ts left mark = name_at ts mark >>= λ name.
     if has ts (mark + 1) terminals.LeftParenthesis
     then (listed_at (part any_tier) ts (mark + 2)
-        >>= λ x. Some (Call mark left name (expressions_of x.0), x.1))
+    >>= λ x. Some (Call mark left name (expressions_of x.0), x.1))
     else when (says ts mark (codes "length")) (Some (Length mark left, mark + 1))
 
 abbrev pub takes_index : List Token → Expression → ℕ → Bool
@@ -72,10 +72,10 @@ post_from zero part ts room left j = None
 post_from (suc gas) part ts room left j =
     if takes_index ts left j
     then when (nat_le (height left) room)
-        (index_at part ts left j >>= λ x. post_from gas part ts room x.0 x.1)
+    (index_at part ts left j >>= λ x. post_from gas part ts room x.0 x.1)
     else (if has ts j terminals.Dot
     then when (nat_le (height left) room)
-        (member_at part ts left (j + 1) >>= λ x. post_from gas part ts room x.0 x.1)
+    (member_at part ts left (j + 1) >>= λ x. post_from gas part ts room x.0 x.1)
     else Some (left, j))
 
 unfoldable pub post_at : TierParser → List Token → ℕ → ℕ → Reading
@@ -105,8 +105,8 @@ binary_from (suc gas) part ts room d left j =
       | None ↦ Some (left, j)
       | Some operator ↦
           when (nat_le (height left) room)
-              (part d (j + 1) >>= λ x. binary_from gas part ts room d
-              (Binary operator j left x.0) x.1)
+          (part d (j + 1) >>= λ x. binary_from gas part ts room d
+          (Binary operator j left x.0) x.1)
     ]
 
 unfoldable pub tier_at : TierParser → List Token → ℕ → ℕ → ℕ → Reading

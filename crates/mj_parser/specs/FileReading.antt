@@ -23,11 +23,11 @@ unfoldable pub type_at : List Token → PartParser Ty
 type_at ts i =
     if has ts i terminals.Int
     then (if has ts (i + 1) terminals.LeftBracket
-        then when (has ts (i + 2) terminals.RightBracket) (Some (types.IntArray, i + 3))
-        else Some (types.Int, i + 1))
+    then when (has ts (i + 2) terminals.RightBracket) (Some (types.IntArray, i + 3))
+    else Some (types.Int, i + 1))
     else (if has ts i terminals.Boolean
-        then Some (types.Boolean, i + 1)
-        else (name_at ts i >>= λ name. Some (types.Class name, i + 1)))
+    then Some (types.Boolean, i + 1)
+    else (name_at ts i >>= λ name. Some (types.Class name, i + 1)))
 
 unfoldable pub variable_at : List Token → PartParser Variable
 variable_at ts i =
@@ -68,11 +68,11 @@ signature_view s = record { name = s.name; returns = s.returns; formals = s.form
 unfoldable pub signature_at : List Token → Option (Signature × ℕ)
 signature_at ts =
     when (has ts 0 terminals.Public)
-        (type_at ts 1 >>= λ t. name_at ts t.1
+    (type_at ts 1 >>= λ t. name_at ts t.1
     >>= λ name. when (has ts (t.1 + 1) terminals.LeftParenthesis)
     (listed_at (variable_at ts) ts (t.1 + 2)
-        >>= λ fs. when (has ts fs.1 terminals.LeftBrace)
-            (Some (record { name = name; returns = t.0; formals = fs.0 }, fs.1 + 1))))
+    >>= λ fs. when (has ts fs.1 terminals.LeftBrace)
+    (Some (record { name = name; returns = t.0; formals = fs.0 }, fs.1 + 1))))
 
 abbrev pub not_return : List Token → ℕ → Bool
 not_return ts i = not (has ts i terminals.Return)
@@ -83,15 +83,25 @@ unfoldable pub method_of : List Token → Signature → List Variable → List S
 method_of ts s locals body =
     exp_at most_levels ts any_tier (body.1 + 1)
     >>= λ e. when (has ts e.1 terminals.Semicolon && has ts (e.1 + 1) terminals.RightBrace)
-    (Some (record { name = s.name; returns = s.returns; formals = s.formals; locals = locals;
-        body = statements_of body.0; returned = e.0; return_mark = body.1 }, e.1 + 2))
+    (Some (
+      record {
+        name = s.name;
+        returns = s.returns;
+        formals = s.formals;
+        locals = locals;
+        body = statements_of body.0;
+        returned = e.0;
+        return_mark = body.1;
+      },
+      e.1 + 2,
+    ))
 
 unfoldable pub method_at : List Token → Option (Method × ℕ)
 method_at ts =
     signature_at ts >>= λ s. items_from (suc (length ts)) (local_at ts) (begins_local ts) s.1
     >>= λ locals.
     items_from (suc (length ts)) (stmt_at most_levels ts) (not_return ts) locals.1
-        >>= λ body. method_of ts s.0 locals.0 body
+    >>= λ body. method_of ts s.0 locals.0 body
 
 -- ---- classes
 
@@ -110,13 +120,15 @@ at_public ts i = has ts i terminals.Public
 unfoldable pub class_at : List Token → PartParser Class
 class_at ts i =
     when (has ts i terminals.Class)
-        (name_at ts (i + 1) >>= λ name. superclass_at ts (i + 2)
+    (name_at ts (i + 1) >>= λ name. superclass_at ts (i + 2)
     >>= λ s. when (has ts s.1 terminals.LeftBrace)
     (items_from (suc (length ts)) (field_at ts) (begins_type ts) (s.1 + 1)
-        >>= λ fields. items_from (suc (length ts)) (method_from ts) (at_public ts) fields.1
-        >>= λ methods. when (has ts methods.1 terminals.RightBrace)
-    (Some (record { name = name; superclass = s.0; fields = fields.0; methods = methods.0 },
-        methods.1 + 1))))
+    >>= λ fields. items_from (suc (length ts)) (method_from ts) (at_public ts) fields.1
+    >>= λ methods. when (has ts methods.1 terminals.RightBrace)
+    (Some (
+      record { name = name; superclass = s.0; fields = fields.0; methods = methods.0 },
+      methods.1 + 1,
+    ))))
 
 -- ---- files
 
@@ -129,9 +141,9 @@ begins_main ts =
 unfoldable pub main_method_at : List Token → Option (Statement × ℕ)
 main_method_at ts =
     when (main_head ts && main_parameter ts)
-        (stmt_at most_levels ts 11
+    (stmt_at most_levels ts 11
     >>= λ s. when (has ts s.1 terminals.RightBrace && has ts (s.1 + 1) terminals.RightBrace)
-        (Some (s.0, s.1 + 2)))
+    (Some (s.0, s.1 + 2)))
 
 -- a main class from its `main` on
 unfoldable pub main_from : List Token → Option (Statement × ℕ)
@@ -140,8 +152,8 @@ main_from ts = main_method_at (drop 3 ts) >>= λ s. Some (s.0, 3 + s.1)
 unfoldable pub main_at : List Token → Option (Main × ℕ)
 main_at ts =
     when (has ts 0 terminals.Class)
-        (name_at ts 1 >>= λ name. when (has ts 2 terminals.LeftBrace)
-        (main_from ts >>= λ s. Some (record { name = name; statement = s.0 }, s.1)))
+    (name_at ts 1 >>= λ name. when (has ts 2 terminals.LeftBrace)
+    (main_from ts >>= λ s. Some (record { name = name; statement = s.0 }, s.1)))
 
 unfoldable pub main_part_at : List Token → Option (Option Main × ℕ)
 main_part_at ts =

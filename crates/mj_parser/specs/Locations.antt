@@ -53,8 +53,8 @@ field_name ts class number =
 abbrev pub method_name : List Token → ℕ → ℕ
 method_name ts start =
     if has ts (start + 1) terminals.Static
-        then start + 3 else (if has ts (start + 2) terminals.LeftBracket
-        then start + 4 else start + 2)
+    then start + 3 else (if has ts (start + 2) terminals.LeftBracket
+    then start + 4 else start + 2)
 
 abbrev pub begins_method : List Token → Name → ℕ → Bool
 begins_method ts name at =
@@ -64,7 +64,7 @@ begins_method ts name at =
 abbrev pub method_start : List Token → ℕ → Name → Option ℕ
 method_start ts class name =
     class_start ts class >>= λ start. find (begins_method ts name)
-        (numbers start (class_end ts start))
+    (numbers start (class_end ts start))
 
 -- the name behind a `public` of the class
 abbrev pub name_of_method : List Token → ℕ → ℕ → Option ℕ

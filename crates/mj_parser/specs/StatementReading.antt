@@ -23,15 +23,15 @@ block_at part ts i =
 unfoldable pub condition_at : PartParser Expression → List Token → ℕ → Option (Expression × ℕ)
 condition_at exp ts i =
     when (has ts i terminals.LeftParenthesis)
-        (exp (i + 1) >>= λ c. when (has ts c.1 terminals.RightParenthesis) (Some (c.0, c.1 + 1)))
+    (exp (i + 1) >>= λ c. when (has ts c.1 terminals.RightParenthesis) (Some (c.0, c.1 + 1)))
 
 unfoldable pub if_at : PartParser Expression → PartParser Statement → List Token → ℕ
     → Option (Statement × ℕ)
 if_at exp part ts i =
     condition_at exp ts (i + 1) >>= λ c. part c.1
     >>= λ then_branch. when (has ts then_branch.1 terminals.Else)
-        (part (then_branch.1 + 1) >>= λ else_branch. Some
-        (If i c.0 then_branch.0 else_branch.0, else_branch.1))
+    (part (then_branch.1 + 1) >>= λ else_branch. Some
+    (If i c.0 then_branch.0 else_branch.0, else_branch.1))
 
 unfoldable pub while_at : PartParser Expression → PartParser Statement → List Token → ℕ
     → Option (Statement × ℕ)
@@ -42,19 +42,19 @@ unfoldable pub print_at : PartParser Expression → List Token → ℕ → Optio
 print_at exp ts i =
     when (opens_print ts i) (exp (i + 6)
     >>= λ v. when (has ts v.1 terminals.RightParenthesis && has ts (v.1 + 1) terminals.Semicolon)
-        (Some (Print i v.0, v.1 + 2)))
+    (Some (Print i v.0, v.1 + 2)))
 
 unfoldable pub assign_at : PartParser Expression → List Token → Name → ℕ → Option (Statement × ℕ)
 assign_at exp ts name i =
     exp (i + 2) >>= λ v. when (has ts v.1 terminals.Semicolon)
-        (Some (Assign (i + 1) name i v.0, v.1 + 1))
+    (Some (Assign (i + 1) name i v.0, v.1 + 1))
 
 unfoldable pub store_at : PartParser Expression → List Token → Name → ℕ → Option (Statement × ℕ)
 store_at exp ts name i =
     exp (i + 2) >>= λ index. when (has ts index.1 terminals.RightBracket
-        && has ts (index.1 + 1) terminals.Assign)
-            (exp (index.1 + 2) >>= λ v. when (has ts v.1 terminals.Semicolon)
-            (Some (Store (index.1 + 1) name i index.0 v.0, v.1 + 1)))
+    && has ts (index.1 + 1) terminals.Assign)
+    (exp (index.1 + 2) >>= λ v. when (has ts v.1 terminals.Semicolon)
+    (Some (Store (index.1 + 1) name i index.0 v.0, v.1 + 1)))
 
 -- a statement that begins with a name
 unfoldable pub named_at : PartParser Expression → List Token → ℕ → Option (Statement × ℕ)

@@ -33,9 +33,9 @@ name_order m n = slice_cmp nat_cmp m n
 abbrev pub fault_order : Diagnostic → Diagnostic → Ordering
 fault_order d e =
     ordering_then (nat_cmp (place_order d.place) (place_order e.place))
-        (ordering_then (name_order (name_in d.place) (name_in e.place))
+    (ordering_then (name_order (name_in d.place) (name_in e.place))
     (ordering_then (nat_cmp (number_in d.place) (number_in e.place))
-        (nat_cmp (code_number d.code) (code_number e.code))))
+    (nat_cmp (code_number d.code) (code_number e.code))))
 
 -- ---- answers
 

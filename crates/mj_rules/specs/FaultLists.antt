@@ -76,7 +76,7 @@ unfoldable pub project_faults : List SourceFile → List Diagnostic
 project_faults files =
     files_faults false files
     ++ (each_numbered (repeated_class_faults files) 0 (classes_in files)
-        (repeats (class_names (classes_in files)))
+    (repeats (class_names (classes_in files)))
     ++ when_fault (not (any_main files)) places.Project E102)
 
 -- ---- a class
@@ -148,10 +148,10 @@ method_names k = map (λ m. m.name) k.methods
 unfoldable pub declaration_faults : List ClassDecl → ClassDecl → List Diagnostic
 declaration_faults cs k =
     superclass_faults cs k.superclass
-        ++ (chain_faults (chain_of cs k.name)
-        ++ (each_numbered (field_faults cs) 0 k.fields (repeats (field_names k))
+    ++ (chain_faults (chain_of cs k.name)
+    ++ (each_numbered (field_faults cs) 0 k.fields (repeats (field_names k))
     ++ each_numbered (method_faults_of (nearest_sig (rest_of cs k.name))) 0 k.methods
-        (repeats (method_names k))))
+    (repeats (method_names k))))
 
 -- ---- bodies
 

@@ -84,8 +84,8 @@ abbrev pub method_faults : World → Name → Method → List Mistake
 method_faults w class m =
     let repeated = add_repeated_each [] [] (variables_of m) in
     let undeclared =
-        add_undeclared_each w (add_undeclared_each w
-            (add_undeclared w repeated return_type_mark m.returns) m.formals) m.locals in
+    add_undeclared_each w (add_undeclared_each w
+    (add_undeclared w repeated return_type_mark m.returns) m.formals) m.locals in
     add_each w undeclared (method_phrases class m)
 
 abbrev pub main_faults : World → Main → List Mistake
@@ -97,7 +97,7 @@ main_faults w m = add_each w [] (main_phrases m)
 abbrev pub type_step : ℕ → Ty → List Mistake → (List Mistake → Check) → Check
 type_step mark (ty.Class c) mistakes next =
     AsksDeclared c (λ declared. next
-        (if declared then mistakes else mistakes ++ record { mark = mark; code = E206 } ∷ []))
+    (if declared then mistakes else mistakes ++ record { mark = mark; code = E206 } ∷ []))
 type_step mark ty.Int mistakes next = next mistakes
 type_step mark ty.Boolean mistakes next = next mistakes
 type_step mark ty.IntArray mistakes next = next mistakes

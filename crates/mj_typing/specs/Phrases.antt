@@ -166,5 +166,7 @@ unfoldable mutual
   parts_step nothing mistakes next = next (record { type = Some []; mistakes = mistakes })
   parts_step (part p ps) mistakes next =
       phrase_step p mistakes (λ first. parts_step ps first.mistakes
-          (λ others. next (record { type = and_type first.type others.type;
-          mistakes = others.mistakes })))
+      (λ others. next (record {
+        type = and_type first.type others.type;
+        mistakes = others.mistakes;
+      })))

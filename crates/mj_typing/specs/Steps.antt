@@ -15,5 +15,5 @@ pub record Proceeds {S X : Type 0} (stands : S → Check → Check → Type 0)
 -- whatever check goes on with the step has ended
 pub record Aborts {S X E : Type 0} (stands : S → Check → Check → Type 0)
     (halts : S → Check → E → Type 0) (step : (X → Check) → Check) (old : S) (e : E)
-        (new : S) : Type 0 where
+    (new : S) : Type 0 where
   pub ends : (start : Check) (k : X → Check) → stands old start (step k) → halts new start e

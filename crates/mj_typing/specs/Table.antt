@@ -91,7 +91,7 @@ arguments s ts =
 unfoldable pub call : Name → Ty → List Ty → Inquiry Verdict
 call m a ts =
     demand_some (class_in a) E310 (λ c. AsksMethod c m
-        (λ method. demand_some method E311 (λ s. arguments s ts)))
+    (λ method. demand_some method E311 (λ s. arguments s ts)))
 
 unfoldable pub new_array : Ty → Inquiry Verdict
 new_array a = demand (is_int a) E314 (is ty.IntArray)

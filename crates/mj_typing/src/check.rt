@@ -135,15 +135,11 @@ pub fn check_main_statement<A: Asking>(
     asking: &mut A,
     statement: &Stmt,
 ) -> Result<Vec<Mistake>, Stop<A::Refusal>>
-    ensures ok {
-        IfOk result (λ mistakes. Proceeds A.stands
-            (statement_step main_scope (stmt_view statement.now) []) asking.old
-                mistakes.items asking.new)
-    }
-    ensures err {
-        IfErr result (λ e. Aborts A.stands A.halts
-            (statement_step main_scope (stmt_view statement.now) []) asking.old e asking.new)
-    }
+    ensures ok { IfOk result (λ mistakes. Proceeds A.stands
+        (statement_step main_scope (stmt_view statement.now) []) asking.old
+        mistakes.items asking.new) }
+    ensures err { IfErr result (λ e. Aborts A.stands A.halts
+        (statement_step main_scope (stmt_view statement.now) []) asking.old e asking.new) }
     ensures follows { A.follows asking.old asking.new }
 {
     let mut mistakes = Vec::new(alloc);

@@ -26,7 +26,7 @@ field_parts c = row_parts field_size (c.at + head_size c.item) c.item.fields
 abbrev pub method_parts : Part Class → List (Part Method)
 method_parts c =
     row_parts method_size (c.at + head_size c.item + row_size field_size c.item.fields)
-        c.item.methods
+    c.item.methods
 
 -- where the names stand
 abbrev pub class_name_place : Part Class → ℕ

@@ -64,7 +64,7 @@ abbrev mutual
   exp_reads w s (Named mark x) = name_reads s x
   exp_reads w s (Call mark e m es) =
       exp_reads w s e ++ (exps_reads w s es
-          ++ call_reads w m (type_of w (phrase_of s e)) (types_of w (phrases_of s es)))
+      ++ call_reads w m (type_of w (phrase_of s e)) (types_of w (phrases_of s es)))
   exp_reads w s (NewObject mark c) = keys.Header c ∷ []
   exp_reads w s (Parenthesized mark e) = exp_reads w s e
   exp_reads w s (Not mark e) = exp_reads w s e
@@ -90,7 +90,7 @@ abbrev mutual
   statement_reads w s (Print mark e) = exp_reads w s e
   statement_reads w s (Assign mark x x_mark e) =
       name_reads s x ++ (exp_reads w s e
-          ++ value_reads (type_of w (phrase_of s e)) (type_of w (name_phrase s x_mark x)))
+      ++ value_reads (type_of w (phrase_of s e)) (type_of w (name_phrase s x_mark x)))
   statement_reads w s (Store mark x x_mark i e) =
       name_reads s x ++ (exp_reads w s i ++ exp_reads w s e)
 

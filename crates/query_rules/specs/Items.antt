@@ -49,8 +49,12 @@ index_of p = map (index_row p) (first_classes (classes_in p))
 
 abbrev pub header_of : ClassDecl → HeaderValue
 header_of k =
-    record { is_main = is_some k.main; superclass = k.superclass; fields = k.fields;
-    methods = method_names k }
+    record {
+      is_main = is_some k.main;
+      superclass = k.superclass;
+      fields = k.fields;
+      methods = method_names k;
+    }
 
 abbrev pub end_value : EndOf → ChainEnd
 end_value chains.Top = ends.Top

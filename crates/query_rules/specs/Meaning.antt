@@ -40,7 +40,7 @@ mean p (keys.CheckClass c) =
 -- the mistakes in the body
 mean p (keys.CheckBody c m) =
     values.CheckBody (fault_set (inside m
-        (mistakes_in (world_of (classes_in p)) c (body_at p c m))))
+    (mistakes_in (world_of (classes_in p)) c (body_at p c m))))
 -- all faults of the class
 mean p (keys.Diags c) = values.Diags (faults_of (class_faults (classes_in p)) (class_at p c))
 -- the answer of the rules

@@ -32,7 +32,7 @@ coded_reads = coded_list coded_told
 abbrev pub coded_recording : {D : Type 0} → Coded D → Coded (Recording D)
 coded_recording {D} inner =
     code_by (D × (List ReadValue × Option Refused))
-        (coded× inner (coded× coded_reads coded_refused))
+    (coded× inner (coded× coded_reads coded_refused))
     (λ r. (r.inner, (r.told, r.refused)))
     (λ p. record { inner = p.0; told = p.1.0; refused = p.1.1 })
     (λ _. refl)

@@ -12,10 +12,8 @@ use crate::reader::Reader;
 
 /// Values and reads that are those of programs keep to the laws of runners.
 pub fn programs_keep_the_laws()
-    ensures {
-        (prog_of : Key → Prog) (mean : Meaning) (reads : ReadLists) → Tied prog_of mean reads
-            → RunnerLaws mean reads
-    }
+    ensures { (prog_of : Key → Prog) (mean : Meaning) (reads : ReadLists) → Tied prog_of mean reads
+        → RunnerLaws mean reads }
 {}
 
 /// Where two pairs of meaning and reads are those of programs, and a key has the same program by both, it
@@ -28,9 +26,7 @@ pub fn programs_read_alike()
 
 /// What performs the program of a key is a run of the key, where values and reads are those of programs.
 pub fn programs_are_runs<D: Reader>()
-    ensures {
-        (prog_of : Key → Prog) (mean : Meaning) (reads : ReadLists) → Tied prog_of mean reads
-            → (q : Key) → 0 < rank q → (old new : Recording D) (result : Result Value RunFault)
-            → Performs (prog_of q) old result new → IsRun mean reads q new result
-    }
+    ensures { (prog_of : Key → Prog) (mean : Meaning) (reads : ReadLists) → Tied prog_of mean reads
+        → (q : Key) → 0 < rank q → (old new : Recording D) (result : Result Value RunFault)
+        → Performs (prog_of q) old result new → IsRun mean reads q new result }
 {}

@@ -36,10 +36,8 @@ impl<R: Runner> Model for Outcome<R> {
 
     ghost view = { λ o. record { key = o.key; told = o.reads.items; value = arc_value o.sealed } };
 
-    ghost invariant = {
-        λ o. IsOutcome R.mean R.reads
-            (record { key = o.key; told = o.reads.items; value = arc_value o.sealed })
-    };
+    ghost invariant = { λ o. IsOutcome R.mean R.reads
+        (record { key = o.key; told = o.reads.items; value = arc_value o.sealed }) };
 }
 
 impl<R: Runner> Outcome<R> {
@@ -88,11 +86,9 @@ pub fn record<R: Runner, D: Reader>(
     ensures lower { AreLower key.now (keys recorder.new.told) }
     ensures refused { IsNextRefused R.mean R.reads key.now recorder.new }
     ensures fault { IfErr result (λ e. IsFaultKept recorder.new e) }
-    ensures log {
-        Logs key.now (R.log runner.old) (R.log runner.new)
-            ⊎ ((result ≡ Err RunFault.OutOfMemory) × (R.log runner.new ≡ R.log runner.old)
-            × (recorder.new ≡ recorder.old))
-    }
+    ensures log { Logs key.now (R.log runner.old) (R.log runner.new)
+        ⊎ ((result ≡ Err RunFault.OutOfMemory) × (R.log runner.new ≡ R.log runner.old)
+        × (recorder.new ≡ recorder.old)) }
     ensures follows { D.follows recorder.old.inner recorder.new.inner }
 {
     is_key(key);

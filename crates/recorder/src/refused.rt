@@ -26,10 +26,8 @@ pub(crate) fn for_memory() -> Refused
 
 /// The fault for the key, unless memory runs out for the key itself.
 pub(crate) fn refusal_of(alloc: Global, key: &Key, fault: ReadFault) -> Refused
-    ensures {
-        IsForMemory result ⊎ ((result.key ≡ Some key.now) × (result.fault ≡ fault)
-            × (fault ≢ ReadFault.OutOfMemory))
-    }
+    ensures { IsForMemory result ⊎ ((result.key ≡ Some key.now) × (result.fault ≡ fault)
+        × (fault ≢ ReadFault.OutOfMemory)) }
 {
     if fault == ReadFault::OutOfMemory {
         return for_memory();

@@ -56,11 +56,9 @@ pub trait Runner {
         requires unread { recorder.old.told ≡ [] }
         requires unrefused { recorder.old.refused ≡ None }
         ensures run { IsRun mean reads key.now recorder.new result }
-        ensures log {
-            Logs key.now (log self.old) (log self.new)
-                ⊎ ((result ≡ Err RunFault.OutOfMemory) × (log self.new ≡ log self.old)
-                × (recorder.new ≡ recorder.old))
-        }
+        ensures log { Logs key.now (log self.old) (log self.new)
+            ⊎ ((result ≡ Err RunFault.OutOfMemory) × (log self.new ≡ log self.old)
+            × (recorder.new ≡ recorder.old)) }
         ensures follows { D.follows recorder.old.inner recorder.new.inner };
 
     ghost laws: { RunnerLaws mean reads };

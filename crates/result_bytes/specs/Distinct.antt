@@ -43,8 +43,8 @@ is_absent : (front : List (List ℕ)) (x : List ℕ) → (Contains front x → �
 is_absent [] x h = refl
 is_absent (y ∷ front) x h =
     rw (not_equal y x (λ same. h (subst (λ (z : List ℕ). Contains (y ∷ front) z) same
-        (Contains-first y front))) (bytes_eq y x) refl)
-            (is_absent front x (λ k. h (Contains-later y front x k)))
+    (Contains-first y front))) (bytes_eq y x) refl)
+    (is_absent front x (λ k. h (Contains-later y front x k)))
 
 no_later : (front : List (List ℕ)) (x : List ℕ) (names : List (List ℕ)) → Contains front x
     → Admitted is_new front names → Contains names x → ⊥
@@ -59,9 +59,10 @@ no_later front x (y ∷ names) k h c =
 
 pub to_distinct : (front names : List (List ℕ)) → Admitted is_new front names → AreDistinct names
 to_distinct front [] h = tt
-to_distinct front (x ∷ names) h =
-    (λ c. no_later (front ++ x ∷ []) x names (Contains-push front x) h.1 c,
-    to_distinct (front ++ x ∷ []) names h.1)
+to_distinct front (x ∷ names) h = (
+  λ c. no_later (front ++ x ∷ []) x names (Contains-push front x) h.1 c,
+  to_distinct (front ++ x ∷ []) names h.1,
+)
 
 pub from_distinct : (front names : List (List ℕ))
     → ((x : List ℕ) → Contains front x → Contains names x → ⊥) → AreDistinct names

@@ -44,28 +44,36 @@ file_names_takes : (bytes : List ℕ) (names : List (List ℕ)) (rest : List ℕ
 unfolding file_names_at
 file_names_takes bytes names rest fits e =
     let n =
-        bind_ok (eight_at bytes) (λ n. cond (is_file_count n.0)
-            (list_from name_at is_new [] n.0 n.1) (not_canonical bytes)) (names, rest) e in
+    bind_ok (eight_at bytes) (λ n. cond (is_file_count n.0)
+    (list_from name_at is_new [] n.0 n.1) (not_canonical bytes)) (names, rest) e in
     let g =
-        guard_so (is_file_count n.0.0) (NotCanonical (length bytes))
-            (list_from name_at is_new [] n.0.0 n.0.1) (names, rest) n.2 in
+    guard_so (is_file_count n.0.0) (NotCanonical (length bytes))
+    (list_from name_at is_new [] n.0.0 n.0.1) (names, rest) n.2 in
     let t = lawful_eight.takes bytes n.0.0 n.0.1 fits n.1 in
     let u = list_takes lawful_name is_new n.0.0 [] n.0.1 names rest t.0.rest_fits g.1 in
     let w = whole_list lawful_name is_new bytes n.0.0 n.0.1 names rest t.0 t.1 u in
     let count = some_few n.0.0 g.0 in
-    let len : length names ≡ n.0.0 = ap length (sym u.whole_is) ∙ u.count_is in
-    (w.0, record { some = omega (arith, len, count.0); few = omega (arith, len, count.1);
-        each = w.1.fit; distinct = to_distinct [] names w.1.admitted })
+    let len : length names ≡ n.0.0 = ap length (sym u.whole_is) ∙ u.count_is in (
+      w.0,
+      record {
+        some = omega (arith, len, count.0);
+        few = omega (arith, len, count.1);
+        each = w.1.fit;
+        distinct = to_distinct [] names w.1.admitted;
+      },
+    )
 
 file_names_again : (names : List (List ℕ)) (rest : List ℕ) → FileNamesFit names
     → file_names_at (list name names ++ rest) ≡ Ok (names, rest)
 unfolding file_names_at
 file_names_again names rest h =
     ap file_names_at (append_assoc (eight (length names)) (flat_map name names) rest)
-    ∙ rw (lawful_eight.again (length names) (flat_map name names ++ rest) (omega (arith, h.few)),
-    is_some_few (length names) h.some h.few)
+    ∙ rw (
+      lawful_eight.again (length names) (flat_map name names ++ rest) (omega (arith, h.few)),
+      is_some_few (length names) h.some h.few,
+    )
     (list_again lawful_name is_new names [] rest h.each
-        (from_distinct [] names (λ x k c. nowhere x k) h.distinct))
+    (from_distinct [] names (λ x k c. nowhere x k) h.distinct))
 
 pub lawful_file_names : Lawful file_names_at (list name) FileNamesFit
 lawful_file_names = record { takes = file_names_takes; again = file_names_again }
@@ -77,33 +85,41 @@ text_takes : (bytes text1 rest : List ℕ) → IsBytes bytes → text_at bytes �
 unfolding text_at
 text_takes bytes text1 rest fits e =
     let n =
-        bind_ok (eight_at bytes) (λ n. cond (ltb (length n.1) n.0) (Err Short)
-            (Ok (take n.0 n.1, drop n.0 n.1))) (text1, rest) e in
+    bind_ok (eight_at bytes) (λ n. cond (ltb (length n.1) n.0) (Err Short)
+    (Ok (take n.0 n.1, drop n.0 n.1))) (text1, rest) e in
     let t = lawful_eight.takes bytes n.0.0 n.0.1 fits n.1 in
     let g =
-        guard_ok (ltb (length n.0.1) n.0.0) Short (Ok (take n.0.0 n.0.1, drop n.0.0 n.0.1))
-            (text1, rest) n.2 in
+    guard_ok (ltb (length n.0.1) n.0.0) Short (Ok (take n.0.0 n.0.1, drop n.0.0 n.0.1))
+    (text1, rest) n.2 in
     let is = ok_is (take n.0.0 n.0.1, drop n.0.0 n.0.1) (text1, rest) g.1 in
     let front : take n.0.0 n.0.1 ≡ text1 = ap (λ (x : List ℕ × List ℕ). x.0) is in
     let back : drop n.0.0 n.0.1 ≡ rest = ap (λ (x : List ℕ × List ℕ). x.1) is in
     let len : length text1 ≡ n.0.0 =
-        ap length (sym front) ∙ length-take-le n.0.0 n.0.1 (ltb-false _ _ g.0) in
+    ap length (sym front) ∙ length-take-le n.0.0 n.0.1 (ltb-false _ _ g.0) in
     let inner : Takes n.0.1 text1 rest =
-        record { parts = sym (take-append-drop n.0.0 n.0.1)
-        ∙ ap (λ (x : List ℕ). x ++ drop n.0.0 n.0.1) front ∙ ap (λ (x : List ℕ). text1 ++ x) back;
-        rest_fits = subst IsBytes back (IsBytes-drop n.0.0 n.0.1 t.0.rest_fits) } in
-    (subst (λ (k : ℕ). Takes bytes (eight k ++ text1) rest) (sym len)
-        (Takes-then bytes (eight n.0.0) n.0.1 text1 rest t.0 inner), omega (arith, len, t.1))
+    record {
+      parts = sym (take-append-drop n.0.0 n.0.1)
+          ∙ ap (λ (x : List ℕ). x ++ drop n.0.0 n.0.1) front ∙ ap (λ (x : List ℕ). text1 ++ x) back;
+      rest_fits = subst IsBytes back (IsBytes-drop n.0.0 n.0.1 t.0.rest_fits);
+    } in (
+      subst (λ (k : ℕ). Takes bytes (eight k ++ text1) rest) (sym len)
+          (Takes-then bytes (eight n.0.0) n.0.1 text1 rest t.0 inner),
+      omega (arith, len, t.1),
+    )
 
 text_again : (text1 rest : List ℕ) → TextFits text1
     → text_at (text text1 ++ rest) ≡ Ok (text1, rest)
 unfolding text_at
 text_again text1 rest h =
     let long : ltb (length (text1 ++ rest)) (length text1) ≡ false =
-        le-ltb _ _ (omega (arith, length-append text1 rest)) in
+    le-ltb _ _ (omega (arith, length-append text1 rest)) in
     ap text_at (append_assoc (eight (length text1)) text1 rest)
-    ∙ rw (lawful_eight.again (length text1) (text1 ++ rest) h, long,
-    take_at text1 rest (length text1) refl, drop_at text1 rest (length text1) refl) refl
+    ∙ rw (
+      lawful_eight.again (length text1) (text1 ++ rest) h,
+      long,
+      take_at text1 rest (length text1) refl,
+      drop_at text1 rest (length text1) refl,
+    ) refl
 
 pub lawful_text : Lawful text_at text TextFits
 lawful_text = record { takes = text_takes; again = text_again }
@@ -113,7 +129,7 @@ lawful_text = record { takes = text_takes; again = text_again }
 pub lawful_index_row : Lawful index_row_at index_row IndexRowFits
 lawful_index_row =
     lawful_made (lawful_pair lawful_name lawful_name) index_row_of (λ row. (row.class, row.file))
-        (λ _. refl) (λ _. refl)
+    (λ _. refl) (λ _. refl)
 
 pub lawful_index : Lawful index_at (list index_row) IndexFits
 unfolding index_at
@@ -145,24 +161,42 @@ unfolding header_at
 lawful_header =
     lawful_where
     (lawful_made (lawful_pair lawful_boolean
-        (lawful_pair (lawful_option lawful_name)
-            (lawful_pair (lawful_list lawful_field any) (lawful_list lawful_name any))))
-            header_value (λ h. (h.is_main, (h.superclass, (h.fields, h.methods))))
-            (λ _. refl) (λ _. refl))
-    (λ h f. record { superclass = f.1.0; few_fields = f.1.1.0.few; fields = f.1.1.0.fit;
-        few_methods = f.1.1.1.few; methods = f.1.1.1.fit })
-    (λ h f. (tt, (f.superclass, (record { few = f.few_fields; fit = f.fields;
-        admitted = any_admits [] h.fields },
-        record { few = f.few_methods; fit = f.methods; admitted = any_admits [] h.methods }))))
+    (lawful_pair (lawful_option lawful_name)
+    (lawful_pair (lawful_list lawful_field any) (lawful_list lawful_name any))))
+    header_value (λ h. (h.is_main, (h.superclass, (h.fields, h.methods))))
+    (λ _. refl) (λ _. refl))
+    (λ h f. record {
+      superclass = f.1.0;
+      few_fields = f.1.1.0.few;
+      fields = f.1.1.0.fit;
+      few_methods = f.1.1.1.few;
+      methods = f.1.1.1.fit;
+    })
+    (λ h f. (
+      tt,
+      (
+        f.superclass,
+        (
+          record {
+            few = f.few_fields;
+            fit = f.fields;
+            admitted = any_admits [] h.fields;
+          },
+          record { few = f.few_methods; fit = f.methods; admitted = any_admits [] h.methods },
+        ),
+      ),
+    ))
 
 pub lawful_signature : Lawful signature_at signature SignatureFits
 unfolding signature_at
 lawful_signature =
     lawful_where (lawful_made (lawful_pair (lawful_list lawful_ty any) lawful_ty) signature_value
-        (λ s. (s.formals, s.returns)) (λ _. refl) (λ _. refl))
+    (λ s. (s.formals, s.returns)) (λ _. refl) (λ _. refl))
     (λ s f. record { few = f.0.few; formals = f.0.fit; returns = f.1 })
-    (λ s f. (record { few = f.few; fit = f.formals; admitted = any_admits [] s.formals },
-        f.returns))
+    (λ s f. (
+      record { few = f.few; fit = f.formals; admitted = any_admits [] s.formals },
+      f.returns,
+    ))
 
 chain_end_takes : (bytes : List ℕ) (c : ChainEnd) (rest : List ℕ) → IsBytes bytes
     → chain_end_at bytes ≡ Ok (c, rest) → Takes bytes (chain_end c) rest × ChainEndFits c
@@ -172,10 +206,10 @@ chain_end_takes (zero ∷ bytes) c rest fits e =
     leaf_takes chain_end ChainEndFits 0 bytes Top c rest refl tt fits e
 chain_end_takes (suc zero ∷ bytes) c rest fits e =
     tag_takes lawful_name Undeclared chain_end ChainEndFits 1 (λ _. refl) (λ a h. h)
-        bytes c rest fits e
+    bytes c rest fits e
 chain_end_takes (suc (suc zero) ∷ bytes) c rest fits e =
     tag_takes lawful_name Repeated chain_end ChainEndFits 2 (λ _. refl) (λ a h. h)
-        bytes c rest fits e
+    bytes c rest fits e
 chain_end_takes (suc (suc (suc n)) ∷ bytes) c rest fits e = absurd cc
 
 chain_end_again : (c : ChainEnd) (rest : List ℕ) → ChainEndFits c
@@ -192,6 +226,6 @@ pub lawful_chain : Lawful chain_at chain ChainFits
 unfolding chain_at
 lawful_chain =
     lawful_where (lawful_made (lawful_pair (lawful_list lawful_name any) lawful_chain_end)
-        chain_value (λ c. (c.classes, c.end)) (λ _. refl) (λ _. refl))
+    chain_value (λ c. (c.classes, c.end)) (λ _. refl) (λ _. refl))
     (λ c f. record { few = f.0.few; classes = f.0.fit; end = f.1 })
     (λ c f. (record { few = f.few; fit = f.classes; admitted = any_admits [] c.classes }, f.end))

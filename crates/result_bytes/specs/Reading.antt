@@ -54,7 +54,7 @@ header_value x = record { is_main = x.0; superclass = x.1.0; fields = x.1.1.0; m
 unfoldable pub header_at : Decoder HeaderValue
 header_at bytes =
     made_at header_value (pair_at boolean_at
-        (pair_at (option_at name_at) (pair_at (list_at field_at any) (list_at name_at any)))) bytes
+    (pair_at (option_at name_at) (pair_at (list_at field_at any) (list_at name_at any)))) bytes
 
 abbrev pub signature_value : List Ty × Ty → SignatureValue
 signature_value x = record { formals = x.0; returns = x.1 }

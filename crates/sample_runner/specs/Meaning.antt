@@ -31,8 +31,10 @@ is_main (Some h) = h.is_main
 abbrev pub signature_of : Option HeaderValue → Option HeaderValue → Option SignatureValue
 signature_of None other = None
 signature_of (Some h) other =
-    Some (record { formals = if h.is_main then [] else Int ∷ [];
-    returns = if is_some other then Boolean else Int })
+    Some (record {
+      formals = if h.is_main then [] else Int ∷ [];
+      returns = if is_some other then Boolean else Int;
+    })
 
 abbrev pub signature_at : Project → List ℕ → List ℕ → Option SignatureValue
 signature_at p file other = signature_of (header_at p file) (header_at p other)

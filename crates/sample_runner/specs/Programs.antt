@@ -38,7 +38,7 @@ header_steps f k = Ask (keys.Source f) (λ v. k (Header (header_of (bytes_in v))
 abbrev pub sig_both : List ℕ → List ℕ → (Value → Prog) → Prog
 sig_both f g k =
     Ask (keys.Header g) (λ w. Ask (keys.Header f)
-        (λ v. k (Sig (signature_of (header_in v) (header_in w)))))
+    (λ v. k (Sig (signature_of (header_in v) (header_in w)))))
 
 abbrev pub sig_rest : List ℕ → List ℕ → Option HeaderValue → (Value → Prog) → Prog
 sig_rest f g None k = k (Sig None)
@@ -54,7 +54,7 @@ main_step n found k = Ask (keys.Header n) (λ v. k (found || is_main (header_in 
 abbrev pub class_steps : (Value → Prog) → Prog
 class_steps k =
     Ask keys.Files (λ v. each main_step (names_in v) false
-        (λ found. k (CheckClass (faults_if found))))
+    (λ found. k (CheckClass (faults_if found))))
 
 -- two parts: Sig of their types, where both have one and these differ
 abbrev pub meet_step : Option (List ℕ) → Option (List ℕ) → (Option (List ℕ) → Prog) → Prog

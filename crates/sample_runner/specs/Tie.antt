@@ -52,7 +52,7 @@ class_runs : (p : Project) → runs (class_steps Ret) (sample_mean p)
 unfolding runs sample_mean
 class_runs p =
     each_runs main_step (sample_mean p) (λ n b. b || is_main (header_at p n)) (λ n b k. refl)
-        (names_of p) false (λ b. Ret (CheckClass (faults_if b)))
+    (names_of p) false (λ b. Ret (CheckClass (faults_if b)))
     ∙ ap (λ b. CheckClass (faults_if b)) (mains_found p (names_of p) false)
 
 meet_runs : (p : Project) (s t : Option (List ℕ)) (k : Option (List ℕ) → Prog)
@@ -64,9 +64,9 @@ meet_runs p (Some s) (Some t) k = go (bytes_eq s t)
   where
     go : (b : Bool) → runs (if b then k (Some s)
         else Ask (keys.Sig s t) (λ v. k (if is_some (signature_in v) then Some t else None)))
-            (sample_mean p) ≡ runs
-            (k (if b then Some s else if is_some (signature_at p s t) then Some t else None))
-            (sample_mean p)
+        (sample_mean p) ≡ runs
+        (k (if b then Some s else if is_some (signature_at p s t) then Some t else None))
+        (sample_mean p)
     go true = refl
     go false = refl
 
@@ -109,10 +109,12 @@ sig_fits f g = (omega arith, λ v. go (header_in v))
 
 class_fits : (f : List ℕ) → Fits (keys.CheckClass f) (class_steps Ret)
 unfolding Fits
-class_fits f =
-    (omega arith, λ v. each_fits (keys.CheckClass f) main_step
-        (λ n b k h. (omega arith, λ w. h (b || is_main (header_in w)))) (names_in v) false
-        (λ b. Ret (CheckClass (faults_if b))) (λ b. refl))
+class_fits f = (
+  omega arith,
+  λ v. each_fits (keys.CheckClass f) main_step
+      (λ n b k h. (omega arith, λ w. h (b || is_main (header_in w)))) (names_in v) false
+      (λ b. Ret (CheckClass (faults_if b))) (λ b. refl),
+)
 
 module _ (f g : List ℕ) where
   meet_fits : (s t : Option (List ℕ)) (k : Option (List ℕ) → Prog)
@@ -125,7 +127,7 @@ module _ (f g : List ℕ) where
     where
       go : (b : Bool) → Fits (keys.CheckBody f g)
           (if b then k (Some s) else Ask (keys.Sig s t)
-              (λ v. k (if is_some (signature_in v) then Some t else None)))
+          (λ v. k (if is_some (signature_in v) then Some t else None)))
       go true = h (Some s)
       go false = (omega arith, λ v. h (if is_some (signature_in v) then Some t else None))
 
@@ -146,7 +148,7 @@ module _ (f g : List ℕ) where
     phrases_fits NoMore s k h = h s
     phrases_fits (More e rest) s k h =
         phrase_fits e (λ t. meet_step s t (λ u. phrases_step rest u k))
-            (λ t. meet_fits s t (λ u. phrases_step rest u k) (λ u. phrases_fits rest u k h))
+        (λ t. meet_fits s t (λ u. phrases_step rest u k) (λ u. phrases_fits rest u k h))
 
   body_fits : Fits (keys.CheckBody f g) (body_steps f g Ret)
   unfolding Fits

@@ -28,10 +28,8 @@ pub fn phrase_of(alloc: Global, first: &Name, second: &Name) -> Result<Phrase, A
 
 /// A phrase with parts, after a name.
 fn call(alloc: Global, name: &Name, parts: Vec<Phrase>) -> Result<Phrase, AllocError>
-    ensures {
-        IfOk result (λ e. view_of e
-            ≡ Called (Named name.now) (phrases_of (map view_of parts.items)))
-    }
+    ensures { IfOk result (λ e. view_of e
+        ≡ Called (Named name.now) (phrases_of (map view_of parts.items))) }
 {
     let front = Box::new(alloc, Phrase::Name(name.copy(alloc)?))?;
     Ok(Phrase::Call(front, parts))

@@ -152,8 +152,10 @@ record_at front bytes = do
   item ← item_at (length front) bytes
   place ← check_place front item.0
   rest ← rest_at front item.0.key item.1
-  Ok (record { key = item.0.key; mark = item.0.mark; edges = rest.0.edges; value = rest.0.value },
-      rest.1)
+  Ok (
+    record { key = item.0.key; mark = item.0.mark; edges = rest.0.edges; value = rest.0.value },
+    rest.1,
+  )
 
 -- ---- the file
 

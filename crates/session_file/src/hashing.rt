@@ -24,10 +24,8 @@ impl HashingSink {
 
     /// Appends the SHA-256 of the bytes that it holds.
     pub(crate) fn close(&mut self)
-        ensures {
-            (bytes : List ℕ) → Holds256 self.old.hasher bytes
-                → Holds256 self.new.hasher (bytes ++ sha256 bytes)
-        }
+        ensures { (bytes : List ℕ) → Holds256 self.old.hasher bytes
+            → Holds256 self.new.hasher (bytes ++ sha256 bytes) }
     {
         match self.hasher.clone() {
             Ok(copy) => {

@@ -21,9 +21,7 @@ use std::alloc::Global;
 /// Each record fits behind those in front of it, or the first fault.
 pub(crate) fn check_records(alloc: Global, records: &[Record]) -> Result<(), SessionFault>
     ensures fit { OnOk result (AreRecords records.now) }
-    ensures refused {
-        IfErr result (λ fault. IsUnlessMemory fault (RefusesRecords records.now fault))
-    }
+    ensures refused { IfErr result (λ fault. IsUnlessMemory fault (RefusesRecords records.now fault)) }
 {
     let mut seen = SeenEdges::new(alloc);
     for (i, item) in records.iter().enumerate() {
@@ -96,10 +94,8 @@ fn first_bad_edge(
 ) -> Option<usize>
     requires length { length seen.old ≡ length front.now }
     requires unseen { AllByRecursion (λ b. b ≡ false) seen.old }
-    ensures cases {
-        MatchOption result (AreEdges front.now key.now edges.now)
-            (IsFirstBadEdge front.now key.now edges.now)
-    }
+    ensures cases { MatchOption result (AreEdges front.now key.now edges.now)
+        (IsFirstBadEdge front.now key.now edges.now) }
     ensures length { length seen.new ≡ length seen.old }
 {
     for (j, edge) in edges.iter().enumerate() {

@@ -28,19 +28,23 @@ impl Model for Record {
 
     ghost coded = { Prim.hlevel (codes, value_contracts.the_row.coded) };
 
-    ghost view = {
-        λ r. record { key = r.key; mark = r.mark; edges = r.edges.items;
-            value = arc_value r.sealed }
-    };
+    ghost view = { λ r. record {
+      key = r.key;
+      mark = r.mark;
+      edges = r.edges.items;
+      value = arc_value r.sealed;
+    } };
 }
 
 impl Record {
     /// The record of a key, whose edges are the indices of records.
     pub fn new(key: Key, mark: Mark, edges: Vec<usize>, sealed: Arc<Sealed>) -> Self
-        ensures {
-            result ≡ record { key = key; mark = mark; edges = edges.items;
-                value = arc_value sealed }
-        }
+        ensures { result ≡ record {
+          key = key;
+          mark = mark;
+          edges = edges.items;
+          value = arc_value sealed;
+        } }
     {
         Record {
             key,

@@ -30,9 +30,7 @@ impl Model for Session {
 
     ghost view = { λ s. record { number = s.number; link = s.link; records = s.records.items } };
 
-    ghost invariant = {
-        λ s. IsSession (record { number = s.number; link = s.link; records = s.records.items })
-    };
+    ghost invariant = { λ s. IsSession (record { number = s.number; link = s.link; records = s.records.items }) };
 }
 
 impl Session {
@@ -47,9 +45,7 @@ impl Session {
         records: Vec<Record>,
     ) -> Result<Session, SessionFault>
         // It keeps just what was handed in.
-        ensures made {
-            IfOk result (λ s. s ≡ record { number = number; link = link; records = records.items })
-        }
+        ensures made { IfOk result (λ s. s ≡ record { number = number; link = link; records = records.items }) }
         ensures session { IfOk result IsSession }
         // Which fault it is.
         ensures refused { IfErr result (IsRefused number records.items) }
@@ -101,10 +97,8 @@ impl Session {
 
     /// The record of a key.
     pub fn find(&self, key: &Key) -> Option<&Record>
-        ensures found {
-            MatchOption result (entry_at self.now key.now ≡ None)
-                (λ r. entry_at self.now key.now ≡ Some (entry_of self.now.records r.now))
-        }
+        ensures found { MatchOption result (entry_at self.now key.now ≡ None)
+            (λ r. entry_at self.now key.now ≡ Some (entry_of self.now.records r.now)) }
         ensures edges { IfSome result (λ r. AreInside self.now.records r.now.edges) }
     {
         let records = self.records();

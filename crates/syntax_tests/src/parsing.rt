@@ -84,7 +84,11 @@ const LONG_FILES: &[(&str, &str, &str)] = &[
 ];
 
 /// A text with a part as often as said between two others.
-fn with_repeats(alloc: Global, row: &(&str, &str, &str), count: usize) -> Result<String, AllocError> {
+fn with_repeats(
+    alloc: Global,
+    row: &(&str, &str, &str),
+    count: usize,
+) -> Result<String, AllocError> {
     let (before, part, after) = row;
     let parts = part.repeat(alloc, count)?;
     format!(in alloc; "{before}{parts}{after}")

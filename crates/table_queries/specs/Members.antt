@@ -58,7 +58,7 @@ types_step found rows k =
 abbrev pub table_steps : List Link → (ClassTableValue → Prog) → Prog
 table_steps links k =
     each types_step (methods_told links) []
-        (λ rows. k (record { fields = map field_row (fields_told links); methods = rows }))
+    (λ rows. k (record { fields = map field_row (fields_told links); methods = rows }))
 
 abbrev pub chain_table_steps : List Name → (ClassTableValue → Prog) → Prog
 chain_table_steps classes k = each link_step classes [] (λ links. table_steps links k)

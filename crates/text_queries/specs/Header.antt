@@ -11,4 +11,4 @@ use Rattle.text_queries.specs.ClassTrees.{class_tree_step, class_named}
 abbrev pub header_steps : Name → (Value → Prog) → Prog
 header_steps c k =
     class_tree_step c (λ tree. k (values.Header
-        (option_map header_of (option_and_then (class_named c) tree))))
+    (option_map header_of (option_and_then (class_named c) tree))))

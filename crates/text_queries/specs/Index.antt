@@ -32,10 +32,10 @@ first_file rows c = option_map (λ row. row.file) (find (λ row. bytes_eq row.cl
 unfoldable pub first_rows : List IndexRow → List IndexRow
 first_rows rows =
     filter_map (λ c. find (λ row. bytes_eq row.class c) rows)
-        (set_of name_order (map (λ row. row.class) rows))
+    (set_of name_order (map (λ row. row.class) rows))
 
 -- Files, then Tree of each file
 abbrev pub index_steps : (Value → Prog) → Prog
 index_steps k =
     Ask keys.Files (λ v. each rows_step (names_in v) []
-        (λ rows. k (values.Index (first_rows rows))))
+    (λ rows. k (values.Index (first_rows rows))))

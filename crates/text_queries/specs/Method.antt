@@ -12,4 +12,4 @@ use Rattle.text_queries.specs.ClassTrees.{class_tree_step}
 abbrev pub method_steps : Name → Name → (Value → Prog) → Prog
 method_steps c m k =
     class_tree_step c (λ tree. k (values.Method
-        (option_and_then (λ file. body_named file c m) tree)))
+    (option_and_then (λ file. body_named file c m) tree)))

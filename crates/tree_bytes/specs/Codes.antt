@@ -108,9 +108,10 @@ exp_by_tag (suc (suc (suc (suc (suc (suc (suc (suc (suc (suc (suc (suc (suc (suc
 abbrev back_e : Gv → Expression × Expressions
 back_e gnil = (trees.This 0, none)
 back_e (gnum n) = (trees.This 0, none)
-back_e (gcons a b) =
-    (exp_by_tag (num (left a)) (num (left (right a))) (back_n (right (right a))) (back_e b).1,
-    more (back_e a).0 (back_e b).1)
+back_e (gcons a b) = (
+  exp_by_tag (num (left a)) (num (left (right a))) (back_n (right (right a))) (back_e b).1,
+  more (back_e a).0 (back_e b).1,
+)
 
 mutual
   pub back_e-code_e : (e : Expression) → (back_e (code_e e)).0 ≡ e
@@ -154,8 +155,11 @@ mutual
 
 abbrev pub expression_code : Coded Expression
 expression_code =
-    record { code = code_e; inj = λ x y p. sym (back_e-code_e x) ∙ ap (λ g. (back_e g).0) p
-    ∙ back_e-code_e y }
+    record {
+      code = code_e;
+      inj = λ x y p. sym (back_e-code_e x) ∙ ap (λ g. (back_e g).0) p
+          ∙ back_e-code_e y;
+    }
 
 -- ---- statements
 
@@ -197,17 +201,19 @@ stmt_by_tag (suc (suc (suc (suc (suc n))))) mark ns es ss =
 abbrev back_s : Gv → Statement × Statements
 back_s gnil = (trees.Block 0 done, done)
 back_s (gnum n) = (trees.Block 0 done, done)
-back_s (gcons a b) =
-    (stmt_by_tag (num (left a)) (num (left (right a))) (back_n (right (right a))) (back_e b).1
-        (back_s b).1, next (back_s a).0 (back_s b).1)
+back_s (gcons a b) = (
+  stmt_by_tag (num (left a)) (num (left (right a))) (back_n (right (right a))) (back_e b).1
+      (back_s b).1,
+  next (back_s a).0 (back_s b).1,
+)
 
 mutual
   pub back_s-code_s : (s : Statement) → (back_s (code_s s)).0 ≡ s
   back_s-code_s (trees.Block mark ss) = ap (trees.Block mark) (back_ss ss)
   back_s-code_s (trees.If mark c t e) =
       ap (λ x. trees.If mark x (back_s (code_s t)).0 (back_s (code_s e)).0) (back_e-code_e c)
-          ∙ ap (λ x. trees.If mark c x (back_s (code_s e)).0) (back_s-code_s t)
-          ∙ ap (trees.If mark c t) (back_s-code_s e)
+      ∙ ap (λ x. trees.If mark c x (back_s (code_s e)).0) (back_s-code_s t)
+      ∙ ap (trees.If mark c t) (back_s-code_s e)
   back_s-code_s (trees.While mark c s) =
       ap (λ x. trees.While mark x (back_s (code_s s)).0) (back_e-code_e c)
       ∙ ap (trees.While mark c) (back_s-code_s s)
@@ -217,8 +223,8 @@ mutual
       ∙ ap (trees.Assign mark n k) (back_e-code_e v)
   back_s-code_s (trees.Store mark n k i v) =
       ap (λ x. trees.Store mark x k (back_e (code_e i)).0 (back_e (code_e v)).0) (back_n-code_n n)
-          ∙ ap (λ x. trees.Store mark n k x (back_e (code_e v)).0) (back_e-code_e i)
-          ∙ ap (trees.Store mark n k i) (back_e-code_e v)
+      ∙ ap (λ x. trees.Store mark n k x (back_e (code_e v)).0) (back_e-code_e i)
+      ∙ ap (trees.Store mark n k i) (back_e-code_e v)
 
   pub back_ss : (ss : Statements) → (back_s (code_ss ss)).1 ≡ ss
   back_ss done = refl
@@ -227,8 +233,11 @@ mutual
 
 abbrev pub statement_code : Coded Statement
 statement_code =
-    record { code = code_s; inj = λ x y p. sym (back_s-code_s x) ∙ ap (λ g. (back_s g).0) p
-    ∙ back_s-code_s y }
+    record {
+      code = code_s;
+      inj = λ x y p. sym (back_s-code_s x) ∙ ap (λ g. (back_s g).0) p
+          ∙ back_s-code_s y;
+    }
 
 abbrev pub statements_code : Coded Statements
 statements_code =
@@ -242,23 +251,30 @@ name_code = coded_list coded_ℕ
 abbrev pub method_code : Coded Method
 method_code =
     code_by _ (coded× name_code (coded× ty_contracts.the_row.coded
-        (coded× (coded_list variable_contracts.the_row.coded)
-            (coded× (coded_list variable_contracts.the_row.coded)
-            (coded× statements_code (coded× expression_code coded_ℕ))))))
+    (coded× (coded_list variable_contracts.the_row.coded)
+    (coded× (coded_list variable_contracts.the_row.coded)
+    (coded× statements_code (coded× expression_code coded_ℕ))))))
     (λ m. (m.name, (m.returns, (m.formals, (m.locals, (m.body, (m.returned, m.return_mark)))))))
-    (λ x. record { name = x.0; returns = x.1.0; formals = x.1.1.0; locals = x.1.1.1.0;
-        body = x.1.1.1.1.0; returned = x.1.1.1.1.1.0; return_mark = x.1.1.1.1.1.1 })
+    (λ x. record {
+      name = x.0;
+      returns = x.1.0;
+      formals = x.1.1.0;
+      locals = x.1.1.1.0;
+      body = x.1.1.1.1.0;
+      returned = x.1.1.1.1.1.0;
+      return_mark = x.1.1.1.1.1.1;
+    })
     (λ _. refl)
 
 abbrev pub main_code : Coded Main
 main_code =
     code_by _ (coded× name_code statement_code) (λ m. (m.name, m.statement))
-        (λ x. record { name = x.0; statement = x.1 }) (λ _. refl)
+    (λ x. record { name = x.0; statement = x.1 }) (λ _. refl)
 
 abbrev pub class_code : Coded trees.Class
 class_code =
     code_by _ (coded× name_code (coded× (coded_option name_code)
-        (coded× (coded_list field_contracts.the_row.coded) (coded_list method_code))))
+    (coded× (coded_list field_contracts.the_row.coded) (coded_list method_code))))
     (λ c. (c.name, (c.superclass, (c.fields, c.methods))))
     (λ x. record { name = x.0; superclass = x.1.0; fields = x.1.1.0; methods = x.1.1.1 })
     (λ _. refl)
@@ -266,4 +282,4 @@ class_code =
 abbrev pub file_code : Coded File
 file_code =
     code_by _ (coded× (coded_option main_code) (coded_list class_code)) (λ f. (f.main, f.classes))
-        (λ x. record { main = x.0; classes = x.1 }) (λ _. refl)
+    (λ x. record { main = x.0; classes = x.1 }) (λ _. refl)

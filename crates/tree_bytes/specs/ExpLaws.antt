@@ -52,7 +52,7 @@ are_listed room = record {
 
 pub lawful_exps : (room : ℕ) {part : Decoder Expression} → Lawful part exp (ExpFits room)
     → Lawful (exps_at part) (λ es. eight (count_exps es) ++ exps es)
-        (λ es. (count_exps es < 2 ^ 64) × ExpsFit room es)
+    (λ es. (count_exps es < 2 ^ 64) × ExpsFit room es)
 lawful_exps room law = lawful_items (are_listed room) law
 
 -- ---- literals
@@ -62,11 +62,11 @@ unfolding literal_at
 lawful_literal = record {
   takes = λ bytes n rest fits e.
       let a =
-          bind_ok (four_at bytes) (λ n. cond (ltb greatest_literal n.0) (not_canonical bytes)
-              (Ok n)) (n, rest) e in
+      bind_ok (four_at bytes) (λ n. cond (ltb greatest_literal n.0) (not_canonical bytes)
+      (Ok n)) (n, rest) e in
       let g =
-          guard_ok (ltb greatest_literal a.0.0) (NotCanonical (length bytes)) (Ok a.0)
-              (n, rest) a.2 in
+      guard_ok (ltb greatest_literal a.0.0) (NotCanonical (length bytes)) (Ok a.0)
+      (n, rest) a.2 in
       let t = lawful_four.takes bytes n rest fits (a.1 ∙ g.1) in
       let is = ok_is a.0 (n, rest) g.1 in
       (t.0, omega (arith, ltb-false _ _ g.0, ap (λ (p : ℕ × List ℕ). p.0) is));
@@ -94,7 +94,7 @@ body_made : {A : Type 0} {p : Decoder A} {sp : A → List ℕ} {P : A → Type 0
 body_made {A} {p} {sp} {P} law make room tag mark spelled fit bytes t rest fits e =
     let m = made_takes law make bytes t rest fits e in
     subst (λ (t : Expression). Body room tag mark bytes t rest)
-        m.1 record { text = sp m.0; takes = m.2; spelled = spelled m.0; fits = fit m.0 m.3 }
+    m.1 record { text = sp m.0; takes = m.2; spelled = spelled m.0; fits = fit m.0 m.3 }
 
 abbrev done : {A : Type 0} → A → Result A Breach
 done x = Ok x
@@ -105,8 +105,12 @@ body_leaf : (one : Expression) (room : ℕ) (tag : ExpTag) (mark : ℕ)
     → done {A = Expression × List ℕ} (one, bytes) ≡ done (t, rest) → Body room tag mark bytes t rest
 body_leaf one room tag mark spelled fit bytes t rest fits e =
     subst (λ (x : Expression × List ℕ). Body room tag mark bytes x.0 x.1)
-        (ok_is (one, bytes) (t, rest) e) record { text = []; takes = takes_nothing bytes fits;
-        spelled = spelled; fits = fit }
+    (ok_is (one, bytes) (t, rest) e) record {
+      text = [];
+      takes = takes_nothing bytes fits;
+      spelled = spelled;
+      fits = fit;
+    }
 
 body_takes : (room : ℕ) (part : Decoder Expression) (law : Lawful part exp (ExpFits room))
     (tag : ExpTag) (mark : ℕ) → mark < 2 ^ 32 → (bytes : List ℕ) (t : Expression) (rest : List ℕ)
@@ -114,39 +118,39 @@ body_takes : (room : ℕ) (part : Decoder Expression) (law : Lawful part exp (Ex
     → Body room tag mark bytes t rest
 body_takes room part law (tags.Two (twos.Binary operator)) mark lt bytes t rest fits e =
     body_made (lawful_pair law law) (λ x. trees.Binary operator mark x.0 x.1) room
-        (tags.Two (twos.Binary operator)) mark (λ _. refl) (λ a h. (lt, h)) bytes t rest fits e
+    (tags.Two (twos.Binary operator)) mark (λ _. refl) (λ a h. (lt, h)) bytes t rest fits e
 body_takes room part law (tags.Two twos.Index) mark lt bytes t rest fits e =
     body_made (lawful_pair law law) (λ x. trees.Index mark x.0 x.1) room (tags.Two twos.Index) mark
-        (λ _. refl) (λ a h. (lt, h)) bytes t rest fits e
+    (λ _. refl) (λ a h. (lt, h)) bytes t rest fits e
 body_takes room part law (tags.One ones.Length) mark lt bytes t rest fits e =
     body_made law (trees.Length mark) room (tags.One ones.Length) mark (λ _. refl) (λ a h. (lt, h))
-        bytes t rest fits e
+    bytes t rest fits e
 body_takes room part law (tags.One ones.NewArray) mark lt bytes t rest fits e =
     body_made law (trees.NewArray mark) room (tags.One ones.NewArray) mark (λ _. refl)
-        (λ a h. (lt, h)) bytes t rest fits e
+    (λ a h. (lt, h)) bytes t rest fits e
 body_takes room part law (tags.One ones.Not) mark lt bytes t rest fits e =
     body_made law (trees.Not mark) room (tags.One ones.Not) mark (λ _. refl) (λ a h. (lt, h))
-        bytes t rest fits e
+    bytes t rest fits e
 body_takes room part law (tags.One ones.Parenthesized) mark lt bytes t rest fits e =
     body_made law (trees.Parenthesized mark) room (tags.One ones.Parenthesized) mark (λ _. refl)
-        (λ a h. (lt, h)) bytes t rest fits e
+    (λ a h. (lt, h)) bytes t rest fits e
 body_takes room part law tags.Call mark lt bytes t rest fits e =
     body_made (lawful_pair law (lawful_pair lawful_name (lawful_exps room law)))
-        (λ x. trees.Call mark x.0 x.1.0 x.1.1) room tags.Call mark (λ _. refl) (λ a h. (lt, h))
-            bytes t rest fits e
+    (λ x. trees.Call mark x.0 x.1.0 x.1.1) room tags.Call mark (λ _. refl) (λ a h. (lt, h))
+    bytes t rest fits e
 body_takes room part law tags.Literal mark lt bytes t rest fits e =
     body_made lawful_literal (trees.Literal mark) room tags.Literal mark (λ _. refl)
-        (λ a h. (lt, h)) bytes t rest fits e
+    (λ a h. (lt, h)) bytes t rest fits e
 body_takes room part law (tags.Boolean value) mark lt bytes t rest fits e =
     body_leaf (trees.Boolean mark value) room (tags.Boolean value) mark refl lt bytes t rest fits e
 body_takes room part law tags.Variable mark lt bytes t rest fits e =
     body_made lawful_name (trees.Named mark) room tags.Variable mark (λ _. refl) (λ a h. (lt, h))
-        bytes t rest fits e
+    bytes t rest fits e
 body_takes room part law tags.This mark lt bytes t rest fits e =
     body_leaf (trees.This mark) room tags.This mark refl lt bytes t rest fits e
 body_takes room part law tags.NewObject mark lt bytes t rest fits e =
     body_made lawful_name (trees.NewObject mark) room tags.NewObject mark (λ _. refl)
-        (λ a h. (lt, h)) bytes t rest fits e
+    (λ a h. (lt, h)) bytes t rest fits e
 
 tagged_takes : (room : ℕ) (part : Decoder Expression) (law : Lawful part exp (ExpFits room))
     (whole : List ℕ) (b : ℕ) (o : Option ExpTag) → exp_tag_of b ≡ o
@@ -160,9 +164,9 @@ tagged_takes room part law whole b (Some tag) is bytes t rest fits e =
     let body = body_takes room part law tag a.0.0 m.1 a.0.1 t rest m.0.rest_fits a.2 in
     let both = Takes-then bytes (four a.0.0) a.0.1 body.text rest m.0 body.takes in
     let all : b ∷ bytes ≡ exp t ++ rest =
-        ap (λ (x : List ℕ). b ∷ x) both.parts
-        ∙ ap (λ (x : ℕ). x ∷ ((four a.0.0 ++ body.text) ++ rest)) (sym (exp_byte_is b tag is))
-        ∙ ap (λ (x : List ℕ). x ++ rest) (sym body.spelled) in
+    ap (λ (x : List ℕ). b ∷ x) both.parts
+    ∙ ap (λ (x : ℕ). x ∷ ((four a.0.0 ++ body.text) ++ rest)) (sym (exp_byte_is b tag is))
+    ∙ ap (λ (x : List ℕ). x ++ rest) (sym body.spelled) in
     (record { parts = all; rest_fits = both.rest_fits }, body.fits)
 
 -- an expression whose parts are read so
@@ -176,7 +180,7 @@ unfolding spelled_at
 exp_takes room part law [] t rest fits e = absurd cc
 exp_takes room part law (b ∷ bytes) t rest fits e =
     tagged_takes room part law (b ∷ bytes) b (exp_tag_of b) refl bytes t rest
-        (IsBytes-rest b bytes fits) e
+    (IsBytes-rest b bytes fits) e
 
 -- behind a tag and a mark the rest is read
 at_body : (part : Decoder Expression) (tag : ExpTag) (mark : ℕ) (text rest : List ℕ) → mark < 2 ^ 32
@@ -186,7 +190,7 @@ unfolding spelled_at
 at_body part tag mark text rest lt =
     let whole = node (exp_byte tag) mark text ++ rest in
     ap (λ (o : Option ExpTag). exp_behind_tag part whole o ((four mark ++ text) ++ rest))
-        (exp_tag_back tag)
+    (exp_tag_back tag)
     ∙ ap (exp_behind_tag part whole (Some tag)) (append_assoc (four mark) text rest)
     ∙ rw (lawful_four.again mark (text ++ rest) lt) refl
 
@@ -196,7 +200,7 @@ exp_again : (room : ℕ) (part : Decoder Expression) (law : Lawful part exp (Exp
 exp_again room part law (trees.Binary operator mark left right) rest h =
     at_body part (tags.Two (twos.Binary operator)) mark (exp left ++ exp right) rest h.0
     ∙ made_again (lawful_pair law law) (λ x. trees.Binary operator mark x.0 x.1)
-        (left, right) rest h.1
+    (left, right) rest h.1
 exp_again room part law (trees.Index mark array index) rest h =
     at_body part (tags.Two twos.Index) mark (exp array ++ exp index) rest h.0
     ∙ made_again (lawful_pair law law) (λ x. trees.Index mark x.0 x.1) (array, index) rest h.1
@@ -214,9 +218,9 @@ exp_again room part law (trees.Parenthesized mark inner) rest h =
     ∙ made_again law (trees.Parenthesized mark) inner rest h.1
 exp_again room part law (trees.Call mark receiver method arguments) rest h =
     at_body part tags.Call mark (exp receiver
-        ++ (name method ++ (eight (count_exps arguments) ++ exps arguments))) rest h.0
+    ++ (name method ++ (eight (count_exps arguments) ++ exps arguments))) rest h.0
     ∙ made_again (lawful_pair law (lawful_pair lawful_name (lawful_exps room law)))
-        (λ x. trees.Call mark x.0 x.1.0 x.1.1) (receiver, (method, arguments)) rest h.1
+    (λ x. trees.Call mark x.0 x.1.0 x.1.1) (receiver, (method, arguments)) rest h.1
 exp_again room part law (trees.Literal mark value) rest h =
     at_body part tags.Literal mark (four value) rest h.0
     ∙ made_again lawful_literal (trees.Literal mark) value rest h.1

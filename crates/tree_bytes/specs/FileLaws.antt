@@ -33,11 +33,16 @@ lawful_method =
     lawful_where
     (lawful_made
     (lawful_pair lawful_name (lawful_pair lawful_ty
-        (lawful_pair (lawful_list lawful_variable any)
-            (lawful_pair (lawful_list lawful_variable any)
-            (lawful_pair lawful_top_stmts (lawful_pair lawful_top_exp lawful_four))))))
-    method_of (λ m. (m.name, (m.returns,
-        (m.formals, (m.locals, (m.body, (m.returned, m.return_mark))))))) (λ _. refl) (λ _. refl))
+    (lawful_pair (lawful_list lawful_variable any)
+    (lawful_pair (lawful_list lawful_variable any)
+    (lawful_pair lawful_top_stmts (lawful_pair lawful_top_exp lawful_four))))))
+    method_of (λ m. (
+      m.name,
+      (
+        m.returns,
+        (m.formals, (m.locals, (m.body, (m.returned, m.return_mark)))),
+      ),
+    )) (λ _. refl) (λ _. refl))
     (λ m h. record {
       name = h.0;
       returns = h.1.0;
@@ -50,10 +55,23 @@ lawful_method =
       returned = h.1.1.1.1.1.0;
       return_mark = h.1.1.1.1.1.1;
     })
-    (λ m h. (h.name, (h.returns, (record { few = h.few_formals; fit = h.formals;
-        admitted = any_admits [] m.formals },
-        (record { few = h.few_locals; fit = h.locals; admitted = any_admits [] m.locals },
-        ((h.few_statements, h.body), (h.returned, h.return_mark)))))))
+    (λ m h. (
+      h.name,
+      (
+        h.returns,
+        (
+          record {
+            few = h.few_formals;
+            fit = h.formals;
+            admitted = any_admits [] m.formals;
+          },
+          (
+            record { few = h.few_locals; fit = h.locals; admitted = any_admits [] m.locals },
+            ((h.few_statements, h.body), (h.returned, h.return_mark)),
+          ),
+        ),
+      ),
+    ))
 
 tagged_takes : (bytes : List ℕ) (m : Method) (rest : List ℕ) → IsBytes bytes
     → tagged_method_at bytes ≡ Ok (m, rest) → Takes bytes (tagged_method m) rest × MethodFits m
@@ -74,7 +92,7 @@ pub lawful_main : Lawful main_at main MainFits
 unfolding main_at
 lawful_main =
     lawful_where (lawful_made (lawful_pair lawful_name lawful_top_stmt) main_of
-        (λ m. (m.name, m.statement)) (λ _. refl) (λ _. refl))
+    (λ m. (m.name, m.statement)) (λ _. refl) (λ _. refl))
     (λ m h. record { name = h.0; statement = h.1 }) (λ m h. (h.name, h.statement))
 
 pub lawful_class : Lawful class_at class ClassFits
@@ -82,20 +100,33 @@ unfolding class_at class
 lawful_class =
     lawful_where
     (lawful_made (lawful_pair lawful_name
-        (lawful_pair (lawful_option lawful_name)
-            (lawful_pair (lawful_list lawful_field any) (lawful_list lawful_tagged any)))) class_of
-            (λ c. (c.name, (c.superclass, (c.fields, c.methods)))) (λ _. refl) (λ _. refl))
-    (λ c h. record { name = h.0; superclass = h.1.0; few_fields = h.1.1.0.few; fields = h.1.1.0.fit;
-        few_methods = h.1.1.1.few; methods = h.1.1.1.fit })
-    (λ c h. (h.name, (h.superclass,
-        (record { few = h.few_fields; fit = h.fields; admitted = any_admits [] c.fields },
-        record { few = h.few_methods; fit = h.methods; admitted = any_admits [] c.methods }))))
+    (lawful_pair (lawful_option lawful_name)
+    (lawful_pair (lawful_list lawful_field any) (lawful_list lawful_tagged any)))) class_of
+    (λ c. (c.name, (c.superclass, (c.fields, c.methods)))) (λ _. refl) (λ _. refl))
+    (λ c h. record {
+      name = h.0;
+      superclass = h.1.0;
+      few_fields = h.1.1.0.few;
+      fields = h.1.1.0.fit;
+      few_methods = h.1.1.1.few;
+      methods = h.1.1.1.fit;
+    })
+    (λ c h. (
+      h.name,
+      (
+        h.superclass,
+        (
+          record { few = h.few_fields; fit = h.fields; admitted = any_admits [] c.fields },
+          record { few = h.few_methods; fit = h.methods; admitted = any_admits [] c.methods },
+        ),
+      ),
+    ))
 
 pub lawful_file : Lawful file_at file FileFits
 unfolding file_at file
 lawful_file =
     lawful_where (lawful_made (lawful_pair (lawful_option lawful_main)
-        (lawful_list lawful_class any)) file_of (λ f. (f.main, f.classes)) (λ _. refl) (λ _. refl))
+    (lawful_list lawful_class any)) file_of (λ f. (f.main, f.classes)) (λ _. refl) (λ _. refl))
     (λ f h. record { main = h.0; few = h.1.few; classes = h.1.fit })
     (λ f h. (h.main, record { few = h.few; fit = h.classes; admitted = any_admits [] f.classes }))
 
@@ -106,11 +137,11 @@ body_takes [] b rest fits e = absurd cc
 body_takes (zero ∷ bytes) b rest fits e =
     let m = made_takes lawful_top_stmt OfMain bytes b rest (IsBytes-rest 0 bytes fits) e in
     subst (λ (b : BodyValue). Takes (0 ∷ bytes) (body b) rest × BodyFits b) m.1
-        (takes_behind 0 bytes (stmt m.0) rest m.2, m.3)
+    (takes_behind 0 bytes (stmt m.0) rest m.2, m.3)
 body_takes (suc zero ∷ bytes) b rest fits e =
     let m = made_takes lawful_method OfMethod bytes b rest (IsBytes-rest 1 bytes fits) e in
     subst (λ (b : BodyValue). Takes (1 ∷ bytes) (body b) rest × BodyFits b) m.1
-        (takes_behind 1 bytes (method m.0) rest m.2, m.3)
+    (takes_behind 1 bytes (method m.0) rest m.2, m.3)
 body_takes (suc (suc t) ∷ bytes) b rest fits e = absurd cc
 
 body_again : (b : BodyValue) (rest : List ℕ) → BodyFits b → body_at (body b ++ rest) ≡ Ok (b, rest)

@@ -10,7 +10,7 @@ use Rattle.byte_readers.specs.Laws.{lawful_list, lawful_made, lawful_as, lawful_
 -- a type of lists, with how such a list is spelled and counted and when it fits, item by item
 pub record IsListType {A As : Type 0} (of : List A → As) (spell : A → List ℕ)
     (spell_all : As → List ℕ) (count : As → ℕ) (Fits : A → Type 0)
-        (AllFit : As → Type 0) : Type 0 where
+    (AllFit : As → Type 0) : Type 0 where
   pub list_of : As → List A
   pub there : (items : As) → of (list_of items) ≡ items
   pub none_of : list_of (of []) ≡ []
@@ -26,14 +26,14 @@ pub record IsListType {A As : Type 0} (of : List A → As) (spell : A → List �
 
 back : {A As : Type 0} {of : List A → As} {spell : A → List ℕ} {spell_all : As → List ℕ}
     {count : As → ℕ} {Fits : A → Type 0} {AllFit : As → Type 0}
-        (is : IsListType of spell spell_all count Fits AllFit) (items : List A)
+    (is : IsListType of spell spell_all count Fits AllFit) (items : List A)
     → is.list_of (of items) ≡ items
 back is [] = is.none_of
 back is (a ∷ items) = is.more_of a items ∙ ap (λ as1. a ∷ as1) (back is items)
 
 spelled : {A As : Type 0} {of : List A → As} {spell : A → List ℕ} {spell_all : As → List ℕ}
     {count : As → ℕ} {Fits : A → Type 0} {AllFit : As → Type 0}
-        (is : IsListType of spell spell_all count Fits AllFit) (items : List A)
+    (is : IsListType of spell spell_all count Fits AllFit) (items : List A)
     → spell_all (of items) ≡ flat_map spell items
 spelled is [] = is.spell_none
 spelled {A} {As} {of} {spell} is (a ∷ items) =
@@ -42,21 +42,21 @@ spelled {A} {As} {of} {spell} is (a ∷ items) =
 
 counted : {A As : Type 0} {of : List A → As} {spell : A → List ℕ} {spell_all : As → List ℕ}
     {count : As → ℕ} {Fits : A → Type 0} {AllFit : As → Type 0}
-        (is : IsListType of spell spell_all count Fits AllFit) (items : List A)
+    (is : IsListType of spell spell_all count Fits AllFit) (items : List A)
     → count (of items) ≡ length items
 counted is [] = is.count_none
 counted is (a ∷ items) = is.count_more a items ∙ ap (λ n. suc n) (counted is items)
 
 all_fit : {A As : Type 0} {of : List A → As} {spell : A → List ℕ} {spell_all : As → List ℕ}
     {count : As → ℕ} {Fits : A → Type 0} {AllFit : As → Type 0}
-        (is : IsListType of spell spell_all count Fits AllFit) (items : List A)
+    (is : IsListType of spell spell_all count Fits AllFit) (items : List A)
     → AllByRecursion Fits items → AllFit (of items)
 all_fit is [] h = is.fit_none
 all_fit is (a ∷ items) h = is.fit_more a items h.0 (all_fit is items h.1)
 
 each_fits : {A As : Type 0} {of : List A → As} {spell : A → List ℕ} {spell_all : As → List ℕ}
     {count : As → ℕ} {Fits : A → Type 0} {AllFit : As → Type 0}
-        (is : IsListType of spell spell_all count Fits AllFit) (items : List A) → AllFit (of items)
+    (is : IsListType of spell spell_all count Fits AllFit) (items : List A) → AllFit (of items)
     → AllByRecursion Fits items
 each_fits is [] h = tt
 each_fits is (a ∷ items) h =
@@ -67,19 +67,21 @@ pub lawful_items : {A As : Type 0} {of : List A → As} {spell : A → List ℕ}
     → IsListType of spell spell_all count Fits AllFit
     → {part : Decoder A} → Lawful part spell Fits
     → Lawful (λ bytes. made_at of (list_at part any) bytes)
-        (λ items. eight (count items) ++ spell_all items)
-        (λ items. (count items < 2 ^ 64) × AllFit items)
+    (λ items. eight (count items) ++ spell_all items)
+    (λ items. (count items < 2 ^ 64) × AllFit items)
 lawful_items {A} {As} {of} {spell} {spell_all} {count} {Fits} {AllFit} is law =
     let counts : (items : As) → length (is.list_of items) ≡ count items =
-        λ items. sym (counted is (is.list_of items)) ∙ ap count (is.there items) in
+    λ items. sym (counted is (is.list_of items)) ∙ ap count (is.there items) in
     let spells : (items : As) → spell_all items ≡ flat_map spell (is.list_of items) =
-        λ items. ap spell_all (sym (is.there items)) ∙ spelled is (is.list_of items) in
+    λ items. ap spell_all (sym (is.there items)) ∙ spelled is (is.list_of items) in
     lawful_where
     (lawful_as (lawful_made (lawful_list law any) of is.list_of (back is) is.there)
-        (λ items. eight (count items) ++ spell_all items)
-            (λ items. rw (sym (counts items), spells items) refl))
-    (λ items h. (omega (arith, counts items, h.few),
-        subst AllFit (is.there items) (all_fit is (is.list_of items) h.fit)))
+    (λ items. eight (count items) ++ spell_all items)
+    (λ items. rw (sym (counts items), spells items) refl))
+    (λ items h. (
+      omega (arith, counts items, h.few),
+      subst AllFit (is.there items) (all_fit is (is.list_of items) h.fit),
+    ))
     (λ items h. record {
       few = omega (arith, counts items, h.0);
       fit = each_fits is (is.list_of items) (subst AllFit (sym (is.there items)) h.1);

@@ -69,7 +69,7 @@ exp_body_at part (tags.Two two) mark bytes =
 exp_body_at part (tags.One one) mark bytes = made_at (one_of one mark) part bytes
 exp_body_at part tags.Call mark bytes =
     made_at (λ x. trees.Call mark x.0 x.1.0 x.1.1)
-        (pair_at part (pair_at name_at (exps_at part))) bytes
+    (pair_at part (pair_at name_at (exps_at part))) bytes
 exp_body_at part tags.Literal mark bytes = made_at (trees.Literal mark) literal_at bytes
 exp_body_at part (tags.Boolean value) mark bytes = Ok (trees.Boolean mark value, bytes)
 exp_body_at part tags.Variable mark bytes = made_at (trees.Named mark) name_at bytes
@@ -101,7 +101,7 @@ stmt_body_at value part statements.Assign mark bytes =
     made_at (λ x. trees.Assign mark x.0 x.1.0 x.1.1) (pair_at name_at (pair_at four_at value)) bytes
 stmt_body_at value part statements.Store mark bytes =
     made_at (λ x. trees.Store mark x.0 x.1.0 x.1.1.0 x.1.1.1)
-        (pair_at name_at (pair_at four_at (pair_at value value))) bytes
+    (pair_at name_at (pair_at four_at (pair_at value value))) bytes
 
 abbrev pub stmt_behind_tag : Decoder Expression → Decoder Statement → List ℕ → Option StmtTag
     → Decoder Statement
@@ -115,7 +115,7 @@ unfoldable pub stmt_at : ℕ → Decoder Statement
 stmt_at zero bytes = byte_at bytes >>= λ tag. not_canonical bytes
 stmt_at (suc room) bytes =
     byte_at bytes >>= λ tag. stmt_behind_tag (exp_at room) (stmt_at room) bytes
-        (stmt_tag_of tag.0) tag.1
+    (stmt_tag_of tag.0) tag.1
 
 -- a statement and an expression of level 1
 unfoldable pub top_stmt_at : Decoder Statement
@@ -130,15 +130,22 @@ top_exp_at bytes = exp_at most_levels bytes
 abbrev pub method_of : List ℕ × (Ty
     × (List Variable × (List Variable × (Statements × (Expression × ℕ))))) → Method
 method_of x =
-    record { name = x.0; returns = x.1.0; formals = x.1.1.0; locals = x.1.1.1.0; body = x.1.1.1.1.0;
-    returned = x.1.1.1.1.1.0; return_mark = x.1.1.1.1.1.1 }
+    record {
+      name = x.0;
+      returns = x.1.0;
+      formals = x.1.1.0;
+      locals = x.1.1.1.0;
+      body = x.1.1.1.1.0;
+      returned = x.1.1.1.1.1.0;
+      return_mark = x.1.1.1.1.1.1;
+    }
 
 unfoldable pub method_at : Decoder Method
 method_at bytes =
     made_at method_of (pair_at name_at
-        (pair_at ty_at (pair_at (list_at variable_at any)
-            (pair_at (list_at variable_at any)
-            (pair_at top_stmts_at (pair_at top_exp_at four_at)))))) bytes
+    (pair_at ty_at (pair_at (list_at variable_at any)
+    (pair_at (list_at variable_at any)
+    (pair_at top_stmts_at (pair_at top_exp_at four_at)))))) bytes
 
 -- a method of a class: any other tag is refused, that of `main` too
 unfoldable pub tagged_method_at : Decoder Method
@@ -159,8 +166,8 @@ class_of x = record { name = x.0; superclass = x.1.0; fields = x.1.1.0; methods 
 unfoldable pub class_at : Decoder trees.Class
 class_at bytes =
     made_at class_of (pair_at name_at
-        (pair_at (option_at name_at)
-        (pair_at (list_at field_at any) (list_at tagged_method_at any)))) bytes
+    (pair_at (option_at name_at)
+    (pair_at (list_at field_at any) (list_at tagged_method_at any)))) bytes
 
 abbrev pub file_of : Option Main × List trees.Class → File
 file_of x = record { main = x.0; classes = x.1 }

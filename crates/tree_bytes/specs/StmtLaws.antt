@@ -48,7 +48,7 @@ are_listed room = record {
 
 pub lawful_stmts : (room : ℕ) {part : Decoder Statement} → Lawful part stmt (StmtFits room)
     → Lawful (stmts_at part) (λ ss. eight (count_stmts ss) ++ stmts ss)
-        (λ ss. (count_stmts ss < 2 ^ 64) × StmtsFit room ss)
+    (λ ss. (count_stmts ss < 2 ^ 64) × StmtsFit room ss)
 lawful_stmts room law = lawful_items (are_listed room) law
 
 -- ---- one level
@@ -70,7 +70,7 @@ body_made : {A : Type 0} {p : Decoder A} {sp : A → List ℕ} {P : A → Type 0
 body_made {A} {p} {sp} {P} law make room tag mark spelled fit bytes t rest fits e =
     let m = made_takes law make bytes t rest fits e in
     subst (λ (t : Statement). Body room tag mark bytes t rest)
-        m.1 record { text = sp m.0; takes = m.2; spelled = spelled m.0; fits = fit m.0 m.3 }
+    m.1 record { text = sp m.0; takes = m.2; spelled = spelled m.0; fits = fit m.0 m.3 }
 
 body_takes : (room : ℕ) (part : Decoder Statement) (law : Lawful part stmt (StmtFits room))
     (tag : StmtTag) (mark : ℕ) → mark < 2 ^ 32 → (bytes : List ℕ) (t : Statement) (rest : List ℕ)
@@ -78,26 +78,26 @@ body_takes : (room : ℕ) (part : Decoder Statement) (law : Lawful part stmt (St
     → Body room tag mark bytes t rest
 body_takes room part law tags.Block mark lt bytes t rest fits e =
     body_made (lawful_stmts room law) (trees.Block mark) room tags.Block mark (λ _. refl)
-        (λ a h. (lt, h)) bytes t rest fits e
+    (λ a h. (lt, h)) bytes t rest fits e
 body_takes room part law tags.If mark lt bytes t rest fits e =
     body_made (lawful_pair (lawful_exp room) (lawful_pair law law))
-        (λ x. trees.If mark x.0 x.1.0 x.1.1) room tags.If mark (λ _. refl) (λ a h. (lt, h))
-        bytes t rest fits e
+    (λ x. trees.If mark x.0 x.1.0 x.1.1) room tags.If mark (λ _. refl) (λ a h. (lt, h))
+    bytes t rest fits e
 body_takes room part law tags.While mark lt bytes t rest fits e =
     body_made (lawful_pair (lawful_exp room) law) (λ x. trees.While mark x.0 x.1) room tags.While
-        mark (λ _. refl) (λ a h. (lt, h)) bytes t rest fits e
+    mark (λ _. refl) (λ a h. (lt, h)) bytes t rest fits e
 body_takes room part law tags.Print mark lt bytes t rest fits e =
     body_made (lawful_exp room) (trees.Print mark) room tags.Print mark (λ _. refl) (λ a h. (lt, h))
-        bytes t rest fits e
+    bytes t rest fits e
 body_takes room part law tags.Assign mark lt bytes t rest fits e =
     body_made (lawful_pair lawful_name (lawful_pair lawful_four (lawful_exp room)))
-        (λ x. trees.Assign mark x.0 x.1.0 x.1.1) room tags.Assign mark (λ _. refl) (λ a h. (lt, h))
-            bytes t rest fits e
+    (λ x. trees.Assign mark x.0 x.1.0 x.1.1) room tags.Assign mark (λ _. refl) (λ a h. (lt, h))
+    bytes t rest fits e
 body_takes room part law tags.Store mark lt bytes t rest fits e =
     body_made (lawful_pair lawful_name
-        (lawful_pair lawful_four (lawful_pair (lawful_exp room) (lawful_exp room))))
-            (λ x. trees.Store mark x.0 x.1.0 x.1.1.0 x.1.1.1) room tags.Store mark (λ _. refl)
-            (λ a h. (lt, h)) bytes t rest fits e
+    (lawful_pair lawful_four (lawful_pair (lawful_exp room) (lawful_exp room))))
+    (λ x. trees.Store mark x.0 x.1.0 x.1.1.0 x.1.1.1) room tags.Store mark (λ _. refl)
+    (λ a h. (lt, h)) bytes t rest fits e
 
 tagged_takes : (room : ℕ) (part : Decoder Statement) (law : Lawful part stmt (StmtFits room))
     (whole : List ℕ) (b : ℕ) (o : Option StmtTag) → stmt_tag_of b ≡ o
@@ -107,15 +107,15 @@ tagged_takes : (room : ℕ) (part : Decoder Statement) (law : Lawful part stmt (
 tagged_takes room part law whole b None is bytes t rest fits e = absurd cc
 tagged_takes room part law whole b (Some tag) is bytes t rest fits e =
     let a =
-        bind_ok (four_at bytes) (λ mark. stmt_body_at (exp_at room) part tag mark.0 mark.1)
-            (t, rest) e in
+    bind_ok (four_at bytes) (λ mark. stmt_body_at (exp_at room) part tag mark.0 mark.1)
+    (t, rest) e in
     let m = lawful_four.takes bytes a.0.0 a.0.1 fits a.1 in
     let body = body_takes room part law tag a.0.0 m.1 a.0.1 t rest m.0.rest_fits a.2 in
     let both = Takes-then bytes (four a.0.0) a.0.1 body.text rest m.0 body.takes in
     let all : b ∷ bytes ≡ stmt t ++ rest =
-        ap (λ (x : List ℕ). b ∷ x) both.parts
-        ∙ ap (λ (x : ℕ). x ∷ ((four a.0.0 ++ body.text) ++ rest)) (sym (stmt_byte_is b tag is))
-        ∙ ap (λ (x : List ℕ). x ++ rest) (sym body.spelled) in
+    ap (λ (x : List ℕ). b ∷ x) both.parts
+    ∙ ap (λ (x : ℕ). x ∷ ((four a.0.0 ++ body.text) ++ rest)) (sym (stmt_byte_is b tag is))
+    ∙ ap (λ (x : List ℕ). x ++ rest) (sym body.spelled) in
     (record { parts = all; rest_fits = both.rest_fits }, body.fits)
 
 -- a statement whose parts are read so
@@ -130,7 +130,7 @@ unfolding spelled_at
 stmt_takes room part law [] t rest fits e = absurd cc
 stmt_takes room part law (b ∷ bytes) t rest fits e =
     tagged_takes room part law (b ∷ bytes) b (stmt_tag_of b) refl bytes t rest
-        (IsBytes-rest b bytes fits) e
+    (IsBytes-rest b bytes fits) e
 
 -- behind a tag and a mark the rest is read
 at_body : (room : ℕ) (part : Decoder Statement) (tag : StmtTag) (mark : ℕ) (text rest : List ℕ)
@@ -140,7 +140,7 @@ unfolding spelled_at
 at_body room part tag mark text rest lt =
     let whole = node (stmt_byte tag) mark text ++ rest in
     ap (λ (o : Option StmtTag). stmt_behind_tag (exp_at room) part whole o
-        ((four mark ++ text) ++ rest)) (stmt_tag_back tag)
+    ((four mark ++ text) ++ rest)) (stmt_tag_back tag)
     ∙ ap (stmt_behind_tag (exp_at room) part whole (Some tag)) (append_assoc (four mark) text rest)
     ∙ rw (lawful_four.again mark (text ++ rest) lt) refl
 
@@ -152,25 +152,25 @@ stmt_again room part law (trees.Block mark body) rest h =
     ∙ made_again (lawful_stmts room law) (trees.Block mark) body rest h.1
 stmt_again room part law (trees.If mark c t e) rest h =
     at_body room part tags.If mark (exp c ++ (stmt t ++ stmt e)) rest h.0
-        ∙ made_again (lawful_pair (lawful_exp room) (lawful_pair law law))
-            (λ x. trees.If mark x.0 x.1.0 x.1.1) (c, (t, e)) rest h.1
+    ∙ made_again (lawful_pair (lawful_exp room) (lawful_pair law law))
+    (λ x. trees.If mark x.0 x.1.0 x.1.1) (c, (t, e)) rest h.1
 stmt_again room part law (trees.While mark c body) rest h =
     at_body room part tags.While mark (exp c ++ stmt body) rest h.0
-        ∙ made_again (lawful_pair (lawful_exp room) law) (λ x. trees.While mark x.0 x.1)
-            (c, body) rest h.1
+    ∙ made_again (lawful_pair (lawful_exp room) law) (λ x. trees.While mark x.0 x.1)
+    (c, body) rest h.1
 stmt_again room part law (trees.Print mark value) rest h =
     at_body room part tags.Print mark (exp value) rest h.0
     ∙ made_again (lawful_exp room) (trees.Print mark) value rest h.1
 stmt_again room part law (trees.Assign mark n name_mark value) rest h =
     at_body room part tags.Assign mark (name n ++ (four name_mark ++ exp value)) rest h.0
     ∙ made_again (lawful_pair lawful_name (lawful_pair lawful_four (lawful_exp room)))
-        (λ x. trees.Assign mark x.0 x.1.0 x.1.1) (n, (name_mark, value)) rest h.1
+    (λ x. trees.Assign mark x.0 x.1.0 x.1.1) (n, (name_mark, value)) rest h.1
 stmt_again room part law (trees.Store mark n name_mark index value) rest h =
     at_body room part tags.Store mark
-        (name n ++ (four name_mark ++ (exp index ++ exp value))) rest h.0
+    (name n ++ (four name_mark ++ (exp index ++ exp value))) rest h.0
     ∙ made_again (lawful_pair lawful_name
-        (lawful_pair lawful_four (lawful_pair (lawful_exp room) (lawful_exp room))))
-        (λ x. trees.Store mark x.0 x.1.0 x.1.1.0 x.1.1.1) (n, (name_mark, (index, value))) rest h.1
+    (lawful_pair lawful_four (lawful_pair (lawful_exp room) (lawful_exp room))))
+    (λ x. trees.Store mark x.0 x.1.0 x.1.1.0 x.1.1.1) (n, (name_mark, (index, value))) rest h.1
 
 never : (bytes : List ℕ) (t : Statement) (rest : List ℕ) → stmt_at 0 bytes ≡ Ok (t, rest) → ⊥
 unfolding stmt_at

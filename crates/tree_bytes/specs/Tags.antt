@@ -45,7 +45,7 @@ exp_byte NewObject = 0x0e
 abbrev pub exp_tags : List ExpTag
 exp_tags =
     Two (Binary And) ∷ Two (Binary Less) ∷ Two (Binary Plus) ∷ Two (Binary Minus)
-        ∷ Two (Binary Times) ∷ Two Index ∷ One Length ∷ Call ∷ Literal
+    ∷ Two (Binary Times) ∷ Two Index ∷ One Length ∷ Call ∷ Literal
     ∷ Boolean true ∷ Boolean false ∷ Variable ∷ This ∷ One NewArray ∷ NewObject ∷ One Not
     ∷ One Parenthesized ∷ []
 

@@ -19,10 +19,10 @@ leaf : (b : ℕ) (bytes : List ℕ) (one t : Ty) (rest : List ℕ) → ty one �
     → Takes (b ∷ bytes) (ty t) rest × TyFits t
 leaf b bytes one t rest spelled fit fits e =
     let whole : Takes (b ∷ bytes) (ty one) bytes =
-        subst (λ (x : List ℕ). Takes (b ∷ bytes) x bytes) (sym spelled)
-            (takes_behind b bytes [] bytes (takes_nothing bytes (IsBytes-rest b bytes fits))) in
+    subst (λ (x : List ℕ). Takes (b ∷ bytes) x bytes) (sym spelled)
+    (takes_behind b bytes [] bytes (takes_nothing bytes (IsBytes-rest b bytes fits))) in
     subst (λ (x : Ty × List ℕ). Takes (b ∷ bytes) (ty x.0) x.1 × TyFits x.0)
-        (ok_is (one, bytes) (t, rest) e) (whole, fit)
+    (ok_is (one, bytes) (t, rest) e) (whole, fit)
 
 ty_takes : (bytes : List ℕ) (t : Ty) (rest : List ℕ) → IsBytes bytes → ty_at bytes ≡ Ok (t, rest)
     → Takes bytes (ty t) rest × TyFits t
@@ -34,7 +34,7 @@ ty_takes (suc (suc zero) ∷ bytes) t rest fits e = leaf 2 bytes IntArray t rest
 ty_takes (suc (suc (suc zero)) ∷ bytes) t rest fits e =
     let m = made_takes lawful_name Class bytes t rest (IsBytes-rest 3 bytes fits) e in
     subst (λ (t : Ty). Takes (3 ∷ bytes) (ty t) rest × TyFits t) m.1
-        (takes_behind 3 bytes (name m.0) rest m.2, m.3)
+    (takes_behind 3 bytes (name m.0) rest m.2, m.3)
 ty_takes (suc (suc (suc (suc b))) ∷ bytes) t rest fits e = absurd cc
 
 ty_again : (t : Ty) (rest : List ℕ) → TyFits t → ty_at (ty t ++ rest) ≡ Ok (t, rest)
@@ -50,9 +50,9 @@ lawful_ty = record { takes = ty_takes; again = ty_again }
 pub lawful_field : Lawful field_at field FieldFits
 lawful_field =
     lawful_made (lawful_pair lawful_name lawful_ty) field_of (λ f. (f.name, f.ty))
-        (λ _. refl) (λ _. refl)
+    (λ _. refl) (λ _. refl)
 
 pub lawful_variable : Lawful variable_at variable VariableFits
 lawful_variable =
     lawful_made (lawful_pair lawful_name (lawful_pair lawful_ty lawful_four)) variable_of
-        (λ v. (v.name, (v.ty, v.mark))) (λ _. refl) (λ _. refl)
+    (λ v. (v.name, (v.ty, v.mark))) (λ _. refl) (λ _. refl)
