@@ -40,7 +40,8 @@ pub fn descends_in(value: &Value, ancestor: &Name) -> bool
 
 /// The row of a field that an answer tells.
 fn field_row<'v>(value: &'v Value, name: &Name) -> Option<&'v FieldRow>
-    ensures { option_copied result ≡ find (λ row. bytes_eq row.name name.now) (fields_told value.now) }
+    ensures { option_copied result
+        ≡ find (λ row. bytes_eq row.name name.now) (fields_told value.now) }
 {
     match value {
         Value::Members(Some(members)) => find_by_name(members.table().fields(), name),
@@ -50,7 +51,8 @@ fn field_row<'v>(value: &'v Value, name: &Name) -> Option<&'v FieldRow>
 
 /// The row of a method that an answer tells.
 fn method_row<'v>(value: &'v Value, name: &Name) -> Option<&'v MethodRow>
-    ensures { option_copied result ≡ find (λ row. bytes_eq row.name name.now) (methods_told value.now) }
+    ensures { option_copied result
+        ≡ find (λ row. bytes_eq row.name name.now) (methods_told value.now) }
 {
     match value {
         Value::Members(Some(members)) => find_by_name(members.table().methods(), name),

@@ -65,8 +65,10 @@ pub fn check_body_steps<D: Reader>(
     class: &Name,
     method: &Name,
 ) -> Result<Value, RunFault>
-    ensures ok { IfOk result (λ v. Goes (body_steps class.now method.now) recorder.old v recorder.new) }
-    ensures err { IfErr result (λ e. GivesUp (body_steps class.now method.now) recorder.old e recorder.new) }
+    ensures ok { IfOk result (λ v. Goes (body_steps class.now method.now) recorder.old v
+        recorder.new) }
+    ensures err { IfErr result (λ e. GivesUp (body_steps class.now method.now) recorder.old e
+        recorder.new) }
     ensures follows { D.follows recorder.old.inner recorder.new.inner }
 {
     let key = Key::Method(class.copy(alloc)?, method.copy(alloc)?);

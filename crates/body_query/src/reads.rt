@@ -24,8 +24,10 @@ fn ask_declared<D: Reader>(
     recorder: &mut Recorder<D>,
     class: &Name,
 ) -> Result<bool, RunFault>
-    ensures ok { IfOk result (λ answer. Goes (declared_step class.now) recorder.old answer recorder.new) }
-    ensures err { IfErr result (λ e. GivesUp (declared_step class.now) recorder.old e recorder.new) }
+    ensures ok { IfOk result (λ answer. Goes (declared_step class.now) recorder.old answer
+        recorder.new) }
+    ensures err { IfErr result (λ e. GivesUp (declared_step class.now) recorder.old e
+        recorder.new) }
     ensures follows { D.follows recorder.old.inner recorder.new.inner }
 {
     let key = Key::Header(class.copy(alloc)?);
@@ -60,7 +62,8 @@ fn ask_field<D: Reader>(
 ) -> Result<Option<Ty>, RunFault>
     ensures ok { IfOk result (λ answer. Goes (field_step class.now name.now) recorder.old
         answer recorder.new) }
-    ensures err { IfErr result (λ e. GivesUp (field_step class.now name.now) recorder.old e recorder.new) }
+    ensures err { IfErr result (λ e. GivesUp (field_step class.now name.now) recorder.old e
+        recorder.new) }
     ensures follows { D.follows recorder.old.inner recorder.new.inner }
 {
     let key = Key::Members(class.copy(alloc)?);
@@ -78,7 +81,8 @@ fn ask_method<D: Reader>(
 ) -> Result<Option<MethodTypes>, RunFault>
     ensures ok { IfOk result (λ answer. Goes (method_step class.now name.now) recorder.old
         (option_map ⟦<MethodTypes as Signature>⟧.sig answer) recorder.new) }
-    ensures err { IfErr result (λ e. GivesUp (method_step class.now name.now) recorder.old e recorder.new) }
+    ensures err { IfErr result (λ e. GivesUp (method_step class.now name.now) recorder.old e
+        recorder.new) }
     ensures follows { D.follows recorder.old.inner recorder.new.inner }
 {
     let key = Key::Members(class.copy(alloc)?);
@@ -191,9 +195,11 @@ fn check_through<D: Reader, B: Began>(
 ) -> Result<Vec<Mistake>, RunFault>
     requires told { reads.old.recorder.now.told ≡ B.told }
     requires refused { reads.old.recorder.now.refused ≡ B.refused }
-    ensures ok { IfOk result (λ mistakes. Goes (reads_of (method_check class.now (method_view method.now)))
+    ensures ok { IfOk result (λ mistakes. Goes
+        (reads_of (method_check class.now (method_view method.now)))
         reads.old.recorder.now mistakes.items reads.new.recorder.now) }
-    ensures err { IfErr result (λ e. GivesUp (reads_of (method_check class.now (method_view method.now)))
+    ensures err { IfErr result (λ e. GivesUp
+        (reads_of (method_check class.now (method_view method.now)))
         reads.old.recorder.now e reads.new.recorder.now) }
     ensures same_reference { reads.new.recorder.ghost_name ≡ reads.old.recorder.ghost_name }
     ensures follows { D.follows reads.old.recorder.now.inner reads.new.recorder.now.inner }
@@ -214,9 +220,11 @@ fn check_method_since<D: Reader, B: Began>(
 ) -> Result<Vec<Mistake>, RunFault>
     requires told { recorder.old.told ≡ B.told }
     requires refused { recorder.old.refused ≡ B.refused }
-    ensures ok { IfOk result (λ mistakes. Goes (reads_of (method_check class.now (method_view method.now)))
+    ensures ok { IfOk result (λ mistakes. Goes
+        (reads_of (method_check class.now (method_view method.now)))
         recorder.old mistakes.items recorder.new) }
-    ensures err { IfErr result (λ e. GivesUp (reads_of (method_check class.now (method_view method.now)))
+    ensures err { IfErr result (λ e. GivesUp
+        (reads_of (method_check class.now (method_view method.now)))
         recorder.old e recorder.new) }
     ensures follows { D.follows recorder.old.inner recorder.new.inner }
 {
@@ -234,9 +242,11 @@ pub fn check_method_by_reads<D: Reader>(
     class: &Name,
     method: &MethodTree,
 ) -> Result<Vec<Mistake>, RunFault>
-    ensures ok { IfOk result (λ mistakes. Goes (reads_of (method_check class.now (method_view method.now)))
+    ensures ok { IfOk result (λ mistakes. Goes
+        (reads_of (method_check class.now (method_view method.now)))
         recorder.old mistakes.items recorder.new) }
-    ensures err { IfErr result (λ e. GivesUp (reads_of (method_check class.now (method_view method.now)))
+    ensures err { IfErr result (λ e. GivesUp
+        (reads_of (method_check class.now (method_view method.now)))
         recorder.old e recorder.new) }
     ensures follows { D.follows recorder.old.inner recorder.new.inner }
 {

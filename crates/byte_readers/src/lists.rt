@@ -24,7 +24,8 @@ pub fn check_list<F: Format>(items: &[F::Item])
 
 /// Writes the number of items, and the items.
 pub fn put_list<F: Format>(out: &mut Vec<u8>, items: &[F::Item]) -> Result<(), AllocError>
-    ensures { OnOk result (out.new.items ≡ out.old.items ++ list F.spelling (F.view.all items.now)) }
+    ensures { OnOk result (out.new.items
+        ≡ out.old.items ++ list F.spelling (F.view.all items.now)) }
 {
     put_eight(out, items.len())?;
     for item in items {

@@ -20,7 +20,8 @@ pub fn check_option<F: Format>(item: &Option<F::Item>)
 
 /// Writes an item that may be missing.
 pub fn put_option<F: Format>(out: &mut Vec<u8>, item: &Option<F::Item>) -> Result<(), AllocError>
-    ensures { OnOk result (out.new.items ≡ out.old.items ++ option F.spelling (F.view.perhaps item.now)) }
+    ensures { OnOk result (out.new.items
+        ≡ out.old.items ++ option F.spelling (F.view.perhaps item.now)) }
 {
     match item {
         None => out.push(0x00)?,

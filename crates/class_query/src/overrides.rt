@@ -57,7 +57,8 @@ fn differ(own: Option<&MethodRow>, other: Option<&MethodRow>) -> bool
 
 /// The row of a method that an answer tells.
 fn method_row<'v>(value: &'v Value, name: &Name) -> Option<&'v MethodRow>
-    ensures { option_copied result ≡ find (λ row. bytes_eq row.name name.now) (methods_told value.now) }
+    ensures { option_copied result
+        ≡ find (λ row. bytes_eq row.name name.now) (methods_told value.now) }
 {
     match value {
         Value::Members(Some(members)) => find_by_name(members.table().methods(), name),
@@ -67,7 +68,8 @@ fn method_row<'v>(value: &'v Value, name: &Name) -> Option<&'v MethodRow>
 
 /// Whether two classes have a method with other types, by their members.
 fn method_differs(own: &Value, other: &Value, method: &Name) -> bool
-    ensures { result ≡ do_differ (method_told own.now method.now) (method_told other.now method.now) }
+    ensures { result ≡ do_differ (method_told own.now method.now)
+        (method_told other.now method.now) }
 {
     differ(method_row(own, method), method_row(other, method))
 }

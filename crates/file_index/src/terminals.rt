@@ -27,7 +27,8 @@ impl<'a> Model for TerminalPlaces<'a> {
 
     ghost view = { λ t. record { tokens = t.tokens.now; terminal = t.terminal } };
 
-    ghost invariant = { λ t. t.places.items ≡ all_of t.tokens.now t.terminal 0 (length t.tokens.now) };
+    ghost invariant = { λ t. t.places.items
+        ≡ all_of t.tokens.now t.terminal 0 (length t.tokens.now) };
 }
 
 impl<'a> TerminalPlaces<'a> {
@@ -49,7 +50,8 @@ impl<'a> TerminalPlaces<'a> {
         requires end { high ≤ length self.now.tokens }
         ensures places { result.now ≡ all_of self.now.tokens self.now.terminal low high }
         ensures first { AllWithin (λ at. low ≤ at) result.now 0 (length result.now) }
-        ensures last { AllWithin (λ at. at < length self.now.tokens) result.now 0 (length result.now) }
+        ensures last { AllWithin (λ at. at < length self.now.tokens) result.now 0
+            (length result.now) }
     {
         from(before(&self.places, high), low)
     }
@@ -58,7 +60,8 @@ impl<'a> TerminalPlaces<'a> {
     pub fn nth(&self, low: usize, high: usize, number: usize) -> Option<usize>
         requires order { low ≤ high }
         requires end { high ≤ length self.now.tokens }
-        ensures value { result ≡ slice_get (all_of self.now.tokens self.now.terminal low high) number }
+        ensures value { result ≡ slice_get
+            (all_of self.now.tokens self.now.terminal low high) number }
         ensures first { IfSome result (λ at. low ≤ at) }
         ensures within { IfSome result (λ at. at < length self.now.tokens) }
     {
@@ -75,7 +78,8 @@ fn find_terminals(
     tokens: &[Token],
     terminal: Terminal,
 ) -> Result<Vec<usize>, AllocError>
-    ensures { IfOk result (λ places. places.items ≡ all_of tokens.now terminal 0 (length tokens.now)) }
+    ensures { IfOk result (λ places. places.items
+        ≡ all_of tokens.now terminal 0 (length tokens.now)) }
 {
     let mut places = Vec::new(alloc);
     for at in 0..tokens.len() {

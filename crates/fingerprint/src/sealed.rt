@@ -118,7 +118,8 @@ pub fn open_sealed(
     ensures found { IfOk result (λ v. IsValue v × (kind_of v ≡ kind) × (bytes.items ≡ canon v)
         × (print.0 ≡ print_of v)) }
     // The bytes and the print of a value are opened, unless memory runs out.
-    ensures only { (v : Value) → IsValue v → kind_of v ≡ kind → bytes.items ≡ canon v → print.0 ≡ print_of v
+    ensures only { (v : Value) → IsValue v → kind_of v ≡ kind → bytes.items ≡ canon v
+        → print.0 ≡ print_of v
         → IsOkUnlessMemory result v }
     // Which fault it is.
     ensures cases { IsOpened kind bytes.items print.0 result }

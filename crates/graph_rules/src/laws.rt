@@ -34,7 +34,8 @@ pub fn histories_are_sound()
 /// In such a state a done key's value is of its kind, its mark is Input just where it is an input, and its edges are done
 /// and of lower rank, and none is there twice.
 pub fn sound_is_in_order()
-    ensures { (mean : Meaning) (reads : ReadLists) (past : Past) (p : Project) (s : State) → IsGraph past
+    ensures { (mean : Meaning) (reads : ReadLists) (past : Past) (p : Project) (s : State)
+        → IsGraph past
         → IsSound mean reads past p s → IsInOrder s }
 {}
 

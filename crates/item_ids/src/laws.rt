@@ -36,7 +36,8 @@ pub fn keys_in_order()
     ensures total { IsTotalOrder key_cmp }
     ensures exact { (a b : Key) → (key_cmp a b ≡ Equal) ↔ (a ≡ b) }
     ensures same { (a b : Key) → IsTrue (eq_by_cmp key_cmp a b) ↔ (a ≡ b) }
-    ensures apart { (a b : Key) → kind_of a ≡ kind_of b → class_of a ≡ class_of b → member_of a ≡ member_of b
+    ensures apart { (a b : Key) → kind_of a ≡ kind_of b → class_of a ≡ class_of b
+        → member_of a ≡ member_of b
         → a ≡ b }
 {}
 

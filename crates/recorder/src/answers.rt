@@ -49,7 +49,8 @@ impl AnswerList {
     /// One more answer. A key that has one already keeps it.
     pub fn add(&mut self, key: Key, answer: Arc<Sealed>) -> Result<(), AllocError>
         requires { IsOfKind key (arc_value answer) }
-        ensures ok { OnOk result (self.new ≡ self.old ++ record { key = key; value = arc_value answer } ∷ []) }
+        ensures ok { OnOk result (self.new
+            ≡ self.old ++ record { key = key; value = arc_value answer } ∷ []) }
         ensures err { OnErr result (self.new ≡ self.old) }
     {
         self.reads.push(self.alloc, Read::new(key, answer))
@@ -81,7 +82,8 @@ impl Reader for AnswerList {
 
     ghost transitive = { λ s t u e f. f ∙ e };
 
-    ghost kept = { λ s t q v e a. subst (λ list. Contains list (record { key = q; value = v })) (sym e) a };
+    ghost kept = { λ s t q v e a. subst
+        (λ list. Contains list (record { key = q; value = v })) (sym e) a };
 
     fn read(&mut self, key: &Key) -> Result<Arc<Sealed>, ReadFault> {
         match self.find(key) {

@@ -48,5 +48,6 @@ pub trait Reader {
     ghost transitive: { (s t u : Self) → follows s t → follows t u → follows s u };
 
     /// An answer given stays one that it may give.
-    ghost kept: { (s t : Self) (q : Key) (v : Value) → follows s t → answers s q v → answers t q v };
+    ghost kept: { (s t : Self) (q : Key) (v : Value) → follows s t → answers s q v
+        → answers t q v };
 }

@@ -118,7 +118,8 @@ impl<D: Reader> Reader for Recorder<D> {
 
         // What is kept of the read.
         ensures ok { IfOk result (λ a. Answers self.old key.now (arc_value a) self.new) }
-        ensures err { IfErr result (λ f. Refuses (D.faults self.new.inner) self.old key.now f self.new) }
+        ensures err { IfErr result
+            (λ f. Refuses (D.faults self.new.inner) self.old key.now f self.new) }
 
         // A key that was read isn't asked again.
         ensures again { IsUnread key.now self.old.told ⊎ (self.new.inner ≡ self.old.inner) }

@@ -34,7 +34,8 @@ impl Reader for Counting {
 
     ghost transitive = { λ s t u e f. f ∙ e };
 
-    ghost kept = { λ s t q v e a. subst (λ list. Contains list (record { key = q; value = v })) (sym e) a };
+    ghost kept = { λ s t q v e a. subst
+        (λ list. Contains list (record { key = q; value = v })) (sym e) a };
 
     fn read(&mut self, key: &Key) -> Result<Arc<Sealed>, ReadFault> {
         self.count = self.count.wrapping_add(1);

@@ -28,11 +28,13 @@ impl<'a, S: Reader> Reader for Lent<'a, S> {
 
     ghost faults = { λ b q f. S.faults b.store.now q f };
 
-    ghost follows = { λ b c. (c.store.ghost_name ≡ b.store.ghost_name) × S.follows b.store.now c.store.now };
+    ghost follows = { λ b c. (c.store.ghost_name ≡ b.store.ghost_name)
+        × S.follows b.store.now c.store.now };
 
     ghost reflexive = { λ b. (refl, S.reflexive b.store.now) };
 
-    ghost transitive = { λ b c d f g. (g.0 ∙ f.0, S.transitive b.store.now c.store.now d.store.now f.1 g.1) };
+    ghost transitive = { λ b c d f g.
+        (g.0 ∙ f.0, S.transitive b.store.now c.store.now d.store.now f.1 g.1) };
 
     ghost kept = { λ b c q v f a. S.kept b.store.now c.store.now q v f.1 a };
 

@@ -58,7 +58,8 @@ fn look_at<D: Reader>(
     found: bool,
 ) -> Result<bool, RunFault>
     ensures ok { IfOk result (λ b. Goes (main_step name.now found) recorder.old b recorder.new) }
-    ensures err { IfErr result (λ e. GivesUp (main_step name.now found) recorder.old e recorder.new) }
+    ensures err { IfErr result (λ e. GivesUp (main_step name.now found) recorder.old e
+        recorder.new) }
     ensures follows { D.follows recorder.old.inner recorder.new.inner }
 {
     let sealed = ask_header(alloc, recorder, name)?;
@@ -73,8 +74,10 @@ fn look_at_all<D: Reader>(
     recorder: &mut Recorder<D>,
     names: &[Name],
 ) -> Result<bool, RunFault>
-    ensures ok { IfOk result (λ b. Goes (each main_step names.now false) recorder.old b recorder.new) }
-    ensures err { IfErr result (λ e. GivesUp (each main_step names.now false) recorder.old e recorder.new) }
+    ensures ok { IfOk result (λ b. Goes (each main_step names.now false) recorder.old b
+        recorder.new) }
+    ensures err { IfErr result (λ e. GivesUp (each main_step names.now false) recorder.old e
+        recorder.new) }
     ensures follows { D.follows recorder.old.inner recorder.new.inner }
 {
     let mut found = false;
@@ -103,8 +106,10 @@ pub fn check_body<D: Reader>(
     first: &Name,
     second: &Name,
 ) -> Result<Value, RunFault>
-    ensures ok { IfOk result (λ v. Goes (body_steps first.now second.now) recorder.old v recorder.new) }
-    ensures err { IfErr result (λ e. GivesUp (body_steps first.now second.now) recorder.old e recorder.new) }
+    ensures ok { IfOk result (λ v. Goes (body_steps first.now second.now) recorder.old v
+        recorder.new) }
+    ensures err { IfErr result (λ e. GivesUp (body_steps first.now second.now) recorder.old e
+        recorder.new) }
     ensures follows { D.follows recorder.old.inner recorder.new.inner }
 {
     let phrase = phrase_of(alloc, first, second)?;

@@ -21,8 +21,10 @@ pub fn ask_header<D: Reader>(
     recorder: &mut Recorder<D>,
     file: &Name,
 ) -> Result<Arc<Sealed>, RunFault>
-    ensures ok { IfOk result (λ a. Goes (Ask (keys.Header file.now)) recorder.old (arc_value a) recorder.new) }
-    ensures err { IfErr result (λ e. GivesUp (Ask (keys.Header file.now)) recorder.old e recorder.new) }
+    ensures ok { IfOk result (λ a. Goes (Ask (keys.Header file.now)) recorder.old (arc_value a)
+        recorder.new) }
+    ensures err { IfErr result (λ e. GivesUp (Ask (keys.Header file.now)) recorder.old e
+        recorder.new) }
     ensures follows { D.follows recorder.old.inner recorder.new.inner }
 {
     let key = Key::Header(file.copy(alloc)?);
@@ -93,7 +95,8 @@ fn signature_for(
     header: Option<&Header>,
     other: Option<&Header>,
 ) -> Result<Option<Signature>, AllocError>
-    ensures { IfOk result (λ s. s ≡ signature_of (option_copied header.entry) (option_copied other.entry)) }
+    ensures { IfOk result (λ s. s ≡ signature_of (option_copied header.entry)
+        (option_copied other.entry)) }
 {
     let Some(header) = header else {
         return Ok(None);
@@ -117,8 +120,10 @@ pub fn run_signature<D: Reader>(
     file: &Name,
     other: &Name,
 ) -> Result<Value, RunFault>
-    ensures ok { IfOk result (λ v. Goes (sig_steps file.now other.now) recorder.old v recorder.new) }
-    ensures err { IfErr result (λ e. GivesUp (sig_steps file.now other.now) recorder.old e recorder.new) }
+    ensures ok { IfOk result (λ v. Goes (sig_steps file.now other.now) recorder.old v
+        recorder.new) }
+    ensures err { IfErr result (λ e. GivesUp (sig_steps file.now other.now) recorder.old e
+        recorder.new) }
     ensures follows { D.follows recorder.old.inner recorder.new.inner }
 {
     let sealed = ask_header(alloc, recorder, file)?;
@@ -136,7 +141,8 @@ fn run_both<D: Reader>(
     other: &Name,
 ) -> Result<Value, RunFault>
     ensures ok { IfOk result (λ v. Goes (sig_both file.now other.now) recorder.old v recorder.new) }
-    ensures err { IfErr result (λ e. GivesUp (sig_both file.now other.now) recorder.old e recorder.new) }
+    ensures err { IfErr result (λ e. GivesUp (sig_both file.now other.now) recorder.old e
+        recorder.new) }
     ensures follows { D.follows recorder.old.inner recorder.new.inner }
 {
     let second = ask_header(alloc, recorder, other)?;

@@ -70,8 +70,10 @@ pub fn walk<D: Reader>(
     recorder: &mut Recorder<D>,
     phrase: &Phrase,
 ) -> Result<Option<Name>, RunFault>
-    ensures ok { IfOk result (λ t. Goes (phrase_step (view_of phrase.now)) recorder.old t recorder.new) }
-    ensures err { IfErr result (λ e. GivesUp (phrase_step (view_of phrase.now)) recorder.old e recorder.new) }
+    ensures ok { IfOk result (λ t. Goes (phrase_step (view_of phrase.now)) recorder.old t
+        recorder.new) }
+    ensures err { IfErr result (λ e. GivesUp (phrase_step (view_of phrase.now)) recorder.old e
+        recorder.new) }
     ensures follows { D.follows recorder.old.inner recorder.new.inner }
 {
     match phrase {
@@ -91,7 +93,8 @@ fn walk_part<D: Reader>(
     phrase: &Phrase,
     found: Option<Name>,
 ) -> Result<Option<Name>, RunFault>
-    ensures ok { IfOk result (λ t. Goes (part_step (view_of phrase.now) found) recorder.old t recorder.new) }
+    ensures ok { IfOk result (λ t. Goes (part_step (view_of phrase.now) found) recorder.old t
+        recorder.new) }
     ensures err { IfErr result (λ e. GivesUp (part_step (view_of phrase.now) found) recorder.old
         e recorder.new) }
     ensures follows { D.follows recorder.old.inner recorder.new.inner }
@@ -110,7 +113,8 @@ fn walk_parts<D: Reader>(
 ) -> Result<Option<Name>, RunFault>
     ensures ok { IfOk result (λ t. Goes (each (λ e. part_step (view_of e)) parts.now.items first)
         recorder.old t recorder.new) }
-    ensures err { IfErr result (λ e. GivesUp (each (λ e. part_step (view_of e)) parts.now.items first)
+    ensures err { IfErr result (λ e. GivesUp
+        (each (λ e. part_step (view_of e)) parts.now.items first)
         recorder.old e recorder.new) }
     ensures follows { D.follows recorder.old.inner recorder.new.inner }
 {

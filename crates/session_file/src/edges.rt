@@ -21,7 +21,8 @@ pub(crate) fn read_edges<'a>(
 ) -> Result<(Vec<usize>, &'a [u8]), Stop>
     requires length { length seen.old ≡ length front.now }
     requires unseen { AllByRecursion (λ b. b ≡ false) seen.old }
-    ensures value { Gives (λ x. (x.0.items, x.1.now)) result (edges_at front.now key.now bytes.now) }
+    ensures value { Gives (λ x. (x.0.items, x.1.now)) result
+        (edges_at front.now key.now bytes.now) }
     ensures length { length seen.new ≡ length seen.old }
 {
     let (count, rest) = eight(bytes)?;
@@ -39,7 +40,8 @@ fn read_items<'a>(
 ) -> Result<(Vec<usize>, &'a [u8]), Stop>
     requires length { length seen.old ≡ length front.now }
     requires unseen { AllByRecursion (λ b. b ≡ false) seen.old }
-    ensures value { Gives (λ x. (x.0.items, x.1.now)) result (edges_from front.now key.now [] count bytes.now) }
+    ensures value { Gives (λ x. (x.0.items, x.1.now)) result
+        (edges_from front.now key.now [] count bytes.now) }
     ensures length { length seen.new ≡ length seen.old }
 {
     let mut edges = Vec::new(alloc);

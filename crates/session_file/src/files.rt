@@ -29,7 +29,8 @@ pub fn read(alloc: Global, bytes: &[u8]) -> Result<Session, FileFault>
     // What is read is a session, and the bytes are its file.
     ensures found { IfOk result (λ s. IsSession s × (bytes.now ≡ file_of s)) }
     // The file of a session is read, unless memory runs out.
-    ensures only { (s : SessionValue) → IsSession s → bytes.now ≡ file_of s → IsUnlessMemory result (Ok s) }
+    ensures only { (s : SessionValue) → IsSession s → bytes.now ≡ file_of s
+        → IsUnlessMemory result (Ok s) }
     // Which breach it is.
     ensures exact { IsUnlessMemory result (file_at bytes.now) }
 {
@@ -57,7 +58,10 @@ fn read_file(alloc: Global, source: &[u8]) -> Result<Session, Stop>
 /// Reads what stands before the records.
 #[tactic(auto, unfolding(crate::specs::Reading::head_at))]
 fn read_head(source: &[u8]) -> Result<(Head, &[u8]), Stop>
-    ensures { Gives (λ x. (record { number = x.0.number; link = x.0.link; count = x.0.count }, x.1.now))
+    ensures { Gives (λ x. (
+      record { number = x.0.number; link = x.0.link; count = x.0.count },
+      x.1.now,
+    ))
         result (head_at source.now) }
 {
     let rest = read_magic(source)?;

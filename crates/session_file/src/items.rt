@@ -54,7 +54,8 @@ fn item_of(
 ) -> Result<Option<Item>, AllocError>
     requires class { length class.now ≤ most_name_bytes }
     requires member { length member.now ≤ most_name_bytes }
-    ensures { IfOk result (λ item. item ≡ item_with (key_with kind class.now member.now) (mark_with mark)) }
+    ensures { IfOk result (λ item. item
+        ≡ item_with (key_with kind class.now member.now) (mark_with mark)) }
 {
     let Some(key) = key_of(alloc, kind, class, member)? else {
         return Ok(None);

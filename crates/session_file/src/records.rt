@@ -104,7 +104,10 @@ fn read_rest<'a>(
 ) -> Result<(Rest, &'a [u8]), Stop>
     requires length { length seen.old ≡ length front.now }
     requires unseen { AllByRecursion (λ b. b ≡ false) seen.old }
-    ensures value { Gives (λ x. (record { edges = x.0.edges.items; value = arc_value x.0.sealed }, x.1.now))
+    ensures value { Gives (λ x. (
+      record { edges = x.0.edges.items; value = arc_value x.0.sealed },
+      x.1.now,
+    ))
         result (rest_at front.now key.now bytes.now) }
     ensures length { length seen.new ≡ length seen.old }
 {

@@ -35,7 +35,8 @@ pub(crate) fn read_result(
 /// The value of a kind that the text spells, where it has the print.
 fn open(alloc: Global, kind: Kind, print: &[u8], text: &[u8]) -> Result<Option<Sealed>, Stop>
     requires { length print.now ≡ 32 }
-    ensures value { IfOk result (λ value. value ≡ value_with_print print.now (decoding kind text.now)) }
+    ensures value { IfOk result (λ value. value
+        ≡ value_with_print print.now (decoding kind text.now)) }
     ensures memory { IfErr result (λ stop. stop ≡ Stop.Memory) }
 {
     let print = Print(as_digest(print));

@@ -55,7 +55,8 @@ fn hashed_body(session: &Session) -> HashingSink
 
 /// Appends the body, and the digest at the end.
 fn put_file<W: Sink>(sink: &mut W, session: &Session, end: &[u8; 32]) -> Result<(), DeviceFault>
-    ensures holds { Puts (W.holds sink.old) (W.holds sink.new) (body_bytes session.now ++ end.now) result }
+    ensures holds { Puts (W.holds sink.old) (W.holds sink.new)
+        (body_bytes session.now ++ end.now) result }
     ensures counted { Counts result (W.failed sink.old) (W.failed sink.new) }
 {
     match put_body(sink, session) {
@@ -95,7 +96,8 @@ fn put_head<W: Sink>(sink: &mut W, session: &Session) -> Result<(), DeviceFault>
 
 /// Appends the records.
 fn put_records<W: Sink>(sink: &mut W, records: &[Record]) -> Result<(), DeviceFault>
-    ensures holds { Puts (W.holds sink.old) (W.holds sink.new) (flat_map record_bytes records.now) result }
+    ensures holds { Puts (W.holds sink.old) (W.holds sink.new)
+        (flat_map record_bytes records.now) result }
     ensures counted { Counts result (W.failed sink.old) (W.failed sink.new) }
 {
     for item in records {

@@ -21,7 +21,8 @@ use std::alloc::Global;
 /// Each record fits behind those in front of it, or the first fault.
 pub(crate) fn check_records(alloc: Global, records: &[Record]) -> Result<(), SessionFault>
     ensures fit { OnOk result (AreRecords records.now) }
-    ensures refused { IfErr result (λ fault. IsUnlessMemory fault (RefusesRecords records.now fault)) }
+    ensures refused { IfErr result
+        (λ fault. IsUnlessMemory fault (RefusesRecords records.now fault)) }
 {
     let mut seen = SeenEdges::new(alloc);
     for (i, item) in records.iter().enumerate() {

@@ -30,7 +30,8 @@ impl Model for Session {
 
     ghost view = { λ s. record { number = s.number; link = s.link; records = s.records.items } };
 
-    ghost invariant = { λ s. IsSession (record { number = s.number; link = s.link; records = s.records.items }) };
+    ghost invariant = { λ s. IsSession
+        (record { number = s.number; link = s.link; records = s.records.items }) };
 }
 
 impl Session {
@@ -45,7 +46,8 @@ impl Session {
         records: Vec<Record>,
     ) -> Result<Session, SessionFault>
         // It keeps just what was handed in.
-        ensures made { IfOk result (λ s. s ≡ record { number = number; link = link; records = records.items }) }
+        ensures made { IfOk result
+            (λ s. s ≡ record { number = number; link = link; records = records.items }) }
         ensures session { IfOk result IsSession }
         // Which fault it is.
         ensures refused { IfErr result (IsRefused number records.items) }
