@@ -28,12 +28,8 @@ impl Model for Record {
 
     ghost coded = { Prim.hlevel (codes, value_contracts.the_row.coded) };
 
-    ghost view = { λ r. record {
-      key = r.key;
-      mark = r.mark;
-      edges = r.edges.items;
-      value = arc_value r.sealed;
-    } };
+    ghost view = { λ r.
+        record { key = r.key; mark = r.mark; edges = r.edges.items; value = arc_value r.sealed } };
 }
 
 impl Record {
