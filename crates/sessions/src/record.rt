@@ -35,12 +35,8 @@ impl Model for Record {
 impl Record {
     /// The record of a key, whose edges are the indices of records.
     pub fn new(key: Key, mark: Mark, edges: Vec<usize>, sealed: Arc<Sealed>) -> Self
-        ensures { result ≡ record {
-          key = key;
-          mark = mark;
-          edges = edges.items;
-          value = arc_value sealed;
-        } }
+        ensures { result
+            ≡ record { key = key; mark = mark; edges = edges.items; value = arc_value sealed } }
     {
         Record {
             key,
