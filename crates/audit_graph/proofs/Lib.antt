@@ -1,0 +1,7 @@
+pub mod Entries
+pub mod Meant
+pub mod SourceRules
+pub mod PlanRules
+pub mod GreenRules
+pub mod StepRules
+pub mod PlaceRules

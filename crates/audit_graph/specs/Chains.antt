@@ -1,0 +1,23 @@
+-- Chains of sessions: their numbers and links.
+use Rattle.std.specs.Prelude.{◌≡◌, ℕ, ◌+◌, List, [], ◌∷◌, Option, Some, None, replicate}
+use Rattle.sessions.specs.Sessions.{SessionValue}
+use Rattle.sessions.specs.Spelling.{digest_of}
+
+-- the SHA-256 of the file of the session before, or zeros where there is none
+abbrev pub link_behind : Option SessionValue → List ℕ
+link_behind None = replicate 32 0
+link_behind (Some past) = digest_of past
+
+-- the session has this number, and its link is that behind the past
+pub record IsLinked (past : Option SessionValue) (k : ℕ) (s : SessionValue) : Type 0 where
+  pub number : s.number ≡ k
+  pub link : s.link ≡ link_behind past
+
+-- behind the past and from number k on each session is linked to the one before
+abbrev pub AreLinked : Option SessionValue → ℕ → List SessionValue → Type 0
+AreLinked past k [] = Unit {0}
+AreLinked past k (s ∷ ss) = IsLinked past k s × AreLinked (Some s) (k + 1) ss
+
+-- a chain of sessions begins with number 0, behind no session
+abbrev pub IsChain : List SessionValue → Type 0
+IsChain sessions = AreLinked None 0 sessions

@@ -1,0 +1,7 @@
+pub mod Firsts
+pub mod Chains
+pub mod Sources
+pub mod Greens
+pub mod Plans
+pub mod Steps
+pub mod Replays

@@ -1,0 +1,138 @@
+//! Green records over the session before.
+ghost use Rattle.std.specs.Prelude.{◌≡◌, ◌≢◌, Some, None, MatchBool, MatchOption};
+ghost use Rattle.std.specs.Option.{option_copied};
+ghost use Rattle.std.specs.List.{AllByRecursion};
+ghost use Rattle.sessions.specs.declared.mark.Mark.TheVariants.{Green};
+ghost use Rattle.sessions.specs.Sessions.{AreInside, key_at, entry_at, entry_of, past_entry};
+ghost use Rattle.graph_rules.specs.Next.{StandsIn};
+ghost use Rattle.audit_graph.specs.Firsts.{IsFirstWithout};
+ghost use Rattle.audit_graph.specs.Greens.{GreensStand, HasSamePrint, StandsIfGreen, IsLack, keys_at};
+ghost use Rattle.audit_graph.specs.Steps.{IsFirstLack};
+
+use crate::past::Past;
+use crate::places::{key_of, print_of};
+use fingerprint::Print;
+use item_ids::{Key, keys_in_order};
+use sessions::{Mark, Record, Session};
+
+/// Why a green record doesn't stand in the past: the first of these reasons.
+#[derive(Clone, Copy)]
+pub enum Lack {
+    /// The past hasn't the key.
+    WithoutPast,
+    /// Its edges are others there.
+    OtherEdges,
+    /// The edge at this place has another print there.
+    OverRed(usize),
+    /// It has another print there.
+    OtherPrint,
+}
+
+/// The first green record that doesn't stand in the past, and why.
+pub(crate) fn first_lack(past: Option<&Past>, session: &Session) -> Option<(usize, Lack)>
+    ensures { MatchOption result
+        (GreensStand (past_entry (option_copied past.entry)) (entry_at session.now))
+        (λ x. IsFirstLack (option_copied past.entry) session.now x.0 x.1) }
+{
+    for (n, item) in session.records().iter().enumerate() {
+        if let Some(why) = lack_if_green(past, session, item) {
+            return Some((n, why));
+        }
+    }
+    None
+}
+
+/// Why a record doesn't stand in the past, where it is green.
+fn lack_if_green(past: Option<&Past>, session: &Session, item: &Record) -> Option<Lack>
+    requires { AreInside session.now.records item.now.edges }
+    ensures { MatchOption result
+        (StandsIfGreen (past_entry (option_copied past.entry)) (entry_at session.now)
+        (entry_of session.now.records item.now))
+        (λ why. (item.now.mark ≡ Green)
+        × IsLack (past_entry (option_copied past.entry)) (entry_at session.now)
+        (entry_of session.now.records item.now) why) }
+{
+    match (item.mark(), past) {
+        (Mark::Green, Some(past)) => find_lack(past, session, item),
+        (Mark::Green, None) => Some(Lack::WithoutPast),
+        (Mark::Input | Mark::Executed, _) => None,
+    }
+}
+
+/// Why a record doesn't stand in the past.
+fn find_lack(past: &Past, session: &Session, item: &Record) -> Option<Lack>
+    requires { AreInside session.now.records item.now.edges }
+    ensures { MatchOption result
+        (StandsIn (entry_at past.now) (entry_at session.now)
+        (entry_of session.now.records item.now))
+        (IsLack (entry_at past.now) (entry_at session.now)
+        (entry_of session.now.records item.now)) }
+{
+    let Some(at) = past.find(item.key()) else {
+        return Some(Lack::WithoutPast);
+    };
+    let old = past.edges(at);
+    if !are_same(past, old, session, item.edges()) {
+        return Some(Lack::OtherEdges);
+    }
+    if let Some(i) = first_red(past, old, session, item.edges()) {
+        return Some(Lack::OverRed(i));
+    }
+    if !same_print(past.print(at), item.sealed().print()) {
+        return Some(Lack::OtherPrint);
+    }
+    None
+}
+
+/// Whether edges of the past and of the session lead to the same keys.
+fn are_same(past: &Past, old: &[usize], session: &Session, edges: &[usize]) -> bool
+    requires old { AreInside past.now.records old.now }
+    requires edges { AreInside session.now.records edges.now }
+    ensures { MatchBool result
+        (keys_at past.now.records old.now ≡ keys_at session.now.records edges.now)
+        (keys_at past.now.records old.now ≢ keys_at session.now.records edges.now) }
+{
+    if old.len() != edges.len() {
+        return false;
+    }
+    for (i, edge) in edges.iter().enumerate() {
+        if !same_key(past.key(old[i]), key_of(session, *edge)) {
+            return false;
+        }
+    }
+    true
+}
+
+/// The place of the first edge that has another print in the past.
+fn first_red(past: &Past, old: &[usize], session: &Session, edges: &[usize]) -> Option<usize>
+    requires old { AreInside past.now.records old.now }
+    requires edges { AreInside session.now.records edges.now }
+    requires same { keys_at past.now.records old.now ≡ keys_at session.now.records edges.now }
+    ensures { MatchOption result
+        (AllByRecursion (HasSamePrint (entry_at past.now) (entry_at session.now))
+        (keys_at session.now.records edges.now))
+        (IsFirstWithout (HasSamePrint (entry_at past.now) (entry_at session.now))
+        (keys_at session.now.records edges.now)) }
+{
+    for (i, edge) in edges.iter().enumerate() {
+        if !same_print(past.print(old[i]), print_of(session, *edge)) {
+            return Some(i);
+        }
+    }
+    None
+}
+
+/// Whether two keys are one.
+fn same_key(a: &Key, b: &Key) -> bool
+    ensures { MatchBool result (a.now ≡ b.now) (a.now ≢ b.now) }
+{
+    keys_in_order();
+    a == b
+}
+
+/// Whether two prints are one.
+fn same_print(a: Print, b: Print) -> bool
+    ensures { MatchBool result (a.0 ≡ b.0) (a.0 ≢ b.0) }
+{
+    a == b
+}

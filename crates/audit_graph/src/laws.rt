@@ -1,0 +1,67 @@
+//! What holds of sessions that were checked.
+ghost use Rattle.std.specs.Prelude.{◌≡◌, ◌↔◌, ℕ, Bool, true, Option, Some, None, Contains, slice_get};
+ghost use Rattle.item_ids.specs.declared.key.Key.{Key};
+ghost use Rattle.mj_project.specs.Projects.{IsProject};
+ghost use Rattle.recorder.specs.Projects.{Project};
+ghost use Rattle.recorder.specs.Backed.{Meaning, ReadLists, RunnerLaws};
+ghost use Rattle.sessions.specs.declared.mark.Mark.TheVariants.{Executed, Green};
+ghost use Rattle.sessions.specs.Sessions.{RecordValue, Entry, SessionValue, IsSession, entry_at, past_entry};
+ghost use Rattle.graph_rules.specs.Pasts.{Past, IsGraph};
+ghost use Rattle.graph_rules.specs.Next.{AreMeant, AreSources, IsRight, StandsIn};
+ghost use Rattle.audit_graph.specs.Plans.{executed_in};
+ghost use Rattle.audit_graph.specs.Steps.{IsStep};
+ghost use Rattle.audit_graph.specs.Replays.{AreReplayed, AreValuesApart, AreWithLower, is_before};
+
+use item_ids::ranks_in_order;
+
+/// A session holds the files of one project only.
+pub fn one_project()
+    ensures { (now : Past) (p r : Project) → AreSources now p → AreSources now r → p ≡ r }
+{}
+
+/// The plan has just the indices of the executed records.
+pub fn plan_tells()
+    ensures { (s : SessionValue) (n : ℕ) → Contains (executed_in s) n
+        ↔ ((r : RecordValue) × (slice_get s.records n ≡ Some r) × (r.mark ≡ Executed)) }
+{}
+
+/// Where the past has the values and reads of a project, no two values of both sessions that differ have one print, and
+/// the executed ones among some keys, and with each of these all of lower rank, follow from their edges, these keys
+/// have the values and reads of the project whose files the session holds.
+pub fn front_is_meant()
+    ensures { (mean : Meaning) (reads : ReadLists) → RunnerLaws mean reads
+        → (past : Option SessionValue) (k : ℕ) (s : SessionValue) (old p : Project)
+        → IsGraph (past_entry past) → IsProject old → AreMeant mean reads (past_entry past) old
+        → IsSession s → IsStep past k s → AreSources (entry_at s) p
+        → AreValuesApart (past_entry past) (entry_at s)
+        → (front : Key → Bool) → AreWithLower front
+        → AreReplayed mean reads (entry_at s) front
+        → (q : Key) (r : Entry) → front q ≡ true → entry_at s q ≡ Some r
+        → (r.value ≡ mean p q) × (r.reads ≡ reads p q) }
+{}
+
+/// Where all executed keys follow from their edges, the session is right over the past.
+pub fn step_is_right()
+    ensures { (mean : Meaning) (reads : ReadLists) → RunnerLaws mean reads
+        → (past : Option SessionValue) (k : ℕ) (s : SessionValue) (old : Project)
+        → IsGraph (past_entry past) → IsProject old → AreMeant mean reads (past_entry past) old
+        → IsSession s → IsStep past k s
+        → AreValuesApart (past_entry past) (entry_at s)
+        → AreReplayed mean reads (entry_at s) (λ _. true)
+        → IsRight mean reads (past_entry past) (entry_at s) }
+{}
+
+/// The keys that come before a key, as those of the records in front of it, have all keys of lower rank with them.
+pub fn before_has_lower()
+    ensures { (k : Key) → AreWithLower (is_before k) }
+{
+    ranks_in_order();
+}
+
+/// Where there is no session before, it is a graph, it has the values and reads of every project, and none of its values
+/// has the print of another one.
+pub fn no_past_is_meant()
+    ensures graph { IsGraph (past_entry None) }
+    ensures meant { (mean : Meaning) (reads : ReadLists) (p : Project) → AreMeant mean reads (past_entry None) p }
+    ensures apart { (now : Past) → AreValuesApart (past_entry None) now }
+{}

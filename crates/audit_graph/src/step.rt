@@ -1,0 +1,79 @@
+//! The check of one session over the one before.
+ghost use Rattle.std.specs.Prelude.{◌≡◌, ◌↔◌, IsTrue};
+ghost use Rattle.std.specs.Option.{option_copied};
+ghost use Rattle.audit_graph.specs.Chains.{IsLinked, link_behind};
+ghost use Rattle.audit_graph.specs.Steps.{StepGives, source_fault, green_fault};
+
+use crate::fault::AuditFault;
+use crate::greens::{Lack, first_lack};
+use crate::past::Past;
+use crate::plan::Plan;
+use crate::sources::{SourceFault, check_sources};
+use sessions::Session;
+use std::alloc::Global;
+
+/// Checks session `k` over the one before it, without running a query: its number and link, the files that it holds,
+/// and its green records. The plan is what is left to run.
+pub fn check_step(
+    alloc: Global,
+    past: Option<&Past>,
+    k: usize,
+    session: &Session,
+) -> Result<Plan, AuditFault>
+    ensures { StepGives (option_copied past.entry) k session.now result }
+{
+    if !is_linked(past, k, session) {
+        return Err(AuditFault::BrokenLink(k));
+    }
+    if let Err(fault) = check_sources(alloc, session) {
+        return Err(fault_of_sources(k, fault));
+    }
+    if let Some((n, why)) = first_lack(past, session) {
+        return Err(fault_of_green(k, n, why));
+    }
+    match Plan::of(alloc, session) {
+        Ok(plan) => Ok(plan),
+        Err(_) => Err(AuditFault::OutOfMemory),
+    }
+}
+
+/// Whether the session has this number and the link behind the past.
+fn is_linked(past: Option<&Past>, k: usize, session: &Session) -> bool
+    ensures { IsTrue result ↔ IsLinked (option_copied past.entry) k session.now }
+{
+    session.number() as usize == k && *session.link() == link_behind(past)
+}
+
+/// The link of the session behind the past.
+fn link_behind(past: Option<&Past>) -> [u8; 32]
+    ensures { result ≡ link_behind (option_copied past.entry) }
+{
+    match past {
+        Some(past) => *past.digest(),
+        None => [0; 32],
+    }
+}
+
+/// The fault of session `k` that doesn't hold the files of a project.
+fn fault_of_sources(k: usize, fault: SourceFault) -> AuditFault
+    ensures { result ≡ source_fault k fault }
+{
+    match fault {
+        SourceFault::NoFiles => AuditFault::NoFiles(k),
+        SourceFault::Missing(f) => AuditFault::MissingSource(k, f),
+        SourceFault::Stray(n) => AuditFault::StraySource(k, n),
+        SourceFault::OutOfMemory => AuditFault::OutOfMemory,
+    }
+}
+
+/// The fault of session `k` whose green record `n` doesn't stand in the past.
+fn fault_of_green(k: usize, n: usize, why: Lack) -> AuditFault
+    ensures { result ≡ green_fault k n why }
+{
+    match why {
+        Lack::WithoutPast => AuditFault::GreenWithoutPast(k, n),
+        Lack::OtherEdges => AuditFault::OtherEdges(k, n),
+        Lack::OverRed(i) => AuditFault::GreenOverRed(k, n, i),
+        Lack::OtherPrint => AuditFault::GreenPrint(k, n),
+    }
+}
