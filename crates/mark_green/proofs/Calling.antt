@@ -1,0 +1,259 @@
+-- What the answers of calls come to.
+use Rattle.std.proofs.Common.{◌≡◌, ◌≢◌, ℕ, zero, suc, ◌<◌, List, [], ◌∷◌, refl, sym, ap, ◌∙◌, subst, Bool, true, false, Option, Some, None, arith, inl, inr, ◌⊎◌}
+use Rattle.std.specs.Prelude.{Result, Ok, Err}
+use Rattle.std.specs.declared.alloc.Global.{Global}
+use Rattle.std.specs.declared.sync.Arc.{Arc}
+use Rattle.std.specs.Arc.{arc_value}
+use Rattle.item_ids.specs.declared.key.Key.{Key}
+use Rattle.result_bytes.specs.declared.value.Value.{Value}
+use Rattle.sessions.specs.declared.mark.Mark.{Mark}
+use Rattle.sessions.specs.declared.mark.Mark.TheVariants.{Executed}
+use Rattle.recorder.specs.Backed.{ReadValue, rank, keys}
+use Rattle.recorder.specs.Runs.{OutcomeValue}
+use Rattle.graph_rules.proofs.Orders.{after_all_append}
+use Rattle.graph_rules.specs.Steps.{Status, Unknown, Claimed, Running, Done, State, Walk, AllUnchanged, OpenAt, ChangedAt, MayRun, Claim, MarkGreen, Begin, Finish, Fail, opening, IsHeldBy, IsBelow, IsDoneWith, IsNotDone, AreHeld, green}
+use Rattle.job_table.specs.Tables.{TableValue, past_of, state_of, IsStep, adds}
+use Rattle.job_table.specs.Calls.{AskGives, MarkGives, BeginGives, FinishGives, FailGives, IsFirstStale, walk_in}
+use Rattle.job_table.specs.declared.fault.Asked.TheVariants as asked
+use Rattle.job_table.specs.declared.fault.TableFault.{TableFault}
+use Rattle.job_table.specs.declared.fault.TableFault.TheVariants as table
+use Rattle.mark_green.specs.declared.fault.Fault.{Fault}
+use Rattle.mark_green.specs.declared.fault.Fault.TheVariants as fault
+use Rattle.mark_green.specs.Leaves.{Knows, Tells, GoesOn, Stops, Leaves, LeavesBut, IsOthers, Stands}
+use Rattle.mark_green.specs.Ensures.{EnsureGives, GivesUp, WorkGives, IsFaultOf}
+use Rattle.mark_green.proofs.GoingOn.{on_none, on_one, on_then, stops_then, Changes, changes_by, changed_work, changed_others, changed_leaves, changed_done, changed_stands, leaves_none, gives_up_on}
+
+not_both : (b : Bool) → b ≡ true → b ≡ false → ⊥
+not_both b t f = cc
+
+self_below : (n : ℕ) → n < n → ⊥
+self_below n lt = omega arith
+
+-- ---- fail
+
+failed_at : (t : TableValue) (w : ℕ) → IsStep t (Fail w) → Stops t (adds t (Fail w))
+failed_at t w may = record {
+  goes_on = on_one t (Fail w) may;
+  failed = ap (λ (s : State). s.failed) (after_all_append (past_of t) (opening t.project) t.history (Fail w ∷ []));
+}
+
+pub fail_stops : (w : ℕ) (r : Result (Unit {0}) TableFault) (t u : TableValue) → FailGives t w r u → Stops t u
+fail_stops w (Ok x) t u f = subst (λ (v : TableValue). Stops t v) (sym f.1) (failed_at t w f.0)
+fail_stops w (Err table.Failed) t u f = subst (λ (v : TableValue). Stops t v) (sym f.1) (record { goes_on = on_none t; failed = f.0 })
+fail_stops w (Err table.NotYours) t u f = absurd f
+fail_stops w (Err table.OutOfRank) t u f = absurd f
+fail_stops w (Err (table.EdgeOpen i)) t u f = absurd f
+fail_stops w (Err (table.EdgeChanged i)) t u f = absurd f
+fail_stops w (Err table.NotInPast) t u f = absurd f
+fail_stops w (Err table.NothingChanged) t u f = absurd f
+fail_stops w (Err (table.StaleRead i)) t u f = absurd f
+fail_stops w (Err table.OutOfMemory) t u f = absurd f
+
+-- ---- ask
+
+pub claim_changes : (t : TableValue) (w : ℕ) (q : Key) → IsStep t (Claim w q) → Changes q (Claimed w) t (adds t (Claim w q))
+claim_changes t w q may = changes_by t (Claim w q) q (Claimed w) may refl
+
+claim_stands : (t : TableValue) (w : ℕ) (q : Key) → IsStep t (Claim w q) → Stands (Claimed w) w q (adds t (Claim w q))
+claim_stands t w q may = changed_stands t (adds t (Claim w q)) w q (Claimed w) (claim_changes t w q may) may.0 refl (λ k n h. may.2 k h)
+
+claim_gives : (t v : TableValue) (w : ℕ) (q : Key) (r : Result (Arc Value Global) Fault) → IsStep t (Claim w q) → WorkGives (adds t (Claim w q)) w q r v → EnsureGives t w q r v
+claim_gives t v w q (Ok a) may h = (changed_leaves t (adds t (Claim w q)) w q (Claimed w) (claim_changes t w q may) v (arc_value a) may.1 h.0 h.1, h.1)
+claim_gives t v w q (Err fault.Stopped) may h = absurd h
+claim_gives t v w q (Err fault.OutOfMemory) may h = (stops_then t (adds t (Claim w q)) v (on_one t (Claim w q) may) h, may.0)
+claim_gives t v w q (Err fault.Busy) may h = (
+  on_then t (adds t (Claim w q)) v (on_one t (Claim w q) may) h.0,
+  h.1,
+  changed_others t (adds t (Claim w q)) w q (Claimed w) (claim_changes t w q may) refl h.2,
+)
+
+pub ask_work : (w : ℕ) (q : Key) (r : Result (Arc Value Global) Fault) (t u v : TableValue) → AskGives t w q (Ok asked.Yours) u → (Stands (Claimed w) w q u → WorkGives u w q r v) → EnsureGives t w q r v
+ask_work w q r t u v a work =
+    let moved = subst (λ (x : TableValue). Stands (Claimed w) w q x → WorkGives x w q r v) a.1 work in
+    claim_gives t v w q r a.0 (moved (claim_stands t w q a.0))
+
+pub ask_done : (w : ℕ) (q : Key) (v : Arc Value Global) (t u : TableValue) → AskGives t w q (Ok (asked.Done v)) u → EnsureGives t w q (Ok v) u
+ask_done w q v t u a = subst (λ (x : TableValue). EnsureGives t w q (Ok v) x) (sym a.2) (leaves_none t, a.1)
+
+pub ask_stopped : (w : ℕ) (q : Key) (t u : TableValue) → AskGives t w q (Ok asked.Stopped) u → EnsureGives t w q (Err fault.Stopped) u
+ask_stopped w q t u a = subst (λ (x : TableValue). EnsureGives t w q (Err fault.Stopped) x) (sym a.1) (record { goes_on = on_none t; failed = a.0 }, inl a.0)
+
+busy_at : (t : TableValue) (w : ℕ) (q : Key) (x : Status) → (state_of t).at q ≡ x → IsNotDone x → IsBelow (state_of t) w q → (x ≡ Unknown → ⊥) → IsOthers t w
+busy_at t w q Unknown is nd below known = absurd (known refl)
+busy_at t w q (Claimed u) is nd below known = record {
+  key = q;
+  worker = u;
+  other = λ e. self_below (rank q) (below q (subst (λ (y : Status). IsHeldBy w y) (sym is) e));
+  holds = subst (λ (y : Status). IsHeldBy u y) (sym is) refl;
+}
+busy_at t w q (Running u) is nd below known = record {
+  key = q;
+  worker = u;
+  other = λ e. self_below (rank q) (below q (subst (λ (y : Status). IsHeldBy w y) (sym is) e));
+  holds = subst (λ (y : Status). IsHeldBy u y) (sym is) refl;
+}
+busy_at t w q (Done v es m) is nd below known = absurd nd
+
+pub ask_others : (w : ℕ) (q : Key) (t u : TableValue) → AskGives t w q (Ok asked.Busy) u → IsOthers t w
+ask_others w q t u a = busy_at t w q ((state_of t).at q) refl a.0.1 a.1 a.2
+
+pub ask_busy : (w : ℕ) (q : Key) (t u : TableValue) → AskGives t w q (Ok asked.Busy) u → EnsureGives t w q (Err fault.Busy) u
+ask_busy w q t u a = subst (λ (x : TableValue). EnsureGives t w q (Err fault.Busy) x) (sym a.3) (on_none t, a.0.0, ask_others w q t u a)
+
+-- where a call changed nothing
+stopped_at : (t u v : TableValue) → u ≡ t → Stops u v → Stops t v
+stopped_at t u v e s = subst (λ (x : TableValue). Stops x v) e s
+
+pub ask_refused : (w : ℕ) (q : Key) (f : TableFault) (g : Fault) → IsFaultOf f g → (t u v : TableValue) → AskGives t w q (Err f) u → Stops u v → EnsureGives t w q (Err g) v
+ask_refused w q table.OutOfMemory g is t u v a s = subst (λ (x : Fault). EnsureGives t w q (Err x) v) (sym is) (stopped_at t u v a.2 s, a.0)
+ask_refused w q table.OutOfRank g is t u v a s = subst (λ (x : Fault). EnsureGives t w q (Err x) v) (sym is) (stopped_at t u v a.2 s, inr a.1)
+ask_refused w q table.NotYours g is t u v a s = absurd a
+ask_refused w q (table.EdgeOpen i) g is t u v a s = absurd a
+ask_refused w q (table.EdgeChanged i) g is t u v a s = absurd a
+ask_refused w q table.NotInPast g is t u v a s = absurd a
+ask_refused w q table.NothingChanged g is t u v a s = absurd a
+ask_refused w q (table.StaleRead i) g is t u v a s = absurd a
+ask_refused w q table.Failed g is t u v a s = absurd a
+
+-- want of memory in the midst of work
+pub memory_gives : (t u v : TableValue) (w : ℕ) (q : Key) (g : Fault) → g ≡ fault.OutOfMemory → u ≡ t → Stops u v → WorkGives t w q (Err g) v
+memory_gives t u v w q g is e s = subst (λ (x : Fault). WorkGives t w q (Err x) v) (sym is) (stopped_at t u v e s)
+
+-- ---- mark
+
+pub mark_done : (w : ℕ) (q : Key) (v : Arc Value Global) (t u : TableValue) → MarkGives t w q (Ok v) u → WorkGives t w q (Ok v) u
+mark_done w q v t u m =
+    let c : Changes q (green (past_of t q)) t (adds t (MarkGreen w q)) = changes_by t (MarkGreen w q) q (green (past_of t q)) m.0 refl in
+    let d : IsDoneWith (arc_value v) ((state_of (adds t (MarkGreen w q))).at q) = subst (λ (x : TableValue). IsDoneWith (arc_value v) ((state_of x).at q)) m.1 m.2 in
+    subst (λ (x : TableValue). WorkGives t w q (Ok v) x) (sym m.1) (changed_done t (adds t (MarkGreen w q)) w q (green (past_of t q)) c (arc_value v) d, d)
+
+walk_none : (o : Option Walk) (x : Walk) → o ≡ Some x → o ≡ None → ⊥
+walk_none o x s n = let e : Some x ≡ None = sym s ∙ n in cc
+
+walk_open : (o : Option Walk) (i : ℕ) → o ≡ Some AllUnchanged → o ≡ Some (OpenAt i) → ⊥
+walk_open o i s n = let e : Some AllUnchanged ≡ Some (OpenAt i) = sym s ∙ n in cc
+
+walk_changed : (o : Option Walk) (i : ℕ) → o ≡ Some AllUnchanged → o ≡ Some (ChangedAt i) → ⊥
+walk_changed o i s n = let e : Some AllUnchanged ≡ Some (ChangedAt i) = sym s ∙ n in cc
+
+pub mark_refused : (w : ℕ) (q : Key) (f : TableFault) (g : Fault) → IsFaultOf f g → (t u v : TableValue) → Stands (Claimed w) w q t → walk_in t q ≡ Some AllUnchanged → MarkGives t w q (Err f) u → Stops u v → WorkGives t w q (Err g) v
+mark_refused w q table.OutOfMemory g is t u v st all m s = memory_gives t u v w q g is m.1 s
+mark_refused w q table.Failed g is t u v st all m s = absurd (not_both (state_of t).failed m.0 st.failed)
+mark_refused w q table.NotYours g is t u v st all m s = absurd (m.1 st.at)
+mark_refused w q table.NotInPast g is t u v st all m s = absurd (walk_none (walk_in t q) AllUnchanged all m.1)
+mark_refused w q (table.EdgeOpen i) g is t u v st all m s = absurd (walk_open (walk_in t q) i all m.1)
+mark_refused w q (table.EdgeChanged i) g is t u v st all m s = absurd (walk_changed (walk_in t q) i all m.1)
+mark_refused w q table.OutOfRank g is t u v st all m s = absurd m
+mark_refused w q table.NothingChanged g is t u v st all m s = absurd m
+mark_refused w q (table.StaleRead i) g is t u v st all m s = absurd m
+
+-- ---- begin_run
+
+pub begin_changes : (t : TableValue) (w : ℕ) (q : Key) → IsStep t (Begin w q) → Changes q (Running w) t (adds t (Begin w q))
+begin_changes t w q may = changes_by t (Begin w q) q (Running w) may refl
+
+others_above : (t : TableValue) (w : ℕ) (q : Key) (x : Status) → Stands x w q t → (k : Key) → (k ≡ q → ⊥) → IsHeldBy w ((state_of t).at k) → rank q < rank k
+others_above t w q x st k n h = elim (st.above k h) [
+  | inl e ↦ absurd (n e)
+  | inr lt ↦ lt
+]
+
+begin_gives : (w : ℕ) (q : Key) (r : Result (Arc Value Global) Fault) (t v : TableValue) → Stands (Claimed w) w q t → IsStep t (Begin w q) → (Stands (Running w) w q (adds t (Begin w q)) → WorkGives (adds t (Begin w q)) w q r v) → WorkGives t w q r v
+begin_gives w q r t v st may work =
+    let c = begin_changes t w q may in
+    let u = adds t (Begin w q) in
+    changed_work t u w q (Running w) c v r refl (work (changed_stands t u w q (Running w) c st.failed refl (others_above t w q (Claimed w) st)))
+
+pub begin_work : (w : ℕ) (q : Key) (r : Result (Arc Value Global) Fault) (x : Unit {0}) (t u v : TableValue) → Stands (Claimed w) w q t → BeginGives t w q (Ok x) u → (Stands (Running w) w q u → WorkGives u w q r v) → WorkGives t w q r v
+begin_work w q r x t u v st b work =
+    let moved = subst (λ (y : TableValue). Stands (Running w) w q y → WorkGives y w q r v) b.1 work in
+    begin_gives w q r t v st b.0 moved
+
+may_open : (o : Option Walk) (i : ℕ) → MayRun o → o ≡ Some (OpenAt i) → ⊥
+may_open o i may e = let m : MayRun (Some (OpenAt i)) = subst MayRun e may in m
+
+may_unchanged : (o : Option Walk) → MayRun o → o ≡ Some AllUnchanged → ⊥
+may_unchanged o may e = let m : MayRun (Some AllUnchanged) = subst MayRun e may in m
+
+pub begin_refused : (w : ℕ) (q : Key) (f : TableFault) (g : Fault) → IsFaultOf f g → (t u v : TableValue) → Stands (Claimed w) w q t → MayRun (walk_in t q) → BeginGives t w q (Err f) u → Stops u v → WorkGives t w q (Err g) v
+begin_refused w q table.OutOfMemory g is t u v st may b s = memory_gives t u v w q g is b.1 s
+begin_refused w q table.Failed g is t u v st may b s = absurd (not_both (state_of t).failed b.0 st.failed)
+begin_refused w q table.NotYours g is t u v st may b s = absurd (b.1 st.at)
+begin_refused w q (table.EdgeOpen i) g is t u v st may b s = absurd (may_open (walk_in t q) i may b.1)
+begin_refused w q table.NothingChanged g is t u v st may b s = absurd (may_unchanged (walk_in t q) may b.1)
+begin_refused w q table.OutOfRank g is t u v st may b s = absurd b
+begin_refused w q (table.EdgeChanged i) g is t u v st may b s = absurd b
+begin_refused w q table.NotInPast g is t u v st may b s = absurd b
+begin_refused w q (table.StaleRead i) g is t u v st may b s = absurd b
+
+-- ---- finish
+
+finish_at : (w : ℕ) (a : Arc Value Global) (o : OutcomeValue) (t : TableValue) → IsStep t (Finish w o) → arc_value a ≡ o.value → WorkGives t w o.key (Ok a) (adds t (Finish w o))
+finish_at w a o t may is =
+    let x = Done o.value (keys o.told) Executed in
+    let u = adds t (Finish w o) in
+    let c : Changes o.key x t u = changes_by t (Finish w o) o.key x may refl in
+    let d : IsDoneWith (arc_value a) ((state_of u).at o.key) = subst (λ (y : Status). IsDoneWith (arc_value a) y) (sym c.here) (sym is) in
+    (changed_done t u w o.key x c (arc_value a) d, d)
+
+pub finish_done : (w : ℕ) (q : Key) (a : Arc Value Global) (o : OutcomeValue) (x : Unit {0}) → o.key ≡ q → arc_value a ≡ o.value → (t u : TableValue) → FinishGives t w o (Ok x) u → WorkGives t w q (Ok a) u
+finish_done w q a o x key is t u f =
+    subst (λ (k : Key). WorkGives t w k (Ok a) u) key (subst (λ (y : TableValue). WorkGives t w o.key (Ok a) y) (sym f.1) (finish_at w a o t f.0 is))
+
+not_stale : (s : State) (told : List ReadValue) (i : ℕ) → AreHeld s told → IsFirstStale s told i → ⊥
+not_stale s [] i h f = f
+not_stale s (r ∷ rs) zero h f = f h.0
+not_stale s (r ∷ rs) (suc i) h f = not_stale s rs i h.1 f.1
+
+pub finish_refused : (w : ℕ) (q : Key) (o : OutcomeValue) (f : TableFault) (g : Fault) → o.key ≡ q → IsFaultOf f g → (t u v : TableValue) → AreHeld (state_of t) o.told → Stands (Running w) w q t → FinishGives t w o (Err f) u → Stops u v → WorkGives t w q (Err g) v
+finish_refused w q o table.OutOfMemory g key is t u v held st b s = memory_gives t u v w q g is b.1 s
+finish_refused w q o table.Failed g key is t u v held st b s = absurd (not_both (state_of t).failed b.0 st.failed)
+finish_refused w q o table.NotYours g key is t u v held st b s = absurd (b.1 (ap (state_of t).at key ∙ st.at))
+finish_refused w q o (table.StaleRead i) g key is t u v held st b s = absurd (not_stale (state_of t) o.told i held b.1)
+finish_refused w q o (table.EdgeOpen i) g key is t u v held st b s = absurd b
+finish_refused w q o table.NothingChanged g key is t u v held st b s = absurd b
+finish_refused w q o table.OutOfRank g key is t u v held st b s = absurd b
+finish_refused w q o (table.EdgeChanged i) g key is t u v held st b s = absurd b
+finish_refused w q o table.NotInPast g key is t u v held st b s = absurd b
+
+-- ---- a past edge
+
+below_it : (x : Status) (w : ℕ) (q e : Key) (t : TableValue) → Stands x w q t → rank e < rank q → IsBelow (state_of t) w e
+below_it x w q e t st lt = λ k h. elim (st.above k h) [
+  | inl is ↦ subst (λ (y : Key). rank e < rank y) (sym is) lt
+  | inr more ↦ (let below : rank e < rank k = omega (arith, lt, more) in below)
+]
+
+pub edge_gives_up : (x : Status) (w : ℕ) (q e : Key) (f : Fault) (t u : TableValue) → Stands x w q t → rank e < rank q → EnsureGives t w e (Err f) u → GivesUp t w f u
+edge_gives_up x w q e fault.Stopped t u st lt h = elim h.1 [
+  | inl failed ↦ absurd (not_both (state_of t).failed failed st.failed)
+  | inr isnt ↦ absurd (isnt (below_it x w q e t st lt))
+]
+edge_gives_up x w q e fault.OutOfMemory t u st lt h = h.0
+edge_gives_up x w q e fault.Busy t u st lt h = h
+
+-- ---- what a call and giving up come to, in their order
+
+pub mark_ok : (w : ℕ) (q : Key) (v : Arc Value Global) (t u : TableValue) → MarkGives t w q (Ok v) u → Stands (Claimed w) w q t → walk_in t q ≡ Some AllUnchanged → WorkGives t w q (Ok v) u
+mark_ok w q v t u m st all = mark_done w q v t u m
+
+pub mark_ended : (w : ℕ) (q : Key) (f : TableFault) (g : Fault) → IsFaultOf f g → (t u v : TableValue) → MarkGives t w q (Err f) u → Stops u v → Stands (Claimed w) w q t → walk_in t q ≡ Some AllUnchanged → WorkGives t w q (Err g) v
+mark_ended w q f g is t u v m s st all = mark_refused w q f g is t u v st all m s
+
+pub finish_ok : (w : ℕ) (q : Key) (a : Arc Value Global) (o p : OutcomeValue) (x : Unit {0}) → p ≡ o → o.key ≡ q → arc_value a ≡ o.value → (t u : TableValue) → FinishGives t w p (Ok x) u → Stands (Running w) w q t → AreHeld (state_of t) o.told → WorkGives t w q (Ok a) u
+finish_ok w q a o p x same key is t u f st held = finish_done w q a o x key is t u (subst (λ (y : OutcomeValue). FinishGives t w y (Ok x) u) same f)
+
+pub finish_ended : (w : ℕ) (q : Key) (o p : OutcomeValue) (f : TableFault) (g : Fault) → p ≡ o → o.key ≡ q → IsFaultOf f g → (t u v : TableValue) → FinishGives t w p (Err f) u → Stops u v → Stands (Running w) w q t → AreHeld (state_of t) o.told → WorkGives t w q (Err g) v
+finish_ended w q o p f g same key is t u v b s st held = finish_refused w q o f g key is t u v held st (subst (λ (y : OutcomeValue). FinishGives t w y (Err f) u) same b) s
+
+pub stopped_early : (w : ℕ) (q : Key) (told : List ReadValue) (g : Fault) → g ≡ fault.OutOfMemory → (t v : TableValue) → Stops t v → Stands (Running w) w q t → AreHeld (state_of t) told → WorkGives t w q (Err g) v
+stopped_early w q told g is t v s st held = memory_gives t t v w q g is refl s
+
+pub work_memory : (w : ℕ) (q : Key) (g : Fault) → g ≡ fault.OutOfMemory → (t v : TableValue) → Stops t v → Stands (Claimed w) w q t → WorkGives t w q (Err g) v
+work_memory w q g is t v s st = memory_gives t t v w q g is refl s
+
+pub start_ok : (w : ℕ) (q : Key) (r : Result (Arc Value Global) Fault) (x : Unit {0}) (t u v : TableValue) → BeginGives t w q (Ok x) u → (Stands (Running w) w q u → WorkGives u w q r v) → Stands (Claimed w) w q t → MayRun (walk_in t q) → WorkGives t w q r v
+start_ok w q r x t u v b work st may = begin_work w q r x t u v st b work
+
+pub start_ended : (w : ℕ) (q : Key) (f : TableFault) (g : Fault) → IsFaultOf f g → (t u v : TableValue) → BeginGives t w q (Err f) u → Stops u v → Stands (Claimed w) w q t → MayRun (walk_in t q) → WorkGives t w q (Err g) v
+start_ended w q f g is t u v b s st may = begin_refused w q f g is t u v st may b s

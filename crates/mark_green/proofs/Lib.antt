@@ -1,0 +1,4 @@
+pub mod GoingOn
+pub mod Calling
+pub mod Walking
+pub mod Running

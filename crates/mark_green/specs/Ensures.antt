@@ -1,0 +1,104 @@
+-- What bringing a key to done answers, by the table before it.
+use Rattle.std.specs.Prelude.{◌≡◌, ◌⊎◌, ◌<◌, ℕ, Bool, true, false, List, map, length, Option, Some, None, Result, Ok, Err}
+use Rattle.std.specs.declared.alloc.Global.{Global}
+use Rattle.std.specs.declared.sync.Arc.{Arc}
+use Rattle.std.specs.Arc.{arc_value}
+use Rattle.item_ids.specs.declared.key.Key.{Key}
+use Rattle.result_bytes.specs.declared.value.Value.{Value}
+use Rattle.recorder.specs.Backed.{ReadValue, rank}
+use Rattle.recorder.specs.Runs.{OutcomeValue}
+use Rattle.graph_rules.specs.Steps.{EdgeState, Unchanged, Changed, AllUnchanged, Walk, walk, edge_of, MayRun, IsDoneWith, IsBelow, AreHeld}
+use Rattle.job_table.specs.Tables.{TableValue, past_of, state_of}
+use Rattle.sessions.specs.Sessions.{SessionValue, RecordValue, Entry, key_at, entry_at}
+use Rattle.job_table.specs.declared.fault.TableFault.{TableFault}
+use Rattle.job_table.specs.declared.fault.TableFault.TheVariants as table
+use Rattle.mark_green.specs.declared.fault.Fault.{Fault}
+use Rattle.mark_green.specs.declared.fault.Fault.TheVariants as fault
+use Rattle.mark_green.specs.declared.asking.Stop.{Stop}
+use Rattle.mark_green.specs.declared.asking.Stop.TheVariants as stop
+use Rattle.mark_green.specs.Leaves.{GoesOn, Stops, Leaves, LeavesBut, IsOthers}
+
+-- Ok: the key is done in the table with this result. Stopped: a worker had failed, or w had a key
+-- whose rank isn't above this one's. Busy: another worker had a key.
+abbrev pub EnsureGives : TableValue → ℕ → Key → Result (Arc Value Global) Fault → TableValue
+    → Type 0
+EnsureGives t w q (Ok v) u = Leaves t u × IsDoneWith (arc_value v) ((state_of u).at q)
+EnsureGives t w q (Err fault.Stopped) u =
+    Stops t u × (((state_of t).failed ≡ true) ⊎ ¬ IsBelow (state_of t) w q)
+EnsureGives t w q (Err fault.OutOfMemory) u = Stops t u × ((state_of t).failed ≡ false)
+EnsureGives t w q (Err fault.Busy) u =
+    GoesOn t u × ((state_of u).failed ≡ false) × IsOthers t w
+
+-- why a key isn't brought to done that w has claimed or runs: memory ran out, or another worker had
+-- a key
+abbrev pub GivesUp : TableValue → ℕ → Fault → TableValue → Type 0
+GivesUp t w fault.Stopped u = ⊥
+GivesUp t w fault.OutOfMemory u = Stops t u
+GivesUp t w fault.Busy u = GoesOn t u × ((state_of u).failed ≡ false) × IsOthers t w
+
+-- bringing a key to done that w has claimed or runs
+abbrev pub WorkGives : TableValue → ℕ → Key → Result (Arc Value Global) Fault → TableValue → Type 0
+WorkGives t w q (Ok v) u = LeavesBut q t u × IsDoneWith (arc_value v) ((state_of u).at q)
+WorkGives t w q (Err f) u = GivesUp t w f u
+
+-- bringing a past edge e to done, and whether it is unchanged then
+abbrev pub EdgeGives : TableValue → ℕ → Key → Result Bool Fault → TableValue → Type 0
+EdgeGives t w e (Ok true) u = Leaves t u × (edge_of (past_of u) (state_of u) e ≡ Unchanged)
+EdgeGives t w e (Ok false) u = Leaves t u × (edge_of (past_of u) (state_of u) e ≡ Changed)
+EdgeGives t w e (Err f) u = EnsureGives t w e (Err f) u
+
+-- the walk over past edges in a table
+abbrev pub walk_over : TableValue → List Key → Walk
+walk_over t es = walk (past_of t) (state_of t) es
+
+-- bringing past edges to done, up to the first that is changed, and whether none is
+abbrev pub WalkGives : TableValue → ℕ → List Key → Result Bool Fault → TableValue → Type 0
+WalkGives t w es (Ok true) u = Leaves t u × (walk_over u es ≡ AllUnchanged)
+WalkGives t w es (Ok false) u = Leaves t u × MayRun (Some (walk_over u es))
+WalkGives t w es (Err f) u = GivesUp t w f u
+
+-- the past has the key with these edges
+abbrev pub HasEdges : SessionValue → Key → List ℕ → Type 0
+HasEdges s q edges =
+    (r : Entry) × (entry_at s q ≡ Some r) × (r.reads ≡ map (key_at s.records) edges)
+
+-- a record of the past whose key is of lower rank than q
+abbrev pub IsRecordUnder : List RecordValue → Key → ℕ → Type 0
+IsRecordUnder records q e = (e < length records) × (rank (key_at records e) < rank q)
+
+-- bringing a key to done that a run lacked, and what is held then
+abbrev pub FetchGives : TableValue → ℕ → Key → Result (Unit {0}) Fault → List ReadValue
+    → TableValue → Type 0
+FetchGives t w k (Ok _) held u =
+    LeavesBut k t u × ((v : Value) × IsDoneWith v ((state_of u).at k)) × AreHeld (state_of u) held
+FetchGives t w k (Err f) held u = GivesUp t w f u
+
+-- one run, or a key brought to done that it lacked
+abbrev pub TurnGives : TableValue → ℕ → Key → Result (Option OutcomeValue) Fault
+    → List ReadValue → TableValue → Type 0
+TurnGives t w q (Ok (Some o)) held u = Leaves t u × AreHeld (state_of u) o.told
+TurnGives t w q (Ok None) held u = Leaves t u × AreHeld (state_of u) held
+TurnGives t w q (Err f) held u = GivesUp t w f u
+
+-- a table's refusal for want of memory is one for want of memory, any other ends the work
+abbrev pub IsFaultOf : TableFault → Fault → Type 0
+IsFaultOf table.OutOfMemory f = f ≡ fault.OutOfMemory
+IsFaultOf _ f = f ≡ fault.Stopped
+
+-- what a run that stopped comes to
+abbrev pub IsFaultOfStop : Stop → Fault → Type 0
+IsFaultOfStop stop.Busy f = f ≡ fault.Busy
+IsFaultOfStop stop.Stopped f = f ≡ fault.Stopped
+IsFaultOfStop (stop.Refused x) f = IsFaultOf x f
+IsFaultOfStop (stop.Lacks k) f = f ≡ fault.OutOfMemory
+IsFaultOfStop stop.OutOfMemory f = f ≡ fault.OutOfMemory
+
+-- nothing is called where another worker has a key, or a worker failed before
+abbrev pub StopsFor : Stop → TableValue → TableValue → Type 0
+StopsFor stop.Busy t u = u ≡ t
+StopsFor stop.Stopped t u = u ≡ t
+StopsFor _ t u = Stops t u
+
+-- what a store says of an outcome is what stands in it
+abbrev pub ShowsOutcomes : (Arc OutcomeValue Global → OutcomeValue) → Type 0
+ShowsOutcomes shown = (o : Arc OutcomeValue Global) → shown o ≡ arc_value o

@@ -1,0 +1,3 @@
+pub mod Leaves
+pub mod Ensures
+pub mod Moves

@@ -1,0 +1,66 @@
+//! A table of one's own.
+ghost use Rattle.std.specs.Prelude.{◌≡◌, Some};
+ghost use Rattle.std.specs.Arc.{arc_value};
+
+use crate::store::Store;
+use fingerprint::Sealed;
+use item_ids::Key;
+use job_table::{Asked, Table, TableFault};
+use recorder::{Outcome, Runner};
+use sessions::Session;
+use std::alloc::AllocError;
+use std::sync::Arc;
+
+/// A table of one's own, of which a store says all. It doesn't wait.
+#[derive(Drop)]
+pub struct Solo<R: Runner> {
+    table: Table<R>,
+}
+
+impl<R: Runner> Solo<R> {
+    /// The store of this table.
+    pub fn new(table: Table<R>) -> Self
+        ensures { result.table ≡ table }
+    {
+        Solo { table }
+    }
+
+    /// The table.
+    pub fn table(&self) -> &Table<R>
+        ensures { result.now ≡ self.now.table }
+    {
+        &self.table
+    }
+}
+
+impl<R: Runner> Store for Solo<R> {
+    type Out = Arc<Outcome<R>>;
+
+    ghost table = { λ s. Some s.table };
+
+    ghost outcome_in = { λ o. arc_value o };
+
+    fn ask(&mut self, w: u32, key: &Key) -> Result<Asked, TableFault> {
+        self.table.ask(w, key)
+    }
+
+    fn mark(&mut self, w: u32, key: &Key) -> Result<Arc<Sealed>, TableFault> {
+        self.table.mark(w, key)
+    }
+
+    fn begin_run(&mut self, w: u32, key: &Key) -> Result<(), TableFault> {
+        self.table.begin_run(w, key)
+    }
+
+    fn finish(&mut self, w: u32, outcome: Arc<Outcome<R>>) -> Result<(), TableFault> {
+        self.table.finish(w, outcome)
+    }
+
+    fn fail(&mut self, w: u32) -> Result<(), TableFault> {
+        self.table.fail(w)
+    }
+
+    fn past(&self) -> Result<Option<Arc<Session>>, AllocError> {
+        self.table.past()
+    }
+}
