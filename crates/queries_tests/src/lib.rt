@@ -4,4 +4,6 @@
 #[cfg(test)]
 mod bodies;
 #[cfg(test)]
+mod tables;
+#[cfg(test)]
 mod texts;
