@@ -62,6 +62,7 @@ pub fn before_has_lower()
 /// has the print of another one.
 pub fn no_past_is_meant()
     ensures graph { IsGraph (past_entry None) }
-    ensures meant { (mean : Meaning) (reads : ReadLists) (p : Project) → AreMeant mean reads (past_entry None) p }
+    ensures meant { (mean : Meaning) (reads : ReadLists) (p : Project)
+        → AreMeant mean reads (past_entry None) p }
     ensures apart { (now : Past) → AreValuesApart (past_entry None) now }
 {}

@@ -40,13 +40,15 @@ abbrev pub Halts : ℕ → ℕ → Stop → Option TableValue → Option TableVa
 Halts w r x a b = IsUnder r x × Tells (λ t u. GoesOn t u × StopGives t w r x u) a b
 
 -- reads with answers leave the table as it was, and after the first without one nothing is asked
-abbrev pub Moves : ℕ → ℕ → Option Stop → Option Stop → Option TableValue → Option TableValue → Type 0
+abbrev pub Moves : ℕ → ℕ → Option Stop → Option Stop → Option TableValue → Option TableValue
+    → Type 0
 Moves w r old new a b =
     ((new ≡ old) × (b ≡ a)) ⊎ ((old ≡ None) × MatchOption new ⊥ (λ x. Halts w r x a b))
 
 -- ---- a history that goes on
 
-pub state_on : (t u : TableValue) (g : GoesOn t u) → state_of u ≡ after_all (past_of t) (state_of t) g.more
+pub state_on : (t u : TableValue) (g : GoesOn t u)
+    → state_of u ≡ after_all (past_of t) (state_of t) g.more
 state_on t u g =
     ap (λ (x : TableValue). state_of x) whole
     ∙ after_all_append (past_of t) (opening t.project) t.history g.more
@@ -67,7 +69,8 @@ done_on v (Claimed w) y h d = absurd d
 done_on v (Running w) y h d = absurd d
 done_on v (Done a es m) y h d = subst (λ (z : Status). IsDoneWith v z) (sym (h a es m refl)) d
 
-pub done_stays : (q : Key) (v : Value) (t u : TableValue) → GoesOn t u → IsDoneIn q v t → IsDoneIn q v u
+pub done_stays : (q : Key) (v : Value) (t u : TableValue) → GoesOn t u → IsDoneIn q v t
+    → IsDoneIn q v u
 done_stays q v t u g d = done_on v ((state_of t).at q) ((state_of u).at q) (keeps_on t u g q) d
 
 -- ---- reads, one after the other

@@ -36,7 +36,8 @@ pub trait Store {
 
     /// Begins the run of a key that the worker has claimed.
     fn begin_run(&mut self, w: u32, key: &Key) -> Result<(), TableFault>
-        ensures { Tells (λ t u. BeginGives t w key.now result u) (table self.old) (table self.new) };
+        ensures { Tells (λ t u. BeginGives t w key.now result u) (table self.old)
+            (table self.new) };
 
     /// Ends the run of a key by its outcome.
     fn finish(&mut self, w: u32, outcome: Self::Out) -> Result<(), TableFault>
