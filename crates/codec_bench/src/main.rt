@@ -61,7 +61,8 @@ fn repeat_queries(rt: &HostRuntime, count: u32, files: &[String]) -> io::Result<
 fn read_project<R: Files + AllocGlobal>(rt: &R, names: &[String]) -> io::Result<Project> {
     let mut files = Vec::new(rt.alloc());
     for name in names {
-        files.push((name.copy(rt.alloc())?, fs::read(rt, name.as_str())?))?;
+        let bytes = fs::read(rt, name.as_str())?;
+        files.push((String::from_str(rt.alloc(), name.as_str())?, bytes))?;
     }
     match Project::new(rt.alloc(), files) {
         Ok(project) => Ok(project),
