@@ -7,4 +7,4 @@ use Rattle.answer_query.proofs.facts.ascending_rows.Goals as goal
 
 pub returns-clause-ascending : goal.returns-clause-ascending
 returns-clause-ascending c =
-    subst (IsAscendingByName (λ (row : IndexRow). row.class)) (sym (c.rows_in.ensures ∙ ap rows_in c.value.ensures.value)) (rows_ascend c.args.index.now c.value.ensures.kept)
+    subst (IsAscendingByName (λ (row : IndexRow). row.class)) (sym (c.rows_in.ensures.value ∙ ap rows_in c.value.ensures.value)) (rows_ascend c.args.index.now c.value.ensures.kept)
