@@ -1,12 +1,11 @@
 -- What the answers of calls come to.
-use Rattle.std.proofs.Common.{◌≡◌, ◌≢◌, ℕ, zero, suc, ◌<◌, List, [], ◌∷◌, refl, sym, ap, ◌∙◌, subst, Bool, true, false, Option, Some, None, arith, inl, inr, ◌⊎◌}
+use Rattle.std.proofs.Common.{◌≡◌, ℕ, zero, suc, ◌<◌, List, [], ◌∷◌, refl, sym, ap, ◌∙◌, subst, Bool, true, false, Option, Some, None, arith, inl, inr}
 use Rattle.std.specs.Prelude.{Result, Ok, Err}
 use Rattle.std.specs.declared.alloc.Global.{Global}
 use Rattle.std.specs.declared.sync.Arc.{Arc}
 use Rattle.std.specs.Arc.{arc_value}
 use Rattle.item_ids.specs.declared.key.Key.{Key}
 use Rattle.result_bytes.specs.declared.value.Value.{Value}
-use Rattle.sessions.specs.declared.mark.Mark.{Mark}
 use Rattle.sessions.specs.declared.mark.Mark.TheVariants.{Executed}
 use Rattle.recorder.specs.Backed.{ReadValue, rank, keys}
 use Rattle.recorder.specs.Runs.{OutcomeValue}
@@ -19,9 +18,9 @@ use Rattle.job_table.specs.declared.fault.TableFault.{TableFault}
 use Rattle.job_table.specs.declared.fault.TableFault.TheVariants as table
 use Rattle.mark_green.specs.declared.fault.Fault.{Fault}
 use Rattle.mark_green.specs.declared.fault.Fault.TheVariants as fault
-use Rattle.mark_green.specs.Leaves.{Knows, Tells, GoesOn, Stops, Leaves, LeavesBut, IsOthers, Stands}
+use Rattle.mark_green.specs.Leaves.{Stops, IsOthers, Stands}
 use Rattle.mark_green.specs.Ensures.{EnsureGives, GivesUp, WorkGives, IsFaultOf}
-use Rattle.mark_green.proofs.GoingOn.{on_none, on_one, on_then, stops_then, Changes, changes_by, changed_work, changed_others, changed_leaves, changed_done, changed_stands, leaves_none, gives_up_on}
+use Rattle.mark_green.proofs.GoingOn.{on_none, on_one, on_then, stops_then, Changes, changes_by, changed_work, changed_others, changed_leaves, changed_done, changed_stands, leaves_none}
 
 not_both : (b : Bool) → b ≡ true → b ≡ false → ⊥
 not_both b t f = cc

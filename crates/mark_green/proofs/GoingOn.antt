@@ -1,5 +1,5 @@
 -- Histories that go on, one after the other.
-use Rattle.std.proofs.Common.{◌≡◌, ◌≢◌, ℕ, ◌<◌, List, [], ◌∷◌, ◌++◌, refl, sym, ap, ◌∙◌, subst, Bool, true, false, Option, Some, None, arith, inl, inr, ◌⊎◌}
+use Rattle.std.proofs.Common.{◌≡◌, ◌≢◌, ℕ, ◌<◌, List, [], ◌∷◌, ◌++◌, refl, sym, ap, ◌∙◌, subst, true, false, Option, Some, None, arith, inl, inr, ◌⊎◌}
 use Rattle.std.specs.Prelude.{if◌then◌else◌, Result, Ok, Err}
 use Rattle.std.proofs.lemmas.List.{append-nil, append_assoc}
 use Rattle.std.specs.declared.alloc.Global.{Global}
@@ -7,13 +7,11 @@ use Rattle.std.specs.declared.sync.Arc.{Arc}
 use Rattle.std.specs.Arc.{arc_value}
 use Rattle.item_ids.specs.declared.key.Key.{Key}
 use Rattle.result_bytes.specs.declared.value.Value.{Value}
-use Rattle.sessions.specs.Sessions.{past_entry, SessionValue}
-use Rattle.sessions.specs.declared.mark.Mark.{Mark}
-use Rattle.recorder.specs.Projects.{Project}
+use Rattle.sessions.specs.Sessions.{past_entry}
 use Rattle.recorder.specs.Backed.{ReadValue, rank}
 use Rattle.graph_rules.specs.Keys.{same_key}
 use Rattle.graph_rules.specs.Pasts.{Past}
-use Rattle.graph_rules.specs.Steps.{Status, Unknown, Claimed, Running, Done, State, Event, AreSteps, MayStep, after, after_all, with_status, opening, IsHeldBy, IsBelow, IsDoneWith, AreHeld}
+use Rattle.graph_rules.specs.Steps.{Status, Unknown, Claimed, Running, Done, State, Event, AreSteps, after, with_status, opening, IsHeldBy, IsDoneWith, AreHeld}
 use Rattle.graph_rules.proofs.KeyRules.{same_refl, same_is}
 use Rattle.graph_rules.proofs.Orders.{steps_append, after_all_append}
 use Rattle.graph_rules.proofs.Keeping.{held_keeps}
@@ -21,7 +19,7 @@ use Rattle.job_table.specs.Tables.{TableValue, past_of, state_of, IsStep, adds}
 use Rattle.mark_green.specs.declared.fault.Fault.{Fault}
 use Rattle.mark_green.specs.declared.fault.Fault.TheVariants as fault
 use Rattle.mark_green.specs.Leaves.{Knows, Tells, GoesOn, Stops, Leaves, LeavesBut, IsOthers, Stands}
-use Rattle.mark_green.specs.Ensures.{EnsureGives, GivesUp, WorkGives}
+use Rattle.mark_green.specs.Ensures.{GivesUp, WorkGives}
 use Rattle.mark_green.specs.Moves.{state_on, keeps_on}
 
 -- ---- what is known of tables

@@ -1,6 +1,6 @@
 -- What runs come to.
 use Rattle.std.proofs.Common.{◌≡◌, ℕ, ◌<◌, List, [], ◌∷◌, ◌++◌, refl, sym, ap, ◌∙◌, subst, Bool, true, false, Option, Some, None, arith, inl, inr, ◌⊎◌, Contains}
-use Rattle.std.specs.Prelude.{Result, Ok, Err, MatchOption}
+use Rattle.std.specs.Prelude.{Result, Ok, Err}
 use Rattle.std.specs.List.{AllByRecursion}
 use Rattle.std.proofs.lemmas.List.Elements.{All-contains, All-from_recursion}
 use Rattle.std.specs.declared.alloc.Global.{Global}
@@ -10,23 +10,22 @@ use Rattle.item_ids.specs.declared.key.Key.{Key}
 use Rattle.result_bytes.specs.declared.value.Value.{Value}
 use Rattle.recorder.specs.Backed.{ReadValue, rank}
 use Rattle.recorder.specs.Runs.{OutcomeValue}
-use Rattle.graph_rules.specs.Steps.{Status, Unknown, Claimed, Running, Done, State, IsHeldBy, IsBelow, IsDoneWith, AreHeld}
+use Rattle.graph_rules.specs.Steps.{Claimed, Running, State, IsBelow, IsDoneWith, AreHeld}
 use Rattle.job_table.specs.Tables.{TableValue, state_of, IsStep, adds}
 use Rattle.job_table.specs.Calls.{AskGives}
 use Rattle.job_table.specs.declared.fault.Asked.{Asked}
 use Rattle.job_table.specs.declared.fault.Asked.TheVariants as asked
 use Rattle.job_table.specs.declared.fault.TableFault.{TableFault}
 use Rattle.job_table.specs.declared.fault.TableFault.TheVariants as table
-use Rattle.job_table.specs.Tables.{past_of}
 use Rattle.graph_rules.specs.Steps.{Claim}
 use Rattle.mark_green.specs.declared.fault.Fault.{Fault}
 use Rattle.mark_green.specs.declared.fault.Fault.TheVariants as fault
 use Rattle.mark_green.specs.declared.asking.Stop.{Stop}
 use Rattle.mark_green.specs.declared.asking.Stop.TheVariants as stop
-use Rattle.mark_green.specs.Leaves.{Knows, Tells, GoesOn, Stops, Leaves, LeavesBut, IsOthers, Stands}
+use Rattle.mark_green.specs.Leaves.{Knows, Tells, GoesOn, Stops, Leaves, Stands}
 use Rattle.mark_green.specs.Ensures.{GivesUp, WorkGives, FetchGives, TurnGives, IsFaultOf, IsFaultOfStop, StopsFor}
-use Rattle.mark_green.specs.Moves.{IsDoneIn, StopGives, IsUnder, Halts, Moves, done_stays}
-use Rattle.mark_green.proofs.GoingOn.{on_none, on_one, on_then, stops_then, Changes, changed_work, changed_others, changed_leaves, changed_stands, leaves_none, leaves_then, leaves_gives_up, leaves_work, stands_on, gives_up_on, held_on, tells_here}
+use Rattle.mark_green.specs.Moves.{IsDoneIn, StopGives, Halts, Moves}
+use Rattle.mark_green.proofs.GoingOn.{on_none, on_one, stops_then, changed_others, changed_leaves, changed_stands, leaves_none, leaves_then, leaves_gives_up, leaves_work, stands_on, gives_up_on, held_on, tells_here}
 use Rattle.mark_green.proofs.Calling.{claim_changes, ask_others}
 
 -- ---- one read

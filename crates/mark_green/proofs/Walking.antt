@@ -1,7 +1,6 @@
 -- Walks over past edges, while keys become done.
-use Rattle.std.proofs.Common.{◌≡◌, ◌≢◌, ℕ, suc, ◌+◌, ◌<◌, List, [], ◌∷◌, ◌++◌, map, take, drop, length, get_or, refl, sym, ap, ◌∙◌, subst, Bool, true, false, Option, Some, None, option_map, arith, inl, inr, ◌⊎◌}
-use Rattle.std.specs.Prelude.{Result, Ok, Err}
-use Rattle.std.specs.List.{AllByRecursion}
+use Rattle.std.proofs.Common.{◌≡◌, ℕ, suc, ◌+◌, ◌<◌, List, [], ◌∷◌, ◌++◌, map, take, drop, length, get_or, refl, sym, ap, ◌∙◌, subst, Bool, true, false, Option, Some, None, option_map, arith}
+use Rattle.std.specs.Prelude.{Ok, Err}
 use Rattle.std.specs.declared.alloc.Global.{Global}
 use Rattle.std.specs.declared.sync.Arc.{Arc}
 use Rattle.std.specs.Arc.{arc_value}
@@ -12,18 +11,17 @@ use Rattle.result_bytes.specs.declared.value.Value.{Value}
 use Rattle.fingerprint.specs.Prints.{print_of}
 use Rattle.sessions.specs.Sessions.{SessionValue, RecordValue, Entry, IsSession, key_at, entry_at, past_entry}
 use Rattle.recorder.specs.Backed.{rank}
-use Rattle.graph_rules.specs.Pasts.{Past, print_in}
-use Rattle.graph_rules.specs.Steps.{Status, State, Claimed, EdgeState, Open, Unchanged, Changed, edge_at, edge_of, Walk, AllUnchanged, OpenAt, ChangedAt, later, walk_on, walk, past_walk, MayRun, IsDoneWith}
-use Rattle.graph_rules.specs.Histories.{Keeps}
+use Rattle.graph_rules.specs.Pasts.{Past}
+use Rattle.graph_rules.specs.Steps.{State, Claimed, EdgeState, Open, Unchanged, Changed, edge_at, edge_of, Walk, AllUnchanged, OpenAt, ChangedAt, later, walk_on, walk, MayRun}
 use Rattle.graph_rules.proofs.Keeping.{walk_keeps}
 use Rattle.job_table.specs.Tables.{TableValue, past_of, state_of}
 use Rattle.job_table.specs.Calls.{walk_in}
 use Rattle.job_table.proofs.WalkRules.{edge_with, edge_same, edge_other}
 use Rattle.mark_green.specs.declared.fault.Fault.{Fault}
-use Rattle.mark_green.specs.Leaves.{Knows, Tells, GoesOn, Leaves, Stands}
-use Rattle.mark_green.specs.Ensures.{EnsureGives, EdgeGives, WalkGives, WorkGives, walk_over, HasEdges}
+use Rattle.mark_green.specs.Leaves.{GoesOn, Leaves, Stands}
+use Rattle.mark_green.specs.Ensures.{EnsureGives, EdgeGives, WalkGives, walk_over, HasEdges}
 use Rattle.mark_green.specs.Moves.{keeps_on}
-use Rattle.mark_green.proofs.GoingOn.{leaves_none, leaves_then, leaves_gives_up, leaves_work, stands_on, tells_then}
+use Rattle.mark_green.proofs.GoingOn.{leaves_none, leaves_then, leaves_gives_up, stands_on}
 use Rattle.mark_green.proofs.Calling.{edge_gives_up}
 
 -- ---- walks that end so far without a change

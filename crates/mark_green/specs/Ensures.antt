@@ -7,7 +7,7 @@ use Rattle.item_ids.specs.declared.key.Key.{Key}
 use Rattle.result_bytes.specs.declared.value.Value.{Value}
 use Rattle.recorder.specs.Backed.{ReadValue, rank}
 use Rattle.recorder.specs.Runs.{OutcomeValue}
-use Rattle.graph_rules.specs.Steps.{EdgeState, Unchanged, Changed, AllUnchanged, Walk, walk, edge_of, MayRun, IsDoneWith, IsBelow, AreHeld}
+use Rattle.graph_rules.specs.Steps.{Unchanged, Changed, AllUnchanged, Walk, walk, edge_of, MayRun, IsDoneWith, IsBelow, AreHeld}
 use Rattle.job_table.specs.Tables.{TableValue, past_of, state_of}
 use Rattle.sessions.specs.Sessions.{SessionValue, RecordValue, Entry, key_at, entry_at}
 use Rattle.job_table.specs.declared.fault.TableFault.{TableFault}
@@ -79,6 +79,11 @@ abbrev pub TurnGives : TableValue → ℕ → Key → Result (Option OutcomeValu
 TurnGives t w q (Ok (Some o)) held u = Leaves t u × AreHeld (state_of u) o.told
 TurnGives t w q (Ok None) held u = Leaves t u × AreHeld (state_of u) held
 TurnGives t w q (Err f) held u = GivesUp t w f u
+
+-- runs, until one has an outcome
+abbrev pub RunGives : TableValue → ℕ → Result OutcomeValue Fault → TableValue → Type 0
+RunGives t w (Ok o) u = Leaves t u × AreHeld (state_of u) o.told
+RunGives t w (Err f) u = GivesUp t w f u
 
 -- a table's refusal for want of memory is one for want of memory, any other ends the work
 abbrev pub IsFaultOf : TableFault → Fault → Type 0

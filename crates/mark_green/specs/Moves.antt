@@ -1,15 +1,14 @@
 -- What the reads of a run do to the table.
-use Rattle.std.specs.Prelude.{◌≡◌, ◌⊎◌, ℕ, ◌<◌, ◌++◌, List, [], ◌∷◌, refl, true, false, Option, Some, None, MatchOption, Result, Ok, Err}
+use Rattle.std.specs.Prelude.{◌≡◌, ◌⊎◌, ℕ, ◌<◌, ◌++◌, List, refl, Option, Some, None, MatchOption, Ok, Err}
 use Rattle.std.proofs.Common.{sym, ap, ◌∙◌, subst, inl, inr}
 use Rattle.item_ids.specs.declared.key.Key.{Key}
 use Rattle.result_bytes.specs.declared.value.Value.{Value}
 use Rattle.sessions.specs.declared.mark.Mark.{Mark}
 use Rattle.recorder.specs.Backed.{rank}
-use Rattle.graph_rules.specs.Steps.{Status, Unknown, Claimed, Running, Done, State, Event, AreSteps, after_all, IsDoneWith, opening}
+use Rattle.graph_rules.specs.Steps.{Status, Unknown, Claimed, Running, Done, State, after_all, IsDoneWith, opening}
 use Rattle.graph_rules.specs.Histories.{Keeps}
-use Rattle.graph_rules.proofs.Orders.{after_all_append, steps_append}
+use Rattle.graph_rules.proofs.Orders.{after_all_append}
 use Rattle.graph_rules.proofs.Keeping.{keeps_all}
-use Rattle.sessions.specs.Sessions.{past_entry}
 use Rattle.job_table.specs.Tables.{TableValue, past_of, state_of}
 use Rattle.job_table.specs.Calls.{AskGives}
 use Rattle.job_table.specs.declared.fault.Asked.TheVariants as asked
@@ -109,3 +108,10 @@ moves_on w r x y z a b c (inr f) (inl g) =
           (subst (λ o. MatchOption o ⊥ (λ s. Halts w r s a b)) (sym g.0) f.1),
     )
 moves_on w r x y z a b c (inr f) (inr g) = absurd (none_no_match y _ g.0 f.1)
+
+-- the same, where the second moves are those of an equal worker and rank
+pub moves_from : (w r v s : ℕ) (x y z : Option Stop) (a b c : Option TableValue) → v ≡ w → s ≡ r
+    → Moves w r x y a b → Moves v s y z b c → Moves w r x z a c
+moves_from w r v s x y z a b c v_is s_is f g =
+    moves_on w r x y z a b c f
+    (subst (λ (n : ℕ). Moves n r y z b c) v_is (subst (λ (n : ℕ). Moves v n y z b c) s_is g))

@@ -1,7 +1,18 @@
-//! Why runs stop.
+//! Why runs stop, and what answers their reads.
+ghost use Rattle.std.specs.Prelude.{◌≡◌, ◌⊎◌, IfOk, IfErr};
+ghost use Rattle.std.specs.Arc.{arc_value};
+ghost use Rattle.recorder.specs.Backed.{IsOfKind};
+ghost use Rattle.mark_green.specs.Leaves.{Knows};
+ghost use Rattle.mark_green.specs.Moves.{IsDoneIn, Halts};
+ghost use Rattle.mark_green.specs.declared.asking.Stop.{Stop};
 
-use item_ids::Key;
-use job_table::TableFault;
+use crate::store::Store;
+use fingerprint::Sealed;
+use item_ids::{Key, rank};
+use job_table::{Asked, TableFault};
+use recorder::{AnswerList, ReadFault, Reader};
+use std::alloc::Global;
+use std::sync::Arc;
 
 /// Why a run has no outcome.
 #[derive(Drop)]
@@ -16,4 +27,117 @@ pub(crate) enum Stop {
     Refused(TableFault),
     /// Memory ran out.
     OutOfMemory,
+}
+
+/// Answers the reads of a run by the results held, else by the store, of keys below a rank. After the first read without
+/// an answer it asks nothing.
+#[derive(Drop)]
+pub(crate) struct Asking<'a, S: Store> {
+    pub alloc: Global,
+    pub store: &'a mut S,
+    pub w: u32,
+    pub below: u8,
+    pub held: &'a AnswerList,
+    pub stop: Option<Stop>,
+}
+
+impl<S: Store> Reader for Asking<'_, S> {
+    ghost use Rattle.std.specs.Prelude.{◌≡◌, ◌⊎◌, Contains, refl};
+    ghost use Rattle.std.proofs.Common.{◌∙◌, inl, inr, subst, sym};
+    ghost use Rattle.mark_green.specs.Leaves.{Knows};
+    ghost use Rattle.mark_green.specs.Moves.{IsDoneIn, Moves, moves_keep, moves_from};
+
+    ghost answers = { λ s q v. Knows (IsDoneIn q v) (S.table s.store.now)
+        ⊎ Contains s.held.now (record { key = q; value = v }) };
+
+    ghost faults = { λ s q f. Unit {0} };
+
+    ghost follows = { λ s t. (t.store.ghost_name ≡ s.store.ghost_name)
+        × (t.held.now ≡ s.held.now) × (t.w ≡ s.w) × (t.below ≡ s.below)
+        × Moves s.w s.below s.stop t.stop (S.table s.store.now) (S.table t.store.now) };
+
+    ghost reflexive = { λ s. (refl, refl, refl, refl, inl (refl, refl)) };
+
+    ghost transitive = { λ s t u f g. (
+      g.0 ∙ f.0,
+      g.1 ∙ f.1,
+      g.2 ∙ f.2,
+      g.3 ∙ f.3,
+      moves_from s.w s.below t.w t.below s.stop t.stop u.stop (S.table s.store.now)
+          (S.table t.store.now) (S.table u.store.now) f.2 f.3 f.4 g.4,
+    ) };
+
+    ghost kept = { λ s t q v f a. elim a [
+      | inl h ↦ inl (moves_keep s.w s.below s.stop t.stop q v (S.table s.store.now)
+          (S.table t.store.now) f.4 h)
+      | inr h ↦ inr (subst (λ list. Contains list (record { key = q; value = v })) (sym f.1) h)
+    ] };
+
+    fn read(&mut self, key: &Key) -> Result<Arc<Sealed>, ReadFault> {
+        if let Some(_) = &self.stop {
+            return Err(ReadFault::Stopped);
+        }
+        if let Some(read) = self.held.find(key) {
+            return match Arc::try_clone(read.answer()) {
+                Ok(sealed) => Ok(sealed),
+                Err(_) => Err(ReadFault::OutOfMemory),
+            };
+        }
+        match answer_of(self.alloc, self.store, self.w, self.below, key) {
+            Ok(sealed) => Ok(sealed),
+            Err(stop) => {
+                self.stop = Some(stop);
+                Err(ReadFault::NotHeld)
+            }
+        }
+    }
+}
+
+/// The result of a key below the rank that is done in the store.
+fn answer_of<S: Store>(
+    alloc: Global,
+    store: &mut S,
+    w: u32,
+    below: u8,
+    key: &Key,
+) -> Result<Arc<Sealed>, Stop>
+    ensures kind { IfOk result (λ a. IsOfKind key.now (arc_value a)) }
+    ensures same { IfOk result (λ _. S.table store.new ≡ S.table store.old) }
+    ensures done { IfOk result (λ a. Knows (IsDoneIn key.now (arc_value a)) (S.table store.new)) }
+    ensures halts { IfErr result (λ x. Halts w below x (S.table store.old) (S.table store.new)) }
+{
+    if rank(key.kind()) >= below {
+        return Err(Stop::OutOfMemory);
+    }
+    match store.ask(w, key) {
+        Ok(Asked::Done(sealed)) => of_kind(key, sealed),
+        Ok(Asked::Yours) => Err(lacks(alloc, key)),
+        Ok(Asked::Busy) => Err(Stop::Busy),
+        Ok(Asked::Stopped) => Err(Stop::Stopped),
+        Err(fault) => Err(Stop::Refused(fault)),
+    }
+}
+
+/// The result, where it is of the key's kind.
+fn of_kind(key: &Key, sealed: Arc<Sealed>) -> Result<Arc<Sealed>, Stop>
+    ensures same { IfOk result (λ a. a ≡ sealed) }
+    ensures kind { IfOk result (λ a. IsOfKind key.now (arc_value a)) }
+    ensures err { IfErr result (λ x. x ≡ Stop.OutOfMemory) }
+{
+    if sealed.value().kind() == key.kind() {
+        Ok(sealed)
+    } else {
+        drop(sealed);
+        Err(Stop::OutOfMemory)
+    }
+}
+
+/// The stop of a run that lacks the key.
+fn lacks(alloc: Global, key: &Key) -> Stop
+    ensures { (result ≡ Stop.Lacks key.now) ⊎ (result ≡ Stop.OutOfMemory) }
+{
+    match key.copy(alloc) {
+        Ok(key) => Stop::Lacks(key),
+        Err(_) => Stop::OutOfMemory,
+    }
 }

@@ -1,14 +1,18 @@
-//! Stores, as workers see the table of a session, and the steps that bring a key to done in one: marking it, holding a
-//! result for a run, and giving up.
+//! Bringing keys to done in stores, as workers see the table of a session: a key whose past edges are unchanged is
+//! marked, any other is run.
 #![tactic(auto)]
 
 mod asking;
+mod bringing;
+mod edges;
 mod fault;
 mod giving_up;
+mod runs;
 mod solo;
 mod steps;
 mod store;
 
+pub use bringing::ensure;
 pub use fault::Fault;
 pub use solo::Solo;
 pub use store::Store;

@@ -1,14 +1,17 @@
 //! A table of one's own.
 ghost use Rattle.std.specs.Prelude.{◌≡◌, Some};
 ghost use Rattle.std.specs.Arc.{arc_value};
+ghost use Rattle.mark_green.specs.Ensures.{EnsureGives};
 
+use crate::bringing::ensure;
+use crate::fault::Fault;
 use crate::store::Store;
 use fingerprint::Sealed;
 use item_ids::Key;
 use job_table::{Asked, Table, TableFault};
 use recorder::{Outcome, Runner};
 use sessions::Session;
-use std::alloc::AllocError;
+use std::alloc::{AllocError, Global};
 use std::sync::Arc;
 
 /// A table of one's own, of which a store says all. It doesn't wait.
@@ -23,6 +26,19 @@ impl<R: Runner> Solo<R> {
         ensures { result.table ≡ table }
     {
         Solo { table }
+    }
+
+    /// Brings a key to done in the table, by the worker, and gives its result.
+    pub fn ensure(
+        &mut self,
+        alloc: Global,
+        runner: &mut R,
+        w: u32,
+        key: &Key,
+    ) -> Result<Arc<Sealed>, Fault>
+        ensures { EnsureGives self.old.table w key.now result self.new.table }
+    {
+        ensure(alloc, self, runner, w, key)
     }
 
     /// The table.

@@ -1,5 +1,5 @@
-use Rattle.std.proofs.Common.{sym, ap, ◌∙◌, subst}
-use Rattle.std.specs.Prelude.{Result, Ok, Err}
+use Rattle.std.proofs.Common.{◌∙◌, subst}
+use Rattle.std.specs.Prelude.{Result}
 use Rattle.job_table.specs.Tables.{TableValue}
 use Rattle.job_table.specs.Calls.{FinishGives}
 use Rattle.job_table.specs.declared.fault.TableFault.{TableFault}

@@ -1,0 +1,64 @@
+-- Sessions of which each passes over the one before are right.
+use Rattle.std.proofs.Common.{ℕ, ◌+◌, List, [], ◌∷◌, Option, Some, None, refl, subst}
+use Rattle.std.specs.Prelude.{Contains, IfSome}
+use Rattle.std.specs.List.{AllByRecursion}
+use Rattle.std.proofs.lemmas.Option.{none-some}
+use Rattle.mj_project.specs.Projects.{IsProject}
+use Rattle.recorder.specs.Projects.{Project}
+use Rattle.recorder.specs.Backed.{Meaning, ReadLists, RunnerLaws}
+use Rattle.sessions.specs.Sessions.{SessionValue, IsSession, entry_at, past_entry}
+use Rattle.graph_rules.specs.Pasts.{Past, IsGraph}
+use Rattle.graph_rules.specs.Next.{AreSources, AreMeant, IsRight}
+use Rattle.graph_rules.proofs.SessionRules.{session_graph}
+use Rattle.audit_graph.specs.Replays.{AreValuesApart}
+use Rattle.audit_graph.proofs.Entries.{contains_first, contains_later}
+use Rattle.audit_graph.proofs.SourceRules.{one_project}
+use Rattle.audit_graph.proofs.StepRules.{step_is_right, none_graph, none_meant, none_apart}
+use Rattle.audit_replay.specs.Passes.{Passes}
+use Rattle.audit_replay.specs.Audits.{ArePassed, AreRight, AreApart, last_of}
+
+module _ (mean : Meaning) (reads : ReadLists) (laws : RunnerLaws mean reads) (all : List SessionValue) (apart : AreApart all) where
+  -- some project gives the past its values and reads, where any is one
+  abbrev IsKnown : Option SessionValue → Type 0
+  IsKnown past = (p : Project) → IsProject p → (old : Project) × IsProject old × AreMeant mean reads (past_entry past) old
+
+  -- so does each project whose files it holds
+  abbrev IsMeant : Option SessionValue → Type 0
+  IsMeant past = (p : Project) → AreSources (past_entry past) p → AreMeant mean reads (past_entry past) p
+
+  pairwise : (past : Option SessionValue) → IfSome past (Contains all) → (s : SessionValue) → Contains all s → AreValuesApart (past_entry past) (entry_at s)
+  pairwise None h s c = none_apart (entry_at s)
+  pairwise (Some t) h s c = λ k q a b has here same. apart a.value b.value
+      (record { session = t; there = h; key = k; entry = a; has = has; value = refl })
+      (record { session = s; there = c; key = q; entry = b; has = here; value = refl }) same
+
+  right_over : (past : Option SessionValue) (k : ℕ) (s : SessionValue) → IsGraph (past_entry past) → IsKnown past → IfSome past (Contains all) → Contains all s → IsSession s → Passes mean reads past k s
+      → IsRight mean reads (past_entry past) (entry_at s)
+  right_over past k s graph known h c session p =
+      let old = known p.step.sources.0 p.step.sources.1.project in
+      step_is_right mean reads laws past k s old.0 graph old.1 old.2 session p.step (pairwise past h s c) p.replayed
+
+  known_behind : (past : Past) (s : SessionValue) → IsRight mean reads past (entry_at s) → IsKnown (Some s)
+  known_behind past s r p is = (r.project, r.of_project.sources.project, r.of_project.meant)
+
+  meant_behind : (past : Past) (s : SessionValue) → IsRight mean reads past (entry_at s) → IsMeant (Some s)
+  meant_behind past s r p sources = subst (AreMeant mean reads (entry_at s)) (one_project (entry_at s) r.project p r.of_project.sources sources) r.of_project.meant
+
+  right_from : (ss : List SessionValue) (past : Option SessionValue) (k : ℕ) → ((s : SessionValue) → Contains ss s → Contains all s) → IfSome past (Contains all) → IsGraph (past_entry past) → IsKnown past → IsMeant past
+      → AllByRecursion IsSession ss → ArePassed mean reads past k ss → AreRight mean reads past ss × IsMeant (last_of past ss)
+  right_from [] past k inside h graph known meant each passed = (tt, meant)
+  right_from (s ∷ ss) past k inside h graph known meant each passed =
+      let c = inside s (contains_first s ss) in
+      let r = right_over past k s graph known h c each.0 passed.0 in
+      let rest = right_from ss (Some s) (k + 1) (λ t i. inside t (contains_later s ss t i)) c (session_graph s each.0)
+      (known_behind (past_entry past) s r) (meant_behind (past_entry past) s r) each.1 passed.1 in
+      ((r, rest.0), rest.1)
+
+  pub all_right : AllByRecursion IsSession all → ArePassed mean reads None 0 all → AreRight mean reads None all × IsMeant (last_of None all)
+  all_right each passed = right_from all None 0 (λ s c. c) tt none_graph (λ p is. (p, is, none_meant mean reads p)) (λ p sources q r has. absurd (none-some r has)) each passed
+
+-- the last session has the files of a project
+pub last_sources : (mean : Meaning) (reads : ReadLists) (past : Option SessionValue) (k : ℕ) (s : SessionValue) (ss : List SessionValue) → ArePassed mean reads past k (s ∷ ss)
+    → (p : Project) × AreSources (past_entry (last_of past (s ∷ ss))) p
+last_sources mean reads past k s [] a = a.0.step.sources
+last_sources mean reads past k s (t ∷ ts) a = last_sources mean reads (Some s) (k + 1) t ts a.1

@@ -1,0 +1,9 @@
+pub mod Lists
+pub mod ScriptRules
+pub mod CompareRules
+pub mod OrderRules
+pub mod LogRules
+pub mod FileRules
+pub mod ChainRules
+pub mod EndRules
+pub mod AgainstRules

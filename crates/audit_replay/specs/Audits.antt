@@ -1,0 +1,150 @@
+-- What the audit of a list of files answers.
+use Rattle.std.specs.Prelude.{◌≡◌, ◌≢◌, ◌⊎◌, ℕ, ◌+◌, List, [], ◌∷◌, ◌++◌, map, length, Contains, Option, Some, None, option_map}
+use Rattle.std.specs.Arc.{arc_value}
+use Rattle.std.specs.List.{AllByRecursion}
+use Rattle.std.specs.declared.alloc.Global.{Global}
+use Rattle.std.specs.declared.sync.Arc.{Arc}
+use Rattle.item_ids.specs.declared.key.Key.{Key}
+use Rattle.item_ids.specs.declared.key.Key.TheVariants.{Answer}
+use Rattle.result_bytes.specs.declared.value.Value.{Value}
+use Rattle.fingerprint.specs.Prints.{print_of}
+use Rattle.recorder.specs.Projects.{Project}
+use Rattle.recorder.specs.Backed.{Meaning, ReadLists}
+use Rattle.sessions.specs.Sessions.{Entry, SessionValue, IsSession, entry_at, past_entry}
+use Rattle.sessions.specs.Spelling.{file_of}
+use Rattle.graph_rules.specs.Pasts.{Past}
+use Rattle.graph_rules.specs.Next.{AreSources, IsRight}
+use Rattle.audit_graph.specs.Chains.{IsChain}
+use Rattle.audit_graph.specs.declared.fault.AuditFault.{AuditFault}
+use Rattle.audit_graph.specs.declared.fault.AuditFault.TheVariants.{EmptyChain, NoAnswer, SourcesDiffer, OutOfMemory}
+use Rattle.audit_replay.specs.Logs.{all_executed_keys}
+use Rattle.audit_replay.specs.Passes.{Passes, FileRefuses}
+
+-- ---- lists of sessions
+
+-- behind the past and from number k on each session passes over the one before
+abbrev pub ArePassed
+    : Meaning → ReadLists → Option SessionValue → ℕ → List SessionValue → Type 0
+ArePassed mean reads past k [] = Unit {0}
+ArePassed mean reads past k (s ∷ ss) =
+    Passes mean reads past k s × ArePassed mean reads (Some s) (k + 1) ss
+
+-- behind the past each session is right over the one before
+abbrev pub AreRight : Meaning → ReadLists → Option SessionValue → List SessionValue → Type 0
+AreRight mean reads past [] = Unit {0}
+AreRight mean reads past (s ∷ ss) =
+    IsRight mean reads (past_entry past) (entry_at s) × AreRight mean reads (Some s) ss
+
+-- the last of the sessions, which is the past where there is none
+abbrev pub last_of : Option SessionValue → List SessionValue → Option SessionValue
+last_of past [] = past
+last_of past (s ∷ ss) = last_of (Some s) ss
+
+-- what the last of the sessions tells of each key
+abbrev pub last_entry : List SessionValue → Past
+last_entry sessions = past_entry (last_of None sessions)
+
+-- one of the sessions has this result
+pub record IsRecorded (sessions : List SessionValue) (v : Value) : Type 0 where
+  pub session : SessionValue
+  pub there : Contains sessions session
+  pub key : Key
+  pub entry : Entry
+  pub has : entry_at session key ≡ Some entry
+  pub value : entry.value ≡ v
+
+-- no two different results that are recorded in the sessions have one print
+abbrev pub AreApart : List SessionValue → Type 0
+AreApart sessions =
+    (v w : Value) → IsRecorded sessions v → IsRecorded sessions w → print_of v ≡ print_of w → v ≡ w
+
+-- a session has this value for the key
+pub record HasValue (now : Past) (q : Key) (v : Value) : Type 0 where
+  pub entry : Entry
+  pub has : now q ≡ Some entry
+  pub value : entry.value ≡ v
+
+-- the session that is pointed to, where there is one
+abbrev pub session_in : Option (Arc SessionValue Global) → Option SessionValue
+session_in session = option_map arc_value session
+
+-- ---- what an audit answers
+
+-- The files are those of sessions each of which passes over the one before, and just the executed
+-- records were run, so many, session by session in order.
+pub record ArePassedFiles (mean : Meaning) (reads : ReadLists) (files : List (List ℕ))
+    (old new : List Key) (sessions : List SessionValue) (runs : ℕ) : Type 0 where
+  pub spelled : map file_of sessions ≡ files
+  pub each : AllByRecursion IsSession sessions
+  pub passed : ArePassed mean reads None 0 sessions
+  pub log : new ≡ old ++ all_executed_keys sessions
+  pub many : runs ≡ length (all_executed_keys sessions)
+
+-- so far, with the last of these sessions
+pub record PassesSoFar (mean : Meaning) (reads : ReadLists) (files : List (List ℕ))
+    (old new : List Key) (last : Option SessionValue) (runs : ℕ) : Type 0 where
+  pub sessions : List SessionValue
+  pub passed : ArePassedFiles mean reads files old new sessions runs
+  pub end : last_of None sessions ≡ last
+
+-- The audit accepts the files, with this answer, over this project. The files are those of a chain
+-- of sessions. Where no two different results in them have one print, each session is right over
+-- the one before, and the answer is what the project means by it, whose files the last one holds.
+pub record IsAccepted (mean : Meaning) (reads : ReadLists) (files : List (List ℕ))
+    (old new : List Key) (project : Project) (answer : Value) (count runs : ℕ) : Type 0 where
+  pub sessions : List SessionValue
+  pub passed : ArePassedFiles mean reads files old new sessions runs
+  pub many : count ≡ length sessions
+  pub chain : IsChain sessions
+  pub sources : AreSources (last_entry sessions) project
+  pub right : AreApart sessions → AreRight mean reads None sessions
+  pub means : AreApart sessions → answer ≡ mean project Answer
+
+-- so too, and the session s is the last one
+pub record IsAcceptedUpTo (mean : Meaning) (reads : ReadLists) (files : List (List ℕ))
+    (old new : List Key) (s : SessionValue) (answer : Value) (count runs : ℕ) : Type 0 where
+  pub project : Project
+  pub accepted : IsAccepted mean reads files old new project answer count runs
+  pub end : last_of None accepted.sessions ≡ Some s
+  pub held : HasValue (entry_at s) Answer answer
+
+-- The sessions of the first files pass, and the file behind them is refused.
+pub record IsRefusedBehind (mean : Meaning) (reads : ReadLists) (files : List (List ℕ))
+    (old new : List Key) (fault : AuditFault) : Type 0 where
+  pub front : List SessionValue
+  pub file_bytes : List ℕ
+  pub rest : List (List ℕ)
+  pub spelled : map file_of front ++ file_bytes ∷ rest ≡ files
+  pub each : AllByRecursion IsSession front
+  pub passed : ArePassed mean reads None 0 front
+  pub refused : FileRefuses mean reads (last_of None front) (length front) file_bytes
+      (old ++ all_executed_keys front) new fault
+
+-- all files pass, and this holds of what the last session tells
+pub record PassesWith (mean : Meaning) (reads : ReadLists) (files : List (List ℕ))
+    (old new : List Key) (Holds : Past → Type 0) : Type 0 where
+  pub sessions : List SessionValue
+  pub runs : ℕ
+  pub passed : ArePassedFiles mean reads files old new sessions runs
+  pub holds : Holds (last_entry sessions)
+
+-- Why files are refused: there are none, or one of them is refused, or the last has no answer.
+abbrev pub AuditRefuses
+    : Meaning → ReadLists → List (List ℕ) → List Key → List Key → AuditFault → Type 0
+AuditRefuses mean reads files old new EmptyChain = (files ≡ []) × (new ≡ old)
+AuditRefuses mean reads files old new NoAnswer =
+    PassesWith mean reads files old new (λ last. last Answer ≡ None)
+AuditRefuses mean reads files old new SourcesDiffer = ⊥
+AuditRefuses mean reads files old new OutOfMemory =
+    IsRefusedBehind mean reads files old new OutOfMemory
+    ⊎ PassesWith mean reads files old new (λ last. last Answer ≢ None)
+AuditRefuses mean reads files old new fault = IsRefusedBehind mean reads files old new fault
+
+-- So too, or the last session has an answer, and not the files of the project.
+abbrev pub AuditRefusesAgainst
+    : Meaning → ReadLists → List (List ℕ) → List Key → List Key → Project → AuditFault → Type 0
+AuditRefusesAgainst mean reads files old new project SourcesDiffer =
+    PassesWith mean reads files old new
+    (λ last. (last Answer ≢ None) × ¬ AreSources last project)
+AuditRefusesAgainst mean reads files old new project fault =
+    AuditRefuses mean reads files old new fault

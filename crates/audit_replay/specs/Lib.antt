@@ -1,0 +1,5 @@
+pub mod Reruns
+pub mod Logs
+pub mod Passes
+pub mod Audits
+pub mod Projects

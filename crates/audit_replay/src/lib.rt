@@ -1,0 +1,19 @@
+//! The second half of the audit of a chain of sessions: executed records are run again, and the audit of whole lists of
+//! files, for every runner.
+#![tactic(auto)]
+
+mod against;
+mod answer;
+mod chain;
+mod compare;
+mod files;
+mod laws;
+mod mismatch;
+mod plan;
+mod rerun;
+mod script;
+mod session;
+
+pub use against::audit_against;
+pub use chain::{Audited, audit};
+pub use laws::passed_are_right;

@@ -1,0 +1,103 @@
+//! An executed record is run again.
+ghost use Rattle.std.specs.Prelude.{◌≡◌, ◌⊎◌, Some, IfOk, OnOk, Err};
+ghost use Rattle.std.specs.List.{AllByRecursion};
+ghost use Rattle.recorder.specs.Backed.{Asked, keys};
+ghost use Rattle.recorder.specs.Recording.{fault_of};
+ghost use Rattle.recorder.specs.Runs.{IsNextRefused, Logs};
+ghost use Rattle.recorder.specs.declared.reader.ReadFault.{ReadFault as FaultValue};
+ghost use Rattle.sessions.specs.Sessions.{AreInside, entry_at, entry_of};
+ghost use Rattle.audit_replay.specs.Reruns.{AreEdges, IsExecuted, RerunGives};
+
+use crate::compare::first_other;
+use crate::mismatch::Mismatch;
+use crate::script::script_of;
+use recorder::{AnswerList, Outcome, ReadFault, Recorder, RunFault, Runner, record};
+use sessions::{Record, Session};
+use std::alloc::Global;
+
+/// Runs an executed record again, with the results of its edges for answers, and compares what the run reads, in its
+/// order, and its result with the record.
+pub(crate) fn rerun<R: Runner>(
+    alloc: Global,
+    runner: &mut R,
+    session: &Session,
+    item: &Record,
+) -> Result<(), Mismatch>
+    requires { IsExecuted session.now item.now }
+    ensures run { RerunGives R.mean R.reads (entry_at session.now)
+        (entry_of session.now.records item.now) result }
+    ensures ok { OnOk result (Logs item.now.key (R.log runner.old) (R.log runner.new)) }
+    ensures log { Logs item.now.key (R.log runner.old) (R.log runner.new)
+        ⊎ (R.log runner.new ≡ R.log runner.old) }
+{
+    let _records = session.records();
+    let script = match script_of(alloc, session, item) {
+        Ok(script) => script,
+        Err(_) => return Err(Mismatch::OutOfMemory),
+    };
+    let mut recorder = Recorder::new(alloc, script);
+    match record(alloc, runner, item.key(), &mut recorder) {
+        Ok(outcome) => {
+            let compared = compare(session, item, &recorder, &outcome);
+            drop(outcome);
+            compared
+        }
+        Err(RunFault::OutOfMemory) => Err(Mismatch::OutOfMemory),
+        Err(RunFault::Read(fault)) => Err(refused_read::<R>(session, item, &recorder, fault)),
+    }
+}
+
+/// Compares an outcome with the record.
+fn compare<R: Runner>(
+    session: &Session,
+    item: &Record,
+    recorder: &Recorder<AnswerList>,
+    outcome: &Outcome<R>,
+) -> Result<(), Mismatch>
+    requires inside { AreInside session.now.records item.now.edges }
+    requires script { AreEdges (entry_at session.now) (entry_of session.now.records item.now)
+        recorder.now.inner }
+    requires key { outcome.now.key ≡ item.now.key }
+    requires told { outcome.now.told ≡ recorder.now.told }
+    ensures { RerunGives R.mean R.reads (entry_at session.now)
+        (entry_of session.now.records item.now) result }
+{
+    let reads = recorder.reads();
+    let sealed = outcome.sealed();
+    if let Some(i) = first_other(session, item.edges(), reads) {
+        return Err(Mismatch::OtherRead(i));
+    }
+    if reads.len() < item.edges().len() {
+        return Err(Mismatch::UnreadEdges);
+    }
+    if !sealed.same_result(item.sealed()) {
+        return Err(Mismatch::OtherResult);
+    }
+    Ok(())
+}
+
+/// What a refused read says of the record.
+fn refused_read<R: Runner>(
+    session: &Session,
+    item: &Record,
+    recorder: &Recorder<AnswerList>,
+    fault: ReadFault,
+) -> Mismatch
+    requires inside { AreInside session.now.records item.now.edges }
+    requires script { AreEdges (entry_at session.now) (entry_of session.now.records item.now)
+        recorder.now.inner }
+    requires asked { Asked R.mean R.reads item.now.key recorder.now.told }
+    requires next { IsNextRefused R.mean R.reads item.now.key recorder.now }
+    requires fault { fault_of recorder.now ≡ Some fault }
+    ensures { RerunGives R.mean R.reads (entry_at session.now)
+        (entry_of session.now.records item.now) (Err result) }
+{
+    let reads = recorder.reads();
+    let Some(_key) = recorder.refused_key() else {
+        return Mismatch::OutOfMemory;
+    };
+    match first_other(session, item.edges(), reads) {
+        Some(i) => Mismatch::OtherRead(i),
+        None => Mismatch::OtherRead(reads.len()),
+    }
+}

@@ -1,0 +1,33 @@
+//! One session over the one before.
+ghost use Rattle.std.specs.Option.{option_copied};
+ghost use Rattle.audit_replay.specs.Logs.{LogGives, executed_keys};
+ghost use Rattle.audit_replay.specs.Passes.{SessionGives};
+
+use crate::plan::run_plan;
+use audit_graph::{AuditFault, Past, check_step};
+use recorder::Runner;
+use sessions::Session;
+use std::alloc::Global;
+
+/// Audits session `k` over the one before: its step, then its executed records, which are run again. Answers how many
+/// there are.
+pub(crate) fn audit_session<R: Runner>(
+    alloc: Global,
+    runner: &mut R,
+    past: Option<&Past>,
+    k: usize,
+    session: &Session,
+) -> Result<usize, AuditFault>
+    ensures gives { SessionGives R.mean R.reads (option_copied past.entry) k session.now result }
+    ensures log { LogGives (executed_keys session.now) (R.log runner.old) (R.log runner.new)
+        result }
+{
+    let plan = match check_step(alloc, past, k, session) {
+        Ok(plan) => plan,
+        Err(fault) => return Err(fault),
+    };
+    match run_plan(alloc, runner, k, session, plan.executed()) {
+        Ok(()) => Ok(plan.executed().len()),
+        Err(fault) => Err(fault),
+    }
+}

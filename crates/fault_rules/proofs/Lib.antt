@@ -1,0 +1,5 @@
+pub mod Verdicts
+pub mod Rows
+pub mod Phrases
+pub mod Bodies
+pub mod Wells

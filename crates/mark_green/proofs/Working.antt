@@ -1,0 +1,155 @@
+-- What walks over past edges come to, in their order with what follows them.
+use Rattle.std.proofs.Common.{◌≡◌, ℕ, zero, suc, arith, ◌+◌, ◌<◌, List, [], ◌∷◌, map, length, get_or, sym, ap, ◌∙◌, subst, Bool, true, false, Option, Some, None, option_map}
+use Rattle.std.specs.Prelude.{Result, Ok, Err}
+use Rattle.std.specs.List.{AllByRecursion}
+use Rattle.std.specs.declared.alloc.Global.{Global}
+use Rattle.std.specs.declared.sync.Arc.{Arc}
+use Rattle.std.specs.Arc.{arc_value}
+use Rattle.item_ids.specs.declared.key.Key.{Key}
+use Rattle.result_bytes.specs.declared.value.Value.{Value}
+use Rattle.fingerprint.specs.Prints.{print_of}
+use Rattle.sessions.specs.Sessions.{SessionValue, RecordValue, Entry, IsSession, AreInside, AreBelow, key_at, entry_at, past_entry}
+use Rattle.sessions.proofs.EntryRules.{key_of_place}
+use Rattle.graph_rules.specs.Steps.{Claimed, AllUnchanged, MayRun, walk}
+use Rattle.job_table.specs.Tables.{TableValue, past_of, state_of, session_in}
+use Rattle.job_table.specs.Calls.{AskGives, walk_in}
+use Rattle.job_table.specs.declared.fault.Asked.{Asked}
+use Rattle.job_table.specs.declared.fault.Asked.TheVariants as asked
+use Rattle.job_table.specs.declared.fault.TableFault.{TableFault}
+use Rattle.mark_green.specs.declared.fault.Fault.{Fault}
+use Rattle.mark_green.specs.declared.fault.Fault.TheVariants as fault
+use Rattle.mark_green.specs.Leaves.{Knows, Tells, Stops, Stands}
+use Rattle.mark_green.specs.Ensures.{EnsureGives, WorkGives, EdgeGives, WalkGives, HasEdges, IsRecordUnder, IsFaultOf}
+use Rattle.mark_green.proofs.GoingOn.{leaves_work, stands_on, tells_map, tells_then, tells_here, tells_with}
+use Rattle.mark_green.proofs.Calling.{work_memory, ask_work, ask_done, ask_stopped, ask_busy, ask_refused}
+use Rattle.mark_green.proofs.Turning.{Works, Starts}
+use Rattle.mark_green.proofs.Walking.{Walked, walked_none, walked_more, walked_changed, walked_up, walked_all, edge_gives, walk_absent, walk_found}
+
+-- ---- the edges that a session has
+
+pub are_under : (s : SessionValue) (q : Key) (edges : List ℕ) → AreInside s.records edges → AreBelow q (map (key_at s.records) edges) → AllByRecursion (IsRecordUnder s.records q) edges
+are_under s q [] inside below = tt
+are_under s q (e ∷ es) inside below = ((inside.0, below.0), are_under s q es inside.1 below.1)
+
+under_at : (records : List RecordValue) (q : Key) (edges : List ℕ) (i : ℕ) → i < length edges → AllByRecursion (IsRecordUnder records q) edges → IsRecordUnder records q (get_or edges i 0)
+under_at records q [] i lt all = absurd (omega arith)
+under_at records q (e ∷ es) zero lt all = all.0
+under_at records q (e ∷ es) (suc i) lt all = under_at records q es i (omega arith) all.1
+
+-- ---- one edge
+
+abbrev pub Ensured : ℕ → Key → Result (Arc Value Global) Fault → Option TableValue → Option TableValue → Type 0
+Ensured w q r a b = Tells (λ t u. EnsureGives t w q r u) a b
+
+abbrev pub Edges : SessionValue → ℕ → Key → Result Bool Fault → Option TableValue → Option TableValue → Type 0
+Edges s w e r a b = Tells (λ t u. t.past ≡ Some s → EdgeGives t w e r u) a b
+
+module _ (s : SessionValue) (session : IsSession s) (at : ℕ) (r : RecordValue) (lt : at < length s.records) (is : r ≡ get_or s.records at r) (w : ℕ) (a b : Option TableValue) where
+  pub edge_ok : (v : Arc Value Global) (same : Bool) → (same ≡ true → print_of r.value ≡ print_of (arc_value v)) → (print_of r.value ≡ print_of (arc_value v) → same ≡ true) → Ensured w r.key (Ok v) a b → Edges s w (key_at s.records at) (Ok same) a b
+  edge_ok v same to from h = tells_map _ _ (λ t u e has. edge_gives s session at r lt is w v same to from t u has e) a b h
+
+  pub edge_up : (f : Fault) → Ensured w r.key (Err f) a b → Edges s w (key_at s.records at) (Err f) a b
+  edge_up f h = tells_map _ _ (λ t u e has. subst (λ (k : Key). EnsureGives t w k (Err f) u) (sym (key_of_place s at r lt (sym is))) e) a b h
+
+-- ---- edges, one after the other
+
+abbrev pub Walks : SessionValue → ℕ → Key → List ℕ → Result Bool Fault → Option TableValue → Option TableValue → Type 0
+Walks s w q edges r a b = Tells (λ t u. t.past ≡ Some s → Stands (Claimed w) w q t → WalkGives t w (map (key_at s.records) edges) r u) a b
+
+-- so far the first i edges are unchanged
+abbrev pub SoFar : SessionValue → ℕ → Key → List ℕ → ℕ → Option TableValue → Option TableValue → Type 0
+SoFar s w q edges i a b = Tells (λ t u. t.past ≡ Some s → Stands (Claimed w) w q t → Walked s.records edges i t u) a b
+
+module _ (s : SessionValue) (w : ℕ) (q : Key) (edges : List ℕ) where
+  pub far_none : (a : Option TableValue) → SoFar s w q edges 0 a a
+  far_none a = tells_here _ (λ t has st. walked_none s.records edges t) a
+
+  module _ (i : ℕ) (a b : Option TableValue) (so : SoFar s w q edges i a b) where
+    pub far_all : i ≡ length edges → Walks s w q edges (Ok true) a b
+    far_all end = tells_map _ _ (λ t u h has st. walked_all s.records edges i w q end t u (h has) st) a b so
+
+    module _ (lt : i < length edges) (c : Option TableValue) where
+      pub far_more : Edges s w (key_at s.records (get_or edges i 0)) (Ok true) b c → SoFar s w q edges (i + 1) a c
+      far_more e = tells_then _ _ _ (λ t u v h f has st. walked_more s.records edges i w q lt t u v (h has) (f ((h has st).0.goes_on.past ∙ has)) st) a b c so e
+
+      pub far_changed : Edges s w (key_at s.records (get_or edges i 0)) (Ok false) b c → Walks s w q edges (Ok false) a c
+      far_changed e = tells_then _ _ _ (λ t u v h f has st. walked_changed s.records edges i w q lt t u v (h has) (f ((h has st).0.goes_on.past ∙ has)) st) a b c so e
+
+      pub far_up : (f : Fault) → AllByRecursion (IsRecordUnder s.records q) edges → Edges s w (key_at s.records (get_or edges i 0)) (Err f) b c → Walks s w q edges (Err f) a c
+      far_up f all e = let under = under_at s.records q edges i lt all in tells_then _ _ _ (λ t u v h g has st. walked_up s.records edges i w q f (key_at s.records (get_or edges i 0)) under.1 t u v (h has) (g ((h has st).0.goes_on.past ∙ has)) st) a b c so e
+
+-- ---- a key over its past
+
+abbrev pub Overs : Option SessionValue → ℕ → Key → Result (Arc Value Global) Fault → Option TableValue → Option TableValue → Type 0
+Overs past w q r a b = Tells (λ t u. past ≡ t.past → Stands (Claimed w) w q t → WorkGives t w q r u) a b
+
+first_walk : (t : TableValue) (q : Key) → t.past ≡ None → walk_in t q ≡ None
+first_walk t q none = ap (option_map (λ (r : Entry). walk (past_of t) (state_of t) r.reads)) (ap (λ (o : Option SessionValue). past_entry o q) none)
+
+module _ (w : ℕ) (q : Key) (r : Result (Arc Value Global) Fault) where
+  pub over_none : (a b : Option TableValue) → Starts w q r a b → Overs None w q r a b
+  over_none a b h = tells_map _ _ (λ t u go has st. go st (subst MayRun (sym (first_walk t q (sym has))) tt)) a b h
+
+  module _ (s : SessionValue) where
+    pub over_absent : entry_at s q ≡ None → (a b : Option TableValue) → Starts w q r a b → Overs (Some s) w q r a b
+    over_absent none a b h = tells_map _ _ (λ t u go has st. go st (subst MayRun (sym (walk_absent s q t (sym has) none)) tt)) a b h
+
+    module _ (edges : List ℕ) (found : HasEdges s q edges) (a b c : Option TableValue) where
+      pub over_marked : Walks s w q edges (Ok true) a b → Tells (λ t u. Stands (Claimed w) w q t → walk_in t q ≡ Some AllUnchanged → WorkGives t w q r u) b c → Overs (Some s) w q r a c
+      over_marked walks marks = tells_then _ _ _ (λ t u v h m has st. (
+          let l = h (sym has) st in
+          leaves_work t u v w q r l.0 (m (stands_on (Claimed w) w q t u l.0 st) (walk_found s q u (l.0.goes_on.past ∙ sym has) edges found ∙ ap Some l.1))
+          )) a b c walks marks
+
+      pub over_run : Walks s w q edges (Ok false) a b → Starts w q r b c → Overs (Some s) w q r a c
+      over_run walks starts = tells_then _ _ _ (λ t u v h m has st. (
+          let l = h (sym has) st in
+          leaves_work t u v w q r l.0 (m (stands_on (Claimed w) w q t u l.0 st) (subst MayRun (sym (walk_found s q u (l.0.goes_on.past ∙ sym has) edges found)) l.1))
+          )) a b c walks starts
+
+-- the same, of the past as a table hands it out
+module _ (w : ℕ) (q : Key) (r : Result (Arc Value Global) Fault) (past : Option (Arc SessionValue Global)) (p : Arc SessionValue Global) (is : past ≡ Some p) where
+  module _ (s z : SessionValue) (s_is : s ≡ arc_value p) (z_is : z ≡ arc_value p) (edges : List ℕ) (found : HasEdges s q edges) (x : Result Bool Fault) (a b c : Option TableValue) (walks : Walks z w q edges x a b) where
+    there : HasEdges z q edges
+    there = subst (λ (y : SessionValue). HasEdges y q edges) (s_is ∙ sym z_is) found
+
+    of_past : Overs (Some z) w q r a c → Overs (session_in past) w q r a c
+    of_past h = subst (λ (o : Option SessionValue). Overs o w q r a c) (ap Some z_is ∙ sym (ap session_in is)) h
+
+    pub over_marked_at : x ≡ Ok true → Tells (λ t u. Stands (Claimed w) w q t → walk_in t q ≡ Some AllUnchanged → WorkGives t w q r u) b c → Overs (session_in past) w q r a c
+    over_marked_at x_is marks = of_past (over_marked w q r z edges there a b c (subst (λ (y : Result Bool Fault). Walks z w q edges y a b) x_is walks) marks)
+
+    pub over_run_at : x ≡ Ok false → Starts w q r b c → Overs (session_in past) w q r a c
+    over_run_at x_is starts = of_past (over_run w q r z edges there a b c (subst (λ (y : Result Bool Fault). Walks z w q edges y a b) x_is walks) starts)
+
+pub over_up : (w : ℕ) (q : Key) (s : SessionValue) (edges : List ℕ) (f : Fault) (a b : Option TableValue) → Walks s w q edges (Err f) a b → Overs (Some s) w q (Err f) a b
+over_up w q s edges f a b h = tells_map _ _ (λ t u go has st. go (sym has) st) a b h
+
+-- ---- a claimed key
+
+pub work_over_past : (w : ℕ) (q : Key) (r : Result (Arc Value Global) Fault) (past : Option SessionValue) (a b : Option TableValue) → Knows (λ t. past ≡ t.past) a → Overs past w q r a b → Works w q r a b
+work_over_past w q r past a b has h = tells_with _ _ _ (λ t u is go st. go is st) a b has h
+
+pub work_lost_past : (w : ℕ) (q : Key) (g : Fault) → g ≡ fault.OutOfMemory → (a b : Option TableValue) → Tells Stops a b → Works w q (Err g) a b
+work_lost_past w q g is a b s = tells_map _ _ (work_memory w q g is) a b s
+
+-- ---- any key
+
+abbrev pub Asks : ℕ → Key → Result Asked TableFault → Option TableValue → Option TableValue → Type 0
+Asks w q r a b = Tells (λ t u. AskGives t w q r u) a b
+
+module _ (w : ℕ) (q : Key) (a b : Option TableValue) where
+  pub ensured_done : (v : Arc Value Global) → Tells (λ t u. AskGives t w q (Ok (asked.Done v)) u) a b → Ensured w q (Ok v) a b
+  ensured_done v h = tells_map _ _ (ask_done w q v) a b h
+
+  pub ensured_busy : Tells (λ t u. AskGives t w q (Ok asked.Busy) u) a b → Ensured w q (Err fault.Busy) a b
+  ensured_busy h = tells_map _ _ (ask_busy w q) a b h
+
+  pub ensured_stopped : Tells (λ t u. AskGives t w q (Ok asked.Stopped) u) a b → Ensured w q (Err fault.Stopped) a b
+  ensured_stopped h = tells_map _ _ (ask_stopped w q) a b h
+
+  pub ensured_work : (c : Option TableValue) (r : Result (Arc Value Global) Fault) → Tells (λ t u. AskGives t w q (Ok asked.Yours) u) a b → Works w q r b c → Ensured w q r a c
+  ensured_work c r h works = tells_then _ _ _ (ask_work w q r) a b c h works
+
+  pub ensured_refused : (c : Option TableValue) (f : TableFault) (g : Fault) → IsFaultOf f g → Tells (λ t u. AskGives t w q (Err f) u) a b → Tells Stops b c → Ensured w q (Err g) a c
+  ensured_refused c f g is h s = tells_then _ _ _ (ask_refused w q f g is) a b c h s

@@ -1,0 +1,42 @@
+use Rattle.std.proofs.Common.{◌+◌, ◌*◌}
+use Rattle.recorder.specs.Backed.{rank}
+use Rattle.sessions.specs.Sessions.{key_at}
+use Rattle.mark_green.proofs.Turning.{Holds}
+use Rattle.mark_green.proofs.Working.{SoFar}
+use Rattle.mark_green.proofs.bringing.+ensure.Given as goal
+
+abbrev pub decreases-ensure : goal.decreases-ensure
+decreases-ensure g l = 8 * rank l.key.now + 7
+
+abbrev pub decreases-work : goal.decreases-work
+decreases-work g l = 8 * rank l.key.now + 6
+
+abbrev pub decreases-work_over : goal.decreases-work_over
+decreases-work_over g l = 8 * rank l.key.now + 5
+
+abbrev pub decreases-walk_edges : goal.decreases-walk_edges
+decreases-walk_edges g l = 8 * rank l.key.now + 4
+
+abbrev pub decreases-is_unchanged : goal.decreases-is_unchanged
+decreases-is_unchanged g l = 8 * rank (key_at l.past.now.records l.at) + 8
+
+abbrev pub decreases-start : goal.decreases-start
+decreases-start g l = 8 * rank l.key.now + 3
+
+abbrev pub decreases-run : goal.decreases-run
+decreases-run g l = 8 * rank l.key.now + 2
+
+abbrev pub decreases-turns : goal.decreases-turns
+decreases-turns g l = 8 * rank l.key.now + 1
+
+abbrev pub decreases-turn : goal.decreases-turn
+decreases-turn g l = 8 * rank l.key.now
+
+abbrev pub decreases-fetch : goal.decreases-fetch
+decreases-fetch g l = 8 * rank l.lacked + 7
+
+abbrev pub invariant-walk_edges-edges : goal.invariant-walk_edges-edges
+invariant-walk_edges-edges g l = SoFar l.past l.w l.key l.edges l.at-index (g.S.Store.table l.fn.store) (g.S.Store.table l.store)
+
+abbrev pub invariant-turns-again : goal.invariant-turns-again
+invariant-turns-again g l = Holds l.w l.key l.held (g.S.Store.table l.fn.store) (g.S.Store.table l.store)

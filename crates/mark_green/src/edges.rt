@@ -1,0 +1,36 @@
+//! Past edges.
+ghost use Rattle.std.specs.Prelude.{◌≡◌, ◌↔◌, None, IfSome, IsTrue, MatchOption};
+ghost use Rattle.std.specs.Arc.{arc_value};
+ghost use Rattle.std.specs.List.{AllByRecursion};
+ghost use Rattle.fingerprint.specs.Prints.{print_of};
+ghost use Rattle.sessions.specs.Sessions.{entry_at};
+ghost use Rattle.mark_green.specs.Ensures.{HasEdges, IsRecordUnder};
+
+use fingerprint::Sealed;
+use item_ids::Key;
+use sessions::{Record, Session, edges_are_below};
+use std::sync::Arc;
+
+/// The edges of a key in the past, where the past has it, as indices of records.
+pub(crate) fn past_edges<'a>(past: &'a Session, key: &Key) -> Option<&'a [usize]>
+    ensures found { MatchOption result (entry_at past.now key.now ≡ None)
+        (λ edges. HasEdges past.now key.now edges.now) }
+    ensures under { IfSome result
+        (λ edges. AllByRecursion (IsRecordUnder past.now.records key.now) edges.now) }
+{
+    edges_are_below();
+    let _records = past.records();
+    match past.find(key) {
+        Some(record) => Some(record.edges()),
+        None => None,
+    }
+}
+
+/// Whether a result has the print of a record's.
+pub(crate) fn is_same(entry: &Record, sealed: Arc<Sealed>) -> bool
+    ensures { IsTrue result ↔ (print_of entry.now.value ≡ print_of (arc_value sealed)) }
+{
+    let same = entry.sealed().same_print(&sealed);
+    drop(sealed);
+    same
+}

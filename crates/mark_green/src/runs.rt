@@ -1,0 +1,82 @@
+//! One run of a key.
+ghost use Rattle.std.specs.Prelude.{◌≡◌, ◌⊎◌, ◌<◌, IfOk, IfErr, Some, None, Ok};
+ghost use Rattle.recorder.specs.Backed.{rank as rank_of_key};
+ghost use Rattle.graph_rules.specs.Steps.{AreHeld};
+ghost use Rattle.job_table.specs.Tables.{state_of};
+ghost use Rattle.mark_green.specs.Leaves.{Knows};
+ghost use Rattle.mark_green.specs.Moves.{Halts};
+ghost use Rattle.mark_green.specs.declared.asking.Stop.{Stop};
+
+use crate::asking::{Asking, Stop};
+use crate::store::Store;
+use item_ids::{Key, rank};
+use recorder::{AnswerList, Outcome, Recorder, RunFault, Runner, record};
+use std::alloc::Global;
+
+/// One run of a key that isn't an input, with the results held.
+pub(crate) fn run_once<S: Store, R: Runner>(
+    alloc: Global,
+    store: &mut S,
+    runner: &mut R,
+    w: u32,
+    key: &Key,
+    held: &AnswerList,
+) -> Result<Outcome<R>, Stop>
+    requires rank { 0 < rank_of_key key.now }
+    ensures key { IfOk result (λ o. o.key ≡ key.now) }
+    ensures same { IfOk result (λ _. S.table store.new ≡ S.table store.old) }
+    ensures told { IfOk result (λ o. Knows (λ t. AreHeld (state_of t) held.now) (S.table store.old)
+        → Knows (λ t. AreHeld (state_of t) o.told) (S.table store.old)) }
+    ensures halts { IfErr result (λ x. Halts w (rank_of_key key.now) x (S.table store.old)
+        (S.table store.new)) }
+{
+    let reader = Asking {
+        alloc,
+        store,
+        w,
+        below: rank(key.kind()),
+        held,
+        stop: None,
+    };
+    let mut recorder = Recorder::new(alloc, reader);
+    let outcome = record(alloc, runner, key, &mut recorder);
+    let _reads = recorder.reads();
+    let Asking {
+        alloc: _,
+        store: back,
+        w: _,
+        below: _,
+        held: _,
+        stop,
+    } = recorder.into_reader();
+    keep(back);
+    outcome_of(outcome, stop)
+}
+
+/// The store is as it was.
+fn keep<S>(store: &mut S)
+    ensures { store.new ≡ store.old }
+{
+    let _ = store;
+}
+
+/// The outcome, unless the run was stopped.
+fn outcome_of<R: Runner>(
+    outcome: Result<Outcome<R>, RunFault>,
+    stop: Option<Stop>,
+) -> Result<Outcome<R>, Stop>
+    ensures ok { IfOk result (λ o. (outcome ≡ Ok o) × (stop ≡ None)) }
+    ensures err { IfErr result
+        (λ x. (stop ≡ Some x) ⊎ ((stop ≡ None) × (x ≡ Stop.OutOfMemory))) }
+{
+    match stop {
+        Some(stop) => {
+            drop(outcome);
+            Err(stop)
+        }
+        None => match outcome {
+            Ok(outcome) => Ok(outcome),
+            Err(_) => Err(Stop::OutOfMemory),
+        },
+    }
+}
