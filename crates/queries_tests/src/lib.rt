@@ -4,6 +4,8 @@
 #[cfg(test)]
 mod bodies;
 #[cfg(test)]
+mod projects;
+#[cfg(test)]
 mod tables;
 #[cfg(test)]
 mod texts;

@@ -1,0 +1,418 @@
+//! The queries of whole projects, by the runner of MiniJava and by a driver: each kind for classes and methods that are
+//! there, for a class that isn't declared, and for a method that is missing.
+ghost use Rattle.std.specs.Prelude.{◌<◌, IfOk};
+ghost use Rattle.recorder.specs.Backed.{rank as rank_of};
+
+use answer_samples::{Asked, Unfit, is_key, is_spelled, key_of};
+use item_ids::{Key, Kind, rank};
+use mj_project::Project;
+use project_inputs::Inputs;
+use providers::MiniJava;
+use query_driver::Driver;
+use recorder::{AnswerList, Recorder, Runner};
+use run_samples::{Given, comes_to, list_of};
+use std::alloc::{AllocError, Global};
+use std::test::*;
+
+/// A query with its value's canonical bytes, and the answers that are there, which are its reads in order.
+#[derive(Clone, Copy, Debug)]
+struct Row<'a> {
+    query: Given<'a>,
+    reads: &'a [Given<'a>],
+}
+
+// A main class that prints what a method of a second class returns, which has two methods.
+const TEXT: &str =
+    "class M { public static void main(String[] a) { System.out.println(new A().f()); } } class A { public int f() { return 1; } public int g() { return 2; } }";
+
+const FILES: Given<'static> = Given(
+    Asked(Kind::Files, "", ""),
+    "000000000000000001064d2e6a617661",
+);
+
+const SOURCE: Given<'static> = Given(
+    Asked(Kind::Source, "M.java", ""),
+    "0101000000000000009a636c617373204d207b207075626c69632073746174696320766f6964206d61696e28537472696e675b5d206129207b2053797374656d2e6f75742e7072696e746c6e286e6577204128292e662829293b207d207d20636c6173732041207b207075626c696320696e7420662829207b2072657475726e20313b207d207075626c696320696e7420672829207b2072657475726e20323b207d207d",
+);
+
+const TREE: Given<'static> = Given(
+    Asked(Kind::Tree, "M.java", ""),
+    "020101014d030000000b07000000160e0000001101410166000000000000000000000000000000010141000000000000000000000000000000000201016600000000000000000000000000000000000000000000000000080000000700000001000000060101670000000000000000000000000000000000000000000000000008000000070000000200000006",
+);
+
+const INDEX: Given<'static> = Given(
+    Asked(Kind::Index, "", ""),
+    "0300000000000000020141064d2e6a617661014d064d2e6a617661",
+);
+
+const HEADER_A: Given<'static> = Given(
+    Asked(Kind::Header, "A", ""),
+    "040100000000000000000000000000000000000201660167",
+);
+
+const HEADER_M: Given<'static> = Given(
+    Asked(Kind::Header, "M", ""),
+    "0401010000000000000000000000000000000000",
+);
+
+const HEADER_Z: Given<'static> = Given(Asked(Kind::Header, "Z", ""), "0400");
+
+const METHOD_F: Given<'static> = Given(
+    Asked(Kind::Method, "A", "f"),
+    "05010101660000000000000000000000000000000000000000000000000008000000070000000100000006",
+);
+
+const METHOD_G: Given<'static> = Given(
+    Asked(Kind::Method, "A", "g"),
+    "05010101670000000000000000000000000000000000000000000000000008000000070000000200000006",
+);
+
+const METHOD_H: Given<'static> = Given(Asked(Kind::Method, "A", "h"), "0500");
+
+const METHOD_MAIN: Given<'static> = Given(
+    Asked(Kind::Method, "M", "main"),
+    "050100030000000b07000000160e00000011014101660000000000000000",
+);
+
+const METHOD_Z: Given<'static> = Given(Asked(Kind::Method, "Z", "f"), "0500");
+
+const SIG_F: Given<'static> = Given(Asked(Kind::Sig, "A", "f"), "0601000000000000000000");
+
+const SIG_G: Given<'static> = Given(Asked(Kind::Sig, "A", "g"), "0601000000000000000000");
+
+const SIG_H: Given<'static> = Given(Asked(Kind::Sig, "A", "h"), "0600");
+
+const SIG_MAIN: Given<'static> = Given(Asked(Kind::Sig, "M", "main"), "0600");
+
+const SIG_Z: Given<'static> = Given(Asked(Kind::Sig, "Z", "f"), "0600");
+
+const SUPERS_A: Given<'static> = Given(Asked(Kind::Supers, "A", ""), "07010000000000000001014100");
+
+const SUPERS_M: Given<'static> = Given(Asked(Kind::Supers, "M", ""), "07010000000000000001014d00");
+
+const SUPERS_Z: Given<'static> = Given(Asked(Kind::Supers, "Z", ""), "0700");
+
+const MEMBERS_A: Given<'static> = Given(
+    Asked(Kind::Members, "A", ""),
+    "0801000000000000000000000000000000020166014100000000000000000001670141000000000000000000",
+);
+
+const MEMBERS_M: Given<'static> = Given(
+    Asked(Kind::Members, "M", ""),
+    "080100000000000000000000000000000000",
+);
+
+const MEMBERS_Z: Given<'static> = Given(Asked(Kind::Members, "Z", ""), "0800");
+
+const CLASS_A: Given<'static> = Given(Asked(Kind::CheckClass, "A", ""), "090000000000000000");
+
+const CLASS_M: Given<'static> = Given(Asked(Kind::CheckClass, "M", ""), "090000000000000000");
+
+const CLASS_Z: Given<'static> = Given(Asked(Kind::CheckClass, "Z", ""), "090000000000000000");
+
+const BODY_F: Given<'static> = Given(Asked(Kind::CheckBody, "A", "f"), "0a0000000000000000");
+
+const BODY_G: Given<'static> = Given(Asked(Kind::CheckBody, "A", "g"), "0a0000000000000000");
+
+const BODY_H: Given<'static> = Given(Asked(Kind::CheckBody, "A", "h"), "0a0000000000000000");
+
+const BODY_MAIN: Given<'static> = Given(Asked(Kind::CheckBody, "M", "main"), "0a0000000000000000");
+
+const BODY_Z: Given<'static> = Given(Asked(Kind::CheckBody, "Z", "f"), "0a0000000000000000");
+
+const DIAGS_A: Given<'static> = Given(Asked(Kind::Diags, "A", ""), "0b0000000000000000");
+
+const DIAGS_M: Given<'static> = Given(Asked(Kind::Diags, "M", ""), "0b0000000000000000");
+
+const DIAGS_Z: Given<'static> = Given(Asked(Kind::Diags, "Z", ""), "0b0000000000000000");
+
+const ANSWER: Given<'static> = Given(
+    Asked(Kind::Answer, "", ""),
+    "0c0000000000000000000000000000000201410000000000000000000000000000000201660141000000000000000000016701410000000000000000000000000000000000014d000000000000000000000000000000000000000000000000",
+);
+
+// Each kind, with the answers that it reads.
+const TABLE: &[Row] = &[
+    Row {
+        query: TREE,
+        reads: &[SOURCE],
+    },
+    Row {
+        query: INDEX,
+        reads: &[FILES, TREE],
+    },
+    Row {
+        query: HEADER_A,
+        reads: &[INDEX, TREE],
+    },
+    Row {
+        query: HEADER_M,
+        reads: &[INDEX, TREE],
+    },
+    Row {
+        query: HEADER_Z,
+        reads: &[INDEX],
+    },
+    Row {
+        query: METHOD_F,
+        reads: &[INDEX, TREE],
+    },
+    Row {
+        query: METHOD_G,
+        reads: &[INDEX, TREE],
+    },
+    Row {
+        query: METHOD_H,
+        reads: &[INDEX, TREE],
+    },
+    Row {
+        query: METHOD_MAIN,
+        reads: &[INDEX, TREE],
+    },
+    Row {
+        query: METHOD_Z,
+        reads: &[INDEX],
+    },
+    Row {
+        query: SIG_F,
+        reads: &[METHOD_F],
+    },
+    Row {
+        query: SIG_G,
+        reads: &[METHOD_G],
+    },
+    Row {
+        query: SIG_H,
+        reads: &[METHOD_H],
+    },
+    Row {
+        query: SIG_MAIN,
+        reads: &[METHOD_MAIN],
+    },
+    Row {
+        query: SIG_Z,
+        reads: &[METHOD_Z],
+    },
+    Row {
+        query: SUPERS_A,
+        reads: &[INDEX, HEADER_A],
+    },
+    Row {
+        query: SUPERS_M,
+        reads: &[INDEX, HEADER_M],
+    },
+    Row {
+        query: SUPERS_Z,
+        reads: &[INDEX],
+    },
+    Row {
+        query: MEMBERS_A,
+        reads: &[SUPERS_A, HEADER_A, SIG_F, SIG_G],
+    },
+    Row {
+        query: MEMBERS_M,
+        reads: &[SUPERS_M, HEADER_M],
+    },
+    Row {
+        query: MEMBERS_Z,
+        reads: &[SUPERS_Z],
+    },
+    Row {
+        query: CLASS_A,
+        reads: &[HEADER_A, SUPERS_A],
+    },
+    Row {
+        query: CLASS_M,
+        reads: &[HEADER_M, SUPERS_M],
+    },
+    Row {
+        query: CLASS_Z,
+        reads: &[HEADER_Z],
+    },
+    Row {
+        query: BODY_F,
+        reads: &[METHOD_F],
+    },
+    Row {
+        query: BODY_G,
+        reads: &[METHOD_G],
+    },
+    Row {
+        query: BODY_H,
+        reads: &[METHOD_H],
+    },
+    Row {
+        query: BODY_MAIN,
+        reads: &[METHOD_MAIN, HEADER_A, MEMBERS_A],
+    },
+    Row {
+        query: BODY_Z,
+        reads: &[METHOD_Z],
+    },
+    Row {
+        query: DIAGS_A,
+        reads: &[HEADER_A, CLASS_A, BODY_F, BODY_G],
+    },
+    Row {
+        query: DIAGS_M,
+        reads: &[HEADER_M, CLASS_M, BODY_MAIN],
+    },
+    Row {
+        query: DIAGS_Z,
+        reads: &[HEADER_Z],
+    },
+    Row {
+        query: ANSWER,
+        reads: &[FILES, TREE, INDEX, MEMBERS_A, DIAGS_A, MEMBERS_M, DIAGS_M],
+    },
+];
+
+// A main class that prints a number.
+const ONE_LITERAL: &str =
+    "class M { public static void main(String[] a) { System.out.println(1); } }";
+
+// Queries of its project, in which there is no other class.
+const OF_ONE_LITERAL: &[Row] = &[
+    Row {
+        query: Given(
+            Asked(Kind::Tree, "M.java", ""),
+            "020101014d030000000b0800000011000000010000000000000000",
+        ),
+        reads: &[Given(
+            Asked(Kind::Source, "M.java", ""),
+            "0101000000000000004a636c617373204d207b207075626c69632073746174696320766f6964206d61696e28537472696e675b5d206129207b2053797374656d2e6f75742e7072696e746c6e2831293b207d207d",
+        )],
+    },
+    Row {
+        query: BODY_MAIN,
+        reads: &[Given(
+            Asked(Kind::Method, "M", "main"),
+            "050100030000000b080000001100000001",
+        )],
+    },
+    Row {
+        query: Given(
+            Asked(Kind::Answer, "", ""),
+            "0c00000000000000000000000000000001014d000000000000000000000000000000000000000000000000",
+        ),
+        reads: &[
+            FILES,
+            Given(
+                Asked(Kind::Tree, "M.java", ""),
+                "020101014d030000000b0800000011000000010000000000000000",
+            ),
+            Given(
+                Asked(Kind::Index, "", ""),
+                "030000000000000001014d064d2e6a617661",
+            ),
+            MEMBERS_M,
+            DIAGS_M,
+        ],
+    },
+];
+
+/// The key of a query that is no input.
+fn query_of(alloc: Global, asked: Asked) -> Result<Key, Unfit>
+    ensures { IfOk result (λ key. 0 < rank_of key) }
+{
+    if rank(asked.0) == 0 {
+        return Err(Unfit);
+    }
+    key_of(alloc, asked)
+}
+
+/// Whether the run over the list reads just the row's answers, in their order, comes to the value, and is logged.
+fn is_run(rt: HostRuntime, key: &Key, list: AnswerList, row: &Row) -> Result<bool, Unfit>
+    requires { 0 < rank_of key.now }
+{
+    let mut runner = MiniJava::new(rt.alloc());
+    let mut recorder = Recorder::new(rt.alloc(), list);
+    let result = runner.run(rt.alloc(), key, &mut recorder);
+    Ok(
+        comes_to(rt.alloc(), result, recorder, row.query.1, row.reads)?
+            && matches!(runner.log(), [one] if is_key(one, row.query.0)),
+    )
+}
+
+/// Whether the row is right.
+fn is_right(rt: HostRuntime, row: &Row) -> Result<bool, Unfit> {
+    let key = query_of(rt.alloc(), row.query.0)?;
+    match list_of(rt.alloc(), row.reads) {
+        Ok(list) => is_run(rt, &key, list, row),
+        Err(unfit) => Err(unfit),
+    }
+}
+
+#[test]
+fn runs_of_the_runner(rt: HostRuntime) -> Result<(), Fail> {
+    for row in TABLE.iter().chain(OF_ONE_LITERAL) {
+        assert!(rt; is_right(rt, row)?);
+    }
+    Ok(())
+}
+
+/// One file with this text.
+fn file_of(alloc: Global, text: &str) -> Result<Vec<(String, Vec<u8>)>, AllocError> {
+    let name = String::from_str(alloc, "M.java")?;
+    let bytes = text.as_bytes().to_vec(alloc)?;
+    let mut files = Vec::new(alloc);
+    files.push((name, bytes))?;
+    Ok(files)
+}
+
+/// The project of one file.
+fn project_of(alloc: Global, text: &str) -> Result<Project, Unfit> {
+    match Project::new(alloc, file_of(alloc, text)?) {
+        Ok(project) => Ok(project),
+        Err(_) => Err(Unfit),
+    }
+}
+
+/// A driver of the queries of the project of one file.
+fn driver_of(alloc: Global, text: &str) -> Result<Driver<MiniJava>, Unfit> {
+    let project = project_of(alloc, text)?;
+    let inputs = Inputs::new(alloc, &project)?;
+    Ok(Driver::new(alloc, inputs, MiniJava::new(alloc)))
+}
+
+/// Whether the driver brings the key's result, which these digits spell.
+fn brings(alloc: Global, driver: &mut Driver<MiniJava>, wanted: Given) -> Result<bool, Unfit> {
+    let key = key_of(alloc, wanted.0)?;
+    match driver.result(&key) {
+        Ok(sealed) => is_spelled(alloc, &sealed, wanted.1),
+        Err(_) => Err(Unfit),
+    }
+}
+
+/// Whether the driver of the project brings the result of each row.
+fn brings_each(alloc: Global, text: &str, rows: &[Row]) -> Result<bool, Unfit> {
+    let mut driver = driver_of(alloc, text)?;
+    for row in rows {
+        if !brings(alloc, &mut driver, row.query)? {
+            return Ok(false);
+        }
+    }
+    Ok(true)
+}
+
+#[test]
+fn results_of_the_driver(rt: HostRuntime) -> Result<(), Fail> {
+    assert!(rt; brings_each(rt.alloc(), TEXT, TABLE)?);
+    assert!(rt; brings_each(rt.alloc(), ONE_LITERAL, OF_ONE_LITERAL)?);
+    Ok(())
+}
+
+/// Whether the driver brings the answer of the project, which these digits spell.
+fn is_answer(alloc: Global, text: &str, digits: &str) -> Result<bool, Unfit> {
+    let mut driver = driver_of(alloc, text)?;
+    match driver.answer() {
+        Ok(sealed) => is_spelled(alloc, &sealed, digits),
+        Err(_) => Err(Unfit),
+    }
+}
+
+#[test]
+fn answers_of_the_driver(rt: HostRuntime) -> Result<(), Fail> {
+    assert!(rt; is_answer(rt.alloc(), TEXT, ANSWER.1)?);
+    Ok(())
+}
