@@ -1,5 +1,6 @@
-use answer_samples::{Asked, has_copy, is_less, is_made, is_named};
+use answer_samples::{Asked, Unfit, is_copy, is_less, is_made, is_named};
 use item_ids::{Kind, keys_in_order, rank, ranks_in_order};
+use std::alloc::Global;
 use std::test::*;
 
 // Each kind with its number and its rank.
@@ -44,20 +45,30 @@ const PAIRS: &[(Asked, Asked)] = &[
     (Asked(Kind::Diags, "z", ""), Asked(Kind::Answer, "", "")),
 ];
 
+/// Whether the first key is less than the second and the second not less than the first, and copies equal the keys that
+/// they are made of alone.
+fn is_pair(alloc: Global, lesser: Asked, greater: Asked) -> Result<bool, Unfit> {
+    Ok(
+        is_less(alloc, lesser, greater)?
+            && !is_less(alloc, greater, lesser)?
+            && is_copy(alloc, lesser, lesser)?
+            && !is_copy(alloc, lesser, greater)?,
+    )
+}
+
 #[test]
 fn lesser_keys(rt: HostRuntime) -> Result<(), Fail> {
     for (lesser, greater) in PAIRS {
-        assert!(rt;
-            is_less(rt.alloc(), *lesser, *greater)? && has_copy(rt.alloc(), *lesser)?,
-            "{lesser:?}"
-        );
+        assert!(rt; is_pair(rt.alloc(), *lesser, *greater)?, "{lesser:?}");
     }
     Ok(())
 }
 
 #[test]
 fn names_of_a_key(rt: HostRuntime) -> Result<(), Fail> {
-    assert!(rt; is_named(rt.alloc(), Asked(Kind::CheckBody, "A", "f"))?);
+    let body = Asked(Kind::CheckBody, "A", "f");
+    assert!(rt; is_named(rt.alloc(), body, body)?);
+    assert!(rt; !is_named(rt.alloc(), body, Asked(Kind::CheckBody, "f", "A"))?);
     Ok(())
 }
 

@@ -46,13 +46,24 @@ fn codes_have_numbers(rt: HostRuntime) {
     code_numbers();
     for (code, number) in CODES {
         let is_both_ways = code.number() == *number && Code::from_number(*number) == Some(*code);
-        assert!(rt; is_both_ways, "{number}");
+        assert!(rt; is_both_ways);
     }
+}
+
+/// How many numbers below 1,000 are those of codes.
+fn code_count() -> usize {
+    let mut count = 0usize;
+    for number in 0..1000u16 {
+        if Code::from_number(number).is_some() {
+            count = count.saturating_add(1);
+        }
+    }
+    count
 }
 
 #[test]
 fn codes_are_thirty(rt: HostRuntime) {
-    assert_eq!(rt; (0..1000u16).filter_map(Code::from_number).count(), 30);
+    assert!(rt; code_count() == 30);
     assert!(rt; Code::E104 < Code::E201);
 }
 
@@ -80,9 +91,8 @@ fn is_found(alloc: Global, text: &str, want: Option<usize>) -> Result<bool, Allo
 }
 
 #[test]
-fn rows_are_found(rt: HostRuntime) -> Result<(), Fail> {
+fn rows_are_found(rt: HostRuntime) {
     for (text, want) in SOUGHT {
-        assert!(rt; is_found(rt.alloc(), text, *want)?, "{text}");
+        assert!(rt; is_found(rt.alloc(), text, *want) == Ok(true));
     }
-    Ok(())
 }

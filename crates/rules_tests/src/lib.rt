@@ -4,7 +4,7 @@
 #[cfg(test)]
 mod answers;
 #[cfg(test)]
-mod declarations;
+mod chains;
 #[cfg(test)]
 mod projects;
 #[cfg(test)]

@@ -2,7 +2,6 @@
 //! output.
 use mj_rules::{Project, ProjectFault};
 use std::alloc::{AllocError, Global};
-use std::test::Fail;
 
 /// A name of 256 bytes.
 const LONG: &str =
@@ -38,9 +37,8 @@ fn is_refused(
 }
 
 #[test]
-fn projects_are_refused(rt: HostRuntime) -> Result<(), Fail> {
+fn projects_are_refused(rt: HostRuntime) {
     for (names, want) in REFUSED {
-        assert!(rt; is_refused(rt.alloc(), names, *want)?, "{names:?}");
+        assert!(rt; is_refused(rt.alloc(), names, *want) == Ok(true));
     }
-    Ok(())
 }

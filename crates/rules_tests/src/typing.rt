@@ -1,11 +1,12 @@
 //! Tests: the questions of a check and the order of its mistakes are worked by hand from the language's rules. What each
 //! phrase demands is compared row by row with the program's output.
-use mj_lexer::{Name, lex};
-use mj_parser::parse;
+use mj_answer::Code;
+use mj_lexer::Name;
+use mj_rules::read_file;
 use mj_tree::{ClassTree, FileTree, MainTree, Ty};
 use mj_typing::{Asking, Mistake, Signature, Stop, check_main, check_method};
 use std::alloc::{AllocError, Global};
-use std::test::Fail;
+use std::test::*;
 
 /// The types of a method.
 #[derive(Drop)]
@@ -62,9 +63,16 @@ impl Scribe {
             return Err(Stop::Refused(7));
         }
         self.answers -= 1;
-        write!(self.asked, "{first}{sign}{second} ")?;
-        Ok(())
+        Ok(note(&mut self.asked, first, sign, second)?)
     }
+}
+
+/// Adds what is asked to the text.
+fn note(text: &mut String, first: &str, sign: &str, second: &str) -> Result<(), AllocError> {
+    text.push_str(first)?;
+    text.push_str(sign)?;
+    text.push_str(second)?;
+    Ok(text.push_str(" ")?)
 }
 
 impl Asking for Scribe {
@@ -127,108 +135,171 @@ impl Asking for Scribe {
     }
 }
 
-/// What was asked, and the mistakes as in `E304@19`, or `refused`.
-fn summary(scribe: Scribe, found: Result<Vec<Mistake>, Stop<usize>>) -> Result<String, AllocError> {
-    let mut text = scribe.asked;
-    match found {
-        Ok(mistakes) => {
-            for mistake in &mistakes {
-                write!(text, "E{}@{} ", mistake.code.number(), mistake.mark)?;
-            }
+/// What is checked, the main or else the first class's first method; how many questions are answered; what is asked; and
+/// the mistakes that are found with their marks, or none where a question is refused.
+struct Row {
+    text: &'static str,
+    answers: usize,
+    asked: &'static str,
+    mistakes: Option<&'static [(Code, usize)]>,
+}
+
+/// Whether these are the mistakes.
+fn are_mistakes(mistakes: &[Mistake], want: &[(Code, usize)]) -> bool {
+    if mistakes.len() != want.len() {
+        return false;
+    }
+    for (mistake, (code, mark)) in mistakes.iter().zip(want) {
+        if mistake.code != *code || mistake.mark != *mark {
+            return false;
         }
-        Err(Stop::Refused(7)) => text.push_str("refused")?,
-        Err(_) => text.push_str("another end")?,
     }
-    Ok(text)
+    true
 }
 
-/// Whether this is what the check of a class's first method asks and finds, where so many questions are answered.
-fn is_of_first(
-    alloc: Global,
-    class: &ClassTree,
-    answers: usize,
-    want: &str,
-) -> Result<bool, AllocError> {
-    let Some(method) = class.methods.first() else {
-        return Ok(false);
+/// Whether this came of a check.
+fn is_found(scribe: &Scribe, found: &Result<Vec<Mistake>, Stop<usize>>, row: &Row) -> bool {
+    let is_end = match (found, row.mistakes) {
+        (Ok(mistakes), Some(want)) => are_mistakes(mistakes, want),
+        (Err(Stop::Refused(7)), None) => true,
+        _ => false,
     };
-    let mut scribe = Scribe::new(alloc, answers);
+    is_end && scribe.asked.as_str() == row.asked
+}
+
+/// Whether this comes of the check of a class's first method.
+fn is_of_first(alloc: Global, class: &ClassTree, row: &Row) -> bool {
+    let Some(method) = class.methods.first() else {
+        return false;
+    };
+    let mut scribe = Scribe::new(alloc, row.answers);
     let found = check_method(alloc, &mut scribe, &class.name, method);
-    Ok(summary(scribe, found)?.as_str() == want)
+    is_found(&scribe, &found, row)
 }
 
-/// Whether this is what the check of the main asks and finds, where no question is answered.
-fn is_of_statement(alloc: Global, main: &MainTree, want: &str) -> Result<bool, AllocError> {
-    let mut scribe = Scribe::new(alloc, 0);
+/// Whether this comes of the check of the main.
+fn is_of_statement(alloc: Global, main: &MainTree, row: &Row) -> bool {
+    let mut scribe = Scribe::new(alloc, row.answers);
     let found = check_main(alloc, &mut scribe, main);
-    Ok(summary(scribe, found)?.as_str() == want)
+    is_found(&scribe, &found, row)
 }
 
-/// Whether this is what the check of the main, or else of the first class's first method, asks and finds.
-fn is_of_file(
-    alloc: Global,
-    tree: &FileTree,
-    answers: usize,
-    want: &str,
-) -> Result<bool, AllocError> {
+fn is_of_file(alloc: Global, tree: &FileTree, row: &Row) -> bool {
     match (&tree.main, tree.classes.first()) {
-        (Some(main), _) => is_of_statement(alloc, main, want),
-        (None, Some(class)) => is_of_first(alloc, class, answers, want),
-        (None, None) => Ok(false),
+        (Some(main), _) => is_of_statement(alloc, main, row),
+        (None, Some(class)) => is_of_first(alloc, class, row),
+        (None, None) => false,
     }
 }
 
-fn is_of_text(alloc: Global, text: &str, answers: usize, want: &str) -> Result<bool, Fail> {
-    let tokens = lex(alloc, text.as_bytes())?;
-    let tree = parse(alloc, &tokens)?;
-    Ok(is_of_file(alloc, &tree, answers, want)?)
+/// Whether this comes of the check of the row's text.
+fn is_right(alloc: Global, row: &Row) -> Result<bool, AllocError> {
+    match read_file(alloc, row.text.as_bytes())? {
+        Some(tree) => Ok(is_of_file(alloc, &tree, row)),
+        None => Ok(false),
+    }
 }
 
 /// A method whose check asks each question: the class types declared, then each phrase behind its parts.
 const ASKING: &str =
     "class A { public A g(B b, int n) { C c; y = b; n = x + y; n = b.f(n, b); b = new B(); return b; } }";
 
-/// How many questions are answered, and what is asked and found then.
-const ASKED: &[(usize, &str)] = &[
-    (0, "refused"),
-    (1, "A? refused"),
-    (2, "A? B? refused"),
-    (3, "A? B? C? refused"),
-    (4, "A? B? C? A.y refused"),
-    (5, "A? B? C? A.y A.x refused"),
-    (6, "A? B? C? A.y A.x A.y refused"),
-    (7, "A? B? C? A.y A.x A.y B:f refused"),
-    (8, "A? B? C? A.y A.x A.y B:f B<A refused"),
-    (9, "A? B? C? A.y A.x A.y B:f B<A B? refused"),
-    (
-        10,
-        "A? B? C? A.y A.x A.y B:f B<A B? B<A E206@11 E303@14 E303@22 E318@25 ",
-    ),
+// Of the method, so many questions are answered. Of the next one a name is repeated, which comes before the types of the
+// whole method. A main has no names, and asks nothing.
+const ROWS: &[Row] = &[
+    Row {
+        text: ASKING,
+        answers: 0,
+        asked: "",
+        mistakes: None,
+    },
+    Row {
+        text: ASKING,
+        answers: 1,
+        asked: "A? ",
+        mistakes: None,
+    },
+    Row {
+        text: ASKING,
+        answers: 2,
+        asked: "A? B? ",
+        mistakes: None,
+    },
+    Row {
+        text: ASKING,
+        answers: 3,
+        asked: "A? B? C? ",
+        mistakes: None,
+    },
+    Row {
+        text: ASKING,
+        answers: 4,
+        asked: "A? B? C? A.y ",
+        mistakes: None,
+    },
+    Row {
+        text: ASKING,
+        answers: 5,
+        asked: "A? B? C? A.y A.x ",
+        mistakes: None,
+    },
+    Row {
+        text: ASKING,
+        answers: 6,
+        asked: "A? B? C? A.y A.x A.y ",
+        mistakes: None,
+    },
+    Row {
+        text: ASKING,
+        answers: 7,
+        asked: "A? B? C? A.y A.x A.y B:f ",
+        mistakes: None,
+    },
+    Row {
+        text: ASKING,
+        answers: 8,
+        asked: "A? B? C? A.y A.x A.y B:f B<A ",
+        mistakes: None,
+    },
+    Row {
+        text: ASKING,
+        answers: 9,
+        asked: "A? B? C? A.y A.x A.y B:f B<A B? ",
+        mistakes: None,
+    },
+    Row {
+        text: ASKING,
+        answers: 10,
+        asked: "A? B? C? A.y A.x A.y B:f B<A B? B<A ",
+        mistakes: Some(&[
+            (Code::E206, 11),
+            (Code::E303, 14),
+            (Code::E303, 22),
+            (Code::E318, 25),
+        ]),
+    },
+    Row {
+        text: "class A { public C g(D d, int d) { C c; return c; } }",
+        answers: 10,
+        asked: "C? D? C? ",
+        mistakes: Some(&[
+            (Code::E207, 8),
+            (Code::E206, 1),
+            (Code::E206, 4),
+            (Code::E206, 11),
+        ]),
+    },
+    Row {
+        text: "class M { public static void main(String[] a) { System.out.println(x + (this.f(y))); } }",
+        answers: 0,
+        asked: "",
+        mistakes: Some(&[(Code::E303, 17), (Code::E306, 20), (Code::E303, 24)]),
+    },
 ];
 
 #[test]
-fn questions_in_order(rt: HostRuntime) -> Result<(), Fail> {
-    for (answers, want) in ASKED {
-        assert!(rt; is_of_text(rt.alloc(), ASKING, *answers, want)?, "{want}");
+fn questions_and_mistakes(rt: HostRuntime) {
+    for row in ROWS {
+        assert!(rt; is_right(rt.alloc(), row) == Ok(true));
     }
-    Ok(())
-}
-
-// A name that is repeated comes before the types of the whole method.
-#[test]
-fn mistakes_in_order(rt: HostRuntime) -> Result<(), Fail> {
-    let text = "class A { public C g(D d, int d) { C c; return c; } }";
-    let want = "C? D? C? E207@8 E206@1 E206@4 E206@11 ";
-    assert!(rt; is_of_text(rt.alloc(), text, 10, want)?);
-    Ok(())
-}
-
-/// A main that has no names.
-const MAIN: &str =
-    "class M { public static void main(String[] a) { System.out.println(x + (this.f(y))); } }";
-
-#[test]
-fn nothing_is_asked_in_main(rt: HostRuntime) -> Result<(), Fail> {
-    assert!(rt; is_of_text(rt.alloc(), MAIN, 0, "E303@17 E306@20 E303@24 ")?);
-    Ok(())
 }

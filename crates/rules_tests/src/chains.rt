@@ -1,0 +1,178 @@
+//! Tests: chains and their ends are those of small programs worked by hand. Which members a class has, which type is
+//! accepted by which, and which class of a name counts are compared row by row with the program's output.
+use mj_classes::{ClassChain, ClassRef, Declarations, End};
+use mj_lexer::Name;
+use mj_rules::read_file;
+use mj_tree::FileTree;
+use std::alloc::{AllocError, Global};
+use std::test::*;
+
+/// A file with the main class `M`, one that is no sentence, and one that declares a class again and has cycles.
+const TEXTS: &[&str] = &[
+    "class M { public static void main(String[] a) { { } } } class A { int x; boolean x; int y; public int g() { return 1; } public boolean f() { return true; } } class B extends A { boolean x; public A f() { return this; } public int f() { return 1; } }",
+    "no file",
+    "class A extends B { int z; } class C extends D { int k; } class D extends C { int n; } class E extends C { } class F extends F { } class G extends Missing { int x; }",
+];
+
+/// How a chain ends.
+#[derive(Clone, Copy)]
+enum Ending {
+    Top,
+    Undeclared(&'static str),
+    Repeated(&'static str),
+}
+
+/// A class, the numbers of its file and of the class in it, the names of its chain, and the chain's end.
+struct Chain {
+    class: &'static str,
+    file: usize,
+    number: usize,
+    names: &'static [&'static str],
+    end: Ending,
+}
+
+const CHAINS: &[Chain] = &[
+    Chain {
+        class: "M",
+        file: 0,
+        number: 0,
+        names: &["M"],
+        end: Ending::Top,
+    },
+    Chain {
+        class: "A",
+        file: 0,
+        number: 1,
+        names: &["A"],
+        end: Ending::Top,
+    },
+    Chain {
+        class: "B",
+        file: 0,
+        number: 2,
+        names: &["B", "A"],
+        end: Ending::Top,
+    },
+    Chain {
+        class: "C",
+        file: 2,
+        number: 1,
+        names: &["C", "D"],
+        end: Ending::Repeated("C"),
+    },
+    Chain {
+        class: "D",
+        file: 2,
+        number: 2,
+        names: &["D", "C"],
+        end: Ending::Repeated("D"),
+    },
+    Chain {
+        class: "E",
+        file: 2,
+        number: 3,
+        names: &["E", "C", "D"],
+        end: Ending::Repeated("C"),
+    },
+    Chain {
+        class: "F",
+        file: 2,
+        number: 4,
+        names: &["F"],
+        end: Ending::Repeated("F"),
+    },
+    Chain {
+        class: "G",
+        file: 2,
+        number: 5,
+        names: &["G"],
+        end: Ending::Undeclared("Missing"),
+    },
+];
+
+/// A name; `?` for a text that is none.
+fn name(alloc: Global, text: &str) -> Result<Name, AllocError> {
+    if text.is_empty() || text.len() > 255 {
+        return Name::new(alloc, "?");
+    }
+    Name::new(alloc, text)
+}
+
+fn trees_of(alloc: Global, texts: &[&str]) -> Result<Vec<Option<FileTree>>, AllocError> {
+    let mut trees = Vec::new(alloc);
+    for text in texts {
+        trees.push(read_file(alloc, text.as_bytes())?)?;
+    }
+    Ok(trees)
+}
+
+/// Whether the chain ends so.
+fn is_end(end: &End, want: Ending) -> bool {
+    match (end, want) {
+        (End::Top, Ending::Top) => true,
+        (End::Undeclared(name), Ending::Undeclared(want)) => name.as_str() == want,
+        (End::Repeated(name), Ending::Repeated(want)) => name.as_str() == want,
+        _ => false,
+    }
+}
+
+/// Whether the classes have these names.
+fn are_named(classes: &[ClassRef], names: &[&str]) -> bool {
+    if classes.len() != names.len() {
+        return false;
+    }
+    for (class, name) in classes.iter().zip(names) {
+        if class.name().as_str() != *name {
+            return false;
+        }
+    }
+    true
+}
+
+/// Whether the class has this place and this chain.
+fn is_chain(class: &ClassRef, chain: &ClassChain, row: &Chain) -> bool {
+    class.name().as_str() == row.class
+        && class.file == row.file
+        && class.number == row.number
+        && are_named(chain.classes.as_slice(), row.names)
+        && is_end(&chain.end, row.end)
+}
+
+/// Whether the class of the row has this chain.
+fn has_chain(alloc: Global, declarations: &Declarations, row: &Chain) -> Result<bool, AllocError> {
+    let class = name(alloc, row.class)?;
+    match (
+        declarations.find(&class),
+        declarations.chain(alloc, &class)?,
+    ) {
+        (Some(found), Some(chain)) => Ok(is_chain(&found, &chain, row)),
+        _ => Ok(false),
+    }
+}
+
+/// Whether a class of the name has no chain.
+fn has_none(alloc: Global, declarations: &Declarations, class: &str) -> Result<bool, AllocError> {
+    let class = name(alloc, class)?;
+    Ok(declarations.find(&class).is_none() && declarations.chain(alloc, &class)?.is_none())
+}
+
+fn all_have_chains(alloc: Global, declarations: &Declarations) -> Result<bool, AllocError> {
+    for row in CHAINS {
+        if !has_chain(alloc, declarations, row)? {
+            return Ok(false);
+        }
+    }
+    has_none(alloc, declarations, "Missing")
+}
+
+/// Whether the classes of the files have just these chains, and so many are declared, those of one name again.
+fn are_chains(alloc: Global, texts: &[&str], count: usize) -> Result<bool, AllocError> {
+    let files = trees_of(alloc, texts)?;
+    let declarations = Declarations::new(alloc, &files)?;
+    Ok(declarations.classes().len() == count && all_have_chains(alloc, &declarations)?)
+}
+
+#[test]
+fn chains(rt: HostRuntime) {
+    assert!(rt; are_chains(rt.alloc(), TEXTS, 9) == Ok(true));
+}
