@@ -2,12 +2,13 @@
 #![tactic(auto)]
 
 mod calls;
-mod outcomes;
+mod changes;
+mod histories;
 mod replays;
-mod steps;
+mod runs;
 mod tables;
 
-pub use calls::{Call, Said, Saying};
-pub use replays::replay_run;
-pub use steps::{Step, are_kept};
-pub use tables::Start;
+pub use calls::{Call, Calls, Said, Saying, are_said};
+pub use changes::{Change, Other};
+pub use histories::{History, is_history};
+pub use replays::{Replay, replay_of};

@@ -1,66 +1,71 @@
 //! Replays of events.
 
-use crate::outcomes::outcome_of;
-use crate::tables::{Start, project_of};
+use crate::runs::outcome_of;
+use crate::tables::project_of;
 use answer_samples::{Asked, Unfit, key_of};
 use job_table::{Event, ReplayFault, Table};
 use mj_project::Project;
-use run_samples::Given;
-use sample_runner::SampleRunner;
+use providers::MiniJava;
+use session_samples::Kept;
 use std::alloc::{AllocError, AllocFailed, Global};
 
-type Events = Vec<Event<SampleRunner>>;
+/// The events of a run by the worker 0 in a project of this text: the key of the last of these records is claimed and
+/// finished over the answers of its edges, with a begin between them or without.
+#[derive(Clone, Copy)]
+pub struct Replay {
+    pub text: &'static str,
+    pub records: &'static [Kept],
+    pub begins: bool,
+}
 
-fn add(events: &mut Events, event: Event<SampleRunner>) -> Result<(), AllocError> {
+type Events = Vec<Event<MiniJava>>;
+
+fn add(events: &mut Events, event: Event<MiniJava>) -> Result<(), AllocError> {
     Ok(events.push(event)?)
 }
 
-fn add_claim(alloc: Global, events: &mut Events, named: Asked) -> Result<(), Unfit> {
-    let key = key_of(alloc, named)?;
+fn add_claim(alloc: Global, events: &mut Events, asked: Asked) -> Result<(), Unfit> {
+    let key = key_of(alloc, asked)?;
     Ok(add(events, Event::Claim(0, key))?)
 }
 
-fn add_begin(alloc: Global, events: &mut Events, named: Asked) -> Result<(), Unfit> {
-    let key = key_of(alloc, named)?;
+fn add_begin(alloc: Global, events: &mut Events, asked: Asked) -> Result<(), Unfit> {
+    let key = key_of(alloc, asked)?;
     Ok(add(events, Event::Begin(0, key))?)
 }
 
 fn add_finish(
     alloc: Global,
     events: &mut Events,
-    named: Asked,
-    given: &[Given],
+    records: &[Kept],
+    kept: &Kept,
 ) -> Result<(), Unfit> {
-    let outcome = outcome_of(alloc, named, given)?;
+    let outcome = outcome_of(alloc, records, kept)?;
     Ok(add(events, Event::Finish(0, outcome))?)
 }
 
-/// Adds a claim and an outcome, with a begin between them or without.
-fn add_run(
-    alloc: Global,
-    events: &mut Events,
-    named: Asked,
-    given: &[Given],
-    begins: bool,
-) -> Result<(), Unfit> {
-    add_claim(alloc, events, named)?;
-    if begins {
-        add_begin(alloc, events, named)?;
+fn add_run(alloc: Global, events: &mut Events, replay: &Replay, kept: &Kept) -> Result<(), Unfit> {
+    add_claim(alloc, events, kept.key)?;
+    if replay.begins {
+        add_begin(alloc, events, kept.key)?;
     }
-    add_finish(alloc, events, named, given)
+    add_finish(alloc, events, replay.records, kept)
 }
 
-fn events_of(alloc: Global, named: Asked, given: &[Given], begins: bool) -> Result<Events, Unfit> {
+fn events_of(alloc: Global, replay: &Replay) -> Result<Events, Unfit> {
     let mut events = Vec::new(alloc);
-    add_run(alloc, &mut events, named, given, begins)?;
+    match replay.records.last() {
+        Some(kept) => add_run(alloc, &mut events, replay, kept)?,
+        None => return Err(Unfit),
+    }
     Ok(events)
 }
 
-/// How many events the replay has in a project of one file, with no past, or why there is none.
-fn replay_of(
+/// How many events the replay has in a project with no past, or why there is none.
+fn replay_in(
     alloc: Global,
     project: &Project,
-    events: &[Event<SampleRunner>],
+    events: &[Event<MiniJava>],
 ) -> Result<usize, ReplayFault> {
     match Table::replay(alloc, None, project, events) {
         Ok(table) => Ok(table.history().len()),
@@ -68,26 +73,17 @@ fn replay_of(
     }
 }
 
-fn replay_run_in(
+fn replay_over(
     alloc: Global,
     project: &Project,
-    named: Asked,
-    given: &[Given],
-    begins: bool,
+    replay: &Replay,
 ) -> Result<Result<usize, ReplayFault>, Unfit> {
-    let events = events_of(alloc, named, given, begins)?;
-    Ok(replay_of(alloc, project, &events))
+    let events = events_of(alloc, replay)?;
+    Ok(replay_in(alloc, project, &events))
 }
 
-/// How many events a replay has in a table's project, with no past, or why there is none. In it the worker 0 claims a key
-/// and ends its run by the outcome over these answers, with a begin between them or without.
-pub fn replay_run(
-    alloc: Global,
-    start: &Start,
-    named: Asked,
-    given: &[Given],
-    begins: bool,
-) -> Result<Result<usize, ReplayFault>, Unfit> {
-    let project = project_of(alloc, start.file, start.text)?;
-    replay_run_in(alloc, &project, named, given, begins)
+/// How many events the replay has with no past, or why there is none.
+pub fn replay_of(alloc: Global, replay: &Replay) -> Result<Result<usize, ReplayFault>, Unfit> {
+    let project = project_of(alloc, replay.text)?;
+    replay_over(alloc, &project, replay)
 }

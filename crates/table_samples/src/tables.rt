@@ -1,34 +1,26 @@
 //! Tables of projects of one file.
 
+use crate::changes::{Change, past_of};
 use answer_samples::Unfit;
 use job_table::Table;
 use mj_project::Project;
-use sample_runner::SampleRunner;
-use session_samples::{Kept, session_of};
-use sessions::Session;
-use std::alloc::{AllocError, AllocFailed, Global};
-use std::sync::Arc;
+use providers::MiniJava;
+use std::alloc::{AllocError, Global};
 
-/// What a table is opened with: a project of one file, and the records of the first session before, empty where there
-/// was none.
-#[derive(Clone, Copy)]
-pub struct Start {
-    pub past: &'static [Kept],
-    pub file: &'static str,
-    pub text: &'static str,
-}
+/// The name of the file.
+const FILE: &str = "M.java";
 
-/// The project of one file.
-pub(crate) fn project_of(alloc: Global, file: &str, text: &str) -> Result<Project, Unfit> {
-    let files = files_of(alloc, file, text)?;
+/// The project of one file with this text.
+pub(crate) fn project_of(alloc: Global, text: &str) -> Result<Project, Unfit> {
+    let files = files_of(alloc, text)?;
     match Project::new(alloc, files) {
         Ok(project) => Ok(project),
         Err(_) => Err(Unfit),
     }
 }
 
-fn files_of(alloc: Global, file: &str, text: &str) -> Result<Vec<(String, Vec<u8>)>, AllocError> {
-    let name = String::from_str(alloc, file)?;
+fn files_of(alloc: Global, text: &str) -> Result<Vec<(String, Vec<u8>)>, AllocError> {
+    let name = String::from_str(alloc, FILE)?;
     files_with(alloc, name, text)
 }
 
@@ -51,32 +43,22 @@ fn one_file(
     Ok(files)
 }
 
-/// The session of these records, the first of a chain, or `None` without records.
-fn past_of(alloc: Global, kept: &[Kept]) -> Result<Option<Arc<Session>>, Unfit> {
-    if kept.is_empty() {
-        return Ok(None);
-    }
-    let session = session_of(alloc, 0, [0; 32], kept)?;
-    Ok(Some(share(alloc, session)?))
-}
-
-/// The session, to be shared.
-fn share(alloc: Global, session: Session) -> Result<Arc<Session>, AllocError> {
-    Ok(Arc::new(alloc, session)?)
-}
-
-/// The table that is opened so.
-pub(crate) fn table_of(alloc: Global, start: &Start) -> Result<Table<SampleRunner>, Unfit> {
-    let project = project_of(alloc, start.file, start.text)?;
-    table_over(alloc, start.past, &project)
+/// The table of a project of this text, opened behind a chain of sessions.
+pub(crate) fn table_of(
+    alloc: Global,
+    chain: &[Change],
+    text: &str,
+) -> Result<Table<MiniJava>, Unfit> {
+    let project = project_of(alloc, text)?;
+    table_over(alloc, chain, &project)
 }
 
 fn table_over(
     alloc: Global,
-    kept: &[Kept],
+    chain: &[Change],
     project: &Project,
-) -> Result<Table<SampleRunner>, Unfit> {
-    let past = past_of(alloc, kept)?;
+) -> Result<Table<MiniJava>, Unfit> {
+    let past = past_of(alloc, chain)?;
     match Table::open(alloc, past, project) {
         Ok(table) => Ok(table),
         Err(_) => Err(Unfit),

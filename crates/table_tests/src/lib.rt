@@ -1,11 +1,10 @@
-//! Tests of sessions and tables: the answers of each call, worked by hand from the rules.
+//! Tests of sessions and tables, by the queries of MiniJava: the answers of each call and the histories of whole sessions,
+//! worked by hand from the rules.
 #![tactic(auto)]
 
 #[cfg(test)]
 mod calls;
 #[cfg(test)]
-mod closes;
+mod histories;
 #[cfg(test)]
-mod keys;
-#[cfg(test)]
-mod runs;
+mod records;
