@@ -1,0 +1,2 @@
+pub mod FreeRules
+pub mod SessionRules

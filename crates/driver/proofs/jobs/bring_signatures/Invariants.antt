@@ -1,0 +1,5 @@
+use Rattle.driver.specs.Frees.{WorksOn}
+use Rattle.driver.proofs.jobs.bring_signatures.Given as goal
+
+abbrev pub invariant-loop-method : goal.invariant-loop-method
+invariant-loop-method g l = WorksOn l.initial.solo.table l.solo.table

@@ -1,0 +1,47 @@
+-- What one session of a project is, and what is reported of it.
+use Rattle.std.specs.Prelude.{◌≡◌, ℕ, ◌-◌, ◌≤◌, List, ◌∷◌, length, replicate, Option, Result, Ok, Err}
+use Rattle.recorder.specs.Projects.{Project}
+use Rattle.recorder.specs.Backed.{Meaning, ReadLists}
+use Rattle.sessions.specs.Sessions.{SessionValue, past_entry}
+use Rattle.graph_rules.specs.Steps.{Event, Legal, state_after}
+use Rattle.graph_rules.specs.Sound.{AreBacked}
+use Rattle.job_table.specs.Tables.{IsFull}
+use Rattle.job_table.specs.Closes.{MayClose, IsClosing}
+use Rattle.driver.specs.declared.reports.Reports.{Reports}
+use Rattle.driver.specs.declared.fault.DriveFault.{DriveFault}
+use Rattle.driver.specs.declared.fault.DriveFault.TheVariants as fault
+
+-- a session is made by 1 to 64 workers
+abbrev pub IsCrew : ℕ → Type 0
+IsCrew workers = (1 ≤ workers) × (workers ≤ 64)
+
+-- The events are a legal history over the past and the project, each outcome in it follows from its
+-- reads, and the session is what their last state closes with.
+pub record AreEventsOf (mean : Meaning) (reads : ReadLists) (past : Option SessionValue) (p : Project)
+    (history : List Event) (s : SessionValue) : Type 0 where
+  pub legal : Legal (past_entry past) p history
+  pub backed : AreBacked mean reads history
+  pub may_close : MayClose (state_after (past_entry past) p history)
+  pub closing : IsClosing past p (state_after (past_entry past) p history) s
+
+-- The reports count the events: for each worker those that it made, the first all of them.
+pub record AreReportsOn (history : List Event) (workers : ℕ) (r : Reports) : Type 0 where
+  pub history_is : r.history ≡ length history
+  pub first : r.events.items ≡ length history ∷ replicate (workers - 1) 0
+
+-- The session comes of a history, on which these are the reports.
+pub record IsSessionOf (mean : Meaning) (reads : ReadLists) (past : Option SessionValue) (p : Project)
+    (workers : ℕ) (s : SessionValue) (r : Reports) : Type 0 where
+  pub history : List Event
+  pub events : AreEventsOf mean reads past p history s
+  pub reports : AreReportsOn history workers r
+
+-- one session, or why there is none: the number of workers comes first, then a past that none can
+-- follow
+abbrev pub DriveGives : Meaning → ReadLists → Option SessionValue → Project → ℕ
+    → Result (SessionValue × Reports) DriveFault → Type 0
+DriveGives mean reads past p workers (Ok done) =
+    IsCrew workers × ¬ IsFull past × IsSessionOf mean reads past p workers done.0 done.1
+DriveGives mean reads past p workers (Err fault.Workers) = ¬ IsCrew workers
+DriveGives mean reads past p workers (Err fault.ChainFull) = IsCrew workers × IsFull past
+DriveGives mean reads past p workers (Err fault.OutOfMemory) = IsCrew workers × ¬ IsFull past

@@ -1,0 +1,7 @@
+//! Sessions of MiniJava projects.
+#![tactic(auto)]
+
+mod session;
+
+pub use driver::{DriveFault, Gate, Open, Reports};
+pub use session::run_session;

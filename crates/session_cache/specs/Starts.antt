@@ -1,0 +1,68 @@
+-- Where the next session of a cache begins.
+use Rattle.std.specs.Prelude.{◌≡◌, ◌≢◌, ◌⊎◌, ℕ, ◌+◌, ◌<◌, ◌≤◌, List, ◌++◌, Option, Some, None, Result, Ok, Err, IfSome, codes, if◌then◌else◌, nat_lt}
+use Rattle.std.specs.Arc.{arc_value}
+use Rattle.std.specs.declared.alloc.Global.{Global}
+use Rattle.std.specs.declared.sync.Arc.{Arc}
+use Rattle.sessions.specs.Sessions.{SessionValue}
+use Rattle.session_file.specs.declared.fault.FileFault.{FileFault}
+use Rattle.session_cache.specs.Names.{most, name_of}
+use Rattle.session_cache.specs.declared.names.Named.TheVariants.{Chain, Session}
+use Rattle.session_cache.specs.declared.place.Place.{Place}
+use Rattle.session_cache.specs.declared.start.Why.{Why}
+use Rattle.session_cache.specs.declared.start.Why.TheVariants.{Refused, Number, Full}
+use Rattle.session_cache.specs.declared.start.Start.{Start}
+
+-- a chain and a session of it, by numbers up to 9999
+abbrev pub IsPlace : Place → Type 0
+IsPlace p = (p.chain ≤ most) × (p.number ≤ most)
+
+-- DIR/c0012
+abbrev pub chain_path : List ℕ → ℕ → List ℕ
+chain_path dir chain = dir ++ (codes "/" ++ name_of Chain chain)
+
+-- DIR/c0012/s0000.mjrg
+abbrev pub path_of : List ℕ → Place → List ℕ
+path_of dir p = chain_path dir p.chain ++ (codes "/" ++ name_of Session p.number)
+
+-- the session that is kept so
+abbrev pub session_in : Option (Arc SessionValue Global) → Option SessionValue
+session_in None = None
+session_in (Some s) = Some (arc_value s)
+
+-- the place of the first session of the next chain, where there is one
+abbrev pub next_chain : ℕ → Option Place
+next_chain chain =
+    if nat_lt chain most then Some (record { chain = chain + 1; number = 0 }) else None
+
+-- The session goes on the chain of the one at this place.
+pub record GoesOn (last : Place) (s : SessionValue) (start : Start) : Type 0 where
+  pub past : session_in start.past ≡ Some s
+  pub place : start.place ≡ Some (record { chain = last.chain; number = last.number + 1 })
+  pub note : start.note ≡ None
+
+-- It begins the next chain, since the file at this place can't be gone on from.
+pub record BeginsNext (last : Place) (why : Why) (start : Start) : Type 0 where
+  pub past : session_in start.past ≡ None
+  pub place : start.place ≡ next_chain last.chain
+  pub note : start.note ≡ Some (record { place = last; why = why })
+
+-- where a session begins behind the last file of the last chain, by what was read of it
+abbrev pub IsStartBehind : Place → Result SessionValue FileFault → Start → Type 0
+IsStartBehind last (Err fault) start = BeginsNext last (Refused fault) start
+IsStartBehind last (Ok s) start =
+    ((s.number ≢ last.number) × BeginsNext last Number start)
+    ⊎ ((s.number ≡ last.number) × (most ≤ s.number) × BeginsNext last Full start)
+    ⊎ ((s.number ≡ last.number) × (s.number < most) × GoesOn last s start)
+
+-- the number of the next session
+abbrev pub number_behind : Option SessionValue → ℕ
+number_behind None = 0
+number_behind (Some s) = s.number + 1
+
+-- The place, where there is one, is that of the next session, which the past leaves room for. What is
+-- noted is noted of a place.
+pub record IsStart (start : Start) : Type 0 where
+  pub place : IfSome start.place IsPlace
+  pub number : IfSome start.place (λ p. p.number ≡ number_behind (session_in start.past))
+  pub room : IfSome (session_in start.past) (λ s. s.number < most)
+  pub noted : IfSome start.note (λ note. IsPlace note.place)

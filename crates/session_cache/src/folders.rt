@@ -1,0 +1,123 @@
+//! Reading and writing the cache.
+ghost use Rattle.std.specs.Prelude.{◌≡◌, ◌≤◌, IfOk};
+ghost use Rattle.sessions.specs.Spelling.{file_of};
+ghost use Rattle.session_cache.specs.Names.{most};
+ghost use Rattle.session_cache.specs.Starts.{IsPlace, IsStart};
+
+use crate::fault::CacheFault;
+use crate::names::{Named, highest};
+use crate::place::{Place, chain_path};
+use crate::start::{Start, first_of, start_behind};
+use session_file::{MemorySink, read, write};
+use sessions::Session;
+use std::alloc::{AllocError, Global};
+use std::io::{ErrorKind, Write};
+use std::rt::Files;
+use std::{fs, io};
+
+/// Where the next session begins in the cache of this folder. A folder that isn't there is an empty cache.
+pub fn find_start<R: Files + AllocGlobal>(rt: &R, dir: &str) -> Result<Start, CacheFault>
+    ensures { IfOk result IsStart }
+{
+    let chains = match names_in(rt, dir) {
+        Ok(names) => names,
+        Err(error) if error.kind() == ErrorKind::NotFound => return Ok(first_of(0)),
+        Err(error) => return Err(unreadable(rt.alloc(), dir, &error)),
+    };
+    match highest(Named::Chain, &chains) {
+        Some(chain) => start_in(rt, dir, chain),
+        None => Ok(first_of(0)),
+    }
+}
+
+/// Where the next session begins behind those of the last chain.
+fn start_in<R: Files + AllocGlobal>(rt: &R, dir: &str, chain: u32) -> Result<Start, CacheFault>
+    requires { chain ≤ most }
+    ensures { IfOk result IsStart }
+{
+    let folder = chain_path(rt.alloc(), dir, chain)?;
+    let sessions = match names_in(rt, folder.as_str()) {
+        Ok(names) => names,
+        Err(error) => return Err(unreadable(rt.alloc(), dir, &error)),
+    };
+    match highest(Named::Session, &sessions) {
+        Some(number) => start_at(rt, dir, Place { chain, number }),
+        None => Ok(first_of(chain)),
+    }
+}
+
+/// Where the next session begins behind the file at this place.
+fn start_at<R: Files + AllocGlobal>(rt: &R, dir: &str, last: Place) -> Result<Start, CacheFault>
+    requires { IsPlace last }
+    ensures { IfOk result IsStart }
+{
+    let alloc = rt.alloc();
+    let path = last.path(alloc, dir)?;
+    match fs::read(rt, path.as_str()) {
+        Ok(bytes) => Ok(start_behind(alloc, last, read(alloc, &bytes))?),
+        Err(error) => Err(unreadable(alloc, path.as_str(), &error)),
+    }
+}
+
+/// The names of what stands in a folder, but for those that are no text.
+fn names_in<R: Files + AllocGlobal>(rt: &R, folder: &str) -> io::Result<Vec<String>> {
+    let alloc = rt.alloc();
+    let mut names = Vec::new(alloc);
+    for entry in fs::read_dir(&rt, folder)? {
+        match entry {
+            Ok(entry) => names.push(String::from_str(alloc, entry.file_name())?)?,
+            Err(error) if error.kind() == ErrorKind::InvalidFilename => {}
+            Err(error) => return Err(error),
+        }
+    }
+    Ok(names)
+}
+
+/// Why a folder or a file isn't read.
+fn unreadable(alloc: Global, path: &str, error: &io::Error) -> CacheFault {
+    if error.kind() == ErrorKind::OutOfMemory {
+        return CacheFault::OutOfMemory;
+    }
+    match String::from_str(alloc, path) {
+        Ok(path) => CacheFault::CannotRead(path),
+        Err(_) => CacheFault::OutOfMemory,
+    }
+}
+
+/// The bytes of a session's file.
+pub fn file_bytes(alloc: Global, session: &Session) -> Result<MemorySink, AllocError>
+    ensures { IfOk result (λ sink. sink.bytes.items ≡ file_of session.now) }
+{
+    let mut sink = MemorySink::new(alloc);
+    match write(session, &mut sink) {
+        Ok(()) => Ok(sink),
+        Err(_) => Err(AllocError),
+    }
+}
+
+/// Writes the file at this place, which isn't there yet, and makes the folders that are missing.
+pub fn write_file<R: Files + AllocGlobal>(
+    rt: &R,
+    dir: &str,
+    place: Place,
+    bytes: &[u8],
+) -> Result<(), CacheFault>
+    requires { IsPlace place }
+{
+    let alloc = rt.alloc();
+    let folder = chain_path(alloc, dir, place.chain)?;
+    let path = place.path(alloc, dir)?;
+    match write_new(rt, folder.as_str(), path.as_str(), bytes) {
+        Ok(()) => Ok(()),
+        Err(error) if error.kind() == ErrorKind::OutOfMemory => Err(CacheFault::OutOfMemory),
+        Err(_) => Err(CacheFault::CannotWrite(path)),
+    }
+}
+
+/// Makes the folder where it is missing, and a file in it.
+fn write_new<R: Files>(rt: &R, folder: &str, path: &str, bytes: &[u8]) -> io::Result<()> {
+    fs::create_dir_all(rt, folder)?;
+    let mut file = fs::File::create_new(rt, path)?;
+    file.write_all(bytes)?;
+    file.flush()
+}

@@ -1,0 +1,16 @@
+//! The cache of sessions: a folder of chains, each a folder of session files.
+#![tactic(auto)]
+
+mod fault;
+mod folders;
+mod names;
+mod place;
+mod start;
+#[cfg(test)]
+mod tests;
+
+pub use fault::CacheFault;
+pub use folders::{file_bytes, find_start, write_file};
+pub use names::{Named, highest};
+pub use place::Place;
+pub use start::{Note, Start, Why};

@@ -1,0 +1,144 @@
+//! Names of chains and of session files.
+ghost use Rattle.std.specs.Prelude.{◌≡◌, ◌≤◌, ◌++◌, ◌∷◌, [], ℕ, map, string_bytes, IfSome, Some, OnOk, ◌⊎◌, ◌↔◌, ◌-◌, List, IsTrue, codes};
+ghost use Rattle.session_cache.specs.Names.{most, four_digits, name_of, IsDigit, AreFour, IsSpelled, IsHighest};
+
+use std::alloc::AllocError;
+
+/// What has a number in a cache.
+#[derive(Clone, Copy, Debug, PartialEq, Eq)]
+pub enum Named {
+    /// A chain: a folder `c0000` to `c9999`.
+    Chain,
+    /// A session: a file `s0000.mjrg` to `s9999.mjrg` in the folder of its chain.
+    Session,
+}
+
+/// The greatest number of those whose names are among these; all other names are passed over.
+pub fn highest(what: Named, names: &[String]) -> Option<u32>
+    ensures { IsHighest what (map string_bytes names.now) result }
+{
+    let mut highest = None;
+    for name in names {
+        highest = higher(what, highest, name.as_bytes());
+    }
+    highest
+}
+
+/// The greater of a number and that of a name, which has none where it is another one.
+#[tactic(auto, using(crate::proofs::NameRules::raised, crate::proofs::NameRules::passed))]
+fn higher(what: Named, highest: Option<u32>, name: &[u8]) -> Option<u32>
+    ensures { (front : List (List ℕ)) → IsHighest what front highest
+        → IsHighest what (front ++ name.now ∷ []) result }
+{
+    match number_in(what, name) {
+        Some(number) => Some(greater(highest, number)),
+        None => highest,
+    }
+}
+
+/// The greater of two numbers, of which one may be missing.
+fn greater(highest: Option<u32>, number: u32) -> u32
+    ensures number { number ≤ result }
+    ensures highest { IfSome highest (λ n. n ≤ result) }
+    ensures either { (highest ≡ Some result) ⊎ (result ≡ number) }
+{
+    match highest {
+        Some(highest) => highest.max(number),
+        None => number,
+    }
+}
+
+/// The number of this name.
+fn number_in(what: Named, name: &[u8]) -> Option<u32>
+    ensures { IsSpelled (name_of what) name.now result }
+{
+    match what {
+        Named::Chain => number_of(name.strip_prefix(b"c".as_slice())?),
+        Named::Session => number_before(name.strip_prefix(b"s".as_slice())?),
+    }
+}
+
+/// The number of a session, without the letter.
+#[tactic(auto, using(crate::proofs::NameRules::other_end, crate::proofs::NameRules::read_before, crate::proofs::NameRules::too_short))]
+fn number_before(name: &[u8]) -> Option<u32>
+    ensures { IsSpelled (λ n. four_digits n ++ codes ".mjrg") name.now result }
+{
+    let (digits, end) = name.split_at_checked(4)?;
+    if !is_session_end(end) {
+        return None;
+    }
+    number_of(digits)
+}
+
+/// Whether this is the end of the name of a session.
+fn is_session_end(end: &[u8]) -> bool
+    ensures { IsTrue result ↔ (end.now ≡ codes ".mjrg") }
+{
+    end == b".mjrg".as_slice()
+}
+
+/// The number that stands in four decimal digits.
+#[tactic(auto, using(crate::proofs::NameRules::not_four))]
+fn number_of(digits: &[u8]) -> Option<u32>
+    ensures { IsSpelled four_digits digits.now result }
+{
+    match digits {
+        [a, b, c, d] => number_with(*a, *b, *c, *d),
+        _ => None,
+    }
+}
+
+/// The number with these digits.
+#[tactic(auto, using(crate::proofs::NameRules::are_four, crate::proofs::NameRules::spelled))]
+fn number_with(a: u8, b: u8, c: u8, d: u8) -> Option<u32>
+    ensures { IsSpelled four_digits (a ∷ b ∷ c ∷ d ∷ []) result }
+{
+    if !are_digits(a, b, c, d) {
+        return None;
+    }
+    Some(digit(a) * 1000 + digit(b) * 100 + digit(c) * 10 + digit(d))
+}
+
+/// Whether these are digits.
+fn are_digits(a: u8, b: u8, c: u8, d: u8) -> bool
+    ensures { IsTrue result ↔ AreFour a b c d }
+{
+    a.is_ascii_digit() && b.is_ascii_digit() && c.is_ascii_digit() && d.is_ascii_digit()
+}
+
+/// The number of a digit.
+fn digit(byte: u8) -> u32
+    requires { IsDigit byte }
+    ensures { result ≡ byte - 48 }
+{
+    (byte - b'0') as u32
+}
+
+/// Appends the name of a number.
+pub(crate) fn push_name(text: &mut String, what: Named, number: u32) -> Result<(), AllocError>
+    requires { number ≤ most }
+    ensures { OnOk result (string_bytes text.new ≡ string_bytes text.old ++ name_of what number) }
+{
+    match what {
+        Named::Chain => {
+            text.push_str("c")?;
+            push_digits(text, number)
+        }
+        Named::Session => {
+            text.push_str("s")?;
+            push_digits(text, number)?;
+            text.push_str(".mjrg")
+        }
+    }
+}
+
+/// Appends a number in four decimal digits.
+fn push_digits(text: &mut String, number: u32) -> Result<(), AllocError>
+    ensures { OnOk result (string_bytes text.new ≡ string_bytes text.old ++ four_digits number) }
+{
+    let thousands = number / 1000;
+    let hundreds = number / 100 % 10;
+    let tens = number / 10 % 10;
+    let ones = number % 10;
+    write!(text, "{thousands}{hundreds}{tens}{ones}")
+}

@@ -1,0 +1,111 @@
+//! Where the next session begins.
+ghost use Rattle.std.specs.Prelude.{◌≡◌, ◌≤◌, None, IfOk};
+ghost use Rattle.session_cache.specs.Names.{most};
+ghost use Rattle.session_cache.specs.Starts.{IsPlace, IsStart, IsStartBehind, BeginsNext};
+
+use crate::place::Place;
+use session_file::FileFault;
+use sessions::Session;
+use std::alloc::{AllocError, Global};
+use std::sync::Arc;
+
+/// Why no session follows the one in a file.
+#[derive(Clone, Copy, Debug, PartialEq, Eq)]
+pub enum Why {
+    /// The bytes are no session's file.
+    Refused(FileFault),
+    /// The session has another number than the file's name.
+    Number,
+    /// It is the last session that a chain can have.
+    Full,
+}
+
+/// What is said of a session's file that no session follows.
+#[derive(Clone, Copy, Debug, PartialEq, Eq)]
+pub struct Note {
+    pub place: Place,
+    pub why: Why,
+}
+
+/// Where the next session of a cache begins.
+#[derive(Drop)]
+pub struct Start {
+    /// The session that it follows; none at the beginning of a chain.
+    pub past: Option<Arc<Session>>,
+    /// The place of its file; none past the last chain.
+    pub place: Option<Place>,
+    /// What is said of the file that it doesn't follow.
+    pub note: Option<Note>,
+}
+
+/// The beginning of a chain that has no session.
+pub(crate) fn first_of(chain: u32) -> Start
+    requires { chain ≤ most }
+    ensures { IsStart result }
+{
+    Start {
+        past: None,
+        place: Some(Place { chain, number: 0 }),
+        note: None,
+    }
+}
+
+/// Where the next session begins behind the last file of the last chain, by what was read of it.
+pub(crate) fn start_behind(
+    alloc: Global,
+    last: Place,
+    read: Result<Session, FileFault>,
+) -> Result<Start, AllocError>
+    requires { IsPlace last }
+    ensures behind { IfOk result (IsStartBehind last read) }
+    ensures start { IfOk result IsStart }
+{
+    match read {
+        Ok(session) => start_after(alloc, last, session),
+        Err(FileFault::OutOfMemory) => Err(AllocError),
+        Err(fault) => Ok(begin_next(last, Why::Refused(fault))),
+    }
+}
+
+/// Where the next session begins behind a session that was read.
+fn start_after(alloc: Global, last: Place, session: Session) -> Result<Start, AllocError>
+    requires { IsPlace last }
+    ensures behind { IfOk result (IsStartBehind last (Ok session)) }
+    ensures start { IfOk result IsStart }
+{
+    if session.number() != last.number {
+        return Ok(begin_next(last, Why::Number));
+    }
+    if last.number >= Session::MOST {
+        return Ok(begin_next(last, Why::Full));
+    }
+    Ok(Start {
+        past: Some(Arc::new(alloc, session)?),
+        place: Some(Place {
+            chain: last.chain,
+            number: last.number + 1,
+        }),
+        note: None,
+    })
+}
+
+/// The beginning of the next chain, with what is said of the file that isn't gone on from.
+fn begin_next(last: Place, why: Why) -> Start
+    requires { IsPlace last }
+    ensures next { BeginsNext last why result }
+    ensures start { IsStart result }
+{
+    let place = if last.chain < 9999 {
+        Some(Place {
+            chain: last.chain + 1,
+            number: 0,
+        })
+    } else {
+        None
+    };
+    Start {
+        past: None,
+        place,
+        note: Some(Note { place: last, why }),
+    }
+}
