@@ -1,19 +1,21 @@
 -- Sessions of which each passes over the one before are right.
-use Rattle.std.proofs.Common.{ℕ, ◌+◌, List, [], ◌∷◌, Option, Some, None, refl, subst}
+use Rattle.std.proofs.Common.{◌≡◌, ℕ, ◌+◌, true, List, [], ◌∷◌, Option, Some, None, refl, subst}
 use Rattle.std.specs.Prelude.{Contains, IfSome}
 use Rattle.std.specs.List.{AllByRecursion}
 use Rattle.std.proofs.lemmas.Option.{none-some}
 use Rattle.mj_project.specs.Projects.{IsProject}
+use Rattle.item_ids.specs.declared.key.Key.{Key}
 use Rattle.recorder.specs.Projects.{Project}
 use Rattle.recorder.specs.Backed.{Meaning, ReadLists, RunnerLaws}
-use Rattle.sessions.specs.Sessions.{SessionValue, IsSession, entry_at, past_entry}
+use Rattle.sessions.specs.Sessions.{SessionValue, IsSession, Entry, entry_at, past_entry}
 use Rattle.graph_rules.specs.Pasts.{Past, IsGraph}
 use Rattle.graph_rules.specs.Next.{AreSources, AreMeant, IsRight}
 use Rattle.graph_rules.proofs.SessionRules.{session_graph}
-use Rattle.audit_graph.specs.Replays.{AreValuesApart}
+use Rattle.audit_graph.specs.Steps.{IsStep}
+use Rattle.audit_graph.specs.Replays.{AreValuesApart, AreReplayed, AreWithLower, is_before}
 use Rattle.audit_graph.proofs.Entries.{contains_first, contains_later}
 use Rattle.audit_graph.proofs.SourceRules.{one_project}
-use Rattle.audit_graph.proofs.StepRules.{step_is_right, none_graph, none_meant, none_apart}
+use Rattle.audit_graph.proofs.StepRules.{front_is_meant, step_is_right, none_graph, none_meant, none_apart}
 use Rattle.audit_replay.specs.Passes.{Passes}
 use Rattle.audit_replay.specs.Audits.{ArePassed, AreRight, AreApart, last_of}
 
@@ -44,18 +46,35 @@ module _ (mean : Meaning) (reads : ReadLists) (laws : RunnerLaws mean reads) (al
   meant_behind : (past : Past) (s : SessionValue) → IsRight mean reads past (entry_at s) → IsMeant (Some s)
   meant_behind past s r p sources = subst (AreMeant mean reads (entry_at s)) (one_project (entry_at s) r.project p r.of_project.sources sources) r.of_project.meant
 
-  right_from : (ss : List SessionValue) (past : Option SessionValue) (k : ℕ) → ((s : SessionValue) → Contains ss s → Contains all s) → IfSome past (Contains all) → IsGraph (past_entry past) → IsKnown past → IsMeant past
-      → AllByRecursion IsSession ss → ArePassed mean reads past k ss → AreRight mean reads past ss × IsMeant (last_of past ss)
-  right_from [] past k inside h graph known meant each passed = (tt, meant)
-  right_from (s ∷ ss) past k inside h graph known meant each passed =
+  -- what is known of the past, once it and all before it are right
+  abbrev pub IsSound : Option SessionValue → Type 0
+  IsSound past = IfSome past (Contains all) × IsGraph (past_entry past) × IsKnown past × IsMeant past
+
+  right_from : (ss : List SessionValue) (past : Option SessionValue) (k : ℕ) → ((s : SessionValue) → Contains ss s → Contains all s) → IsSound past
+      → AllByRecursion IsSession ss → ArePassed mean reads past k ss → AreRight mean reads past ss × IsSound (last_of past ss)
+  right_from [] past k inside sound each passed = (tt, sound)
+  right_from (s ∷ ss) past k inside sound each passed =
       let c = inside s (contains_first s ss) in
-      let r = right_over past k s graph known h c each.0 passed.0 in
-      let rest = right_from ss (Some s) (k + 1) (λ t i. inside t (contains_later s ss t i)) c (session_graph s each.0)
-      (known_behind (past_entry past) s r) (meant_behind (past_entry past) s r) each.1 passed.1 in
+      let r = right_over past k s sound.1 sound.2 sound.0 c each.0 passed.0 in
+      let rest = right_from ss (Some s) (k + 1) (λ t i. inside t (contains_later s ss t i))
+      (c, session_graph s each.0, known_behind (past_entry past) s r, meant_behind (past_entry past) s r) each.1 passed.1 in
       ((r, rest.0), rest.1)
 
+  -- sessions among all of which each passes over the one before, from the first on
+  pub front_right : (ss : List SessionValue) → ((s : SessionValue) → Contains ss s → Contains all s) → AllByRecursion IsSession ss → ArePassed mean reads None 0 ss
+      → AreRight mean reads None ss × IsSound (last_of None ss)
+  front_right ss inside each passed = right_from ss None 0 inside (tt, none_graph, (λ p is. (p, is, none_meant mean reads p)), (λ p sources q r has. absurd (none-some r has))) each passed
+
   pub all_right : AllByRecursion IsSession all → ArePassed mean reads None 0 all → AreRight mean reads None all × IsMeant (last_of None all)
-  all_right each passed = right_from all None 0 (λ s c. c) tt none_graph (λ p is. (p, is, none_meant mean reads p)) (λ p sources q r has. absurd (none-some r has)) each passed
+  all_right each passed = let r = front_right all (λ s c. c) each passed in (r.0, r.1.3)
+
+  -- the keys before a key, where the executed ones among them follow from their edges
+  pub before_means : (past : Option SessionValue) → IsSound past → (k : ℕ) (s : SessionValue) → Contains all s → IsSession s → IsStep past k s → (p : Project) → AreSources (entry_at s) p
+      → (key : Key) → AreWithLower (is_before key) → AreReplayed mean reads (entry_at s) (is_before key)
+      → (q : Key) (r : Entry) → is_before key q ≡ true → entry_at s q ≡ Some r → (r.value ≡ mean p q) × (r.reads ≡ reads p q)
+  before_means past sound k s c session step p sources key lower replayed =
+      let old = sound.2 p sources.project in
+      front_is_meant mean reads laws past k s old.0 p sound.1 old.1 old.2 session step sources (pairwise past sound.0 s c) (is_before key) lower replayed
 
 -- the last session has the files of a project
 pub last_sources : (mean : Meaning) (reads : ReadLists) (past : Option SessionValue) (k : ℕ) (s : SessionValue) (ss : List SessionValue) → ArePassed mean reads past k (s ∷ ss)

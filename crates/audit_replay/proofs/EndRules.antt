@@ -7,7 +7,7 @@ use Rattle.item_ids.specs.declared.key.Key.TheVariants.{Answer}
 use Rattle.result_bytes.specs.declared.value.Value.{Value}
 use Rattle.recorder.specs.Projects.{Project}
 use Rattle.recorder.specs.Backed.{Meaning, ReadLists, RunnerLaws}
-use Rattle.sessions.specs.Sessions.{SessionValue, entry_at, past_entry}
+use Rattle.sessions.specs.Sessions.{Entry, SessionValue, entry_at, past_entry}
 use Rattle.sessions.specs.Spelling.{file_of}
 use Rattle.graph_rules.specs.Next.{AreSources}
 use Rattle.audit_replay.specs.Logs.{all_executed_keys}
@@ -23,6 +23,8 @@ pub accepted : (mean : Meaning) (reads : ReadLists) → RunnerLaws mean reads �
     → PassesSoFar mean reads files old new (Some s) runs → HasValue (entry_at s) Answer answer → count ≡ length files → IsAcceptedUpTo mean reads files old new s answer count runs
 accepted mean reads laws files old new s answer count runs p h many =
     let sources = sources_in mean reads s p.sessions p.end p.passed.passed in
+    let in_last : (r : Entry) → entry_at s Answer ≡ Some r → last_entry p.sessions Answer ≡ Some r =
+    λ r has. ap (λ (o : Option SessionValue). past_entry o Answer) p.end ∙ has in
     record {
       project = sources.0;
       accepted = record {
@@ -31,9 +33,10 @@ accepted mean reads laws files old new s answer count runs p h many =
         many = many ∙ (sym (ap length p.passed.spelled) ∙ length-map p.sessions file_of);
         chain = passed_linked mean reads None 0 p.sessions p.passed.passed;
         sources = sources.1;
+        held = record { entry = h.entry; has = in_last h.entry h.has; value = h.value };
         right = λ apart. (all_right mean reads laws p.sessions apart p.passed.each p.passed.passed).0;
         means = λ apart. sym h.value ∙ ((all_right mean reads laws p.sessions apart p.passed.each p.passed.passed).1 sources.0 sources.1 Answer h.entry
-            (ap (λ (o : Option SessionValue). past_entry o Answer) p.end ∙ h.has)).0;
+            (in_last h.entry h.has)).0;
       };
       end = p.end;
       held = h;

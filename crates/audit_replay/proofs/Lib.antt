@@ -7,3 +7,4 @@ pub mod FileRules
 pub mod ChainRules
 pub mod EndRules
 pub mod AgainstRules
+pub mod RefusalRules

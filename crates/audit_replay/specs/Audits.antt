@@ -88,8 +88,9 @@ pub record PassesSoFar (mean : Meaning) (reads : ReadLists) (files : List (List 
   pub end : last_of None sessions ≡ last
 
 -- The audit accepts the files, with this answer, over this project. The files are those of a chain
--- of sessions. Where no two different results in them have one print, each session is right over
--- the one before, and the answer is what the project means by it, whose files the last one holds.
+-- of sessions, of which the last holds the answer and the project's files. Where no two different
+-- results in them have one print, each session is right over the one before, and the answer is what
+-- the project means by it.
 pub record IsAccepted (mean : Meaning) (reads : ReadLists) (files : List (List ℕ))
     (old new : List Key) (project : Project) (answer : Value) (count runs : ℕ) : Type 0 where
   pub sessions : List SessionValue
@@ -97,6 +98,7 @@ pub record IsAccepted (mean : Meaning) (reads : ReadLists) (files : List (List �
   pub many : count ≡ length sessions
   pub chain : IsChain sessions
   pub sources : AreSources (last_entry sessions) project
+  pub held : HasValue (last_entry sessions) Answer answer
   pub right : AreApart sessions → AreRight mean reads None sessions
   pub means : AreApart sessions → answer ≡ mean project Answer
 

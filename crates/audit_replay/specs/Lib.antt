@@ -3,3 +3,4 @@ pub mod Logs
 pub mod Passes
 pub mod Audits
 pub mod Projects
+pub mod Refusals

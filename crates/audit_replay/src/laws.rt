@@ -1,11 +1,16 @@
 //! What holds of sessions that passed an audit.
-ghost use Rattle.std.specs.Prelude.{List, None};
+ghost use Rattle.std.specs.Prelude.{ℕ, List, None};
 ghost use Rattle.std.specs.List.{AllByRecursion};
+ghost use Rattle.item_ids.specs.declared.key.Key.{Key};
 ghost use Rattle.recorder.specs.Projects.{Project};
 ghost use Rattle.recorder.specs.Backed.{Meaning, ReadLists, RunnerLaws};
 ghost use Rattle.sessions.specs.Sessions.{SessionValue, IsSession};
 ghost use Rattle.graph_rules.specs.Next.{AreSources, AreMeant};
-ghost use Rattle.audit_replay.specs.Audits.{ArePassed, AreRight, AreApart, last_entry};
+ghost use Rattle.audit_graph.specs.declared.fault.AuditFault.TheVariants.{OtherRead, UnreadEdges, OtherResult};
+ghost use Rattle.audit_replay.specs.Audits.{ArePassed, AreRight, AreApart, AuditRefuses, last_entry};
+ghost use Rattle.audit_replay.specs.Refusals.{HasFirstWrong};
+
+use item_ids::ranks_in_order;
 
 /// Where each session passes over the one before, and no two different results in them have one print, each is right
 /// over the one before, and all keys of the last have what the project means by them whose files it holds.
@@ -22,3 +27,23 @@ pub fn passed_are_right()
         → (p : Project) → AreSources (last_entry sessions) p
         → AreMeant mean reads (last_entry sessions) p }
 {}
+
+/// Where an audit refuses a record that differs from its run, the record is wrong, unless two different results up to it
+/// have one print: it hasn't the value and the edges that its session's files give its key, and all sessions and all
+/// records before it are right.
+pub fn refused_records_are_wrong()
+    ensures other_read { (mean : Meaning) (reads : ReadLists) → RunnerLaws mean reads
+        → (files : List (List ℕ)) (old new : List Key) (k n i : ℕ)
+        → AuditRefuses mean reads files old new (OtherRead k n i)
+        → HasFirstWrong mean reads files k n }
+    ensures unread_edges { (mean : Meaning) (reads : ReadLists) → RunnerLaws mean reads
+        → (files : List (List ℕ)) (old new : List Key) (k n : ℕ)
+        → AuditRefuses mean reads files old new (UnreadEdges k n)
+        → HasFirstWrong mean reads files k n }
+    ensures other_result { (mean : Meaning) (reads : ReadLists) → RunnerLaws mean reads
+        → (files : List (List ℕ)) (old new : List Key) (k n : ℕ)
+        → AuditRefuses mean reads files old new (OtherResult k n)
+        → HasFirstWrong mean reads files k n }
+{
+    ranks_in_order();
+}

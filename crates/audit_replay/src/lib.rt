@@ -16,4 +16,4 @@ mod session;
 
 pub use against::audit_against;
 pub use chain::{Audited, audit};
-pub use laws::passed_are_right;
+pub use laws::{passed_are_right, refused_records_are_wrong};

@@ -1,0 +1,5 @@
+use Rattle.mini_java_audit.proofs.Headline.{headline}
+use Rattle.mini_java_audit.proofs.laws.accepted_are_the_rules.Goals as goal
+
+pub returns : goal.returns
+returns c = headline c.answer_laws.ensures

@@ -1,0 +1,41 @@
+//! The audit by MiniJava's queries.
+ghost use Rattle.std.specs.Prelude.{◌≡◌, [], List, map, IfOk, IfErr};
+ghost use Rattle.std.specs.Arc.{arc_value};
+ghost use Rattle.item_ids.specs.declared.key.Key.{Key};
+ghost use Rattle.result_bytes.specs.declared.value.Value.TheVariants as values;
+ghost use Rattle.query_rules.specs.Meaning.{mean};
+ghost use Rattle.query_rules.specs.Reads.{reads};
+ghost use Rattle.audit_replay.specs.Audits.{AuditRefuses};
+ghost use Rattle.mini_java_audit.specs.Headline.{IsAcceptedChain, IsAnswerValue};
+
+use audit_graph::AuditFault;
+use audit_replay::{Audited, audit};
+use mj_answer::Answer;
+use mj_rules::answer_laws;
+use providers::MiniJava;
+use result_bytes::Value;
+use std::alloc::Global;
+
+/// Audits the files of a chain of sessions of MiniJava projects. Where no two different results that they record have one
+/// print, the answer of an accepted chain is what the static rules give the last session's files.
+pub fn audit_chain(alloc: Global, chain: &[&[u8]]) -> Result<Audited, AuditFault>
+    ensures accepted { IfOk result (λ a.
+        IsAcceptedChain (map (λ f. f.now) chain.now) (arc_value a.answer) a.sessions a.runs) }
+    ensures refused { IfErr result (λ fault. (log : List Key)
+        × AuditRefuses mean reads (map (λ f. f.now) chain.now) [] log fault) }
+{
+    answer_laws();
+    let mut runner = MiniJava::new(alloc);
+    audit(alloc, &mut runner, chain)
+}
+
+/// The answer that an accepted chain ends with.
+pub fn answer_of(audited: &Audited) -> &Answer
+    requires { IsAnswerValue (arc_value audited.now.answer) }
+    ensures { arc_value audited.now.answer ≡ values.Answer result.now }
+{
+    match audited.answer.value() {
+        Value::Answer(whole) => whole.answer(),
+        _ => unreachable!(),
+    }
+}

@@ -1,0 +1,9 @@
+//! The audit of chains of sessions by MiniJava's queries, and what it says in the words of the static rules.
+#![tactic(auto)]
+
+mod audit;
+mod laws;
+
+pub use audit::{answer_of, audit_chain};
+pub use audit_replay::Audited;
+pub use laws::accepted_are_the_rules;
