@@ -1,3 +1,4 @@
+pub mod Chains
 pub mod Clean
 pub mod Runs
 pub mod Streams

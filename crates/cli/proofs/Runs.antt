@@ -1,8 +1,14 @@
 -- What a run writes and ends with.
-use Rattle.std.proofs.Common.{◌≡◌, ◌∙◌, ◌⊎◌, inl, inr, ℕ, List, [], ◌∷◌, Option, map, string_bytes, String, Vec, refl, sym, ap, arith}
+use Rattle.std.proofs.Common.{◌≡◌, ◌∙◌, ◌⊎◌, inl, inr, ℕ, List, [], ◌∷◌, Option, Some, map, string_bytes, String, Vec, refl, sym, ap, subst, arith}
 use Rattle.std.specs.declared.alloc.Global.{Global}
 use Rattle.mj_project.specs.Projects.{names_of, sources_view}
-use Rattle.cli.specs.Runs.{ReportsOn, IsWritten, Prints, status_number}
+use Rattle.command_line.specs.declared.asked.Subcommand.{Subcommand}
+use Rattle.command_line.specs.declared.asked.Words.{Words}
+use Rattle.command_line.specs.CommandLine.{Asks, files_for}
+use Rattle.command_line.specs.Runnable.{files_of_words, subcommand_of_words}
+use Rattle.command_line.proofs.OneSubcommand.{one_subcommand}
+use Rattle.std.proofs.lemmas.Option.{same_Some}
+use Rattle.cli.specs.Runs.{Reports, IsWritten, Prints, status_number}
 use Rattle.cli.specs.Statuses.{IsStatus}
 use Rattle.cli.specs.declared.report.Report.{Report}
 use Rattle.cli.specs.declared.report.Status.{Status}
@@ -16,24 +22,27 @@ pub is_status : (s : Status) → IsStatus (status_number s)
 is_status status.Clean = (0, omega arith, refl)
 is_status status.Diagnostics = (1, omega arith, refl)
 is_status status.Refused = (2, omega arith, refl)
-is_status status.OutOfMemory = (3, omega arith, refl)
+is_status status.ChainRefused = (3, omega arith, refl)
+is_status status.OutOfMemory = (4, omega arith, refl)
 
 -- a delivered report that ends clean or with diagnostics
-pub prints : (names : List (List ℕ)) (report : Report) (s : Status) (out_old out_new err_old err_new : Option (List ℕ))
-    → ((report.status ≡ status.Clean) ⊎ (report.status ≡ status.Diagnostics) → ReportsOn names report)
+pub prints : (subcommand : Subcommand) (names : List (List ℕ)) (report : Report) (s : Status) (out_old out_new err_old err_new : Option (List ℕ))
+    → ((report.status ≡ status.Clean) ⊎ (report.status ≡ status.Diagnostics) → Reports subcommand names report)
     → (s ≡ status.Refused) ⊎ ((s ≡ report.status) × IsWritten report out_old out_new err_old err_new)
     → (status_number s ≡ 0) ⊎ (status_number s ≡ 1)
-    → Prints names (status_number s) out_old out_new err_old err_new
-prints names report s a b c d reports (inl refused) (inl ends) = absurd cc
-prints names report s a b c d reports (inl refused) (inr ends) = absurd cc
-prints names report status.Clean a b c d reports (inr written) ends =
+    → Prints subcommand names (status_number s) out_old out_new err_old err_new
+prints subcommand names report s a b c d reports (inl refused) (inl ends) = absurd cc
+prints subcommand names report s a b c d reports (inl refused) (inr ends) = absurd cc
+prints subcommand names report status.Clean a b c d reports (inr written) ends =
     record { report = report; reports = reports (inl (sym written.0)); written = written.1; ends = ap status_number written.0 }
-prints names report status.Diagnostics a b c d reports (inr written) ends =
+prints subcommand names report status.Diagnostics a b c d reports (inr written) ends =
     record { report = report; reports = reports (inr (sym written.0)); written = written.1; ends = ap status_number written.0 }
-prints names report status.Refused a b c d reports (inr written) (inl ends) = absurd cc
-prints names report status.Refused a b c d reports (inr written) (inr ends) = absurd cc
-prints names report status.OutOfMemory a b c d reports (inr written) (inl ends) = absurd cc
-prints names report status.OutOfMemory a b c d reports (inr written) (inr ends) = absurd cc
+prints subcommand names report status.Refused a b c d reports (inr written) (inl ends) = absurd cc
+prints subcommand names report status.Refused a b c d reports (inr written) (inr ends) = absurd cc
+prints subcommand names report status.ChainRefused a b c d reports (inr written) (inl ends) = absurd cc
+prints subcommand names report status.ChainRefused a b c d reports (inr written) (inr ends) = absurd cc
+prints subcommand names report status.OutOfMemory a b c d reports (inr written) (inl ends) = absurd cc
+prints subcommand names report status.OutOfMemory a b c d reports (inr written) (inr ends) = absurd cc
 
 -- want of memory ends neither so nor so
 pub silent : (s : Status) (Said : Type 0) → (s ≡ status.Refused) ⊎ ((s ≡ status.OutOfMemory) × Said) → (status_number s ≡ 0) ⊎ (status_number s ≡ 1) → ⊥
@@ -41,3 +50,11 @@ silent s Said (inl refused) (inl ends) = absurd cc
 silent s Said (inl refused) (inr ends) = absurd cc
 silent s Said (inr said) (inl ends) = let out : s ≡ status.OutOfMemory = said.0 in absurd cc
 silent s Said (inr said) (inr ends) = let out : s ≡ status.OutOfMemory = said.0 in absurd cc
+
+-- what a subcommand reports on its FILEs is the report on the FILEs that were asked for
+pub reported : (given : List (List ℕ)) (w : Words) → Asks given w → (c : Subcommand) (names : List (List ℕ)) → files_for c given ≡ Some names
+    → (report : Report) → Reports (subcommand_of_words w) (files_of_words w) report → Reports c names report
+reported given w asks c names asked report holds =
+    let same = one_subcommand c (subcommand_of_words w) given names (files_of_words w) asked asks in
+    let files : files_of_words w ≡ names = same_Some _ _ (sym asks ∙ (ap (λ d. files_for d given) (sym same) ∙ asked)) in
+    subst (λ d. Reports d names report) (sym same) (subst (λ ns. Reports (subcommand_of_words w) ns report) files holds)

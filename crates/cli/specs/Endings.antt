@@ -18,4 +18,6 @@ status_of_failure (failure.Words (words.Refused text)) = status.Refused
 status_of_failure (failure.Words words.OutOfMemory) = status.OutOfMemory
 status_of_failure (failure.CannotRead name) = status.Refused
 status_of_failure (failure.Project fault) = status.Refused
+status_of_failure (failure.Chain fault) = status.ChainRefused
+status_of_failure (failure.SessionFile fault) = status.Refused
 status_of_failure failure.OutOfMemory = status.OutOfMemory

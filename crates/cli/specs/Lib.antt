@@ -1,3 +1,4 @@
+pub mod Audits
 pub mod Endings
 pub mod Lines
 pub mod Runs

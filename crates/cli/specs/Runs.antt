@@ -1,9 +1,12 @@
--- What a run of `scratch` writes.
+-- What a run writes.
 use Rattle.std.specs.Prelude.{◌≡◌, ◌⊎◌, ℕ, List, Option, string_bytes}
 use Rattle.std.specs.Io.KnownBytes.{Appends}
 use Rattle.mj_project.specs.Projects.{SourceFile, names_of}
 use Rattle.mj_rules.specs.AnswerWords.{AnswerValue, text_of}
 use Rattle.mj_rules.specs.Rules.{Rules}
+use Rattle.command_line.specs.declared.asked.Subcommand.{Subcommand}
+use Rattle.command_line.specs.declared.asked.Subcommand.TheVariants.{Scratch, Audit, Show}
+use Rattle.cli.specs.Audits.{AuditsTo, ShowsFile}
 use Rattle.cli.specs.Endings.{status_of_answer}
 use Rattle.cli.specs.Lines.{is_clean, IsFaultText}
 use Rattle.cli.specs.declared.report.Report.{Report}
@@ -32,12 +35,19 @@ abbrev pub status_number : Status → ℕ
 status_number status.Clean = 0
 status_number status.Diagnostics = 1
 status_number status.Refused = 2
+status_number status.ChainRefused = 3
 status_number status.OutOfMemory = 4
 
--- A report on files of these names is written, and the run ends with its status.
-pub record Prints (names : List (List ℕ)) (status : ℕ)
+-- the report of a subcommand on files of these names
+abbrev pub Reports : Subcommand → List (List ℕ) → Report → Type 0
+Reports Scratch names report = ReportsOn names report
+Reports Audit names report = AuditsTo names report
+Reports Show names report = ShowsFile report
+
+-- A subcommand's report on files of these names is written, and the run ends with its status.
+pub record Prints (subcommand : Subcommand) (names : List (List ℕ)) (status : ℕ)
     (out_old out_new err_old err_new : Option (List ℕ)) : Type 0 where
   pub report : Report
-  pub reports : ReportsOn names report
+  pub reports : Reports subcommand names report
   pub written : IsWritten report out_old out_new err_old err_new
   pub ends : status ≡ status_number report.status

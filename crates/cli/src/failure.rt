@@ -2,8 +2,10 @@
 ghost use Rattle.std.specs.Prelude.{◌≡◌};
 ghost use Rattle.cli.specs.declared.failure.Failure.TheVariants as failure;
 
+use audit_graph::AuditFault;
 use command_line::WordsFault;
 use mj_rules::ProjectFault;
+use session_file::FileFault;
 use std::alloc::{AllocError, AllocFailed};
 
 /// The first failure of a run.
@@ -15,6 +17,10 @@ pub enum Failure {
     CannotRead(String),
     /// The files are no project.
     Project(ProjectFault),
+    /// The files are no chain of sessions that is accepted.
+    Chain(AuditFault),
+    /// The file is that of no session.
+    SessionFile(FileFault),
     /// Memory ran out.
     OutOfMemory,
 }
@@ -32,6 +38,22 @@ impl From<ProjectFault> for Failure {
 
     fn from(fault: ProjectFault) -> Failure {
         Failure::Project(fault)
+    }
+}
+
+impl From<AuditFault> for Failure {
+    ghost from_gives = { λ fault e. e ≡ failure.Chain fault };
+
+    fn from(fault: AuditFault) -> Failure {
+        Failure::Chain(fault)
+    }
+}
+
+impl From<FileFault> for Failure {
+    ghost from_gives = { λ fault e. e ≡ failure.SessionFile fault };
+
+    fn from(fault: FileFault) -> Failure {
+        Failure::SessionFile(fault)
     }
 }
 

@@ -1,10 +1,13 @@
 //! The program `mjrg`.
 #![tactic(auto)]
 
+mod auditing;
 mod failure;
+mod files;
 mod lines;
 mod report;
 mod running;
+mod showing;
 #[cfg(test)]
 mod tests;
 

@@ -11,12 +11,14 @@ use std::io::{ErrorKind, Write};
 /// How a run ends. The numbers are the program's exit statuses.
 #[derive(Clone, Copy, Debug, PartialEq, Eq)]
 pub enum Status {
-    /// There is no diagnostic, or help was asked for.
+    /// There is no diagnostic, the chain is accepted, the session is shown, or help was asked for.
     Clean = 0,
     /// The answer has diagnostics.
     Diagnostics = 1,
-    /// The words or the project are refused, or a file or a stream can't be used.
+    /// The words, the project or the session file are refused, or a file or a stream can't be used.
     Refused = 2,
+    /// The chain is refused.
+    ChainRefused = 3,
     /// Memory ran out.
     OutOfMemory = 4,
 }
@@ -64,6 +66,19 @@ impl Report {
             notes: text,
             answer: String::new(alloc),
             status: Status::Refused,
+        }
+    }
+
+    /// Why the chain is refused.
+    pub fn chain_refusal(alloc: Global, text: String) -> Self
+        ensures notes { string_bytes result.notes ≡ string_bytes text }
+        ensures answer { string_bytes result.answer ≡ [] }
+        ensures status { result.status ≡ Status.ChainRefused }
+    {
+        Report {
+            notes: text,
+            answer: String::new(alloc),
+            status: Status::ChainRefused,
         }
     }
 }

@@ -1,21 +1,26 @@
 //! One run of the program.
 ghost use Rattle.std.specs.Prelude.{◌≡◌, ◌≢◌, ◌⊎◌, ℕ, List, map, Some, [], IfOk, IfErr, IsTrue, string_bytes};
-ghost use Rattle.command_line.specs.CommandLine.{scratch_files, asks_plainly};
+ghost use Rattle.command_line.specs.CommandLine.{files_for, asks_plainly};
+ghost use Rattle.command_line.specs.declared.asked.Subcommand.{Subcommand};
 ghost use Rattle.mj_rules.specs.AnswerWords.{text_of};
 ghost use Rattle.cli.specs.Endings.{status_of_answer, status_of_failure};
 ghost use Rattle.cli.specs.Lines.{is_clean, IsFaultText};
-ghost use Rattle.cli.specs.Runs.{ReportsOn, Prints};
+ghost use Rattle.cli.specs.Runs.{ReportsOn, Prints, Reports};
 ghost use Rattle.cli.specs.Statuses.{IsStatus};
 
+use crate::auditing::audit;
 use crate::failure::Failure;
+use crate::files::read_files;
 use crate::lines::{fault_text, is_clean, refusal_text};
 use crate::report::{Report, Status, deliver, no_memory};
+use crate::showing::show;
+use audit_graph::AuditFault;
 use command_line::{Words, WordsFault, words};
 use fault_lines::ReadProject;
 use mj_rules::{Answer, Project, answer_for, render};
+use session_file::FileFault;
 use std::alloc::{AllocError, Global};
-use std::fs;
-use std::io::{ErrorKind, Write};
+use std::io::Write;
 use std::rt::Files;
 
 /// Does what the words ask for, of which the first is the program's name. It writes standard error,
@@ -27,11 +32,12 @@ pub fn run<R: Files + AllocGlobal, W: Write, E: Write>(
     err: &mut E,
 ) -> u8
     ensures status { IsStatus result }
-    ensures answer { (names : List (List ℕ))
-        → scratch_files (map string_bytes list.items) ≡ Some names
-        → IsTrue (asks_plainly (map string_bytes list.items)) → (result ≡ 0) ⊎ (result ≡ 1)
-        → Prints names result (W.contents out.old) (W.contents out.new) (E.contents err.old)
-        (E.contents err.new) }
+    ensures answer { (subcommand : Subcommand) (names : List (List ℕ))
+        → files_for subcommand (map string_bytes list.items) ≡ Some names
+        → IsTrue (asks_plainly subcommand (map string_bytes list.items))
+        → (result ≡ 0) ⊎ (result ≡ 1)
+        → Prints subcommand names result (W.contents out.old) (W.contents out.new)
+        (E.contents err.old) (E.contents err.new) }
 {
     let status = match report_of(rt, list) {
         Ok(report) => deliver(&report, out, err),
@@ -42,11 +48,12 @@ pub fn run<R: Files + AllocGlobal, W: Write, E: Write>(
 
 // The texts of a run, whose words are these, and its end.
 fn report_of<R: Files + AllocGlobal>(rt: &R, list: Vec<String>) -> Result<Report, AllocError>
-    ensures { (names : List (List ℕ)) → scratch_files (map string_bytes list.items) ≡ Some names
-        → IsTrue (asks_plainly (map string_bytes list.items))
+    ensures { (subcommand : Subcommand) (names : List (List ℕ))
+        → files_for subcommand (map string_bytes list.items) ≡ Some names
+        → IsTrue (asks_plainly subcommand (map string_bytes list.items))
         → IfOk result (λ report.
         (report.status ≡ Status.Clean) ⊎ (report.status ≡ Status.Diagnostics)
-        → ReportsOn names report) }
+        → Reports subcommand names report) }
 {
     match perform(rt, list) {
         Ok(report) => Ok(report),
@@ -56,14 +63,17 @@ fn report_of<R: Files + AllocGlobal>(rt: &R, list: Vec<String>) -> Result<Report
 
 // What the words ask for.
 fn perform<R: Files + AllocGlobal>(rt: &R, list: Vec<String>) -> Result<Report, Failure>
-    ensures reports { (names : List (List ℕ))
-        → scratch_files (map string_bytes list.items) ≡ Some names
-        → IfOk result (ReportsOn names) }
-    ensures plain { IsTrue (asks_plainly (map string_bytes list.items))
+    ensures reports { (subcommand : Subcommand) (names : List (List ℕ))
+        → files_for subcommand (map string_bytes list.items) ≡ Some names
+        → IfOk result (Reports subcommand names) }
+    ensures plain { (subcommand : Subcommand)
+        → IsTrue (asks_plainly subcommand (map string_bytes list.items))
         → IfErr result (λ failure. status_of_failure failure ≢ Status.Clean) }
 {
     match words(rt.alloc(), list)? {
         Words::Scratch(names) => scratch(rt, names),
+        Words::Audit(names) => audit(rt, names),
+        Words::Show(name) => show(rt, name),
     }
 }
 
@@ -103,33 +113,11 @@ fn answer_report(
     })
 }
 
-// The files with their bytes, in the order given.
-fn read_files<R: Files + AllocGlobal>(
-    rt: &R,
-    names: Vec<String>,
-) -> Result<Vec<(String, Vec<u8>)>, Failure>
-    ensures named { IfOk result (λ files.
-        map (λ file. string_bytes file.0) files.items ≡ map string_bytes names.items) }
-    ensures failed { IfErr result (λ failure. status_of_failure failure ≢ Status.Clean) }
-{
-    let mut files = Vec::new(rt.alloc());
-    for name in names {
-        match fs::read(rt, name.as_str()) {
-            Ok(bytes) => files.push((name, bytes))?,
-            Err(error) if error.kind() == ErrorKind::OutOfMemory => {
-                return Err(Failure::OutOfMemory);
-            }
-            Err(_) => return Err(Failure::CannotRead(name)),
-        }
-    }
-    Ok(files)
-}
-
 // What is written of a failure. Want of memory has no text, which would take memory.
 fn failure_report(alloc: Global, failure: Failure) -> Result<Report, AllocError>
     ensures status { IfOk result (λ report. report.status ≡ status_of_failure failure) }
     ensures no_answer { IfOk result (λ report.
-        report.status ≡ Status.Refused → string_bytes report.answer ≡ []) }
+        report.status ≢ Status.Clean → string_bytes report.answer ≡ []) }
 {
     match failure {
         Failure::Words(WordsFault::Help(text)) => Ok(Report::help(alloc, text)),
@@ -139,6 +127,24 @@ fn failure_report(alloc: Global, failure: Failure) -> Result<Report, AllocError>
             Ok(Report::refusal(alloc, text))
         }
         Failure::Project(fault) => Ok(Report::refusal(alloc, refusal_text(alloc, fault)?)),
+        Failure::Chain(fault) => Ok(Report::chain_refusal(alloc, chain_refusal(alloc, fault)?)),
+        Failure::SessionFile(fault) => Ok(Report::refusal(alloc, file_refusal(alloc, fault)?)),
         Failure::Words(WordsFault::OutOfMemory) | Failure::OutOfMemory => Err(AllocError),
+    }
+}
+
+// Why a chain is refused. Want of memory has no text.
+fn chain_refusal(alloc: Global, fault: AuditFault) -> Result<String, AllocError> {
+    match fault {
+        AuditFault::OutOfMemory => Err(AllocError),
+        fault => format!(in alloc; "refused: {fault}\n"),
+    }
+}
+
+// Why a file is that of no session. Want of memory has no text.
+fn file_refusal(alloc: Global, fault: FileFault) -> Result<String, AllocError> {
+    match fault {
+        FileFault::OutOfMemory => Err(AllocError),
+        fault => format!(in alloc; "refused: {fault}\n"),
     }
 }

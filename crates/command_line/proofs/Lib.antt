@@ -1,4 +1,5 @@
 pub mod Faults
 pub mod Options
-pub mod ScratchWords
+pub mod FileWords
 pub mod ProgramWords
+pub mod OneSubcommand

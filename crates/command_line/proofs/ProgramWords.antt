@@ -1,8 +1,9 @@
 -- How the words after the program's name are read.
 use Rattle.std.proofs.Common.{◌≡◌, ◌∙◌, ◌≤◌, ◌<◌, ◌&&◌, ◌||◌, ◌==◌, ◌++◌, inl, inr, Bool, true, false, List, [], ◌∷◌, Option, Some, None, cond, codes, refl, sym, ap, ap₂, length, arith, append-nil, append_assoc, not, option_map, is_some, subst, true≢false}
 use Rattle.std.proofs.lemmas.Bool.{not-true}
-use Rattle.std.specs.Prelude.{fold, if◌then◌else◌, option_and_then}
+use Rattle.std.specs.Prelude.{fold, if◌then◌else◌, option_and_then, unwrap_or}
 use Rattle.std.specs.Str.{bytes_eq}
+use Rattle.std.proofs.lemmas.Slice.Eq.{bytes_eq-Decides}
 use Rattle.clap.specs.Faults.{check_fault, defaults_fault, entered_fault, fault_of, other_fault, settle_fault, step_fault, turn_fault, walk_fault, word_fault}
 use Rattle.clap.specs.Kinds.{or_else}
 use Rattle.clap.specs.Lexer.{long_of, usize_max}
@@ -17,12 +18,17 @@ use Rattle.clap.specs.declared.parser.matches.ArgMatches.TheViews.{out-ArgMatche
 use Rattle.clap.specs.declared.parser.matches.SubCommand.{SubCommand}
 use Rattle.std.specs.Box.{box_value}
 use Rattle.std.specs.Prelude.{Box}
-use Rattle.command_line.specs.CommandLine.{asks_plainly, dashes, files_of, has_option, one_or_more, scratch_files, scratch_words}
-use Rattle.command_line.specs.Matches.{files_in}
+use Rattle.command_line.specs.CommandLine.{Asks, asks_plainly, dashes, files_for, files_of, has_option, taken_by, words_behind}
+use Rattle.command_line.specs.Matches.{AreMet, files_in}
+use Rattle.command_line.specs.Runnable.{subcommand_of_words}
+use Rattle.command_line.specs.declared.asked.Words.{Words}
 use Rattle.command_line.specs.Program.{program_app}
+use Rattle.command_line.specs.Subcommands.{name_of, takes}
+use Rattle.command_line.specs.declared.asked.Subcommand.{Subcommand}
+use Rattle.command_line.specs.declared.asked.Subcommand.TheVariants.{Scratch, Audit, Show}
 use Rattle.command_line.proofs.Faults.{IsFault, first_fault, is_fault, next_fault}
 use Rattle.command_line.proofs.Options.{HasHelpAlone, read_plain}
-use Rattle.command_line.proofs.ScratchWords.{file_row, files_within, level_found, level_of, level_taken, scratch_rules}
+use Rattle.command_line.proofs.FileWords.{file_row, files_within, level_found, level_of, level_taken, rules, shape}
 
 -- ---- the program
 
@@ -65,27 +71,32 @@ walk_is_fault name words fault = first_fault (kinds_of words) (end_fault (walk_o
 
 -- ---- the subcommand
 
-abbrev met_if : Bool → Bool → Option Text
-met_if is_scratch is_help = option_map (λ (s : Text × List Text). s.0)
-    (cond (is_scratch || false) (Some (codes "scratch", [])) (cond (is_help || false) (Some (codes "help", [])) None))
+abbrev found_if : Bool → Text → Option (Text × List Text) → Option (Text × List Text)
+found_if t name other = cond (t || false) (Some (name, [])) other
 
-command_met : (word : Text) → subcommand_met commands idle word ≡ met_if (bytes_eq (codes "scratch") word) (bytes_eq (codes "help") word)
+abbrev met_if : Bool → Bool → Bool → Bool → Option Text
+met_if is_scratch is_audit is_show is_help = option_map (λ (s : Text × List Text). s.0)
+    (found_if is_scratch (codes "scratch") (found_if is_audit (codes "audit")
+    (found_if is_show (codes "show") (found_if is_help (codes "help") None))))
+
+command_met : (word : Text) → subcommand_met commands idle word
+    ≡ met_if (bytes_eq (codes "scratch") word) (bytes_eq (codes "audit") word) (bytes_eq (codes "show") word) (bytes_eq (codes "help") word)
 command_met word = refl
 
--- `scratch` was met, with the words after it
-abbrev stopped_at : List Text → Walk
-stopped_at words = record start { stopped = Some (codes "scratch", words) }
+-- the subcommand was met, with the words after it
+abbrev stopped_at : Subcommand → List Text → Walk
+stopped_at c words = record start { stopped = Some (name_of c, words) }
 
-stopped_walk : (before words : List Text) → fold (walked top.rules commands) (stopped_at before) words ≡ stopped_at (before ++ words)
+stopped_walk : (c : Subcommand) (before words : List Text) → fold (walked top.rules commands) (stopped_at c before) words ≡ stopped_at c (before ++ words)
 unfolding walked
-stopped_walk before [] = ap stopped_at (sym (append-nil before))
-stopped_walk before (word ∷ rest) =
-    stopped_walk (before ++ word ∷ []) rest ∙ ap stopped_at (append_assoc before (word ∷ []) rest)
+stopped_walk c before [] = ap (stopped_at c) (sym (append-nil before))
+stopped_walk c before (word ∷ rest) =
+    stopped_walk c (before ++ word ∷ []) rest ∙ ap (stopped_at c) (append_assoc before (word ∷ []) rest)
 
-stopped_passes : (before words : List Text) → walk_fault top commands (stopped_at before) words ≡ []
+stopped_passes : (c : Subcommand) (before words : List Text) → walk_fault top commands (stopped_at c before) words ≡ []
 unfolding walk_fault walked
-stopped_passes before [] = refl
-stopped_passes before (word ∷ rest) = stopped_passes (before ++ word ∷ []) rest
+stopped_passes c before [] = refl
+stopped_passes c before (word ∷ rest) = stopped_passes c (before ++ word ∷ []) rest
 
 abbrev met_step : Option Text → Text → Held × Step
 met_step m word = subcommand_or_other top.rules m idle 1 word nothing_held
@@ -93,34 +104,45 @@ met_step m word = subcommand_or_other top.rules m idle 1 word nothing_held
 abbrev turn_of : Option Text → Text → Kinds
 turn_of m word = or_else (other_fault top m word nothing_held) (step_fault top 1 (met_step m word).0 (met_step m word).1)
 
-module _ (command : Text) (is_scratch : bytes_eq (codes "scratch") command ≡ true) where
-  scratch_met : subcommand_met commands idle command ≡ Some (codes "scratch")
-  scratch_met = ap (λ t. met_if t (bytes_eq (codes "help") command)) is_scratch
+name_walked : (c : Subcommand) → walked top.rules commands start (name_of c) ≡ stopped_at c []
+unfolding walked
+name_walked Scratch = refl
+name_walked Audit = refl
+name_walked Show = refl
 
-  scratch_walked : walked top.rules commands start command ≡ stopped_at []
-  unfolding walked
-  scratch_walked = ap (λ m. after_step top.rules command start (met_step m command).0 (met_step m command).1) scratch_met
+name_turn : (c : Subcommand) → turn_fault top commands start (name_of c) ≡ []
+name_turn Scratch = refl
+name_turn Audit = refl
+name_turn Show = refl
 
-  scratch_turn : turn_fault top commands start command ≡ []
-  scratch_turn = ap (λ m. turn_of m command) scratch_met
+level_is : (c : Subcommand) (rest : List Text) → end_fault (stopped_at c rest) [] ≡ or_else (level_of c rest) []
+unfolding shape defaults_fault
+level_is Scratch rest = refl
+level_is Audit rest = refl
+level_is Show rest = refl
 
-  walk_is : (rest : List Text) → walk_of (command ∷ rest) ≡ stopped_at rest
-  walk_is rest = ap (λ (w : Walk). fold (walked top.rules commands) w rest) scratch_walked ∙ stopped_walk [] rest
+rows_are : (c : Subcommand) (rest : List Text) → entered program (Some (name_of c, rest)) ≡ Some (name_of c, rows_after (rules c) [] rest)
+unfolding shape
+rows_are Scratch rest = refl
+rows_are Audit rest = refl
+rows_are Show rest = refl
 
-  kinds_are : (rest : List Text) → kinds_of (command ∷ rest) ≡ []
+module _ (c : Subcommand) (rest : List Text) where
+  walk_is : walk_of (name_of c ∷ rest) ≡ stopped_at c rest
+  walk_is = ap (λ (w : Walk). fold (walked top.rules commands) w rest) (name_walked c) ∙ stopped_walk c [] rest
+
+  kinds_are : kinds_of (name_of c ∷ rest) ≡ []
   unfolding walk_fault
-  kinds_are rest =
-      ap (λ k. or_else k (walk_fault top commands (walked top.rules commands start command) rest)) scratch_turn
-      ∙ (ap (λ (w : Walk). walk_fault top commands w rest) scratch_walked ∙ stopped_passes [] rest)
+  kinds_are =
+      ap (λ k. or_else k (walk_fault top commands (walked top.rules commands start (name_of c)) rest)) (name_turn c)
+      ∙ (ap (λ (w : Walk). walk_fault top commands w rest) (name_walked c) ∙ stopped_passes c [] rest)
 
-  -- the faults are those of `scratch`
-  scratch_fault : (name : Text) (rest : List Text) → fault_of program_app (name ∷ command ∷ rest) ≡ or_else (level_of rest) []
-  unfolding defaults_fault
-  scratch_fault name rest = ap₂ end_fault (walk_is rest) (kinds_are rest)
+  -- the faults are those of the subcommand
+  fault_is : (name : Text) → fault_of program_app (name ∷ name_of c ∷ rest) ≡ or_else (level_of c rest) []
+  fault_is name = ap₂ end_fault walk_is kinds_are ∙ level_is c rest
 
-  scratch_entered : (name : Text) (rest : List Text) → subcommand_of program_app (name ∷ command ∷ rest)
-      ≡ Some (codes "scratch", rows_after scratch_rules [] rest)
-  scratch_entered name rest = ap (λ (w : Walk). entered program w.stopped) (walk_is rest)
+  entered_is_of : (name : Text) → subcommand_of program_app (name ∷ name_of c ∷ rest) ≡ Some (name_of c, rows_after (rules c) [] rest)
+  entered_is_of name = ap (λ (w : Walk). entered program w.stopped) walk_is ∙ rows_are c rest
 
 or_none : (kinds : Kinds) → or_else kinds [] ≡ kinds
 or_none [] = refl
@@ -132,7 +154,14 @@ or_none (kind ∷ rest) = refl
 stray : (h : Held) → IsFault (step_fault top 1 h value)
 stray h = is_fault _ _
 
-module _ (name command : Text) (no_scratch : bytes_eq (codes "scratch") command ≡ false) where
+module _ (name command : Text) (no_scratch : bytes_eq (codes "scratch") command ≡ false)
+    (no_audit : bytes_eq (codes "audit") command ≡ false) (no_show : bytes_eq (codes "show") command ≡ false) where
+  met_help : (t : Bool) → bytes_eq (codes "help") command ≡ t → subcommand_met commands idle command ≡ met_if false false false t
+  met_help t is =
+      ap (λ x. met_if x (bytes_eq (codes "audit") command) (bytes_eq (codes "show") command) (bytes_eq (codes "help") command)) no_scratch
+      ∙ (ap (λ x. met_if false x (bytes_eq (codes "show") command) (bytes_eq (codes "help") command)) no_audit
+      ∙ ap₂ (met_if false false) no_show is)
+
   turn_is_fault : (rest : List Text) → IsFault (turn_fault top commands start command) → IsFault (fault_of program_app (name ∷ command ∷ rest))
   unfolding walk_fault
   turn_is_fault rest fault = walk_is_fault name (command ∷ rest)
@@ -140,13 +169,13 @@ module _ (name command : Text) (no_scratch : bytes_eq (codes "scratch") command 
 
   help_refused : bytes_eq (codes "help") command ≡ true → (rest : List Text) → IsFault (fault_of program_app (name ∷ command ∷ rest))
   help_refused is_help rest =
-      let met : subcommand_met commands idle command ≡ Some (codes "help") = ap₂ met_if no_scratch is_help in
+      let met : subcommand_met commands idle command ≡ Some (codes "help") = met_help true is_help in
       turn_is_fault rest (λ none. first_fault (other_fault top (Some (codes "help")) command nothing_held) (step_fault top 1 (met_step (Some (codes "help")) command).0 (met_step (Some (codes "help")) command).1)
       (is_fault _ _) (sym (ap (λ m. turn_of m command) met) ∙ none))
 
   module _ (no_help : bytes_eq (codes "help") command ≡ false) where
     no_command : subcommand_met commands idle command ≡ None
-    no_command = ap₂ met_if no_scratch no_help
+    no_command = met_help false no_help
 
     abbrev behind_dashes : Walk
     behind_dashes = record start { is_trailing = true }
@@ -198,56 +227,83 @@ no_word (name ∷ command ∷ rest) few = absurd (omega arith)
 -- ---- all words
 
 -- what a parse that succeeds is of
-record IsScratch (words rest : List Text) : Type 0 where
-  words_are : scratch_words words ≡ Some rest
-  some : one_or_more (files_of rest) ≡ Some (files_of rest)
-  entered_is : subcommand_of program_app words ≡ Some (codes "scratch", file_row (files_of rest) ∷ [])
+record IsRead (words : List Text) : Type 0 where
+  subcommand : Subcommand
+  rest : List Text
+  words_are : words_behind subcommand words ≡ Some rest
+  takes_them : takes subcommand (files_of rest) ≡ true
+  entered_is : subcommand_of program_app words ≡ Some (name_of subcommand, file_row subcommand (files_of rest) ∷ [])
 
 abbrev rest_if : Bool → List Text → Option (List Text)
 rest_if t rest = if t then Some rest else None
 
-scratch_found : (name command : Text) (rest : List Text) (t : Bool) → bytes_eq (codes "scratch") command ≡ t → fault_of program_app (name ∷ command ∷ rest) ≡ []
-    → IsScratch (name ∷ command ∷ rest) rest
-scratch_found name command rest false is none = absurd (other_refused name command is (bytes_eq (codes "help") command) refl rest none)
-scratch_found name command rest true is none =
-    let level = level_found rest (sym (or_none (level_of rest)) ∙ (sym (scratch_fault command is name rest) ∙ none)) in
+found_at : (c : Subcommand) (name command : Text) (rest : List Text) → bytes_eq (name_of c) command ≡ true → fault_of program_app (name ∷ command ∷ rest) ≡ []
+    → IsRead (name ∷ command ∷ rest)
+found_at c name command rest is none =
+    let same : name_of c ≡ command = (bytes_eq-Decides (name_of c) command).0 is in
+    let faults : fault_of program_app (name ∷ command ∷ rest) ≡ or_else (level_of c rest) [] =
+    ap (λ w. fault_of program_app (name ∷ w ∷ rest)) (sym same) ∙ fault_is c rest name in
+    let entry : subcommand_of program_app (name ∷ command ∷ rest) ≡ Some (name_of c, rows_after (rules c) [] rest) =
+    ap (λ w. subcommand_of program_app (name ∷ w ∷ rest)) (sym same) ∙ entered_is_of c rest name in
+    let level = level_found c rest (sym (or_none (level_of c rest)) ∙ (sym faults ∙ none)) in
     record {
+      subcommand = c;
+      rest = rest;
       words_are = ap (λ t. rest_if t rest) is;
-      some = level.0;
-      entered_is = scratch_entered command is name rest ∙ ap (λ rows. Some (codes "scratch", rows)) level.1;
+      takes_them = level.0;
+      entered_is = entry ∙ ap (λ rows. Some (name_of c, rows)) level.1;
     }
 
-found : (words : List Text) → fault_of program_app words ≡ [] → (rest : List Text) × IsScratch words rest
+found_by : (name command : Text) (rest : List Text) (s a w : Bool)
+    → bytes_eq (codes "scratch") command ≡ s → bytes_eq (codes "audit") command ≡ a → bytes_eq (codes "show") command ≡ w
+    → fault_of program_app (name ∷ command ∷ rest) ≡ [] → IsRead (name ∷ command ∷ rest)
+found_by name command rest true a w is_scratch is_audit is_show none = found_at Scratch name command rest is_scratch none
+found_by name command rest false true w is_scratch is_audit is_show none = found_at Audit name command rest is_audit none
+found_by name command rest false false true is_scratch is_audit is_show none = found_at Show name command rest is_show none
+found_by name command rest false false false is_scratch is_audit is_show none =
+    absurd (other_refused name command is_scratch is_audit is_show (bytes_eq (codes "help") command) refl rest none)
+
+found : (words : List Text) → fault_of program_app words ≡ [] → IsRead words
 found [] none = absurd (no_word [] (omega arith) none)
 found (name ∷ []) none = absurd (no_word (name ∷ []) (omega arith) none)
-found (name ∷ command ∷ rest) none = (rest, scratch_found name command rest (bytes_eq (codes "scratch") command) refl none)
+found (name ∷ command ∷ rest) none =
+    found_by name command rest (bytes_eq (codes "scratch") command) (bytes_eq (codes "audit") command) (bytes_eq (codes "show") command) refl refl refl none
 
-some_file : (files : List Text) → is_some (one_or_more files) ≡ true → 0 < length files
-some_file [] some = absurd (true≢false (sym some))
-some_file (f ∷ files) some = omega arith
+abbrev files_if : Subcommand → Bool → List Text → Option (List Text)
+files_if c t rest = option_and_then (λ words. taken_by c (files_of words)) (rest_if t rest)
 
-abbrev plainly_if : Bool → List Text → Bool
-plainly_if t rest = is_some (option_and_then (λ words. one_or_more (files_of words)) (rest_if t rest)) && not (has_option rest)
+abbrev plainly_if : Subcommand → Bool → List Text → Bool
+plainly_if c t rest = is_some (files_if c t rest) && not (has_option rest)
 
 both : (a b : Bool) → (a && b) ≡ true → (a ≡ true) × (b ≡ true)
 both true b is = (refl, is)
 both false b is = absurd (true≢false (sym is))
 
-plain_by : (name command : Text) (rest : List Text) (t : Bool) → bytes_eq (codes "scratch") command ≡ t → plainly_if t rest ≡ true
+abbrev taken_if : Bool → List Text → Option (List Text)
+taken_if t files = if t then Some files else None
+
+is_taken : (t : Bool) (files : List Text) → is_some (taken_if t files) ≡ true → t ≡ true
+is_taken true files is = refl
+is_taken false files is = absurd (true≢false (sym is))
+
+plain_by : (c : Subcommand) (name command : Text) (rest : List Text) (t : Bool) → bytes_eq (name_of c) command ≡ t → plainly_if c t rest ≡ true
     → length rest ≤ usize_max → fault_of program_app (name ∷ command ∷ rest) ≡ []
-plain_by name command rest false is plain most = absurd (true≢false (sym plain))
-plain_by name command rest true is plain most =
-    let parts = both (is_some (one_or_more (files_of rest))) (not (has_option rest)) plain in
+plain_by c name command rest false is plain most = absurd (true≢false (sym plain))
+plain_by c name command rest true is plain most =
+    let same : name_of c ≡ command = (bytes_eq-Decides (name_of c) command).0 is in
+    let parts = both (is_some (files_if c true rest)) (not (has_option rest)) plain in
     let within = files_within rest in
-    scratch_fault command is name rest
-    ∙ ap (λ k. or_else k []) (level_taken rest (not-true (has_option rest) parts.1) (some_file (files_of rest) parts.0) (omega (arith, within, most)))
+    let taken = is_taken (takes c (files_of rest)) (files_of rest) parts.0 in
+    ap (λ w. fault_of program_app (name ∷ w ∷ rest)) (sym same)
+    ∙ (fault_is c rest name
+    ∙ ap (λ k. or_else k []) (level_taken c rest (not-true (has_option rest) parts.1) taken (omega (arith, within, most))))
 
 -- words that ask plainly are taken
-taken : (words : List Text) → asks_plainly words ≡ true → length words ≤ usize_max → fault_of program_app words ≡ []
-taken [] plain most = absurd (true≢false (sym plain))
-taken (name ∷ []) plain most = absurd (true≢false (sym plain))
-taken (name ∷ command ∷ rest) plain most =
-    plain_by name command rest (bytes_eq (codes "scratch") command) refl plain (omega (arith, most))
+taken : (c : Subcommand) (words : List Text) → asks_plainly c words ≡ true → length words ≤ usize_max → fault_of program_app words ≡ []
+taken c [] plain most = absurd (true≢false (sym plain))
+taken c (name ∷ []) plain most = absurd (true≢false (sym plain))
+taken c (name ∷ command ∷ rest) plain most =
+    plain_by c name command rest (bytes_eq (name_of c) command) refl plain (omega (arith, most))
 
 -- ---- the matches
 
@@ -256,17 +312,17 @@ module _ {Z : Type 0} where
   name-subcommand_rows None = refl
   name-subcommand_rows (Some b) = refl
 
-first_file : (files : List Text) → one_or_more files ≡ Some files → (f : Text) × ((rest : List Text) × (files ≡ f ∷ rest))
-first_file [] is = absurd (true≢false (sym (ap (is_some {T = List Text}) is)))
-first_file (f ∷ rest) is = (f, (rest, refl))
+some_same : (a b : Text) → Some a ≡ Some b → a ≡ b
+some_same a b same = ap (λ o. unwrap_or o a) same
 
 -- the words ask for FILEs, and the matches have them
 pub record HasRead (words : List Text) (m : ArgMatches) : Type 0 where
-  pub first : Text
-  pub others : List Text
-  pub asked : scratch_files words ≡ Some (first ∷ others)
-  pub name : subcommand_name_of m ≡ Some (codes "scratch")
-  pub files : files_in m ≡ Some (first ∷ others)
+  pub subcommand : Subcommand
+  pub given : List Text
+  pub asked : files_for subcommand words ≡ Some given
+  pub takes_them : takes subcommand given ≡ true
+  pub name : subcommand_name_of m ≡ Some (name_of subcommand)
+  pub files : files_in m ≡ Some given
 
 -- a parse that succeeds
 pub has_read : (app : App) (words : List Text) (m : ArgMatches) → app ≡ program_app → (is_simple_and_free app ≡ true → fault_of app words ≡ [])
@@ -274,20 +330,37 @@ pub has_read : (app : App) (words : List Text) (m : ArgMatches) → app ≡ prog
 has_read app words m program_is kinds matches =
     let none = ap (λ a. fault_of a words) (sym program_is) ∙ kinds (ap is_simple_and_free program_is) in
     let is = found words none in
-    let met = (matches (ap is_simple program_is)).1 ∙ (ap (λ a. subcommand_of a words) program_is ∙ is.1.entered_is) in
-    let first = first_file (files_of is.0) is.1.some in
-    let in_order : Some (files_of is.0) ≡ Some (first.0 ∷ first.1.0) = ap (λ files. Some files) first.1.1 in
+    let met = (matches (ap is_simple program_is)).1 ∙ (ap (λ a. subcommand_of a words) program_is ∙ is.entered_is) in
     record {
-      first = first.0;
-      others = first.1.0;
-      asked = ap (option_and_then (λ rest. one_or_more (files_of rest))) is.1.words_are ∙ (is.1.some ∙ in_order);
+      subcommand = is.subcommand;
+      given = files_of is.rest;
+      asked = ap (option_and_then (λ rest. taken_by is.subcommand (files_of rest))) is.words_are ∙ ap (λ t. taken_if t (files_of is.rest)) is.takes_them;
+      takes_them = is.takes_them;
       name = name-subcommand_rows (out-ArgMatches m).subcommand ∙ ap (option_map (λ (p : Text × List Row). p.0)) met;
-      files = ap (option_and_then (λ (p : Text × List Row). all_of (codes "FILE") p.1)) met ∙ in_order;
+      files = ap (option_and_then (λ (p : Text × List Row). all_of (codes "FILE") p.1)) met;
     }
 
+-- no two subcommands have one name
+pub same_subcommand : (c d : Subcommand) → name_of c ≡ name_of d → c ≡ d
+same_subcommand Scratch Scratch same = refl
+same_subcommand Audit Audit same = refl
+same_subcommand Show Show same = refl
+same_subcommand Scratch Audit same = absurd (true≢false (ap (bytes_eq (codes "scratch")) same))
+same_subcommand Scratch Show same = absurd (true≢false (ap (bytes_eq (codes "scratch")) same))
+same_subcommand Audit Scratch same = absurd (true≢false (ap (bytes_eq (codes "audit")) same))
+same_subcommand Audit Show same = absurd (true≢false (ap (bytes_eq (codes "audit")) same))
+same_subcommand Show Scratch same = absurd (true≢false (ap (bytes_eq (codes "show")) same))
+same_subcommand Show Audit same = absurd (true≢false (ap (bytes_eq (codes "show")) same))
+
+-- the words that were met are those that were asked for
+pub asked_are_met : (words : List Text) (m : ArgMatches) (w : Words) → HasRead words m → AreMet m w → Asks words w
+asked_are_met words m w read met =
+    let same = same_subcommand read.subcommand (subcommand_of_words w) (some_same _ _ (sym read.name ∙ met.name)) in
+    ap (λ c. files_for c words) (sym same) ∙ (read.asked ∙ (sym read.files ∙ met.files))
+
 -- a parse of words that ask plainly fails only for want of memory
-pub only_memory : (app : App) (words : List Text) (e : Error) → app ≡ program_app → asks_plainly words ≡ true → length words ≤ usize_max
+pub only_memory : (app : App) (c : Subcommand) (words : List Text) (e : Error) → app ≡ program_app → asks_plainly c words ≡ true → length words ≤ usize_max
     → (is_simple_and_free app ≡ true → HasKind (fault_of app words) e) → kind_of e ≡ OutOfMemory
-only_memory app words e program_is plain most has =
-    let none = ap (λ a. fault_of a words) program_is ∙ taken words plain most in
+only_memory app c words e program_is plain most has =
+    let none = ap (λ a. fault_of a words) program_is ∙ taken c words plain most in
     elim (subst (λ kinds. HasKind kinds e) none (has (ap is_simple_and_free program_is))) [ inl is ↦ is | inr never ↦ absurd never ]

@@ -1,13 +1,12 @@
 -- What a command line asks for, told from its words alone.
-use Rattle.std.specs.Prelude.{◌≡◌, ◌==◌, ◌&&◌, ◌||◌, ℕ, Bool, true, false, not, List, [], ◌∷◌}
+use Rattle.std.specs.Prelude.{◌≡◌, ◌==◌, ◌&&◌, ◌||◌, Bool, true, false, not, List, [], ◌∷◌}
 use Rattle.std.specs.Prelude.{Option, Some, None, codes, if◌then◌else◌, drop, is_some}
 use Rattle.std.specs.Prelude.{option_and_then}
 use Rattle.std.specs.Str.{bytes_eq}
+use Rattle.command_line.specs.declared.asked.Subcommand.{Subcommand}
 use Rattle.command_line.specs.declared.asked.Words.{Words}
-use Rattle.command_line.specs.Runnable.{files_of_words}
-
-abbrev pub Text : Type 0
-Text = List ℕ
+use Rattle.command_line.specs.Runnable.{files_of_words, subcommand_of_words}
+use Rattle.command_line.specs.Subcommands.{Text, name_of, takes}
 
 -- `--`, behind which every word is a FILE
 abbrev pub dashes : Text
@@ -33,25 +32,26 @@ abbrev pub files_of : List Text → List Text
 files_of [] = []
 files_of (word ∷ rest) = if bytes_eq word dashes then rest else word ∷ files_of rest
 
-abbrev pub one_or_more : List Text → Option (List Text)
-one_or_more [] = None
-one_or_more (file ∷ rest) = Some (file ∷ rest)
+-- the words after the subcommand, which is the word after the program's name
+abbrev pub words_behind : Subcommand → List Text → Option (List Text)
+words_behind subcommand [] = None
+words_behind subcommand (name ∷ []) = None
+words_behind subcommand (name ∷ word ∷ rest) =
+    if bytes_eq (name_of subcommand) word then Some rest else None
 
--- the words after `scratch`, which is the word after the program's name
-abbrev pub scratch_words : List Text → Option (List Text)
-scratch_words [] = None
-scratch_words (name ∷ []) = None
-scratch_words (name ∷ command ∷ rest) =
-    if bytes_eq (codes "scratch") command then Some rest else None
+abbrev pub taken_by : Subcommand → List Text → Option (List Text)
+taken_by subcommand files = if takes subcommand files then Some files else None
 
--- the FILEs that the words give to `scratch`, if they do and there is one
-abbrev pub scratch_files : List Text → Option (List Text)
-scratch_files given = option_and_then (λ rest. one_or_more (files_of rest)) (scratch_words given)
+-- the FILEs that the words give to the subcommand, if they do and it takes them
+abbrev pub files_for : Subcommand → List Text → Option (List Text)
+files_for subcommand given = option_and_then (λ rest. taken_by subcommand (files_of rest))
+    (words_behind subcommand given)
 
 -- what was read is what the words ask for
 abbrev pub Asks : List Text → Words → Type 0
-Asks given w = scratch_files given ≡ Some (files_of_words w)
+Asks given w = files_for (subcommand_of_words w) given ≡ Some (files_of_words w)
 
--- the words give one FILE or more to `scratch`, and no option
-abbrev pub asks_plainly : List Text → Bool
-asks_plainly given = is_some (scratch_files given) && not (has_option (drop 2 given))
+-- the words give the subcommand FILEs that it takes, and no option
+abbrev pub asks_plainly : Subcommand → List Text → Bool
+asks_plainly subcommand given =
+    is_some (files_for subcommand given) && not (has_option (drop 2 given))

@@ -4,21 +4,33 @@ use Rattle.clap.specs.Lexer.{usize_max}
 use Rattle.clap.specs.Simple.{on_top}
 use Rattle.clap.specs.Words.{App, Rule, new_app, new_rule, with_rule, with_subcommand}
 use Rattle.clap.specs.declared.builder.ArgAction.TheVariants.{Append}
+use Rattle.command_line.specs.Subcommands.{name_of}
+use Rattle.command_line.specs.declared.asked.Subcommand.{Subcommand}
+use Rattle.command_line.specs.declared.asked.Subcommand.TheVariants.{Scratch, Audit, Show}
+
+-- just one FILE
+abbrev pub file_rule : Rule
+file_rule = record (new_rule (codes "FILE")) { required = true }
 
 -- one FILE or more
-abbrev pub file_rule : Rule
-file_rule = record (new_rule (codes "FILE")) {
-  required = true;
+abbrev pub files_rule : Rule
+files_rule = record file_rule {
   range = Some (record { start_inclusive = 1; end_inclusive = usize_max });
   action = Some Append;
 }
 
-abbrev pub scratch_app : App
-scratch_app = with_rule (new_app (codes "scratch")) file_rule
+abbrev pub rule_of_files : Subcommand → Rule
+rule_of_files Show = file_rule
+rule_of_files _ = files_rule
+
+abbrev pub subcommand_app : Subcommand → App
+subcommand_app subcommand = with_rule (new_app (name_of subcommand)) (rule_of_files subcommand)
 
 -- the program, before its subcommands
 abbrev pub required_app : App
 required_app = on_top (λ s. record s { subcommand_required = true }) (new_app (codes "mjrg"))
 
 abbrev pub program_app : App
-program_app = with_subcommand required_app scratch_app.top
+program_app = with_subcommand
+    (with_subcommand (with_subcommand required_app (subcommand_app Scratch).top)
+    (subcommand_app Audit).top) (subcommand_app Show).top

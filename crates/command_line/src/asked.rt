@@ -1,15 +1,58 @@
 //! What a command line asks for.
-ghost use Rattle.std.specs.Prelude.{◌≡◌};
+ghost use Rattle.std.specs.Prelude.{◌≡◌, IfSome};
+ghost use Rattle.command_line.specs.Subcommands.{name_of};
 ghost use Rattle.command_line.specs.declared.asked.WordsFault.TheVariants as fault;
 
 use std::alloc::{AllocError, AllocFailed};
 use thiserror::Error;
+
+/// What the program can do.
+#[derive(Clone, Copy, Debug, PartialEq, Eq)]
+pub enum Subcommand {
+    /// Check a project from its files alone.
+    Scratch,
+    /// Audit a chain of session files.
+    Audit,
+    /// Print a session file.
+    Show,
+}
+
+impl Subcommand {
+    /// The word that asks for it.
+    pub fn name<'a>(self) -> &'a str
+        ensures { result.now ≡ name_of self }
+    {
+        match self {
+            Subcommand::Scratch => "scratch",
+            Subcommand::Audit => "audit",
+            Subcommand::Show => "show",
+        }
+    }
+
+    /// The subcommand that this word asks for.
+    pub(crate) fn named(word: &str) -> Option<Subcommand>
+        ensures found { IfSome result (λ subcommand. name_of subcommand ≡ word.now) }
+        ensures known { (subcommand : Subcommand) → word.now ≡ name_of subcommand
+            → result ≡ Some subcommand }
+    {
+        match word {
+            "scratch" => Some(Subcommand::Scratch),
+            "audit" => Some(Subcommand::Audit),
+            "show" => Some(Subcommand::Show),
+            _ => None,
+        }
+    }
+}
 
 /// A subcommand with its values.
 #[derive(Debug, Drop)]
 pub enum Words {
     /// Check the project of these files from scratch.
     Scratch(Vec<String>),
+    /// Audit the chain of these session files.
+    Audit(Vec<String>),
+    /// Print this session file.
+    Show(String),
 }
 
 /// Why the words ask for no subcommand.

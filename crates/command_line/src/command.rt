@@ -1,74 +1,65 @@
-//! The program and its subcommands, as `clap` reads them and tells of them.
+//! The program and its subcommands, as `clap` reads them.
 ghost use Rattle.std.specs.Prelude.{◌≡◌, IfOk, false};
 ghost use Rattle.clap.specs.Words.{app_of, rule_of};
 ghost use Rattle.clap.specs.declared.builder.Command.TheViews.{out-Command};
-ghost use Rattle.command_line.specs.Program.{file_rule, program_app, scratch_app};
+ghost use Rattle.command_line.specs.Program.{file_rule, files_rule, program_app, rule_of_files};
+ghost use Rattle.command_line.specs.Program.{subcommand_app};
 
+use crate::asked::Subcommand;
+use crate::help::{PURPOSE, STATUSES, files, outcome, purpose};
 use clap::{Arg, ArgAction, Command};
 use std::alloc::{AllocError, Global};
 
 /// The program's name, which stands for the first word where there is none.
 pub(crate) const PROGRAM: &str = "mjrg";
 
-/// The subcommand that checks a project from scratch.
-pub(crate) const SCRATCH: &str = "scratch";
-
 /// The positional that has the names of the files.
 pub(crate) const FILE: &str = "FILE";
-
-// What stands below each help.
-const OUTCOME: &str = "\
-Standard output:
-  the faults of the project, and then each class with its members and its faults
-
-Standard error:
-  one line FILE:LINE:COL: CODE for each fault, or why there is no answer:
-  cannot read FILE
-  refused: 3.1 RepeatedFile(N)  file N, counted from 0, has the name of an earlier one
-  refused: 3.3 TooManyFiles     there are more than 4,096 files
-  refused: 3.4 BadFileName(N)   the name of file N is empty or has over 255 bytes
-
-Exit status:
-  0  no diagnostics, or help was asked for
-  1  diagnostics
-  2  refused words, a file that can't be read, or a refused project
-  4  out of memory";
 
 /// The program with its subcommands.
 pub(crate) fn program<'a>(alloc: Global) -> Result<Command<'a>, AllocError>
     ensures { IfOk result (λ command. app_of command ≡ program_app) }
 {
-    let scratch = scratch(alloc)?;
+    let scratch = command_of(alloc, Subcommand::Scratch)?;
+    let audit = command_of(alloc, Subcommand::Audit)?;
+    let show = command_of(alloc, Subcommand::Show)?;
     let program = Command::new(alloc, PROGRAM).bin_name(PROGRAM)?;
     program
-        .about("Check MiniJava projects")
-        .after_help(OUTCOME)
+        .about(PURPOSE)
+        .after_help(STATUSES)
         .subcommand_required(true)
-        .subcommand(scratch)
+        .subcommand(scratch)?
+        .subcommand(audit)?
+        .subcommand(show)
 }
 
-fn scratch<'a>(alloc: Global) -> Result<Command<'a>, AllocError>
-    ensures app { IfOk result (λ command. app_of command ≡ scratch_app) }
+fn command_of<'a>(alloc: Global, which: Subcommand) -> Result<Command<'a>, AllocError>
+    ensures app { IfOk result (λ command. app_of command ≡ subcommand_app which) }
     ensures local { IfOk result (λ command. (out-Command command).has_globals ≡ false) }
 {
-    let files = files(
-        alloc,
-        "A source file of the project, under the name given here; the order counts",
-    );
-    Command::new(alloc, SCRATCH)
-        .about("Check a project from its source files alone")
-        .after_help(OUTCOME)
-        .arg(files)
+    Command::new(alloc, which.name())
+        .about(purpose(which))
+        .after_help(outcome(which))
+        .arg(files_of(alloc, which))
 }
 
-// The last positional, with one or more values.
-fn files<'a>(alloc: Global, help: &'a str) -> Arg<'a>
-    ensures rule { rule_of result ≡ file_rule }
+// The last positional.
+fn files_of<'a>(alloc: Global, which: Subcommand) -> Arg<'a>
+    ensures rule { rule_of result ≡ rule_of_files which }
     ensures local { result.global ≡ false }
 {
-    Arg::new(alloc, FILE)
-        .required(true)
-        .num_args(1..)
-        .action(ArgAction::Append)
-        .help(help)
+    let file = Arg::new(alloc, FILE).required(true).help(files(which));
+    match which {
+        Subcommand::Scratch | Subcommand::Audit => one_or_more(file),
+        Subcommand::Show => file,
+    }
+}
+
+// The positional with one or more values.
+fn one_or_more<'a>(file: Arg<'a>) -> Arg<'a>
+    requires { rule_of file ≡ file_rule }
+    ensures rule { rule_of result ≡ files_rule }
+    ensures local { result.global ≡ file.entry.global }
+{
+    file.num_args(1..).action(ArgAction::Append)
 }

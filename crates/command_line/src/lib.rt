@@ -3,7 +3,8 @@
 
 mod asked;
 mod command;
+mod help;
 mod reading;
 
-pub use asked::{Words, WordsFault};
+pub use asked::{Subcommand, Words, WordsFault};
 pub use reading::words;

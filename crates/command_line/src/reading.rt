@@ -1,13 +1,14 @@
 //! The command line as `clap` reads it.
-ghost use Rattle.std.specs.Prelude.{◌≡◌, Some, ◌∷◌, IfOk, IsOkUnless, IsTrue, List, codes, map};
-ghost use Rattle.std.specs.Prelude.{string_bytes, unwrap_or, []};
+ghost use Rattle.std.specs.Prelude.{◌≡◌, ◌∷◌, Some, IfOk, IfSome, IsOkUnless, IsSome};
+ghost use Rattle.std.specs.Prelude.{IsTrue, List, codes, map, string_bytes, unwrap_or, []};
 ghost use Rattle.clap.specs.Words.{all_of, found_of, kind_of, rows_of, subcommand_name_of};
-ghost use Rattle.command_line.specs.CommandLine.{Asks, Text, asks_plainly};
-ghost use Rattle.command_line.specs.Matches.{files_in};
-ghost use Rattle.command_line.specs.Runnable.{IsRunnable, files_of_words};
+ghost use Rattle.command_line.specs.CommandLine.{Asks, asks_plainly};
+ghost use Rattle.command_line.specs.Matches.{AreMet, files_in};
+ghost use Rattle.command_line.specs.Runnable.{IsRunnable, files_of_words, subcommand_of_words};
+ghost use Rattle.command_line.specs.Subcommands.{Text, is_just_one, name_of, takes};
 
-use crate::asked::{Words, WordsFault};
-use crate::command::{FILE, PROGRAM, SCRATCH, program};
+use crate::asked::{Subcommand, Words, WordsFault};
+use crate::command::{FILE, PROGRAM, program};
 use clap::error::ErrorKind;
 use clap::{ArgMatches, Error};
 use std::alloc::{AllocError, Global};
@@ -17,7 +18,8 @@ use std::alloc::{AllocError, Global};
 pub fn words(alloc: Global, list: Vec<String>) -> Result<Words, WordsFault>
     ensures runnable { IfOk result IsRunnable }
     ensures asked { IfOk result (Asks (map string_bytes list.items)) }
-    ensures taken { IsTrue (asks_plainly (map string_bytes list.items))
+    ensures taken { (subcommand : Subcommand)
+        → IsTrue (asks_plainly subcommand (map string_bytes list.items))
         → IsOkUnless result WordsFault.OutOfMemory }
 {
     let mut list = list;
@@ -30,7 +32,8 @@ pub fn words(alloc: Global, list: Vec<String>) -> Result<Words, WordsFault>
 fn read(alloc: Global, list: &[String]) -> Result<Words, WordsFault>
     ensures runnable { IfOk result IsRunnable }
     ensures asked { IfOk result (Asks (map string_bytes list.now)) }
-    ensures taken { IsTrue (asks_plainly (map string_bytes list.now))
+    ensures taken { (subcommand : Subcommand)
+        → IsTrue (asks_plainly subcommand (map string_bytes list.now))
         → IsOkUnless result WordsFault.OutOfMemory }
 {
     let program = program(alloc)?;
@@ -43,19 +46,54 @@ fn read(alloc: Global, list: &[String]) -> Result<Words, WordsFault>
 // What the matches ask for. Each test that fails here is one that `clap` has made already.
 fn choose(alloc: Global, matches: &ArgMatches<'_>) -> Result<Words, WordsFault>
     ensures runnable { IfOk result IsRunnable }
-    ensures found { IfOk result (λ words. files_in matches.now ≡ Some (files_of_words words)) }
-    ensures taken { subcommand_name_of matches.now ≡ Some (codes "scratch")
-        → (file : Text) (files : List Text) → files_in matches.now ≡ Some (file ∷ files)
-        → IsOkUnless result WordsFault.OutOfMemory }
+    ensures met { IfOk result (AreMet matches.now) }
+    ensures taken { (subcommand : Subcommand)
+        → subcommand_name_of matches.now ≡ Some (name_of subcommand)
+        → (files : List Text) → files_in matches.now ≡ Some files
+        → IsTrue (takes subcommand files) → IsOkUnless result WordsFault.OutOfMemory }
 {
-    let Some(given) = matches.subcommand_matches(SCRATCH) else {
+    let Some((name, given)) = matches.subcommand() else {
+        return Err(unreadable(alloc));
+    };
+    let Some(subcommand) = Subcommand::named(name) else {
         return Err(unreadable(alloc));
     };
     let files = values(alloc, given)?;
-    if files.is_empty() {
-        return Err(unreadable(alloc));
+    match words_of(subcommand, files) {
+        Some(words) => Ok(words),
+        None => Err(unreadable(alloc)),
     }
-    Ok(Words::Scratch(files))
+}
+
+// The subcommand with these FILEs, where it takes them.
+fn words_of(subcommand: Subcommand, files: Vec<String>) -> Option<Words>
+    ensures runnable { IfSome result IsRunnable }
+    ensures subcommand { IfSome result (λ words. subcommand_of_words words ≡ subcommand) }
+    ensures files { IfSome result (λ words.
+        files_of_words words ≡ map string_bytes files.items) }
+    ensures taken { IsTrue (takes subcommand (map string_bytes files.items)) → IsSome result }
+{
+    if files.is_empty() {
+        return None;
+    }
+    match subcommand {
+        Subcommand::Scratch => Some(Words::Scratch(files)),
+        Subcommand::Audit => Some(Words::Audit(files)),
+        Subcommand::Show => Some(Words::Show(only(files)?)),
+    }
+}
+
+// The only one of the FILEs, where there is just one.
+fn only(files: Vec<String>) -> Option<String>
+    ensures found { IfSome result (λ file.
+        map string_bytes files.items ≡ string_bytes file ∷ []) }
+    ensures taken { IsTrue (is_just_one (map string_bytes files.items)) → IsSome result }
+{
+    let mut files = files;
+    if files.len() > 1 {
+        return None;
+    }
+    files.pop()
 }
 
 fn unreadable(alloc: Global) -> WordsFault {

@@ -1,21 +1,38 @@
 //! Words that no shell gives: another name of the program, and none.
 use crate::tests::list;
-use command_line::{Words, WordsFault, words};
+use command_line::{Subcommand, Words, WordsFault, words};
 use std::alloc::{AllocError, Global};
 use std::test::Fail;
 
-/// Command lines and the files that they name.
-const FILES: &[(&[&str], &[&str])] = &[
-    (&["mjrg", "scratch", "M.java"], &["M.java"]),
+/// Command lines, the subcommand that they ask for, and the files that they name.
+const FILES: &[(&[&str], Subcommand, &[&str])] = &[
+    (
+        &["mjrg", "scratch", "M.java"],
+        Subcommand::Scratch,
+        &["M.java"],
+    ),
     (
         &["another", "scratch", "b", "a", "", "b"],
+        Subcommand::Scratch,
         &["b", "a", "", "b"],
     ),
-    (&["mjrg", "scratch", "--", "-h", "--"], &["-h", "--"]),
+    (
+        &["mjrg", "scratch", "--", "-h", "--"],
+        Subcommand::Scratch,
+        &["-h", "--"],
+    ),
     (
         &["mjrg", "scratch", "scratch", "-", "--", "--help"],
+        Subcommand::Scratch,
         &["scratch", "-", "--help"],
     ),
+    (
+        &["mjrg", "audit", "b", "audit", "", "b"],
+        Subcommand::Audit,
+        &["b", "audit", "", "b"],
+    ),
+    (&["mjrg", "show", ""], Subcommand::Show, &[""]),
+    (&["mjrg", "show", "--", "--"], Subcommand::Show, &["--"]),
 ];
 
 /// Whether the texts are these.
@@ -27,16 +44,37 @@ fn are_texts(texts: &[String], want: &[&str]) -> bool {
             .all(|(text, word)| text.as_str() == *word)
 }
 
-/// Whether these words name these files.
-fn name_files(alloc: Global, given: &[&str], want: &[&str]) -> Result<bool, Fail> {
-    let Words::Scratch(files) = words(alloc, list(alloc, given)?)?;
-    Ok(are_texts(files.as_slice(), want))
+/// Whether these words ask for the subcommand with these files.
+fn are_asked(words: &Words, subcommand: Subcommand, want: &[&str]) -> bool {
+    match words {
+        Words::Scratch(files) => {
+            subcommand == Subcommand::Scratch && are_texts(files.as_slice(), want)
+        }
+        Words::Audit(files) => {
+            subcommand == Subcommand::Audit && are_texts(files.as_slice(), want)
+        }
+        Words::Show(file) => subcommand == Subcommand::Show && want == [file.as_str()].as_slice(),
+    }
+}
+
+/// Whether this command line asks for the subcommand with these files.
+fn name_files(
+    alloc: Global,
+    given: &[&str],
+    subcommand: Subcommand,
+    want: &[&str],
+) -> Result<bool, Fail> {
+    let words = words(alloc, list(alloc, given)?)?;
+    Ok(are_asked(&words, subcommand, want))
 }
 
 #[test]
 fn reads_the_files(rt: HostRuntime) -> Result<(), Fail> {
-    for (given, want) in FILES {
-        assert!(rt; name_files(rt.alloc(), given, want)?, "{given:?}");
+    for (given, subcommand, want) in FILES {
+        assert!(rt;
+            name_files(rt.alloc(), given, *subcommand, want)?,
+            "{given:?}"
+        );
     }
     Ok(())
 }
@@ -46,7 +84,7 @@ const TOLD: &[(&[&str], bool, &str)] = &[
     (
         &["another", "--help"],
         true,
-        "Check MiniJava projects\n\nUsage: mjrg <COMMAND>\n",
+        "Check MiniJava projects, and audit chains of session files\n\nUsage: mjrg <COMMAND>\n",
     ),
     (
         &[],

@@ -9,7 +9,7 @@ returns-clause-status g c = rw c.number.ensures (is_status c.match-report_of.sta
 
 -- src/running.rt:22:1
 pub returns-clause-answer : goal.returns-clause-answer
-returns-clause-answer g c = λ names asked plain. rw c.number.ensures (elim c.match-report_of.branch [
-  | in-Ok w ↦ (rw (w.out-is, w.err-is, w.status-is) (prints names _ _ _ _ _ _ (w.in-Ok.ensures names asked plain) w.deliver-status.ensures))
+returns-clause-answer g c = λ subcommand names asked plain. rw c.number.ensures (elim c.match-report_of.branch [
+  | in-Ok w ↦ (rw (w.out-is, w.err-is, w.status-is) (prints subcommand names _ _ _ _ _ _ (w.in-Ok.ensures subcommand names asked plain) w.deliver-status.ensures))
   | in-Err w ↦ (rw w.status-is (λ ends. absurd (silent _ _ w.no_memory-status.ensures ends)))
 ])

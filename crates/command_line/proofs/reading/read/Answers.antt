@@ -1,21 +1,21 @@
-use Rattle.std.proofs.Common.{◌∙◌, ◌<◌, ◌^◌, arith, length, map, rules, string_bytes, sym}
+use Rattle.std.proofs.Common.{◌<◌, ◌^◌, arith, length, map, rules, string_bytes}
 use Rattle.std.proofs.lemmas.List.{length-map}
 use Rattle.std.proofs.lemmas.Result.{IfOk-weaker}
-use Rattle.command_line.proofs.ProgramWords.{has_read, only_memory}
+use Rattle.command_line.proofs.ProgramWords.{asked_are_met, has_read, only_memory}
 use Rattle.command_line.proofs.reading.read.Goals as goal
 
 pub returns-in-Ok-clause-asked : goal.returns-in-Ok-clause-asked
 returns-in-Ok-clause-asked c =
     let read = has_read _ (map string_bytes c.args.list.now) c.in-Ok.matches c.in_ok-program.ensures c.in-Ok.ensures.kinds c.in-Ok.ensures.matches in
-    IfOk-weaker c.choose.result _ _ (λ words are. read.asked ∙ (sym read.files ∙ are)) c.choose.ensures.found
+    IfOk-weaker c.choose.result _ _ (λ words met. asked_are_met _ _ words read met) c.choose.ensures.met
 
 pub returns-in-Ok-clause-taken : goal.returns-in-Ok-clause-taken
-returns-in-Ok-clause-taken c plain =
+returns-in-Ok-clause-taken c subcommand plain =
     let read = has_read _ (map string_bytes c.args.list.now) c.in-Ok.matches c.in_ok-program.ensures c.in-Ok.ensures.kinds c.in-Ok.ensures.matches in
-    c.choose.ensures.taken read.name read.first read.others read.files
+    c.choose.ensures.taken read.subcommand read.name read.given read.files read.takes_them
 
 pub returns-in-Err-clause-taken : goal.returns-in-Err-clause-taken
-returns-in-Err-clause-taken c plain =
+returns-in-Err-clause-taken c subcommand plain =
     let short : length c.args.list.now < 2 ^ 64 = search rules in
     let same = length-map c.args.list.now string_bytes in
-    c.refusal.ensures (only_memory _ (map string_bytes c.args.list.now) c.in-Err.error c.in_ok-program.ensures plain (omega (arith, short, same)) c.in-Err.ensures.kinds)
+    c.refusal.ensures (only_memory _ subcommand (map string_bytes c.args.list.now) c.in-Err.error c.in_ok-program.ensures plain (omega (arith, short, same)) c.in-Err.ensures.kinds)

@@ -1,0 +1,80 @@
+-- The text of a session.
+use Rattle.std.specs.Prelude.{◌≡◌, ℕ, ◌+◌, List, [], ◌∷◌, ◌++◌, length, Option, Some, None, Err, codes, decimal, flat_map}
+use Rattle.hex.specs.Hex.{encode_lower}
+use Rattle.item_ids.specs.declared.key.Key.{Key}
+use Rattle.item_ids.specs.declared.kind.Kind.{Kind}
+use Rattle.item_ids.specs.declared.kind.Kind.TheVariants as kinds
+use Rattle.item_ids.specs.Keys.{kind_of, class_of, member_of}
+use Rattle.fingerprint.specs.Prints.{print_of}
+use Rattle.sessions.specs.declared.mark.Mark.{Mark}
+use Rattle.sessions.specs.declared.mark.Mark.TheVariants.{Input, Executed, Green}
+use Rattle.sessions.specs.Sessions.{RecordValue, SessionValue, IsSession}
+use Rattle.sessions.specs.Spelling.{file_of}
+use Rattle.session_file.specs.Reading.{file_at}
+use Rattle.session_file.specs.declared.fault.FileFault.{FileFault}
+use Rattle.session_file.specs.declared.fault.FileFault.TheVariants.{OutOfMemory}
+
+abbrev pub kind_word : Kind → List ℕ
+kind_word kinds.Files = codes "Files"
+kind_word kinds.Source = codes "Source"
+kind_word kinds.Tree = codes "Tree"
+kind_word kinds.Index = codes "Index"
+kind_word kinds.Header = codes "Header"
+kind_word kinds.Method = codes "Method"
+kind_word kinds.Sig = codes "Sig"
+kind_word kinds.Supers = codes "Supers"
+kind_word kinds.Members = codes "Members"
+kind_word kinds.CheckClass = codes "CheckClass"
+kind_word kinds.CheckBody = codes "CheckBody"
+kind_word kinds.Diags = codes "Diags"
+kind_word kinds.Answer = codes "Answer"
+
+abbrev pub mark_word : Mark → List ℕ
+mark_word Input = codes "Input"
+mark_word Executed = codes "Executed"
+mark_word Green = codes "Green"
+
+-- `-` stands where there is no name
+abbrev pub name_word : Option (List ℕ) → List ℕ
+name_word None = codes "-"
+name_word (Some name) = name
+
+-- the kind, the class or file, and the method
+abbrev pub key_text : Key → List ℕ
+key_text key =
+    kind_word (kind_of key) ++ codes " " ++ name_word (class_of key) ++ codes " "
+    ++ name_word (member_of key)
+
+-- 4, 8, 9
+abbrev pub edges_text : List ℕ → List ℕ
+edges_text [] = []
+edges_text (first ∷ others) = decimal first ++ flat_map (λ e. codes ", " ++ decimal e) others
+
+-- 10 Diags M - Executed [4, 8, 9] 5f2d.., for record i
+abbrev pub record_line : ℕ → RecordValue → List ℕ
+record_line i r =
+    decimal i ++ codes " " ++ key_text r.key ++ codes " " ++ mark_word r.mark ++ codes " ["
+    ++ edges_text r.edges ++ codes "] " ++ encode_lower (print_of r.value) ++ codes "\n"
+
+-- a line for each record, of which the first has the index i
+abbrev pub lines_from : ℕ → List RecordValue → List ℕ
+lines_from i [] = []
+lines_from i (r ∷ rs) = record_line i r ++ lines_from (i + 1) rs
+
+-- session 0 version 1 records 12, and then the records
+abbrev pub text_of : SessionValue → List ℕ
+text_of s =
+    codes "session " ++ decimal s.number ++ codes " version 1 records "
+    ++ decimal (length s.records) ++ codes "\n" ++ lines_from 0 s.records
+
+-- the bytes are the file of a session, which has this text
+pub record IsTextOfFile (bytes text : List ℕ) : Type 0 where
+  pub session : SessionValue
+  pub kept : IsSession session
+  pub spelled : bytes ≡ file_of session
+  pub shown : text ≡ text_of session
+
+-- the bytes are the file of no session, for this reason, or memory ran out
+abbrev pub RefusesFile : List ℕ → FileFault → Type 0
+RefusesFile bytes OutOfMemory = Unit {0}
+RefusesFile bytes fault = file_at bytes ≡ Err fault
