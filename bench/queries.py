@@ -42,6 +42,15 @@ def content(part):
     return part["repeat"].encode("utf-8") * part["times"]
 
 
+def files_named(words):
+    """The files that words give to `scratch`, none where they ask for something else."""
+    if words[:1] != ["scratch"]:
+        return []
+    if words[1:2] == ["--"]:
+        return words[2:]
+    return [] if any(word.startswith("-") for word in words) else words[1:]
+
+
 def differs(options, case):
     """Whether the outputs differ in some step of a case that has an answer. None where no step has one."""
     compared = None
@@ -56,13 +65,13 @@ def differs(options, case):
                     continue
                 path.parent.mkdir(parents=True, exist_ok=True)
                 path.write_bytes(content(data))
-            if step["kind"] != "scratch" or "-" in "".join(word[:1] for word in step["words"]):
+            files = files_named(step["words"])
+            if not files:
                 continue
             plain = subprocess.run([options.program] + step["words"], cwd=folder, capture_output=True)
             if plain.returncode not in (0, 1):
                 continue
-            words = [options.bench, "queries", "1"] + step["words"][1:]
-            queries = subprocess.run(words, cwd=folder, capture_output=True)
+            queries = subprocess.run([options.bench, "queries", "1"] + files, cwd=folder, capture_output=True)
             if queries.returncode != 0 or queries.stdout != plain.stdout:
                 return True
             compared = False

@@ -1,15 +1,27 @@
 #!/usr/bin/env python3
-"""Times reading and writing the file of a session of about 5 MB and of one of 50 MB beside `sha256sum`, in one run.
+"""Times session files and the checks that make them, in one run.
 
-The session has the sources of 2,000 files, with results and prints such as a session has them. What a run costs without
-any repetition is taken off each time, and reading is taken off writing, which begins with it. Nothing is asserted.
+With --bench: reading and writing the file of a session of about 5 MB and of one of 50 MB beside `sha256sum`. The session
+has the sources of 2,000 files, with results and prints such as a session has them. What a run costs without any
+repetition is taken off each time, and reading is taken off writing, which begins with it.
+
+Then `mjrg check` of 400 classes with 2,000 methods: a first session, an unchanged one, one after a body was edited, and
+one after a field was added to a class that others extend, beside `mjrg scratch`, javac and `sha256sum` of the session's
+file. Nothing is asserted.
 """
 import argparse
 import hashlib
+import shutil
+import sys
 import tempfile
 from pathlib import Path
 
-from codec import items, least_time, name
+sys.dont_write_bytecode = True
+from codec import items, least_time, name  # noqa: E402
+from incremental import add_field, check, edit_body, project, session_files, summed  # noqa: E402
+from incremental import measured as one_run  # noqa: E402
+
+TOP = Path(__file__).resolve().parent.parent
 
 FILES = 2000
 
@@ -59,16 +71,54 @@ def measured(program, size, count, runs):
     return times
 
 
+def changed(program, folder, names, change):
+    """Seconds and peak bytes of a check behind a first session, after a change of the files."""
+    shutil.rmtree(Path(folder, "cache"), ignore_errors=True)
+    check(program, folder, names)
+    change()
+    return check(program, folder, names)
+
+
+def checks(program, runs):
+    """Tells the least seconds and the greatest peak of some runs of each kind of check."""
+    took = {}
+    for number in range(runs):
+        with tempfile.TemporaryDirectory() as folder:
+            names = project(folder)
+            turns = {
+                "first session": lambda: check(program, folder, names),
+                "unchanged": lambda: changed(program, folder, names, lambda: None),
+                "a body edited": lambda: changed(program, folder, names, lambda: edit_body(folder, names[5], number + 7)),
+                "a field added": lambda: changed(program, folder, names, lambda: add_field(folder, names[5])),
+                "scratch": lambda: one_run([program, "scratch", *names], folder),
+                "javac": lambda: one_run(["javac", "-proc:none", "-nowarn", "-d", "classes", *names], folder),
+            }
+            for turn, run in turns.items():
+                took.setdefault(turn, []).append(run())
+            file = session_files(folder)[0]
+            size = Path(file).stat().st_size
+            took.setdefault("sha256sum", []).append((summed([file], folder), 0))
+    least = {turn: min(seconds for seconds, _ in each) for turn, each in took.items()}
+    print(f"400 classes with 2,000 methods, a session of {size} bytes")
+    for turn, seconds in least.items():
+        peak = max(peak for _, peak in took[turn])
+        print(f"{turn}: {seconds:.3f} s, {seconds / least['javac']:.2f} times javac, "
+              f"{seconds / least['first session']:.2f} times a first session, peak {peak / size:.1f} times the file")
+
+
 def main():
-    parser = argparse.ArgumentParser(description=__doc__.splitlines()[0])
-    parser.add_argument("program", help="the built program codec_bench")
-    parser.add_argument("--count", type=int, default=5, help="repetitions")
+    parser = argparse.ArgumentParser(description=__doc__, formatter_class=argparse.RawDescriptionHelpFormatter)
+    parser.add_argument("program", nargs="?", default=str(TOP / "mjrg"))
+    parser.add_argument("--bench", metavar="CODEC_BENCH", help="the built program codec_bench")
+    parser.add_argument("--count", type=int, default=5, help="repetitions of reading and writing")
     parser.add_argument("--runs", type=int, default=3, help="runs of which the shortest counts")
     given = parser.parse_args()
-    small = measured(given.program, 5_000_000, given.count, given.runs)
-    large = measured(given.program, 50_000_000, given.count, given.runs)
-    for step in ("read", "write"):
-        print(f"{step}: ten times the bytes take {large[step] / small[step]:.1f} times as long")
+    if given.bench:
+        small = measured(given.bench, 5_000_000, given.count, given.runs)
+        large = measured(given.bench, 50_000_000, given.count, given.runs)
+        for step in ("read", "write"):
+            print(f"{step}: ten times the bytes take {large[step] / small[step]:.1f} times as long")
+    checks(given.program, given.runs)
 
 
 if __name__ == "__main__":
