@@ -1,28 +1,188 @@
 //! What audits say of chains of one session and of two.
 
-use crate::rows::{FIRST, GREEN, OTHER_HEADER, SHORT, TURNED, UNANSWERED, UNCHANGED, UNREAD};
+use crate::files::Turned;
 use crate::said::{Said, said_of_none, said_of_one, said_of_second, said_of_two};
+use answer_samples::Asked;
 use audit_graph::AuditFault;
+use item_ids::Kind;
 use session_samples::Kept;
+use sessions::Mark;
 use std::test::*;
 
-// What is said of a first session.
-const ONES: &[(&[Kept], Said)] = &[
-    (FIRST, Said::Accepted(1, 3)),
-    (TURNED, Said::Refused(AuditFault::OtherRead(0, 3, 0))),
-    (SHORT, Said::Refused(AuditFault::OtherRead(0, 3, 1))),
-    (UNREAD, Said::Refused(AuditFault::UnreadEdges(0, 4))),
-    (OTHER_HEADER, Said::Refused(AuditFault::OtherResult(0, 2))),
-    (GREEN, Said::Refused(AuditFault::GreenWithoutPast(0, 3))),
-    (UNANSWERED, Said::Refused(AuditFault::NoAnswer)),
+const HEADER: Asked<'static> = Asked(Kind::Header, "a", "");
+
+const CHECK: Asked<'static> = Asked(Kind::CheckClass, "a", "");
+
+const ANSWER: Asked<'static> = Asked(Kind::Answer, "", "");
+
+const NO_FIELDS: &str = "0401000000000000000000000000000000000000";
+
+const NO_HEADER: &str = "0400";
+
+const NO_FAULTS: &str = "090000000000000000";
+
+const NO_CLASSES: &str = "0c00000000000000000000000000000000";
+
+/// A first session, and what is said of it.
+struct Row {
+    turned: Turned,
+    said: Said,
+}
+
+// The first session as it is; the check reads the header first; it reads the names alone; the answer reads the names; the
+// file has no header; the check is green, with no session before; and there is no answer.
+const ONES: &[Row] = &[
+    Row {
+        turned: Turned {
+            front: 5,
+            others: &[],
+        },
+        said: Said::Accepted(1, 3),
+    },
+    Row {
+        turned: Turned {
+            front: 3,
+            others: &[
+                Kept {
+                    key: CHECK,
+                    mark: Mark::Executed,
+                    edges: &[2, 0],
+                    digits: NO_FAULTS,
+                },
+                Kept {
+                    key: ANSWER,
+                    mark: Mark::Executed,
+                    edges: &[],
+                    digits: NO_CLASSES,
+                },
+            ],
+        },
+        said: Said::Refused(AuditFault::OtherRead(0, 3, 0)),
+    },
+    Row {
+        turned: Turned {
+            front: 3,
+            others: &[
+                Kept {
+                    key: CHECK,
+                    mark: Mark::Executed,
+                    edges: &[0],
+                    digits: NO_FAULTS,
+                },
+                Kept {
+                    key: ANSWER,
+                    mark: Mark::Executed,
+                    edges: &[],
+                    digits: NO_CLASSES,
+                },
+            ],
+        },
+        said: Said::Refused(AuditFault::OtherRead(0, 3, 1)),
+    },
+    Row {
+        turned: Turned {
+            front: 4,
+            others: &[Kept {
+                key: ANSWER,
+                mark: Mark::Executed,
+                edges: &[0],
+                digits: NO_CLASSES,
+            }],
+        },
+        said: Said::Refused(AuditFault::UnreadEdges(0, 4)),
+    },
+    Row {
+        turned: Turned {
+            front: 2,
+            others: &[
+                Kept {
+                    key: HEADER,
+                    mark: Mark::Executed,
+                    edges: &[1],
+                    digits: NO_HEADER,
+                },
+                Kept {
+                    key: CHECK,
+                    mark: Mark::Executed,
+                    edges: &[0, 2],
+                    digits: NO_FAULTS,
+                },
+                Kept {
+                    key: ANSWER,
+                    mark: Mark::Executed,
+                    edges: &[],
+                    digits: NO_CLASSES,
+                },
+            ],
+        },
+        said: Said::Refused(AuditFault::OtherResult(0, 2)),
+    },
+    Row {
+        turned: Turned {
+            front: 3,
+            others: &[
+                Kept {
+                    key: CHECK,
+                    mark: Mark::Green,
+                    edges: &[0, 2],
+                    digits: NO_FAULTS,
+                },
+                Kept {
+                    key: ANSWER,
+                    mark: Mark::Executed,
+                    edges: &[],
+                    digits: NO_CLASSES,
+                },
+            ],
+        },
+        said: Said::Refused(AuditFault::GreenWithoutPast(0, 3)),
+    },
+    Row {
+        turned: Turned {
+            front: 4,
+            others: &[],
+        },
+        said: Said::Refused(AuditFault::NoAnswer),
+    },
 ];
 
 #[test]
 fn a_first_session_is_accepted_where_each_run_gives_its_records(rt: HostRuntime) {
-    for (kept, said) in ONES {
-        assert!(rt; said_of_one(rt.alloc(), kept) == *said);
+    for row in ONES {
+        assert!(rt; said_of_one(rt.alloc(), &row.turned) == row.said);
     }
 }
+
+// The first session.
+const FIRST: &Turned = &Turned {
+    front: 5,
+    others: &[],
+};
+
+// All of it again behind that session.
+const UNCHANGED: &Turned = &Turned {
+    front: 2,
+    others: &[
+        Kept {
+            key: HEADER,
+            mark: Mark::Green,
+            edges: &[1],
+            digits: NO_FIELDS,
+        },
+        Kept {
+            key: CHECK,
+            mark: Mark::Green,
+            edges: &[0, 2],
+            digits: NO_FAULTS,
+        },
+        Kept {
+            key: ANSWER,
+            mark: Mark::Green,
+            edges: &[],
+            digits: NO_CLASSES,
+        },
+    ],
+};
 
 #[test]
 fn an_unchanged_session_is_accepted_and_nothing_of_it_is_run(rt: HostRuntime) {

@@ -5,6 +5,6 @@
 #[cfg(test)]
 mod chains;
 #[cfg(test)]
-mod rows;
+mod files;
 #[cfg(test)]
 mod said;

@@ -1,9 +1,7 @@
 //! Tests: chains and their ends are those of small programs worked by hand. Which members a class has, which type is
 //! accepted by which, and which class of a name counts are compared row by row with the program's output.
+use crate::made::{name, trees_of};
 use mj_classes::{ClassChain, ClassRef, Declarations, End};
-use mj_lexer::Name;
-use mj_rules::read_file;
-use mj_tree::FileTree;
 use std::alloc::{AllocError, Global};
 use std::test::*;
 
@@ -14,15 +12,17 @@ const TEXTS: &[&str] = &[
     "class A extends B { int z; } class C extends D { int k; } class D extends C { int n; } class E extends C { } class F extends F { } class G extends Missing { int x; }",
 ];
 
-/// How a chain ends.
+/// How a chain ends, or that there is none.
 #[derive(Clone, Copy)]
 enum Ending {
     Top,
     Undeclared(&'static str),
     Repeated(&'static str),
+    NoChain,
 }
 
-/// A class, the numbers of its file and of the class in it, the names of its chain, and the chain's end.
+/// A class, the numbers of its file and of the class in it, the names of its chain, and the chain's end. Of a class that
+/// isn't declared the numbers say nothing.
 struct Chain {
     class: &'static str,
     file: usize,
@@ -88,23 +88,14 @@ const CHAINS: &[Chain] = &[
         names: &["G"],
         end: Ending::Undeclared("Missing"),
     },
+    Chain {
+        class: "Missing",
+        file: 0,
+        number: 0,
+        names: &[],
+        end: Ending::NoChain,
+    },
 ];
-
-/// A name; `?` for a text that is none.
-fn name(alloc: Global, text: &str) -> Result<Name, AllocError> {
-    if text.is_empty() || text.len() > 255 {
-        return Name::new(alloc, "?");
-    }
-    Name::new(alloc, text)
-}
-
-fn trees_of(alloc: Global, texts: &[&str]) -> Result<Vec<Option<FileTree>>, AllocError> {
-    let mut trees = Vec::new(alloc);
-    for text in texts {
-        trees.push(read_file(alloc, text.as_bytes())?)?;
-    }
-    Ok(trees)
-}
 
 /// Whether the chain ends so.
 fn is_end(end: &End, want: Ending) -> bool {
@@ -116,17 +107,22 @@ fn is_end(end: &End, want: Ending) -> bool {
     }
 }
 
+/// Whether the class has this name.
+fn is_named(class: Option<&ClassRef>, name: Option<&&str>) -> bool {
+    match (class, name) {
+        (Some(class), Some(name)) => class.name().as_str() == *name,
+        _ => false,
+    }
+}
+
 /// Whether the classes have these names.
 fn are_named(classes: &[ClassRef], names: &[&str]) -> bool {
-    if classes.len() != names.len() {
-        return false;
-    }
-    for (class, name) in classes.iter().zip(names) {
-        if class.name().as_str() != *name {
+    for at in 0..names.len() {
+        if !is_named(classes.get(at), names.get(at)) {
             return false;
         }
     }
-    true
+    classes.len() == names.len()
 }
 
 /// Whether the class has this place and this chain.
@@ -138,7 +134,7 @@ fn is_chain(class: &ClassRef, chain: &ClassChain, row: &Chain) -> bool {
         && is_end(&chain.end, row.end)
 }
 
-/// Whether the class of the row has this chain.
+/// Whether the class of the row has this chain, or none.
 fn has_chain(alloc: Global, declarations: &Declarations, row: &Chain) -> Result<bool, AllocError> {
     let class = name(alloc, row.class)?;
     match (
@@ -146,14 +142,9 @@ fn has_chain(alloc: Global, declarations: &Declarations, row: &Chain) -> Result<
         declarations.chain(alloc, &class)?,
     ) {
         (Some(found), Some(chain)) => Ok(is_chain(&found, &chain, row)),
+        (None, None) => Ok(matches!(row.end, Ending::NoChain)),
         _ => Ok(false),
     }
-}
-
-/// Whether a class of the name has no chain.
-fn has_none(alloc: Global, declarations: &Declarations, class: &str) -> Result<bool, AllocError> {
-    let class = name(alloc, class)?;
-    Ok(declarations.find(&class).is_none() && declarations.chain(alloc, &class)?.is_none())
 }
 
 fn all_have_chains(alloc: Global, declarations: &Declarations) -> Result<bool, AllocError> {
@@ -162,7 +153,7 @@ fn all_have_chains(alloc: Global, declarations: &Declarations) -> Result<bool, A
             return Ok(false);
         }
     }
-    has_none(alloc, declarations, "Missing")
+    Ok(true)
 }
 
 /// Whether the classes of the files have just these chains, and so many are declared, those of one name again.

@@ -6,6 +6,8 @@ mod answers;
 #[cfg(test)]
 mod chains;
 #[cfg(test)]
+mod made;
+#[cfg(test)]
 mod projects;
 #[cfg(test)]
 mod typing;

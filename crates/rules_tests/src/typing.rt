@@ -1,8 +1,8 @@
 //! Tests: the questions of a check and the order of its mistakes are worked by hand from the language's rules. What each
 //! phrase demands is compared row by row with the program's output.
+use crate::made::trees_of;
 use mj_answer::Code;
 use mj_lexer::Name;
-use mj_rules::read_file;
 use mj_tree::{ClassTree, FileTree, MainTree, Ty};
 use mj_typing::{Asking, Mistake, Signature, Stop, check_main, check_method};
 use std::alloc::{AllocError, Global};
@@ -29,17 +29,15 @@ impl Signature for Types {
 
 /// The types `boolean f(int, A)`.
 fn types_of_f(alloc: Global) -> Result<Types, AllocError> {
-    let mut formals = Vec::new(alloc);
-    formals.push(Ty::Int)?;
-    formals.push(Ty::Class(Name::new(alloc, "A")?))?;
+    let class = Name::new(alloc, "A")?;
     Ok(Types {
-        formals,
+        formals: Vec::from_array(alloc, [Ty::Int, Ty::Class(class)])?,
         returns: Ty::Boolean,
     })
 }
 
 fn is_known(class: &Name) -> bool {
-    class.as_str() == "A" || class.as_str() == "B"
+    matches!(class.as_str(), "A" | "B")
 }
 
 /// Knows a class A with the field `int x` and the method `boolean f(int, A)` and a class B that extends it. It keeps
@@ -135,26 +133,31 @@ impl Asking for Scribe {
     }
 }
 
-/// What is checked, the main or else the first class's first method; how many questions are answered; what is asked; and
+/// What is checked, the one file's main or else its first class's first method; how many questions are answered; what is asked; and
 /// the mistakes that are found with their marks, or none where a question is refused.
 struct Row {
-    text: &'static str,
+    texts: &'static [&'static str],
     answers: usize,
     asked: &'static str,
     mistakes: Option<&'static [(Code, usize)]>,
 }
 
+/// Whether this is the mistake.
+fn is_mistake(mistake: Option<&Mistake>, want: Option<&(Code, usize)>) -> bool {
+    match (mistake, want) {
+        (Some(mistake), Some((code, mark))) => mistake.code == *code && mistake.mark == *mark,
+        _ => false,
+    }
+}
+
 /// Whether these are the mistakes.
 fn are_mistakes(mistakes: &[Mistake], want: &[(Code, usize)]) -> bool {
-    if mistakes.len() != want.len() {
-        return false;
-    }
-    for (mistake, (code, mark)) in mistakes.iter().zip(want) {
-        if mistake.code != *code || mistake.mark != *mark {
+    for at in 0..want.len() {
+        if !is_mistake(mistakes.get(at), want.get(at)) {
             return false;
         }
     }
-    true
+    mistakes.len() == want.len()
 }
 
 /// Whether this came of a check.
@@ -167,6 +170,11 @@ fn is_found(scribe: &Scribe, found: &Result<Vec<Mistake>, Stop<usize>>, row: &Ro
     is_end && scribe.asked.as_str() == row.asked
 }
 
+/// The same of values that go no further: they are dropped here alone.
+fn is_end(scribe: Scribe, found: Result<Vec<Mistake>, Stop<usize>>, row: &Row) -> bool {
+    is_found(&scribe, &found, row)
+}
+
 /// Whether this comes of the check of a class's first method.
 fn is_of_first(alloc: Global, class: &ClassTree, row: &Row) -> bool {
     let Some(method) = class.methods.first() else {
@@ -174,14 +182,14 @@ fn is_of_first(alloc: Global, class: &ClassTree, row: &Row) -> bool {
     };
     let mut scribe = Scribe::new(alloc, row.answers);
     let found = check_method(alloc, &mut scribe, &class.name, method);
-    is_found(&scribe, &found, row)
+    is_end(scribe, found, row)
 }
 
 /// Whether this comes of the check of the main.
 fn is_of_statement(alloc: Global, main: &MainTree, row: &Row) -> bool {
     let mut scribe = Scribe::new(alloc, row.answers);
     let found = check_main(alloc, &mut scribe, main);
-    is_found(&scribe, &found, row)
+    is_end(scribe, found, row)
 }
 
 fn is_of_file(alloc: Global, tree: &FileTree, row: &Row) -> bool {
@@ -194,81 +202,83 @@ fn is_of_file(alloc: Global, tree: &FileTree, row: &Row) -> bool {
 
 /// Whether this comes of the check of the row's text.
 fn is_right(alloc: Global, row: &Row) -> Result<bool, AllocError> {
-    match read_file(alloc, row.text.as_bytes())? {
-        Some(tree) => Ok(is_of_file(alloc, &tree, row)),
-        None => Ok(false),
+    let trees = trees_of(alloc, row.texts)?;
+    match trees.first() {
+        Some(Some(tree)) => Ok(is_of_file(alloc, tree, row)),
+        _ => Ok(false),
     }
 }
 
 /// A method whose check asks each question: the class types declared, then each phrase behind its parts.
-const ASKING: &str =
-    "class A { public A g(B b, int n) { C c; y = b; n = x + y; n = b.f(n, b); b = new B(); return b; } }";
+const ASKING: &[&str] = &[
+    "class A { public A g(B b, int n) { C c; y = b; n = x + y; n = b.f(n, b); b = new B(); return b; } }",
+];
 
 // Of the method, so many questions are answered. Of the next one a name is repeated, which comes before the types of the
 // whole method. A main has no names, and asks nothing.
 const ROWS: &[Row] = &[
     Row {
-        text: ASKING,
+        texts: ASKING,
         answers: 0,
         asked: "",
         mistakes: None,
     },
     Row {
-        text: ASKING,
+        texts: ASKING,
         answers: 1,
         asked: "A? ",
         mistakes: None,
     },
     Row {
-        text: ASKING,
+        texts: ASKING,
         answers: 2,
         asked: "A? B? ",
         mistakes: None,
     },
     Row {
-        text: ASKING,
+        texts: ASKING,
         answers: 3,
         asked: "A? B? C? ",
         mistakes: None,
     },
     Row {
-        text: ASKING,
+        texts: ASKING,
         answers: 4,
         asked: "A? B? C? A.y ",
         mistakes: None,
     },
     Row {
-        text: ASKING,
+        texts: ASKING,
         answers: 5,
         asked: "A? B? C? A.y A.x ",
         mistakes: None,
     },
     Row {
-        text: ASKING,
+        texts: ASKING,
         answers: 6,
         asked: "A? B? C? A.y A.x A.y ",
         mistakes: None,
     },
     Row {
-        text: ASKING,
+        texts: ASKING,
         answers: 7,
         asked: "A? B? C? A.y A.x A.y B:f ",
         mistakes: None,
     },
     Row {
-        text: ASKING,
+        texts: ASKING,
         answers: 8,
         asked: "A? B? C? A.y A.x A.y B:f B<A ",
         mistakes: None,
     },
     Row {
-        text: ASKING,
+        texts: ASKING,
         answers: 9,
         asked: "A? B? C? A.y A.x A.y B:f B<A B? ",
         mistakes: None,
     },
     Row {
-        text: ASKING,
+        texts: ASKING,
         answers: 10,
         asked: "A? B? C? A.y A.x A.y B:f B<A B? B<A ",
         mistakes: Some(&[
@@ -279,7 +289,7 @@ const ROWS: &[Row] = &[
         ]),
     },
     Row {
-        text: "class A { public C g(D d, int d) { C c; return c; } }",
+        texts: &["class A { public C g(D d, int d) { C c; return c; } }"],
         answers: 10,
         asked: "C? D? C? ",
         mistakes: Some(&[
@@ -290,7 +300,9 @@ const ROWS: &[Row] = &[
         ]),
     },
     Row {
-        text: "class M { public static void main(String[] a) { System.out.println(x + (this.f(y))); } }",
+        texts: &[
+            "class M { public static void main(String[] a) { System.out.println(x + (this.f(y))); } }",
+        ],
         answers: 0,
         asked: "",
         mistakes: Some(&[(Code::E303, 17), (Code::E306, 20), (Code::E303, 24)]),

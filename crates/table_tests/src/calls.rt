@@ -1,24 +1,18 @@
 //! The calls of tables in turn, and what each says.
 
-use crate::records::{COMMENTED, FIRST, ONE, PLAIN, TRUE};
-use answer_samples::Asked;
+use crate::records::{COMMENTED, ONE, PLAIN, SESSIONS_OF_ONE, TRUE};
+use answer_samples::{Asked, Unfit};
 use item_ids::Kind;
 use job_table::{CloseFault, ReplayFault, TableFault};
+use std::alloc::Global;
 use std::test::*;
-use table_samples::{Call, Calls, Change, Replay, Said, Saying, are_said, replay_of};
+use table_samples::{Call, Calls, Replay, Said, Saying, are_said, replay_of};
 
 const TREE: Asked<'static> = Asked(Kind::Tree, "M.java", "");
 
 const INDEX: Asked<'static> = Asked(Kind::Index, "", "");
 
 const ANSWER: Asked<'static> = Asked(Kind::Answer, "", "");
-
-/// The first session of the class that prints 1.
-const BEFORE: Change = Change {
-    records: FIRST,
-    executed: &[2, 3, 4, 5, 6, 7, 8, 9, 10, 11],
-    others: &[],
-};
 
 /// Two workers, no past, and one of them gives up.
 const FAILED: &[Saying] = &[
@@ -237,45 +231,67 @@ const STALE: &[Saying] = &[
     },
 ];
 
-const TABLES: &[Calls] = &[
-    Calls {
-        chain: &[],
+/// A table of this text behind so many sessions of one class, and its calls.
+struct Row {
+    behind: usize,
+    text: &'static str,
+    sayings: &'static [Saying],
+}
+
+static TABLES: [Row; 4] = [
+    Row {
+        behind: 0,
         text: ONE,
         sayings: FAILED,
     },
-    Calls {
-        chain: &[BEFORE],
+    Row {
+        behind: 1,
         text: "class M { public static void main(String[] a) { System.out.println(1); } } // x",
         sayings: BEHIND,
     },
-    Calls {
-        chain: &[],
+    Row {
+        behind: 0,
         text: ONE,
         sayings: OPENED,
     },
-    Calls {
-        chain: &[],
+    Row {
+        behind: 0,
         text: ONE,
         sayings: STALE,
     },
 ];
 
+/// Whether each call says what it should.
+fn is_answered(alloc: Global, row: &Row) -> Result<bool, Unfit> {
+    match SESSIONS_OF_ONE.get(..row.behind) {
+        Some(chain) => {
+            let calls = Calls {
+                chain,
+                text: row.text,
+                sayings: row.sayings,
+            };
+            are_said(alloc, &calls)
+        }
+        None => Err(Unfit),
+    }
+}
+
 #[test]
 fn calls_say(rt: HostRuntime) {
-    for calls in TABLES {
-        assert!(rt; are_said(rt.alloc(), calls) == Ok(true));
+    for row in &TABLES {
+        assert!(rt; is_answered(rt.alloc(), row) == Ok(true));
     }
 }
 
 /// A claim, a begin and a finish of one key.
-const RUN: Replay = Replay {
+static RUN: Replay = Replay {
     text: ONE,
     records: PLAIN,
     begins: true,
 };
 
 /// A claim and then a finish.
-const NOT_BEGUN: Replay = Replay {
+static NOT_BEGUN: Replay = Replay {
     text: ONE,
     records: PLAIN,
     begins: false,

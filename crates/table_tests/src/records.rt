@@ -4,6 +4,7 @@ use answer_samples::Asked;
 use item_ids::Kind;
 use session_samples::Kept;
 use sessions::Mark;
+use table_samples::{Change, Other};
 
 /// A main class that prints 1.
 pub(crate) const ONE: &str =
@@ -14,7 +15,7 @@ pub(crate) const TWO: &str =
     "class M { public static void main(String[] a) { System.out.println(new A().f()); } } class A { public int f() { return 1; } public int g() { return 2; } }";
 
 /// The first session of the class that prints 1.
-pub(crate) const FIRST: &[Kept] = &[
+const FIRST: &[Kept] = &[
     Kept {
         key: Asked(Kind::Files, "", ""),
         mark: Mark::Input,
@@ -89,8 +90,37 @@ pub(crate) const FIRST: &[Kept] = &[
     },
 ];
 
+/// A chain of sessions of the class that prints 1: all ten queries are executed; and then, where it prints 2, the tree, the
+/// index, the header, the method, the check of its body and the answer. It is a static, since a function that names a long
+/// constant writes it out in its frame, which is dear to prove.
+pub(crate) static SESSIONS_OF_ONE: [Change; 2] = [
+    Change {
+        records: FIRST,
+        executed: &[2, 3, 4, 5, 6, 7, 8, 9, 10, 11],
+        others: &[],
+    },
+    Change {
+        records: FIRST,
+        executed: &[2, 3, 4, 5, 9, 11],
+        others: &[
+            Other {
+                at: 1,
+                digits: "0101000000000000004a636c617373204d207b207075626c69632073746174696320766f6964206d61696e28537472696e675b5d206129207b2053797374656d2e6f75742e7072696e746c6e2832293b207d207d",
+            },
+            Other {
+                at: 2,
+                digits: "020101014d030000000b0800000011000000020000000000000000",
+            },
+            Other {
+                at: 5,
+                digits: "050100030000000b080000001100000002",
+            },
+        ],
+    },
+];
+
 /// The first session of the two classes.
-pub(crate) const FIRST_OF_TWO: &[Kept] = &[
+const FIRST_OF_TWO: &[Kept] = &[
     Kept {
         key: Asked(Kind::Files, "", ""),
         mark: Mark::Input,
@@ -230,6 +260,15 @@ pub(crate) const FIRST_OF_TWO: &[Kept] = &[
         digits: "0c0000000000000000000000000000000201410000000000000000000000000000000201660141000000000000000000016701410000000000000000000000000000000000014d000000000000000000000000000000000000000000000000",
     },
 ];
+
+/// A chain of one session of the two classes: all twenty-one queries are executed.
+pub(crate) static SESSIONS_OF_TWO: [Change; 1] = [Change {
+    records: FIRST_OF_TWO,
+    executed: &[
+        2, 3, 4, 5, 6, 7, 8, 9, 10, 11, 12, 13, 14, 15, 16, 17, 18, 19, 20, 21, 22,
+    ],
+    others: &[],
+}];
 
 /// The tree of the class that prints 1 with a comment behind it, and what it reads.
 pub(crate) const COMMENTED: &[Kept] = &[
