@@ -13,7 +13,7 @@ use Rattle.clap.specs.declared.parser.ValueSource.TheVariants.{CommandLine}
 use Rattle.clap.specs.declared.builder.ValueParser.TheVariants as parser
 use Rattle.clap.specs.declared.builder.value_parser.Reading.{Reading}
 use Rattle.command_line.specs.CommandLine.{dashes, files_of, has_option, is_option}
-use Rattle.command_line.specs.Program.{program_app, rule_of_files, subcommand_app}
+use Rattle.command_line.specs.Program.{check_app, program_app, rule_of_files, subcommand_app}
 use Rattle.command_line.specs.Subcommands.{takes}
 use Rattle.command_line.specs.declared.asked.Subcommand.{Subcommand}
 use Rattle.command_line.specs.declared.asked.Subcommand.TheVariants.{Scratch, Audit, Show}
@@ -30,6 +30,9 @@ unfoldable pub shape : Subcommand → Shape
 shape Scratch = built_from (subcommand_app Scratch).top
 shape Audit = built_from (subcommand_app Audit).top
 shape Show = built_from (subcommand_app Show).top
+
+unfoldable pub check_shape : Shape
+check_shape = built_from check_app.top
 
 abbrev pub rules : Subcommand → List Rule
 rules c = (shape c).rules

@@ -1,5 +1,5 @@
 -- How the words after the program's name are read.
-use Rattle.std.proofs.Common.{◌≡◌, ◌∙◌, ◌≤◌, ◌<◌, ◌&&◌, ◌||◌, ◌==◌, ◌++◌, inl, inr, Bool, true, false, List, [], ◌∷◌, Option, Some, None, cond, codes, refl, sym, ap, ap₂, length, arith, append-nil, append_assoc, not, option_map, is_some, subst, true≢false}
+use Rattle.std.proofs.Common.{◌≡◌, ◌∙◌, ◌⊎◌, ◌≤◌, ◌<◌, ◌&&◌, ◌||◌, ◌==◌, ◌++◌, inl, inr, Bool, true, false, List, [], ◌∷◌, Option, Some, None, cond, codes, refl, sym, ap, ap₂, length, arith, append-nil, append_assoc, not, option_map, is_some, subst, true≢false}
 use Rattle.std.proofs.lemmas.Bool.{not-true}
 use Rattle.std.specs.Prelude.{fold, if◌then◌else◌, option_and_then, unwrap_or}
 use Rattle.std.specs.Str.{bytes_eq}
@@ -9,7 +9,7 @@ use Rattle.clap.specs.Kinds.{or_else}
 use Rattle.clap.specs.Lexer.{long_of, usize_max}
 use Rattle.clap.specs.Simple.{Shape, built, entered, names_of}
 use Rattle.clap.specs.Walk.{Held, Names, Row, Step, Walk, after_step, finished, idle, long_or_other, nothing_held, rows_after, settled, subcommand_met, subcommand_or_other, trailing, value, walk_from, walked, word_met}
-use Rattle.clap.specs.Words.{App, HasKind, HasMatchesOf, Kinds, Text, all_of, is_simple, is_simple_and_free, kind_of, subcommand_name_of, subcommand_of}
+use Rattle.clap.specs.Words.{App, HasKind, HasMatchesOf, Kinds, Text, all_of, is_simple, is_simple_and_free, kind_of, subcommand_name_of, subcommand_of, subcommand_rows_of}
 use Rattle.clap.specs.declared.Error.{Error}
 use Rattle.clap.specs.declared.error.ErrorKind.TheVariants.{OutOfMemory}
 use Rattle.clap.specs.Simple.{subcommand_rows}
@@ -18,17 +18,17 @@ use Rattle.clap.specs.declared.parser.matches.ArgMatches.TheViews.{out-ArgMatche
 use Rattle.clap.specs.declared.parser.matches.SubCommand.{SubCommand}
 use Rattle.std.specs.Box.{box_value}
 use Rattle.std.specs.Prelude.{Box}
-use Rattle.command_line.specs.CommandLine.{Asks, asks_plainly, dashes, files_for, files_of, has_option, taken_by, words_behind}
+use Rattle.command_line.specs.CommandLine.{Asks, AsksCheck, AsksFor, asks_plainly, dashes, files_for, files_of, has_option, taken_by, words_behind}
 use Rattle.command_line.specs.Matches.{AreMet, files_in}
-use Rattle.command_line.specs.Runnable.{subcommand_of_words}
+use Rattle.command_line.specs.Runnable.{files_of_words, subcommand_of_words}
 use Rattle.command_line.specs.declared.asked.Words.{Words}
 use Rattle.command_line.specs.Program.{program_app}
-use Rattle.command_line.specs.Subcommands.{name_of, takes}
+use Rattle.command_line.specs.Subcommands.{command_name, name_of, takes}
 use Rattle.command_line.specs.declared.asked.Subcommand.{Subcommand}
 use Rattle.command_line.specs.declared.asked.Subcommand.TheVariants.{Scratch, Audit, Show}
 use Rattle.command_line.proofs.Faults.{IsFault, first_fault, is_fault, next_fault}
 use Rattle.command_line.proofs.Options.{HasHelpAlone, read_plain}
-use Rattle.command_line.proofs.FileWords.{file_row, files_within, level_found, level_of, level_taken, rules, shape}
+use Rattle.command_line.proofs.FileWords.{check_shape, file_row, files_within, level_found, level_of, level_taken, rules, shape}
 
 -- ---- the program
 
@@ -74,29 +74,29 @@ walk_is_fault name words fault = first_fault (kinds_of words) (end_fault (walk_o
 abbrev found_if : Bool → Text → Option (Text × List Text) → Option (Text × List Text)
 found_if t name other = cond (t || false) (Some (name, [])) other
 
-abbrev met_if : Bool → Bool → Bool → Bool → Option Text
-met_if is_scratch is_audit is_show is_help = option_map (λ (s : Text × List Text). s.0)
-    (found_if is_scratch (codes "scratch") (found_if is_audit (codes "audit")
-    (found_if is_show (codes "show") (found_if is_help (codes "help") None))))
+abbrev met_if : Bool → Bool → Bool → Bool → Bool → Option Text
+met_if is_scratch is_check is_audit is_show is_help = option_map (λ (s : Text × List Text). s.0)
+    (found_if is_scratch (codes "scratch") (found_if is_check (codes "check") (found_if is_audit (codes "audit")
+    (found_if is_show (codes "show") (found_if is_help (codes "help") None)))))
 
 command_met : (word : Text) → subcommand_met commands idle word
-    ≡ met_if (bytes_eq (codes "scratch") word) (bytes_eq (codes "audit") word) (bytes_eq (codes "show") word) (bytes_eq (codes "help") word)
+    ≡ met_if (bytes_eq (codes "scratch") word) (bytes_eq (codes "check") word) (bytes_eq (codes "audit") word) (bytes_eq (codes "show") word) (bytes_eq (codes "help") word)
 command_met word = refl
 
 -- the subcommand was met, with the words after it
-abbrev stopped_at : Subcommand → List Text → Walk
-stopped_at c words = record start { stopped = Some (name_of c, words) }
+abbrev stopped_at : Text → List Text → Walk
+stopped_at command words = record start { stopped = Some (command, words) }
 
-stopped_walk : (c : Subcommand) (before words : List Text) → fold (walked top.rules commands) (stopped_at c before) words ≡ stopped_at c (before ++ words)
+stopped_walk : (command : Text) (before words : List Text) → fold (walked top.rules commands) (stopped_at command before) words ≡ stopped_at command (before ++ words)
 unfolding walked
-stopped_walk c before [] = ap (stopped_at c) (sym (append-nil before))
-stopped_walk c before (word ∷ rest) =
-    stopped_walk c (before ++ word ∷ []) rest ∙ ap (stopped_at c) (append_assoc before (word ∷ []) rest)
+stopped_walk command before [] = ap (stopped_at command) (sym (append-nil before))
+stopped_walk command before (word ∷ rest) =
+    stopped_walk command (before ++ word ∷ []) rest ∙ ap (stopped_at command) (append_assoc before (word ∷ []) rest)
 
-stopped_passes : (c : Subcommand) (before words : List Text) → walk_fault top commands (stopped_at c before) words ≡ []
+stopped_passes : (command : Text) (before words : List Text) → walk_fault top commands (stopped_at command before) words ≡ []
 unfolding walk_fault walked
-stopped_passes c before [] = refl
-stopped_passes c before (word ∷ rest) = stopped_passes c (before ++ word ∷ []) rest
+stopped_passes command before [] = refl
+stopped_passes command before (word ∷ rest) = stopped_passes command (before ++ word ∷ []) rest
 
 abbrev met_step : Option Text → Text → Held × Step
 met_step m word = subcommand_or_other top.rules m idle 1 word nothing_held
@@ -104,7 +104,7 @@ met_step m word = subcommand_or_other top.rules m idle 1 word nothing_held
 abbrev turn_of : Option Text → Text → Kinds
 turn_of m word = or_else (other_fault top m word nothing_held) (step_fault top 1 (met_step m word).0 (met_step m word).1)
 
-name_walked : (c : Subcommand) → walked top.rules commands start (name_of c) ≡ stopped_at c []
+name_walked : (c : Subcommand) → walked top.rules commands start (name_of c) ≡ stopped_at (name_of c) []
 unfolding walked
 name_walked Scratch = refl
 name_walked Audit = refl
@@ -115,7 +115,7 @@ name_turn Scratch = refl
 name_turn Audit = refl
 name_turn Show = refl
 
-level_is : (c : Subcommand) (rest : List Text) → end_fault (stopped_at c rest) [] ≡ or_else (level_of c rest) []
+level_is : (c : Subcommand) (rest : List Text) → end_fault (stopped_at (name_of c) rest) [] ≡ or_else (level_of c rest) []
 unfolding shape defaults_fault
 level_is Scratch rest = refl
 level_is Audit rest = refl
@@ -128,14 +128,14 @@ rows_are Audit rest = refl
 rows_are Show rest = refl
 
 module _ (c : Subcommand) (rest : List Text) where
-  walk_is : walk_of (name_of c ∷ rest) ≡ stopped_at c rest
-  walk_is = ap (λ (w : Walk). fold (walked top.rules commands) w rest) (name_walked c) ∙ stopped_walk c [] rest
+  walk_is : walk_of (name_of c ∷ rest) ≡ stopped_at (name_of c) rest
+  walk_is = ap (λ (w : Walk). fold (walked top.rules commands) w rest) (name_walked c) ∙ stopped_walk (name_of c) [] rest
 
   kinds_are : kinds_of (name_of c ∷ rest) ≡ []
   unfolding walk_fault
   kinds_are =
       ap (λ k. or_else k (walk_fault top commands (walked top.rules commands start (name_of c)) rest)) (name_turn c)
-      ∙ (ap (λ (w : Walk). walk_fault top commands w rest) (name_walked c) ∙ stopped_passes c [] rest)
+      ∙ (ap (λ (w : Walk). walk_fault top commands w rest) (name_walked c) ∙ stopped_passes (name_of c) [] rest)
 
   -- the faults are those of the subcommand
   fault_is : (name : Text) → fault_of program_app (name ∷ name_of c ∷ rest) ≡ or_else (level_of c rest) []
@@ -143,6 +143,26 @@ module _ (c : Subcommand) (rest : List Text) where
 
   entered_is_of : (name : Text) → subcommand_of program_app (name ∷ name_of c ∷ rest) ≡ Some (name_of c, rows_after (rules c) [] rest)
   entered_is_of name = ap (λ (w : Walk). entered program w.stopped) walk_is ∙ rows_are c rest
+
+-- ---- `check`
+
+-- the matches of `check` with these words after it
+unfoldable check_rows : List Text → List Row
+check_rows rest = rows_after check_shape.rules [] rest
+
+check_walked : walked top.rules commands start (codes "check") ≡ stopped_at (codes "check") []
+unfolding walked
+check_walked = refl
+
+check_entered : (rest : List Text) → entered program (Some (codes "check", rest)) ≡ Some (codes "check", check_rows rest)
+unfolding check_rows check_shape
+check_entered rest = refl
+
+check_is_entered : (name : Text) (rest : List Text) → subcommand_of program_app (name ∷ codes "check" ∷ rest) ≡ Some (codes "check", check_rows rest)
+check_is_entered name rest =
+    ap (λ (w : Walk). entered program w.stopped)
+    (ap (λ (w : Walk). fold (walked top.rules commands) w rest) check_walked ∙ stopped_walk (codes "check") [] rest)
+    ∙ check_entered rest
 
 or_none : (kinds : Kinds) → or_else kinds [] ≡ kinds
 or_none [] = refl
@@ -154,13 +174,13 @@ or_none (kind ∷ rest) = refl
 stray : (h : Held) → IsFault (step_fault top 1 h value)
 stray h = is_fault _ _
 
-module _ (name command : Text) (no_scratch : bytes_eq (codes "scratch") command ≡ false)
+module _ (name command : Text) (no_scratch : bytes_eq (codes "scratch") command ≡ false) (no_check : bytes_eq (codes "check") command ≡ false)
     (no_audit : bytes_eq (codes "audit") command ≡ false) (no_show : bytes_eq (codes "show") command ≡ false) where
-  met_help : (t : Bool) → bytes_eq (codes "help") command ≡ t → subcommand_met commands idle command ≡ met_if false false false t
+  met_help : (t : Bool) → bytes_eq (codes "help") command ≡ t → subcommand_met commands idle command ≡ met_if false false false false t
   met_help t is =
-      ap (λ x. met_if x (bytes_eq (codes "audit") command) (bytes_eq (codes "show") command) (bytes_eq (codes "help") command)) no_scratch
-      ∙ (ap (λ x. met_if false x (bytes_eq (codes "show") command) (bytes_eq (codes "help") command)) no_audit
-      ∙ ap₂ (met_if false false) no_show is)
+      ap₂ (λ x y. met_if x y (bytes_eq (codes "audit") command) (bytes_eq (codes "show") command) (bytes_eq (codes "help") command)) no_scratch no_check
+      ∙ (ap (λ x. met_if false false x (bytes_eq (codes "show") command) (bytes_eq (codes "help") command)) no_audit
+      ∙ ap₂ (met_if false false false) no_show is)
 
   turn_is_fault : (rest : List Text) → IsFault (turn_fault top commands start command) → IsFault (fault_of program_app (name ∷ command ∷ rest))
   unfolding walk_fault
@@ -234,6 +254,12 @@ record IsRead (words : List Text) : Type 0 where
   takes_them : takes subcommand (files_of rest) ≡ true
   entered_is : subcommand_of program_app words ≡ Some (name_of subcommand, file_row subcommand (files_of rest) ∷ [])
 
+-- or it is of `check`
+record IsReadAsCheck (words : List Text) : Type 0 where
+  asked : AsksCheck words
+  rows : List Row
+  entered_is : subcommand_of program_app words ≡ Some (codes "check", rows)
+
 abbrev rest_if : Bool → List Text → Option (List Text)
 rest_if t rest = if t then Some rest else None
 
@@ -254,20 +280,34 @@ found_at c name command rest is none =
       entered_is = entry ∙ ap (λ rows. Some (name_of c, rows)) level.1;
     }
 
-found_by : (name command : Text) (rest : List Text) (s a w : Bool)
-    → bytes_eq (codes "scratch") command ≡ s → bytes_eq (codes "audit") command ≡ a → bytes_eq (codes "show") command ≡ w
-    → fault_of program_app (name ∷ command ∷ rest) ≡ [] → IsRead (name ∷ command ∷ rest)
-found_by name command rest true a w is_scratch is_audit is_show none = found_at Scratch name command rest is_scratch none
-found_by name command rest false true w is_scratch is_audit is_show none = found_at Audit name command rest is_audit none
-found_by name command rest false false true is_scratch is_audit is_show none = found_at Show name command rest is_show none
-found_by name command rest false false false is_scratch is_audit is_show none =
-    absurd (other_refused name command is_scratch is_audit is_show (bytes_eq (codes "help") command) refl rest none)
+check_found : (name command : Text) (rest : List Text) → bytes_eq (codes "check") command ≡ true → IsReadAsCheck (name ∷ command ∷ rest)
+check_found name command rest is =
+    let same : codes "check" ≡ command = (bytes_eq-Decides (codes "check") command).0 is in
+    record {
+      asked = ap (λ w. Some w) (sym same);
+      rows = check_rows rest;
+      entered_is = ap (λ w. subcommand_of program_app (name ∷ w ∷ rest)) (sym same) ∙ check_is_entered name rest;
+    }
 
-found : (words : List Text) → fault_of program_app words ≡ [] → IsRead words
+abbrev IsFound : List Text → Type 0
+IsFound words = IsRead words ⊎ IsReadAsCheck words
+
+found_by : (name command : Text) (rest : List Text) (s k a w : Bool)
+    → bytes_eq (codes "scratch") command ≡ s → bytes_eq (codes "check") command ≡ k → bytes_eq (codes "audit") command ≡ a → bytes_eq (codes "show") command ≡ w
+    → fault_of program_app (name ∷ command ∷ rest) ≡ [] → IsFound (name ∷ command ∷ rest)
+found_by name command rest true k a w is_scratch is_check is_audit is_show none = inl (found_at Scratch name command rest is_scratch none)
+found_by name command rest false true a w is_scratch is_check is_audit is_show none = inr (check_found name command rest is_check)
+found_by name command rest false false true w is_scratch is_check is_audit is_show none = inl (found_at Audit name command rest is_audit none)
+found_by name command rest false false false true is_scratch is_check is_audit is_show none = inl (found_at Show name command rest is_show none)
+found_by name command rest false false false false is_scratch is_check is_audit is_show none =
+    absurd (other_refused name command is_scratch is_check is_audit is_show (bytes_eq (codes "help") command) refl rest none)
+
+found : (words : List Text) → fault_of program_app words ≡ [] → IsFound words
 found [] none = absurd (no_word [] (omega arith) none)
 found (name ∷ []) none = absurd (no_word (name ∷ []) (omega arith) none)
 found (name ∷ command ∷ rest) none =
-    found_by name command rest (bytes_eq (codes "scratch") command) (bytes_eq (codes "audit") command) (bytes_eq (codes "show") command) refl refl refl none
+    found_by name command rest (bytes_eq (codes "scratch") command) (bytes_eq (codes "check") command) (bytes_eq (codes "audit") command)
+    (bytes_eq (codes "show") command) refl refl refl refl none
 
 abbrev files_if : Subcommand → Bool → List Text → Option (List Text)
 files_if c t rest = option_and_then (λ words. taken_by c (files_of words)) (rest_if t rest)
@@ -324,21 +364,48 @@ pub record HasRead (words : List Text) (m : ArgMatches) : Type 0 where
   pub name : subcommand_name_of m ≡ Some (name_of subcommand)
   pub files : files_in m ≡ Some given
 
+-- the words ask for `check`, which was met
+pub record HasReadCheck (words : List Text) (m : ArgMatches) : Type 0 where
+  pub asked : AsksCheck words
+  pub name : subcommand_name_of m ≡ Some (codes "check")
+
+abbrev pub HasReadWords : List Text → ArgMatches → Type 0
+HasReadWords words m = HasRead words m ⊎ HasReadCheck words m
+
+module _ (words : List Text) (m : ArgMatches) where
+  -- what was met, where the matches are those of the program
+  files_read : subcommand_rows_of m ≡ subcommand_of program_app words → IsRead words → HasRead words m
+  files_read matches is =
+      let met = matches ∙ is.entered_is in
+      record {
+        subcommand = is.subcommand;
+        given = files_of is.rest;
+        asked = ap (option_and_then (λ rest. taken_by is.subcommand (files_of rest))) is.words_are ∙ ap (λ t. taken_if t (files_of is.rest)) is.takes_them;
+        takes_them = is.takes_them;
+        name = name-subcommand_rows (out-ArgMatches m).subcommand ∙ ap (option_map (λ (p : Text × List Row). p.0)) met;
+        files = ap (option_and_then (λ (p : Text × List Row). all_of (codes "FILE") p.1)) met;
+      }
+
+  check_read : subcommand_rows_of m ≡ subcommand_of program_app words → IsReadAsCheck words → HasReadCheck words m
+  check_read matches is = record {
+    asked = is.asked;
+    name = name-subcommand_rows (out-ArgMatches m).subcommand ∙ ap (option_map (λ (p : Text × List Row). p.0)) (matches ∙ is.entered_is);
+  }
+
+  read_by : subcommand_rows_of m ≡ subcommand_of program_app words → IsFound words → HasReadWords words m
+  read_by matches (inl is) = inl (files_read matches is)
+  read_by matches (inr is) = inr (check_read matches is)
+
 -- a parse that succeeds
 pub has_read : (app : App) (words : List Text) (m : ArgMatches) → app ≡ program_app → (is_simple_and_free app ≡ true → fault_of app words ≡ [])
-    → HasMatchesOf app words m → HasRead words m
+    → HasMatchesOf app words m → HasReadWords words m
 has_read app words m program_is kinds matches =
     let none = ap (λ a. fault_of a words) (sym program_is) ∙ kinds (ap is_simple_and_free program_is) in
-    let is = found words none in
-    let met = (matches (ap is_simple program_is)).1 ∙ (ap (λ a. subcommand_of a words) program_is ∙ is.entered_is) in
-    record {
-      subcommand = is.subcommand;
-      given = files_of is.rest;
-      asked = ap (option_and_then (λ rest. taken_by is.subcommand (files_of rest))) is.words_are ∙ ap (λ t. taken_if t (files_of is.rest)) is.takes_them;
-      takes_them = is.takes_them;
-      name = name-subcommand_rows (out-ArgMatches m).subcommand ∙ ap (option_map (λ (p : Text × List Row). p.0)) met;
-      files = ap (option_and_then (λ (p : Text × List Row). all_of (codes "FILE") p.1)) met;
-    }
+    read_by words m ((matches (ap is_simple program_is)).1 ∙ ap (λ a. subcommand_of a words) program_is) (found words none)
+
+named_by : (c : Subcommand) (command : Text) (rest : List Text) (t : Bool) → bytes_eq (name_of c) command ≡ t → plainly_if c t rest ≡ true → name_of c ≡ command
+named_by c command rest true is plain = (bytes_eq-Decides (name_of c) command).0 is
+named_by c command rest false is plain = absurd (true≢false (sym plain))
 
 -- no two subcommands have one name
 pub same_subcommand : (c d : Subcommand) → name_of c ≡ name_of d → c ≡ d
@@ -352,11 +419,35 @@ same_subcommand Audit Show same = absurd (true≢false (ap (bytes_eq (codes "aud
 same_subcommand Show Scratch same = absurd (true≢false (ap (bytes_eq (codes "show")) same))
 same_subcommand Show Audit same = absurd (true≢false (ap (bytes_eq (codes "show")) same))
 
+-- none of them is `check`
+pub not_check : (c : Subcommand) → name_of c ≡ codes "check" → ⊥
+not_check Scratch same = true≢false (ap (bytes_eq (codes "scratch")) same)
+not_check Audit same = true≢false (ap (bytes_eq (codes "audit")) same)
+not_check Show same = true≢false (ap (bytes_eq (codes "show")) same)
+
+asked_for : (words : List Text) (m : ArgMatches) (c : Option Subcommand) (files : List Text) → HasReadWords words m
+    → subcommand_name_of m ≡ Some (command_name c) → files_in m ≡ Some files → AsksFor words c files
+asked_for words m (Some d) files (inl read) name is =
+    let same = same_subcommand read.subcommand d (some_same _ _ (sym read.name ∙ name)) in
+    ap (λ c. files_for c words) (sym same) ∙ (read.asked ∙ (sym read.files ∙ is))
+asked_for words m (Some d) files (inr check) name is = absurd (not_check d (some_same _ _ (sym name ∙ check.name)))
+asked_for words m None files (inl read) name is = absurd (not_check read.subcommand (some_same _ _ (sym read.name ∙ name)))
+asked_for words m None files (inr check) name is = check.asked
+
 -- the words that were met are those that were asked for
-pub asked_are_met : (words : List Text) (m : ArgMatches) (w : Words) → HasRead words m → AreMet m w → Asks words w
-asked_are_met words m w read met =
-    let same = same_subcommand read.subcommand (subcommand_of_words w) (some_same _ _ (sym read.name ∙ met.name)) in
-    ap (λ c. files_for c words) (sym same) ∙ (read.asked ∙ (sym read.files ∙ met.files))
+pub asked_are_met : (words : List Text) (m : ArgMatches) (w : Words) → HasReadWords words m → AreMet m w → Asks words w
+asked_are_met words m w read met = asked_for words m (subcommand_of_words w) (files_of_words w) read met.name met.files
+
+-- words that ask plainly don't ask for `check`
+no_check : (c : Subcommand) (words : List Text) → asks_plainly c words ≡ true → AsksCheck words → ⊥
+no_check c [] plain asked = true≢false (sym plain)
+no_check c (name ∷ []) plain asked = true≢false (sym plain)
+no_check c (name ∷ command ∷ rest) plain asked =
+    not_check c (named_by c command rest (bytes_eq (name_of c) command) refl plain ∙ some_same _ _ asked)
+
+pub plainly_read : (c : Subcommand) (words : List Text) (m : ArgMatches) → asks_plainly c words ≡ true → HasReadWords words m → HasRead words m
+plainly_read c words m plain (inl read) = read
+plainly_read c words m plain (inr check) = absurd (no_check c words plain check.asked)
 
 -- a parse of words that ask plainly fails only for want of memory
 pub only_memory : (app : App) (c : Subcommand) (words : List Text) (e : Error) → app ≡ program_app → asks_plainly c words ≡ true → length words ≤ usize_max

@@ -1,7 +1,7 @@
 -- What a command line asks for, told from its words alone.
 use Rattle.std.specs.Prelude.{◌≡◌, ◌==◌, ◌&&◌, ◌||◌, Bool, true, false, not, List, [], ◌∷◌}
 use Rattle.std.specs.Prelude.{Option, Some, None, codes, if◌then◌else◌, drop, is_some}
-use Rattle.std.specs.Prelude.{option_and_then}
+use Rattle.std.specs.Prelude.{option_and_then, slice_get}
 use Rattle.std.specs.Str.{bytes_eq}
 use Rattle.command_line.specs.declared.asked.Subcommand.{Subcommand}
 use Rattle.command_line.specs.declared.asked.Words.{Words}
@@ -47,9 +47,18 @@ abbrev pub files_for : Subcommand → List Text → Option (List Text)
 files_for subcommand given = option_and_then (λ rest. taken_by subcommand (files_of rest))
     (words_behind subcommand given)
 
+-- `check` is the word after the program's name
+abbrev pub AsksCheck : List Text → Type 0
+AsksCheck given = slice_get given 1 ≡ Some (codes "check")
+
+-- the words ask for the subcommand with these FILEs, or where it is none of the three for `check`
+abbrev pub AsksFor : List Text → Option Subcommand → List Text → Type 0
+AsksFor given (Some subcommand) files = files_for subcommand given ≡ Some files
+AsksFor given None files = AsksCheck given
+
 -- what was read is what the words ask for
 abbrev pub Asks : List Text → Words → Type 0
-Asks given w = files_for (subcommand_of_words w) given ≡ Some (files_of_words w)
+Asks given w = AsksFor given (subcommand_of_words w) (files_of_words w)
 
 -- the words give the subcommand FILEs that it takes, and no option
 abbrev pub asks_plainly : Subcommand → List Text → Bool

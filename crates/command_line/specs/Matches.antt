@@ -3,7 +3,7 @@ use Rattle.std.specs.Prelude.{◌≡◌, List, Option, Some, codes, option_and_t
 use Rattle.clap.specs.Words.{Row, Text, all_of, subcommand_name_of, subcommand_rows_of}
 use Rattle.clap.specs.declared.ArgMatches.{ArgMatches}
 use Rattle.command_line.specs.Runnable.{files_of_words, subcommand_of_words}
-use Rattle.command_line.specs.Subcommands.{name_of}
+use Rattle.command_line.specs.Subcommands.{command_name}
 use Rattle.command_line.specs.declared.asked.Words.{Words}
 
 -- the FILEs of the subcommand that was met
@@ -13,5 +13,5 @@ files_in m =
 
 -- these words are the subcommand that was met, with its FILEs
 pub record AreMet (m : ArgMatches) (words : Words) : Type 0 where
-  pub name : subcommand_name_of m ≡ Some (name_of (subcommand_of_words words))
+  pub name : subcommand_name_of m ≡ Some (command_name (subcommand_of_words words))
   pub files : files_in m ≡ Some (files_of_words words)

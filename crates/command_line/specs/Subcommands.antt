@@ -1,5 +1,5 @@
 -- The program's subcommands.
-use Rattle.std.specs.Prelude.{ℕ, Bool, true, false, List, [], ◌∷◌, codes}
+use Rattle.std.specs.Prelude.{ℕ, Bool, true, false, List, [], ◌∷◌, Option, Some, None, codes}
 use Rattle.command_line.specs.declared.asked.Subcommand.{Subcommand}
 use Rattle.command_line.specs.declared.asked.Subcommand.TheVariants.{Scratch, Audit, Show}
 
@@ -11,6 +11,11 @@ abbrev pub name_of : Subcommand → Text
 name_of Scratch = codes "scratch"
 name_of Audit = codes "audit"
 name_of Show = codes "show"
+
+-- the same, where none of the three is `check`
+abbrev pub command_name : Option Subcommand → Text
+command_name (Some subcommand) = name_of subcommand
+command_name None = codes "check"
 
 abbrev pub is_one_or_more : List Text → Bool
 is_one_or_more [] = false

@@ -6,7 +6,7 @@ ghost use Rattle.command_line.specs.declared.asked.WordsFault.TheVariants as fau
 use std::alloc::{AllocError, AllocFailed};
 use thiserror::Error;
 
-/// What the program can do.
+/// What the program can do with FILEs alone. `check` has more words, and stands beside these.
 #[derive(Clone, Copy, Debug, PartialEq, Eq)]
 pub enum Subcommand {
     /// Check a project from its files alone.
@@ -44,11 +44,24 @@ impl Subcommand {
     }
 }
 
+/// The values of `check`.
+#[derive(Debug, Drop)]
+pub struct CheckWords {
+    /// The folder of the chains of session files.
+    pub cache: String,
+    /// How many workers run the queries, 1 to 64.
+    pub jobs: usize,
+    /// The source files of the project.
+    pub files: Vec<String>,
+}
+
 /// A subcommand with its values.
 #[derive(Debug, Drop)]
 pub enum Words {
     /// Check the project of these files from scratch.
     Scratch(Vec<String>),
+    /// Check the project of these files over the last session of the cache.
+    Check(CheckWords),
     /// Audit the chain of these session files.
     Audit(Vec<String>),
     /// Print this session file.

@@ -2,12 +2,13 @@
 ghost use Rattle.std.specs.Prelude.{◌≡◌, IfOk, false};
 ghost use Rattle.clap.specs.Words.{app_of, rule_of};
 ghost use Rattle.clap.specs.declared.builder.Command.TheViews.{out-Command};
-ghost use Rattle.command_line.specs.Program.{file_rule, files_rule, program_app, rule_of_files};
-ghost use Rattle.command_line.specs.Program.{subcommand_app};
+ghost use Rattle.command_line.specs.Program.{cache_rule, check_app, file_rule, files_rule};
+ghost use Rattle.command_line.specs.Program.{jobs_rule, program_app, rule_of_files, subcommand_app};
 
 use crate::asked::Subcommand;
+use crate::help;
 use crate::help::{PURPOSE, STATUSES, files, outcome, purpose};
-use clap::{Arg, ArgAction, Command};
+use clap::{Arg, ArgAction, Command, value_parser};
 use std::alloc::{AllocError, Global};
 
 /// The program's name, which stands for the first word where there is none.
@@ -16,11 +17,21 @@ pub(crate) const PROGRAM: &str = "mjrg";
 /// The positional that has the names of the files.
 pub(crate) const FILE: &str = "FILE";
 
+/// The subcommand that has more than FILEs.
+pub(crate) const CHECK: &str = "check";
+
+/// The option that has the folder of the cache.
+pub(crate) const CACHE: &str = "cache";
+
+/// The option that has the number of workers.
+pub(crate) const JOBS: &str = "jobs";
+
 /// The program with its subcommands.
 pub(crate) fn program<'a>(alloc: Global) -> Result<Command<'a>, AllocError>
     ensures { IfOk result (λ command. app_of command ≡ program_app) }
 {
     let scratch = command_of(alloc, Subcommand::Scratch)?;
+    let check = check_command(alloc)?;
     let audit = command_of(alloc, Subcommand::Audit)?;
     let show = command_of(alloc, Subcommand::Show)?;
     let program = Command::new(alloc, PROGRAM).bin_name(PROGRAM)?;
@@ -29,6 +40,7 @@ pub(crate) fn program<'a>(alloc: Global) -> Result<Command<'a>, AllocError>
         .after_help(STATUSES)
         .subcommand_required(true)
         .subcommand(scratch)?
+        .subcommand(check)?
         .subcommand(audit)?
         .subcommand(show)
 }
@@ -41,6 +53,41 @@ fn command_of<'a>(alloc: Global, which: Subcommand) -> Result<Command<'a>, Alloc
         .about(purpose(which))
         .after_help(outcome(which))
         .arg(files_of(alloc, which))
+}
+
+fn check_command<'a>(alloc: Global) -> Result<Command<'a>, AllocError>
+    ensures app { IfOk result (λ command. app_of command ≡ check_app) }
+    ensures local { IfOk result (λ command. (out-Command command).has_globals ≡ false) }
+{
+    Command::new(alloc, CHECK)
+        .about(help::CHECK_PURPOSE)
+        .after_help(help::CHECK)
+        .arg(cache(alloc))?
+        .arg(jobs(alloc))?
+        .arg(files_of(alloc, Subcommand::Scratch))
+}
+
+fn cache<'a>(alloc: Global) -> Arg<'a>
+    ensures rule { rule_of result ≡ cache_rule }
+    ensures local { result.global ≡ false }
+{
+    Arg::new(alloc, CACHE)
+        .long(CACHE)
+        .value_name("DIR")
+        .required(true)
+        .help(help::CACHE)
+}
+
+fn jobs<'a>(alloc: Global) -> Arg<'a>
+    ensures rule { rule_of result ≡ jobs_rule }
+    ensures local { result.global ≡ false }
+{
+    Arg::new(alloc, JOBS)
+        .long(JOBS)
+        .value_name("N")
+        .value_parser(value_parser!(u8).range(1..=64))
+        .default_value("1")
+        .help(help::JOBS)
 }
 
 // The last positional.

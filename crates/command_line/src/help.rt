@@ -2,7 +2,8 @@
 use crate::asked::Subcommand;
 
 /// What the program is for.
-pub(crate) const PURPOSE: &str = "Check MiniJava projects, and audit chains of session files";
+pub(crate) const PURPOSE: &str =
+    "Check MiniJava projects, from scratch or session by session, and audit chains of session files";
 
 /// What stands below the program's help.
 pub(crate) const STATUSES: &str = "\
@@ -12,7 +13,8 @@ Standard output has the answer, standard error what is told beside it or why the
 Exit status:
   0  no diagnostics, an accepted chain, or help was asked for
   1  diagnostics
-  2  refused words, a file that can't be read, a refused project, or a session file refused by show
+  2  refused words, a file that can't be read or written, a refused project, or a session file
+     refused by show
   3  a chain refused by audit
   4  out of memory";
 
@@ -31,6 +33,50 @@ Exit status:
   0  no diagnostics, or help was asked for
   1  diagnostics
   2  refused words, a file that can't be read, or a refused project
+  4  out of memory";
+
+/// What `check` is for.
+pub(crate) const CHECK_PURPOSE: &str = "Check a project over the last session of a cache";
+
+/// What the DIR of `check` is.
+pub(crate) const CACHE: &str = "The folder of the cache";
+
+/// What the N of `check` is.
+pub(crate) const JOBS: &str = "How many workers run the queries, 1 to 64";
+
+/// What stands below the help of `check`.
+pub(crate) const CHECK: &str = "\
+The project is checked over the last session of the cache: what has not changed since is taken over
+as green, and all else is executed. Then the next session is written to the cache.
+
+The sessions stand in chains, DIR/c0000/s0000.mjrg, DIR/c0000/s0001.mjrg and so on. The last one of
+the highest chain is read; other names are passed over, and what is missing is made. The next chain,
+DIR/c0001, begins with no session where that file is refused or its chain is full. No more chains
+are begun behind DIR/c9999.
+
+Standard output:
+  as of scratch: the faults of the project, and then each class with its members and its faults
+
+Standard error:
+  note: PATH refused: REFUSAL       the last session's file is refused, as 11.4 BadDigest;
+                                    'mjrg help show' lists each REFUSAL
+  note: PATH refused: number        its number isn't that of its name
+  note: PATH full                   its chain has no place for another session
+  and then one line FILE:LINE:COL: CODE for each fault, and
+  session K: E executed, G green    session K was written, with E executed records and G green ones
+  or why there is no answer:
+  cannot read PATH
+  cannot read DIR
+  cannot write PATH
+  cannot write DIR
+  refused: 3.1 RepeatedFile(N)  file N, counted from 0, has the name of an earlier one
+  refused: 3.3 TooManyFiles     there are more than 4,096 files
+  refused: 3.4 BadFileName(N)   the name of file N is empty or has over 255 bytes
+
+Exit status:
+  0  no diagnostics, or help was asked for
+  1  diagnostics
+  2  refused words, a file or folder that can't be read or written, or a refused project
   4  out of memory";
 
 const AUDIT: &str = "\

@@ -1,14 +1,15 @@
 //! The command line as `clap` reads it.
 ghost use Rattle.std.specs.Prelude.{◌≡◌, ◌∷◌, Some, IfOk, IfSome, IsOkUnless, IsSome};
-ghost use Rattle.std.specs.Prelude.{IsTrue, List, codes, map, string_bytes, unwrap_or, []};
+ghost use Rattle.std.specs.Prelude.{IsTrue, List, None, codes, map, string_bytes, unwrap_or, []};
+ghost use Rattle.std.specs.Prelude.{◌≤◌};
 ghost use Rattle.clap.specs.Words.{all_of, found_of, kind_of, rows_of, subcommand_name_of};
 ghost use Rattle.command_line.specs.CommandLine.{Asks, asks_plainly};
 ghost use Rattle.command_line.specs.Matches.{AreMet, files_in};
 ghost use Rattle.command_line.specs.Runnable.{IsRunnable, files_of_words, subcommand_of_words};
-ghost use Rattle.command_line.specs.Subcommands.{Text, is_just_one, name_of, takes};
+ghost use Rattle.command_line.specs.Subcommands.{Text, command_name, is_just_one, name_of, takes};
 
-use crate::asked::{Subcommand, Words, WordsFault};
-use crate::command::{FILE, PROGRAM, program};
+use crate::asked::{CheckWords, Subcommand, Words, WordsFault};
+use crate::command::{CACHE, CHECK, FILE, JOBS, PROGRAM, program};
 use clap::error::ErrorKind;
 use clap::{ArgMatches, Error};
 use std::alloc::{AllocError, Global};
@@ -56,7 +57,7 @@ fn choose(alloc: Global, matches: &ArgMatches<'_>) -> Result<Words, WordsFault>
         return Err(unreadable(alloc));
     };
     let Some(subcommand) = Subcommand::named(name) else {
-        return Err(unreadable(alloc));
+        return check_words(alloc, name, given);
     };
     let files = values(alloc, given)?;
     match words_of(subcommand, files) {
@@ -65,10 +66,48 @@ fn choose(alloc: Global, matches: &ArgMatches<'_>) -> Result<Words, WordsFault>
     }
 }
 
+// The words of `check`, where the name is its.
+fn check_words(alloc: Global, name: &str, given: &ArgMatches<'_>) -> Result<Words, WordsFault>
+    ensures runnable { IfOk result IsRunnable }
+    ensures named { IfOk result (λ words.
+        Some name.now ≡ Some (command_name (subcommand_of_words words))) }
+    ensures files { IfOk result (λ words.
+        all_of (codes "FILE") (rows_of (found_of given.now)) ≡ Some (files_of_words words)) }
+{
+    if name != CHECK {
+        return Err(unreadable(alloc));
+    }
+    let (Some(cache), Some(jobs)) = (given.get_str(CACHE), jobs(given)) else {
+        return Err(unreadable(alloc));
+    };
+    let cache = String::from_str(alloc, cache)?;
+    let sources = values(alloc, given)?;
+    if sources.is_empty() {
+        return Err(unreadable(alloc));
+    }
+    Ok(Words::Check(CheckWords {
+        cache,
+        jobs,
+        files: sources,
+    }))
+}
+
+// How many workers `check` has.
+fn jobs(given: &ArgMatches<'_>) -> Option<usize>
+    ensures some { IfSome result (λ jobs. 1 ≤ jobs) }
+    ensures most { IfSome result (λ jobs. jobs ≤ 64) }
+{
+    let jobs = given.get_one::<u8>(JOBS)?;
+    if jobs == 0 || jobs > 64 {
+        return None;
+    }
+    Some(usize::from(jobs))
+}
+
 // The subcommand with these FILEs, where it takes them.
 fn words_of(subcommand: Subcommand, files: Vec<String>) -> Option<Words>
     ensures runnable { IfSome result IsRunnable }
-    ensures subcommand { IfSome result (λ words. subcommand_of_words words ≡ subcommand) }
+    ensures subcommand { IfSome result (λ words. subcommand_of_words words ≡ Some subcommand) }
     ensures files { IfSome result (λ words.
         files_of_words words ≡ map string_bytes files.items) }
     ensures taken { IsTrue (takes subcommand (map string_bytes files.items)) → IsSome result }

@@ -1,7 +1,7 @@
 use Rattle.std.proofs.Common.{◌<◌, ◌^◌, arith, length, map, rules, string_bytes}
 use Rattle.std.proofs.lemmas.List.{length-map}
 use Rattle.std.proofs.lemmas.Result.{IfOk-weaker}
-use Rattle.command_line.proofs.ProgramWords.{asked_are_met, has_read, only_memory}
+use Rattle.command_line.proofs.ProgramWords.{asked_are_met, has_read, only_memory, plainly_read}
 use Rattle.command_line.proofs.reading.read.Goals as goal
 
 pub returns-in-Ok-clause-asked : goal.returns-in-Ok-clause-asked
@@ -11,7 +11,8 @@ returns-in-Ok-clause-asked c =
 
 pub returns-in-Ok-clause-taken : goal.returns-in-Ok-clause-taken
 returns-in-Ok-clause-taken c subcommand plain =
-    let read = has_read _ (map string_bytes c.args.list.now) c.in-Ok.matches c.in_ok-program.ensures c.in-Ok.ensures.kinds c.in-Ok.ensures.matches in
+    let words = map string_bytes c.args.list.now in
+    let read = plainly_read subcommand words c.in-Ok.matches plain (has_read _ words c.in-Ok.matches c.in_ok-program.ensures c.in-Ok.ensures.kinds c.in-Ok.ensures.matches) in
     c.choose.ensures.taken read.subcommand read.name read.given read.files read.takes_them
 
 pub returns-in-Err-clause-taken : goal.returns-in-Err-clause-taken
