@@ -4,7 +4,7 @@ use Rattle.std.proofs.lemmas.Bool.Decides.{nat_tests}
 use Rattle.std.specs.Prelude.{flat_map}
 use Rattle.std.specs.List.{list_all}
 use Rattle.mj_rules.specs.AnswerWords.{Diagnostic, ClassAnswerValue, AnswerValue}
-use Rattle.fault_lines.specs.FaultLines.{of_project, of_class, findings}
+use Rattle.fault_lines.specs.FaultLines.{of_class, findings}
 use Rattle.cli.specs.Lines.{is_clean}
 
 both_true : (s t : Bool) → (s && t) ≡ true → (s ≡ true) × (t ≡ true)

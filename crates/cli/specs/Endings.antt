@@ -4,6 +4,7 @@ use Rattle.cli.specs.declared.failure.Failure.{Failure}
 use Rattle.cli.specs.declared.failure.Failure.TheVariants as failure
 use Rattle.cli.specs.declared.report.Status.{Status}
 use Rattle.cli.specs.declared.report.Status.TheVariants as status
+use Rattle.cached_check.specs.declared.fault.CheckFault.TheVariants as cache
 use Rattle.command_line.specs.declared.asked.WordsFault.TheVariants as words
 
 -- an answer without faults is clean
@@ -20,4 +21,7 @@ status_of_failure (failure.CannotRead name) = status.Refused
 status_of_failure (failure.Project fault) = status.Refused
 status_of_failure (failure.Chain fault) = status.ChainRefused
 status_of_failure (failure.SessionFile fault) = status.Refused
+status_of_failure (failure.Cache (cache.CannotRead path)) = status.Refused
+status_of_failure (failure.Cache (cache.CannotWrite notes path)) = status.Refused
+status_of_failure (failure.Cache cache.OutOfMemory) = status.OutOfMemory
 status_of_failure failure.OutOfMemory = status.OutOfMemory

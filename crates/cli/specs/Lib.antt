@@ -1,4 +1,5 @@
 pub mod Audits
+pub mod Checks
 pub mod Endings
 pub mod Lines
 pub mod Runs

@@ -3,6 +3,7 @@ ghost use Rattle.std.specs.Prelude.{◌≡◌};
 ghost use Rattle.cli.specs.declared.failure.Failure.TheVariants as failure;
 
 use audit_graph::AuditFault;
+use cached_check::CheckFault;
 use command_line::WordsFault;
 use mj_rules::ProjectFault;
 use session_file::FileFault;
@@ -21,6 +22,8 @@ pub enum Failure {
     Chain(AuditFault),
     /// The file is that of no session.
     SessionFile(FileFault),
+    /// No session is kept in the cache.
+    Cache(CheckFault),
     /// Memory ran out.
     OutOfMemory,
 }
@@ -54,6 +57,14 @@ impl From<FileFault> for Failure {
 
     fn from(fault: FileFault) -> Failure {
         Failure::SessionFile(fault)
+    }
+}
+
+impl From<CheckFault> for Failure {
+    ghost from_gives = { λ fault e. e ≡ failure.Cache fault };
+
+    fn from(fault: CheckFault) -> Failure {
+        Failure::Cache(fault)
     }
 }
 

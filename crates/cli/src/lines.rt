@@ -4,7 +4,7 @@ ghost use Rattle.std.specs.List.{list_all};
 ghost use Rattle.cli.specs.Lines.{is_clean, line_text, IsFaultText, refusal_words};
 
 use fault_lines::{FaultLine, ReadProject, fault_lines};
-use mj_rules::{Answer, ClassAnswer, ProjectFault};
+use mj_rules::{Answer, ClassAnswer, Project, ProjectFault};
 use std::alloc::{AllocError, Global};
 
 /// Whether an answer has no fault.
@@ -35,6 +35,21 @@ pub(crate) fn fault_text(
     let lines = fault_lines(alloc, project, answer)?;
     write_lines(&mut text, &lines)?;
     Ok(text)
+}
+
+/// A line for each fault of an answer for a project's files, which are read where it has one.
+pub(crate) fn fault_text_of(
+    alloc: Global,
+    project: &Project,
+    answer: &Answer,
+) -> Result<String, AllocError>
+    ensures { IfOk result (λ text. IsFaultText project.now answer.now (string_bytes text)) }
+{
+    if is_clean(answer) {
+        return Ok(String::new(alloc));
+    }
+    let read = ReadProject::new(alloc, project)?;
+    fault_text(alloc, &read, answer)
 }
 
 fn write_lines(text: &mut String, lines: &[FaultLine<'_>]) -> Result<(), AllocError>

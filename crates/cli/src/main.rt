@@ -2,6 +2,7 @@
 #![tactic(auto)]
 
 mod auditing;
+mod checking;
 mod failure;
 mod files;
 mod lines;

@@ -2,8 +2,12 @@
 ghost use Rattle.std.specs.Prelude.{◌≡◌, ◌⊎◌, [], OnOk, codes, string_bytes};
 ghost use Rattle.std.specs.Io.KnownBytes.{Appends};
 ghost use Rattle.std.specs.IoError.{error_kind};
+ghost use Rattle.cli.specs.Endings.{status_of_answer};
+ghost use Rattle.cli.specs.Lines.{is_clean};
 ghost use Rattle.cli.specs.Runs.{IsWritten, status_number};
 
+use crate::lines::is_clean;
+use mj_rules::Answer;
 use std::alloc::Global;
 use std::io;
 use std::io::{ErrorKind, Write};
@@ -24,6 +28,17 @@ pub enum Status {
 }
 
 impl Status {
+    /// How a run ends whose answer this is.
+    pub fn of_answer(answer: &Answer) -> Status
+        ensures { result ≡ status_of_answer (is_clean answer.now) }
+    {
+        if is_clean(answer) {
+            Status::Clean
+        } else {
+            Status::Diagnostics
+        }
+    }
+
     /// The exit status.
     pub fn number(self) -> u8
         ensures { result ≡ status_number self }

@@ -9,12 +9,14 @@ ghost use Rattle.cli.specs.Runs.{ReportsOn, Prints, Reports};
 ghost use Rattle.cli.specs.Statuses.{IsStatus};
 
 use crate::auditing::audit;
+use crate::checking::check;
 use crate::failure::Failure;
 use crate::files::read_files;
-use crate::lines::{fault_text, is_clean, refusal_text};
+use crate::lines::{fault_text, refusal_text};
 use crate::report::{Report, Status, deliver, no_memory};
 use crate::showing::show;
 use audit_graph::AuditFault;
+use cached_check::CheckFault;
 use command_line::{Words, WordsFault, words};
 use fault_lines::ReadProject;
 use mj_rules::{Answer, Project, answer_for, render};
@@ -72,6 +74,7 @@ fn perform<R: Files + AllocGlobal>(rt: &R, list: Vec<String>) -> Result<Report, 
 {
     match words(rt.alloc(), list)? {
         Words::Scratch(names) => scratch(rt, names),
+        Words::Check(asked) => check(rt, asked),
         Words::Audit(names) => audit(rt, names),
         Words::Show(name) => show(rt, name),
     }
@@ -101,15 +104,10 @@ fn answer_report(
     ensures status { IfOk result (λ report.
         report.status ≡ status_of_answer (is_clean answer.now)) }
 {
-    let status = if is_clean(answer) {
-        Status::Clean
-    } else {
-        Status::Diagnostics
-    };
     Ok(Report {
         notes: fault_text(alloc, project, answer)?,
         answer: render(alloc, answer)?,
-        status,
+        status: Status::of_answer(answer),
     })
 }
 
@@ -122,14 +120,28 @@ fn failure_report(alloc: Global, failure: Failure) -> Result<Report, AllocError>
     match failure {
         Failure::Words(WordsFault::Help(text)) => Ok(Report::help(alloc, text)),
         Failure::Words(WordsFault::Refused(text)) => Ok(Report::refusal(alloc, text)),
-        Failure::CannotRead(name) => {
-            let text = format!(in alloc; "cannot read {name}\n")?;
-            Ok(Report::refusal(alloc, text))
-        }
+        Failure::CannotRead(name) => Ok(Report::refusal(alloc, unreadable(alloc, &name)?)),
+        Failure::Cache(fault) => Ok(Report::refusal(alloc, cache_refusal(alloc, fault)?)),
         Failure::Project(fault) => Ok(Report::refusal(alloc, refusal_text(alloc, fault)?)),
         Failure::Chain(fault) => Ok(Report::chain_refusal(alloc, chain_refusal(alloc, fault)?)),
         Failure::SessionFile(fault) => Ok(Report::refusal(alloc, file_refusal(alloc, fault)?)),
         Failure::Words(WordsFault::OutOfMemory) | Failure::OutOfMemory => Err(AllocError),
+    }
+}
+
+// What is said of a file or folder that can't be read.
+fn unreadable(alloc: Global, name: &str) -> Result<String, AllocError> {
+    format!(in alloc; "cannot read {name}\n")
+}
+
+// Why no session is kept. Want of memory has no text.
+fn cache_refusal(alloc: Global, fault: CheckFault) -> Result<String, AllocError>
+    ensures { IfOk result (λ _. status_of_failure (Failure.Cache fault) ≡ Status.Refused) }
+{
+    match fault {
+        CheckFault::CannotRead(path) => unreadable(alloc, &path),
+        CheckFault::CannotWrite(notes, path) => format!(in alloc; "{notes}cannot write {path}\n"),
+        CheckFault::OutOfMemory => Err(AllocError),
     }
 }
 

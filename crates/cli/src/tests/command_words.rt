@@ -53,6 +53,7 @@ fn are_asked(words: &Words, subcommand: Subcommand, want: &[&str]) -> bool {
         Words::Audit(files) => {
             subcommand == Subcommand::Audit && are_texts(files.as_slice(), want)
         }
+        Words::Check(_) => false,
         Words::Show(file) => subcommand == Subcommand::Show && want == [file.as_str()].as_slice(),
     }
 }

@@ -1,6 +1,5 @@
-use Rattle.std.proofs.Common.{map, subst}
+use Rattle.std.proofs.Common.{map}
 use Rattle.std.specs.Arc.{arc_value}
-use Rattle.mini_java_audit.specs.Headline.{IsAcceptedChain}
 use Rattle.cli.proofs.Chains.{as_many}
 use Rattle.cli.proofs.auditing.audit.Goals as goal
 

@@ -1,4 +1,3 @@
-use Rattle.std.proofs.Common.{◌∙◌, sym, ap}
 use Rattle.cli.proofs.Runs.{is_status, prints, silent}
 use Rattle.cli.proofs.running.run.Goals as goal
 use Rattle.cli.proofs.running.run.Goals.{in-Ok, in-Err}

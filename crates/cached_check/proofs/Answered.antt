@@ -1,0 +1,84 @@
+-- A session that was closed has a record of the answer.
+use Rattle.std.proofs.Common.{◌≡◌, ◌∙◌, ℕ, zero, suc, ◌<◌, List, [], ◌∷◌, map, length, get_or, Option, Some, None, refl, sym, ap, subst, arith}
+use Rattle.std.specs.Prelude.{Contains, IfSome}
+use Rattle.std.specs.declared.alloc.Global.{Global}
+use Rattle.std.specs.declared.sync.Arc.{Arc}
+use Rattle.item_ids.specs.declared.key.Key.{Key}
+use Rattle.item_ids.specs.declared.key.Key.TheVariants.{Answer}
+use Rattle.item_ids.specs.declared.kind.Kind.TheVariants as kinds
+use Rattle.result_bytes.specs.declared.value.Value.{Value}
+use Rattle.result_bytes.specs.declared.value.Value.TheVariants as values
+use Rattle.result_bytes.specs.Values.{kind_of as kind_of_value}
+use Rattle.recorder.specs.Projects.{Project}
+use Rattle.query_rules.specs.Meaning.{mean}
+use Rattle.query_rules.specs.Reads.{reads}
+use Rattle.sessions.specs.Sessions.{RecordValue, SessionValue, IsSession, Entry, entries, entry_at, entry_of}
+use Rattle.sessions.proofs.EntryRules.{entry_of_place}
+use Rattle.graph_rules.specs.Steps.{State}
+use Rattle.graph_rules.specs.Graphs.{AreClosed, IsRoot, answer, IsReached}
+use Rattle.graph_rules.specs.Graphs.IsReached.{root as starts}
+use Rattle.graph_rules.proofs.SessionRules.{session_graph}
+use Rattle.job_table.specs.Tables.{IsFull, session_in as session_at_table}
+use Rattle.session_cache.specs.Names.{most}
+use Rattle.session_cache.specs.Starts.{session_in}
+use Rattle.driver.specs.Sessions.{AreEventsOf, IsSessionOf}
+use Rattle.driver.specs.declared.reports.Reports.{Reports}
+use Rattle.cached_check.specs.Checks.{IsAnswerValue, IsAnswerIn, IsAnswered, IsNextSession}
+
+answer_value : (v : Value) → kind_of_value v ≡ kinds.Answer → IsAnswerValue v
+answer_value (values.Answer a) is = (a, refl)
+answer_value (values.Files x) is = absurd cc
+answer_value (values.Source x) is = absurd cc
+answer_value (values.Tree x) is = absurd cc
+answer_value (values.Index x) is = absurd cc
+answer_value (values.Header x) is = absurd cc
+answer_value (values.Method x) is = absurd cc
+answer_value (values.Sig x) is = absurd cc
+answer_value (values.Supers x) is = absurd cc
+answer_value (values.Members x) is = absurd cc
+answer_value (values.CheckClass x) is = absurd cc
+answer_value (values.CheckBody x) is = absurd cc
+answer_value (values.Diags x) is = absurd cc
+
+-- a record at some place of the list that is mapped
+mapped_at : (rs xs : List RecordValue) (i : ℕ) (r : Entry) → i < length (map (entry_of rs) xs) → get_or (map (entry_of rs) xs) i r ≡ r
+    → (x : RecordValue) × (i < length xs) × (get_or xs i x ≡ x) × (entry_of rs x ≡ r)
+mapped_at rs [] i r lt is = absurd (omega arith)
+mapped_at rs (x ∷ xs) zero r lt is = let l : 0 < length (x ∷ xs) = omega arith in (x, l, refl, is)
+mapped_at rs (x ∷ xs) (suc i) r lt is =
+    let rest = mapped_at rs xs i r (omega arith) is in
+    let l : suc i < length (x ∷ xs) = let b = rest.1 in omega arith in (rest.0, l, rest.2, rest.3)
+
+-- what stands among the entries is what the session tells of its key
+told : (s : SessionValue) → IsSession s → (r : Entry) → Contains (entries s) r → entry_at s r.key ≡ Some r
+told s session r has =
+    let at = mapped_at s.records s.records has.0 r has.1 has.2 in
+    ap (λ (e : Entry). entry_at s e.key) (sym at.3) ∙ entry_of_place s session has.0 at.0 at.1 at.2 ∙ ap Some at.3
+
+answered : (s : SessionValue) → IsSession s → (r : Entry) → entry_at s Answer ≡ Some r → IsAnswered s
+answered s session r has =
+    let v = answer_value r.value ((session_graph s session).kind Answer r has) in
+    (v.0, record { entry = r; has = has; value = v.1 })
+
+closed_answered : (p : Project) (s : SessionValue) → IsSession s → (state : State) → AreClosed p state (entries s) → IsAnswered s
+closed_answered p s session state closed =
+    let it = closed.all Answer (starts Answer answer) in
+    answered s session it.0 (ap (entry_at s) (sym it.2) ∙ told s session it.0 it.1)
+
+-- ---- the past
+
+pub same_past : (past : Option (Arc SessionValue Global)) → session_at_table past ≡ session_in past
+same_past None = refl
+same_past (Some s) = refl
+
+pub has_room : (past : Option (Arc SessionValue Global)) → IfSome (session_in past) (λ s. s.number < most) → IsFull (session_at_table past) → ⊥
+has_room None room full = full
+has_room (Some s) room full = omega arith
+
+pub next : (past : Option (Arc SessionValue Global)) (p : Project) (workers : ℕ) (s : SessionValue) (r : Reports) → IsSession s
+    → IsSessionOf mean reads (session_at_table past) p workers s r → IsNextSession (session_in past) p s
+next past p workers s r session of = record {
+  history = of.history;
+  events = subst (λ (o : Option SessionValue). AreEventsOf mean reads o p of.history s) (same_past past) of.events;
+  answered = closed_answered p s session _ of.events.closing.closed;
+}

@@ -1,0 +1,48 @@
+-- The session that comes next, and the answer that a session records.
+use Rattle.std.specs.Prelude.{◌≡◌, ℕ, List, Option, Some, string_bytes}
+use Rattle.item_ids.specs.declared.key.Key.TheVariants.{Answer}
+use Rattle.mj_answer.specs.AnswerValues.{AnswerValue}
+use Rattle.result_bytes.specs.declared.value.Value.{Value}
+use Rattle.result_bytes.specs.declared.value.Value.TheVariants as values
+use Rattle.recorder.specs.Projects.{Project}
+use Rattle.query_rules.specs.Meaning.{mean}
+use Rattle.query_rules.specs.Reads.{reads}
+use Rattle.sessions.specs.Sessions.{Entry, SessionValue, entry_at}
+use Rattle.graph_rules.specs.Steps.{Event}
+use Rattle.driver.specs.Sessions.{AreEventsOf}
+use Rattle.session_cache.specs.Starts.{IsStart, session_in}
+use Rattle.session_cache.specs.declared.start.Start.{Start}
+use Rattle.cached_check.specs.Lines.{AreNotes}
+use Rattle.cached_check.specs.declared.beginning.Beginning.{Beginning}
+
+-- A session begins behind another one, or a chain; the notes tell of a file that isn't followed.
+pub record IsBeginning (dir : List ℕ) (b : Beginning) : Type 0 where
+  pub start : Start
+  pub begins : IsStart start
+  pub past : start.past ≡ b.past
+  pub place : start.place ≡ Some b.place
+  pub notes : AreNotes dir start.note (string_bytes b.notes)
+
+-- it is an answer for a project
+abbrev pub IsAnswerValue : Value → Type 0
+IsAnswerValue v = (answer : AnswerValue) × (v ≡ values.Answer answer)
+
+-- the session's record of the answer has this one
+pub record IsAnswerIn (s : SessionValue) (answer : AnswerValue) : Type 0 where
+  pub entry : Entry
+  pub has : entry_at s Answer ≡ Some entry
+  pub value : entry.value ≡ values.Answer answer
+
+abbrev pub IsAnswered : SessionValue → Type 0
+IsAnswered s = (answer : AnswerValue) × IsAnswerIn s answer
+
+-- The session comes of a legal history over the past and the project, in which each outcome is one
+-- that MiniJava's queries give to their reads, and it records the answer.
+pub record IsNextSession (past : Option SessionValue) (p : Project) (s : SessionValue) : Type 0 where
+  pub history : List Event
+  pub events : AreEventsOf mean reads past p history s
+  pub answered : IsAnswered s
+
+-- the session comes where it is to begin
+abbrev pub IsNextAt : Beginning → Project → SessionValue → Type 0
+IsNextAt b p s = IsNextSession (session_in b.past) p s

@@ -1,0 +1,49 @@
+-- The lines that tell of a session, and of a file that it doesn't follow.
+use Rattle.std.specs.Prelude.{◌≡◌, ◌==◌, ◌++◌, ℕ, Bool, List, [], Option, Some, None, codes, count_by, decimal}
+use Rattle.sessions.specs.declared.mark.Mark.{Mark}
+use Rattle.sessions.specs.declared.mark.Mark.TheVariants.{Executed, Green}
+use Rattle.sessions.specs.Marks.{number_of}
+use Rattle.sessions.specs.Sessions.{RecordValue, SessionValue}
+use Rattle.session_cache.specs.Starts.{path_of}
+use Rattle.session_cache.specs.declared.start.Note.{Note}
+use Rattle.session_cache.specs.declared.start.Why.{Why}
+use Rattle.session_cache.specs.declared.start.Why.TheVariants.{Refused, Number, Full}
+
+-- a record has the mark; marks are told apart by their numbers
+abbrev pub has_mark : Mark → RecordValue → Bool
+has_mark mark r = number_of r.mark == number_of mark
+
+-- how many records have the mark
+abbrev pub many_of : Mark → List RecordValue → ℕ
+many_of mark records = count_by (has_mark mark) records
+
+-- 3 executed, 7 green
+abbrev pub counts_with : ℕ → ℕ → List ℕ
+counts_with executed green =
+    decimal executed ++ codes " executed, " ++ decimal green ++ codes " green"
+
+-- session 1: 3 executed, 7 green
+abbrev pub line_with : ℕ → List ℕ → List ℕ
+line_with number counts = codes "session " ++ decimal number ++ codes ": " ++ counts ++ codes "\n"
+
+-- the number of the session, and how many of its records were run and how many taken over
+abbrev pub summary_line : SessionValue → List ℕ
+summary_line s =
+    line_with s.number (counts_with (many_of Executed s.records) (many_of Green s.records))
+
+-- why no session follows a file
+abbrev pub IsWhyText : Why → List ℕ → Type 0
+IsWhyText (Refused fault) text = (words : List ℕ) × (text ≡ codes "refused: " ++ words)
+IsWhyText Number text = text ≡ codes "refused: number"
+IsWhyText Full text = text ≡ codes "full"
+
+-- note: DIR/c0000/s0003.mjrg full
+pub record IsNoteText (dir : List ℕ) (note : Note) (text : List ℕ) : Type 0 where
+  pub why : List ℕ
+  pub told : IsWhyText note.why why
+  pub line : text ≡ codes "note: " ++ path_of dir note.place ++ codes " " ++ why ++ codes "\n"
+
+-- what stands in front of all that is told of a check: the line on a file that isn't followed
+abbrev pub AreNotes : List ℕ → Option Note → List ℕ → Type 0
+AreNotes dir None text = text ≡ []
+AreNotes dir (Some note) text = IsNoteText dir note text

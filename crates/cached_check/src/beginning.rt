@@ -1,0 +1,84 @@
+//! Where the next session begins, and where it is kept.
+ghost use Rattle.std.specs.Prelude.{IfOk, IfSome, string_bytes};
+ghost use Rattle.session_cache.specs.Starts.{IsPlace, IsStart};
+ghost use Rattle.cached_check.specs.Lines.{AreNotes};
+ghost use Rattle.cached_check.specs.Checks.{IsBeginning};
+
+use crate::fault::CheckFault;
+use crate::words::note_text;
+use session_cache::{CacheFault, Note, Place, Start, file_bytes, find_start, write_file};
+use sessions::Session;
+use std::alloc::{AllocError, Global};
+use std::rt::Files;
+use std::sync::Arc;
+
+/// Where the next session of a cache begins.
+#[derive(Drop)]
+pub struct Beginning {
+    /// The session that it follows; none at the beginning of a chain.
+    pub past: Option<Arc<Session>>,
+    /// The place of its file.
+    pub place: Place,
+    /// The line on a session's file that it doesn't follow, where there is one.
+    pub notes: String,
+}
+
+/// Where the next session begins in the cache of this folder: behind the last session of the last chain, or in a new chain
+/// where that one can't be followed.
+pub fn begin<R: Files + AllocGlobal>(rt: &R, cache: &str) -> Result<Beginning, CheckFault>
+    ensures { IfOk result (IsBeginning cache.now) }
+{
+    let alloc = rt.alloc();
+    match find_start(rt, cache) {
+        Ok(start) => begin_at(alloc, cache, start),
+        Err(CacheFault::CannotRead(path)) => Err(CheckFault::CannotRead(path)),
+        Err(CacheFault::CannotWrite(path)) => {
+            Err(CheckFault::CannotWrite(String::new(alloc), path))
+        }
+        Err(CacheFault::OutOfMemory) => Err(CheckFault::OutOfMemory),
+    }
+}
+
+/// The beginning at this start. Past the last chain there is none.
+fn begin_at(alloc: Global, cache: &str, start: Start) -> Result<Beginning, CheckFault>
+    requires { IsStart start }
+    ensures { IfOk result (IsBeginning cache.now) }
+{
+    let Start { past, place, note } = start;
+    let notes = notes_of(alloc, cache, note)?;
+    match place {
+        Some(place) => Ok(Beginning { past, place, notes }),
+        None => Err(CheckFault::CannotWrite(notes, String::from_str(alloc, cache)?)),
+    }
+}
+
+/// The line on a session's file that isn't followed, where there is one.
+fn notes_of(alloc: Global, cache: &str, note: Option<Note>) -> Result<String, AllocError>
+    requires { IfSome note (λ n. IsPlace n.place) }
+    ensures { IfOk result (λ text. AreNotes cache.now note (string_bytes text)) }
+{
+    match note {
+        Some(note) => note_text(alloc, cache, note),
+        None => Ok(String::new(alloc)),
+    }
+}
+
+/// Writes the file of a session at its place. Where that can't be done the fault has the notes.
+pub fn keep<R: Files + AllocGlobal>(
+    rt: &R,
+    cache: &str,
+    place: Place,
+    session: &Session,
+    notes: String,
+) -> Result<(), CheckFault>
+    requires { IsPlace place }
+{
+    let file = file_bytes(rt.alloc(), session)?;
+    match write_file(rt, cache, place, file.bytes()) {
+        Ok(()) => Ok(()),
+        Err(CacheFault::CannotRead(path) | CacheFault::CannotWrite(path)) => {
+            Err(CheckFault::CannotWrite(notes, path))
+        }
+        Err(CacheFault::OutOfMemory) => Err(CheckFault::OutOfMemory),
+    }
+}

@@ -1,0 +1,15 @@
+//! One check over a cache: where the next session begins, the session, the answer that it records, its file, and the lines
+//! that tell of it.
+#![tactic(auto)]
+
+mod answer;
+mod beginning;
+mod fault;
+mod next;
+mod words;
+
+pub use answer::answer_in;
+pub use beginning::{Beginning, begin, keep};
+pub use fault::CheckFault;
+pub use next::next_session;
+pub use words::summary_text;

@@ -1,0 +1,33 @@
+//! The session that comes next.
+ghost use Rattle.std.specs.Prelude.{◌<◌, IfOk, IfSome};
+ghost use Rattle.session_cache.specs.Names.{most};
+ghost use Rattle.session_cache.specs.Starts.{session_in};
+ghost use Rattle.driver.specs.Sessions.{IsCrew};
+ghost use Rattle.cached_check.specs.Checks.{IsNextSession};
+
+use mini_java_driver::{DriveFault, Open, run_session};
+use mj_project::Project;
+use sessions::Session;
+use std::alloc::{AllocError, Global};
+use std::sync::Arc;
+
+/// The session of a project that comes behind the past, made by so many workers.
+pub fn next_session(
+    alloc: Global,
+    past: Option<Arc<Session>>,
+    project: &Project,
+    workers: usize,
+) -> Result<Session, AllocError>
+    requires crew { IsCrew workers }
+    requires room { IfSome (session_in past) (λ s. s.number < most) }
+    ensures { IfOk result (IsNextSession (session_in past) project.now) }
+{
+    match run_session(alloc, past, project, workers, &Open) {
+        Ok((session, _)) => {
+            let _records = session.records();
+            Ok(session)
+        }
+        Err(DriveFault::OutOfMemory) => Err(AllocError),
+        Err(DriveFault::Workers | DriveFault::ChainFull) => unreachable!(),
+    }
+}
