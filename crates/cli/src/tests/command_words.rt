@@ -85,7 +85,7 @@ const TOLD: &[(&[&str], bool, &str)] = &[
     (
         &["another", "--help"],
         true,
-        "Check MiniJava projects, and audit chains of session files\n\nUsage: mjrg <COMMAND>\n",
+        "Check MiniJava projects, from scratch or session by session, and audit chains of session files\n\nUsage: mjrg <COMMAND>\n",
     ),
     (
         &[],
