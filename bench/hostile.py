@@ -33,6 +33,17 @@ def numbers():
         number += 1
 
 
+def ring():
+    """As many classes as there is room for, each of which extends the next, and the last of which the first."""
+    parts, room = [], MOST - len(MAIN) - len("class C00000 extends C0{}\n")
+    for i in numbers():
+        part = f"class C{i} extends C{i + 1}{{}}"
+        room -= len(part)
+        if room < 0:
+            return MAIN + "".join(parts) + f"class C{i} extends C0{{}}\n"
+        parts.append(part)
+
+
 KINDS = {
     "ordinary methods": lambda: filled(
         "class A { int n; ",
@@ -52,6 +63,7 @@ KINDS = {
         "class A { ", (f"public int m{i}(){{return new B{i}().f();}}" for i in numbers()), "}\n"),
     "one chain of classes": lambda: filled(
         "class C0{}", (f"class C{i + 1} extends C{i}{{}}" for i in numbers()), "\n"),
+    "classes in a ring": ring,
     "methods of one class": lambda: filled(
         "class A { ", (f"public int m{i}(){{return 1;}}" for i in numbers()), "}\n"),
     "calls in one class": lambda: filled(

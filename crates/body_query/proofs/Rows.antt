@@ -13,7 +13,7 @@ use Rattle.mj_typing.specs.declared.verdict.Verdict.{Verdict}
 use Rattle.mj_typing.specs.Types.{is_same, is_int, is_boolean, is_int_array}
 use Rattle.mj_typing.specs.Inquiries.{World, Sig, Inquiry, Concludes, AsksDescent, conclusion}
 use Rattle.mj_typing.specs.Phrases.{demand, demand_asked, demand_some, is, fine}
-use Rattle.mj_typing.specs.Table.{Scope, local_of, accepts, accepts_all, literal, local_or_field, variable, this, negation, binary, index, array_length, arguments, call, new_array, new_object, condition, print, assign, store, return_value}
+use Rattle.mj_typing.specs.Table.{Scope, local_of, is_accepted, are_accepted, literal, local_or_field, variable, this, negation, binary, index, array_length, arguments, call, new_array, new_object, condition, print, assign, store, return_value}
 use Rattle.query_rules.specs.BodyReads.{field_reads, accept_reads, arguments_reads, called_reads, call_reads}
 use Rattle.body_query.proofs.Asked.{asked_in, asked-and_then}
 
@@ -31,8 +31,8 @@ module _ (w : World) where
       found None = refl
       found (Some t) = refl
 
-  accept_asked : (t u : Ty) → asked_in w (accepts t u) ≡ accept_reads t u
-  unfolding accepts
+  accept_asked : (t u : Ty) → asked_in w (is_accepted t u) ≡ accept_reads t u
+  unfolding is_accepted
   accept_asked types.Int u = refl
   accept_asked types.Boolean u = refl
   accept_asked types.IntArray u = refl
@@ -45,15 +45,15 @@ module _ (w : World) where
       by_test true = refl
       by_test false = refl
 
-  arguments_asked : (ts us : List Ty) → asked_in w (accepts_all ts us) ≡ arguments_reads w ts us
-  unfolding accepts_all
+  arguments_asked : (ts us : List Ty) → asked_in w (are_accepted ts us) ≡ arguments_reads w ts us
+  unfolding are_accepted
   arguments_asked [] us = refl
   arguments_asked (t ∷ ts) [] = refl
   arguments_asked (t ∷ ts) (u ∷ us) =
-      asked-and_then w (accepts t u) (λ ok. if ok then accepts_all ts us else Concludes false)
-      ∙ ap₂ (λ xs ys. xs ++ ys) (accept_asked t u) (by_test (conclusion w (accepts t u)) (arguments_asked ts us))
+      asked-and_then w (is_accepted t u) (λ ok. if ok then are_accepted ts us else Concludes false)
+      ∙ ap₂ (λ xs ys. xs ++ ys) (accept_asked t u) (by_test (conclusion w (is_accepted t u)) (arguments_asked ts us))
     where
-      by_test : (b : Bool) → asked_in w (accepts_all ts us) ≡ arguments_reads w ts us → asked_in w (if b then accepts_all ts us else Concludes false) ≡ (if b then arguments_reads w ts us else [])
+      by_test : (b : Bool) → asked_in w (are_accepted ts us) ≡ arguments_reads w ts us → asked_in w (if b then are_accepted ts us else Concludes false) ≡ (if b then arguments_reads w ts us else [])
       by_test true h = h
       by_test false h = refl
 
@@ -67,8 +67,8 @@ module _ (w : World) where
   unfolding arguments
   called_asked ts s = by_count (nat_eq (length ts) (length s.formals))
     where
-      by_count : (b : Bool) → asked_in w (demand b E312 (demand_asked (accepts_all ts s.formals) E313 (is s.returns))) ≡ (if b then arguments_reads w ts s.formals else [])
-      by_count true = asked_alone (accepts_all ts s.formals) E313 (is s.returns) refl ∙ arguments_asked ts s.formals
+      by_count : (b : Bool) → asked_in w (demand b E312 (demand_asked (are_accepted ts s.formals) E313 (is s.returns))) ≡ (if b then arguments_reads w ts s.formals else [])
+      by_count true = asked_alone (are_accepted ts s.formals) E313 (is s.returns) refl ∙ arguments_asked ts s.formals
       by_count false = refl
 
   pub call_asked : (m : Name) (t : Ty) (ts : List Ty) → asked_in w (call m t ts) ≡ call_reads w m (Some t) (Some ts)
@@ -108,11 +108,11 @@ module _ (w : World) where
 
   pub assign_asked : (x a : Ty) → asked_in w (assign x a) ≡ accept_reads a x
   unfolding assign
-  assign_asked x a = asked_alone (accepts a x) E318 fine refl ∙ accept_asked a x
+  assign_asked x a = asked_alone (is_accepted a x) E318 fine refl ∙ accept_asked a x
 
   pub returned_asked : (wanted a : Ty) → asked_in w (return_value wanted a) ≡ accept_reads a wanted
   unfolding return_value
-  returned_asked wanted a = asked_alone (accepts a wanted) E319 fine refl ∙ accept_asked a wanted
+  returned_asked wanted a = asked_alone (is_accepted a wanted) E319 fine refl ∙ accept_asked a wanted
 
   -- the others ask nothing
   pub literal_asked : (value : ℕ) → asked_in w (literal value) ≡ []

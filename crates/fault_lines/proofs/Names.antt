@@ -1,5 +1,5 @@
 -- The index of files by name.
-use Rattle.std.proofs.Common.{◌≡◌, ℕ, zero, suc, ◌+◌, ◌<◌, Bool, true, false, List, [], ◌∷◌, ◌++◌, length, take, map, Option, Some, None, All, refl, sym, ap, ◌∙◌, subst, arith, cond, get_or}
+use Rattle.std.proofs.Common.{◌≡◌, ℕ, zero, suc, ◌+◌, ◌<◌, Bool, true, false, List, [], ◌∷◌, ◌++◌, length, take, Option, Some, None, All, refl, sym, ap, ◌∙◌, subst, arith, cond, get_or}
 use Rattle.std.specs.Prelude.{position, is_some}
 use Rattle.std.specs.Str.{bytes_eq}
 use Rattle.std.specs.Ordering.{nat_cmp, is_eq}
@@ -7,7 +7,7 @@ use Rattle.std.specs.Cmp.Lexicographic.{slice_cmp}
 use Rattle.std.proofs.lemmas.List.{take_more, length-map, length-take-le}
 use Rattle.mj_tree.specs.Trees.{Name}
 use Rattle.mj_project.specs.Projects.{SourceFile, names_of, IsFileName}
-use Rattle.mj_classes.proofs.Positions.{names_tie, same_name, position_added, position_kept}
+use Rattle.mj_tree.proofs.Positions.{names_tie, same_name, position_added, position_kept}
 
 abbrev pub place_of : List SourceFile → Name → Option ℕ
 place_of fs q = position (λ f. bytes_eq f.name q) fs

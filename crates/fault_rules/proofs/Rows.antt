@@ -13,7 +13,7 @@ use Rattle.mj_typing.specs.declared.verdict.Verdict.TheVariants.{Is, Fine, Wrong
 use Rattle.mj_typing.specs.Types.{is_int, is_boolean, is_int_array, class_in}
 use Rattle.mj_typing.specs.Inquiries.{World, Sig, Inquiry, Concludes, AsksMethod, conclusion}
 use Rattle.mj_typing.specs.Phrases.{demand, demand_asked, demand_some, is, fine}
-use Rattle.mj_typing.specs.Table.{Scope, local_of, accepts, accepts_all, literal, local_or_field, variable, parentheses, this, negation, binary, index, array_length, arguments, call, new_array, new_object, condition, print, assign, store, return_value, no_parts, one_part, two_parts, three_parts, some_parts}
+use Rattle.mj_typing.specs.Table.{Scope, local_of, is_accepted, are_accepted, literal, local_or_field, variable, parentheses, this, negation, binary, index, array_length, arguments, call, new_array, new_object, condition, print, assign, store, return_value, no_parts, one_part, two_parts, three_parts, some_parts}
 use Rattle.mj_typing.specs.Cases.{Accepted, operand_type}
 use Rattle.mj_typing.specs.Laws.{IsOfExpression, IsOfStatement}
 use Rattle.mj_typing.proofs.ByCases.{boolean_is, int_is, array_is, accepted_from, from_accepted, variable_from, from_variable}
@@ -144,23 +144,23 @@ module _ (w : World) (s : Scope) where
   first_accepted true rest e = (refl, e)
   first_accepted false rest e = absurd cc
 
-  all_from : (ts us : List Ty) → length ts ≡ length us → conclusion w (accepts_all ts us) ≡ true → AreAccepted w ts us
-  unfolding accepts_all
+  all_from : (ts us : List Ty) → length ts ≡ length us → conclusion w (are_accepted ts us) ≡ true → AreAccepted w ts us
+  unfolding are_accepted
   all_from [] [] n e = tt
   all_from [] (u ∷ us) n e = absurd (omega (arith, n))
   all_from (t ∷ ts) [] n e = absurd (omega (arith, n))
   all_from (t ∷ ts) (u ∷ us) n e =
-      let f = first_accepted (conclusion w (accepts t u)) (accepts_all ts us) (sym (conclusion-and_then w (accepts t u) (λ ok. cond ok (accepts_all ts us) (Concludes false))) ∙ e) in
+      let f = first_accepted (conclusion w (is_accepted t u)) (are_accepted ts us) (sym (conclusion-and_then w (is_accepted t u) (λ ok. cond ok (are_accepted ts us) (Concludes false))) ∙ e) in
       (accepted_from w t u f.0, all_from ts us (omega (arith, n)) f.1)
 
-  from_all : (ts us : List Ty) → AreAccepted w ts us → conclusion w (accepts_all ts us) ≡ true
-  unfolding accepts_all
+  from_all : (ts us : List Ty) → AreAccepted w ts us → conclusion w (are_accepted ts us) ≡ true
+  unfolding are_accepted
   from_all [] [] h = refl
   from_all [] (u ∷ us) h = absurd h
   from_all (t ∷ ts) [] h = absurd h
   from_all (t ∷ ts) (u ∷ us) h =
-      conclusion-and_then w (accepts t u) (λ ok. cond ok (accepts_all ts us) (Concludes false))
-      ∙ ap (λ b. conclusion w (cond b (accepts_all ts us) (Concludes false))) (from_accepted w t u h.0)
+      conclusion-and_then w (is_accepted t u) (λ ok. cond ok (are_accepted ts us) (Concludes false))
+      ∙ ap (λ b. conclusion w (cond b (are_accepted ts us) (Concludes false))) (from_accepted w t u h.0)
       ∙ from_all ts us h.1
 
   one_method : (t : Ty) (m : Name) (a b : Sig) → HasMethod w t m a → HasMethod w t m b → a ≡ b
@@ -178,10 +178,10 @@ module _ (w : World) (s : Scope) where
       → Tells IsOfExpression (conclusion w (arguments sig ts)) (((u : Sig) × HasMethod w t m u × (length ts ≡ length u.formals), E312) ∷ ((u : Sig) × HasMethod w t m u × AreAccepted w ts u.formals, E313) ∷ [])
   unfolding arguments
   called_told t m ts sig is =
-      demand_tells IsOfExpression w (nat_eq (length ts) (length sig.formals)) ((u : Sig) × HasMethod w t m u × (length ts ≡ length u.formals)) E312 (demand_asked (accepts_all ts sig.formals) E313 (Concludes (Is sig.returns))) (((u : Sig) × HasMethod w t m u × AreAccepted w ts u.formals, E313) ∷ [])
+      demand_tells IsOfExpression w (nat_eq (length ts) (length sig.formals)) ((u : Sig) × HasMethod w t m u × (length ts ≡ length u.formals)) E312 (demand_asked (are_accepted ts sig.formals) E313 (Concludes (Is sig.returns))) (((u : Sig) × HasMethod w t m u × AreAccepted w ts u.formals, E313) ∷ [])
       (λ e. (sig, is, eqb-true (length ts) (length sig.formals) e))
       (λ h. eq-eqb (length ts) (length sig.formals) (h.2 ∙ ap (λ (u : Sig). length u.formals) (one_method t m h.0 sig h.1 is)))
-      (λ h. asked_tells IsOfExpression w (accepts_all ts sig.formals) ((u : Sig) × HasMethod w t m u × AreAccepted w ts u.formals) E313 (Concludes (Is sig.returns)) []
+      (λ h. asked_tells IsOfExpression w (are_accepted ts sig.formals) ((u : Sig) × HasMethod w t m u × AreAccepted w ts u.formals) E313 (Concludes (Is sig.returns)) []
       (λ e. (sig, is, all_from ts sig.formals (h.2 ∙ ap (λ (u : Sig). length u.formals) (one_method t m h.0 sig h.1 is)) e))
       (λ k. from_all ts sig.formals (subst (λ (u : Sig). AreAccepted w ts u.formals) (one_method t m k.0 sig k.1 is) k.2))
       (λ k. (tt, tt)))
@@ -276,7 +276,7 @@ module _ (w : World) (s : Scope) where
       (λ t. demand_tells IsOfStatement w (is_int t) (t ≡ ty.Int) E317 fine [] (int_is t) (is_the_int t) (λ h. (tt, tt))) ts a
   statement_told (Assign mark x x_mark e) ts a =
       two_told IsOfStatement (demands w s (OfStatement (Assign mark x x_mark e))) assign (Named x_mark x) e
-      (λ u t. asked_tells IsOfStatement w (accepts t u) (Accepted w t u) E318 fine [] (accepted_from w t u) (from_accepted w t u) (λ h. (tt, tt))) ts a
+      (λ u t. asked_tells IsOfStatement w (is_accepted t u) (Accepted w t u) E318 fine [] (accepted_from w t u) (from_accepted w t u) (λ h. (tt, tt))) ts a
   statement_told (Store mark x x_mark i e) ts a =
       three_told IsOfStatement (demands w s (OfStatement (Store mark x x_mark i e))) store (Named x_mark x) i e
       (λ u n t. demand_tells IsOfStatement w (is_int_array u) (u ≡ ty.IntArray) E307 (demand (is_int n) E308 (demand (is_int t) E318 fine)) ((n ≡ ty.Int, E308) ∷ (t ≡ ty.Int, E318) ∷ []) (array_is u) (is_the_array u)
@@ -287,7 +287,7 @@ module _ (w : World) (s : Scope) where
   unfolding return_value
   returned_told mark wanted e ts a =
       one_told IsOfStatement (demands w s (OfReturn mark wanted e)) (return_value wanted) e
-      (λ t. asked_tells IsOfStatement w (accepts t wanted) (Accepted w t wanted) E319 fine [] (accepted_from w t wanted) (from_accepted w t wanted) (λ h. (tt, tt))) ts a
+      (λ t. asked_tells IsOfStatement w (is_accepted t wanted) (Accepted w t wanted) E319 fine [] (accepted_from w t wanted) (from_accepted w t wanted) (λ h. (tt, tt))) ts a
 
   pub row_tells : (p : BodyPhrase) (ts : List Ty) → HaveTypes w s (parts_of p) ts → Tells (kind_of p) (conclusion w (row_of s p ts)) (demands w s p ts)
   row_tells (OfExpression e) ts a = expression_told e ts a

@@ -1,3 +1,4 @@
 pub mod Positions
 pub mod Feeds
+pub mod FirstMethods
 pub mod Readings

@@ -1,5 +1,5 @@
 -- What was read, by what cutting into tokens gives.
-use Rattle.std.proofs.Common.{◌≡◌, ◌∙◌, ℕ, List, [], length, None, Ok, Err, Result, Vec, IfOk, refl, sym, ap, subst}
+use Rattle.std.proofs.Common.{◌≡◌, ◌∙◌, ℕ, List, [], length, None, Ok, Err, Result, Vec, IfOk, sym, ap, subst}
 use Rattle.std.specs.Prelude.{unwrap_or}
 use Rattle.std.specs.declared.alloc.Global.{Global}
 use Rattle.std.specs.Result.{result_ok, result_err}
@@ -7,7 +7,7 @@ use Rattle.mj_lexer.specs.declared.token.Token.{Token}
 use Rattle.mj_lexer.specs.declared.lexer.LexFault.{LexFault}
 use Rattle.mj_lexer.specs.Lexing.{Lexing, lexing_of}
 use Rattle.file_index.specs.declared.reading.ReadFile.{ReadFile}
-use Rattle.file_index.specs.Reading.{lexing_stop, IsTokenStop, IsTreeOf, IsStop, IsReading}
+use Rattle.file_index.specs.Reading.{lexing_stop, IsTokenStop, IsTreeOf, IsReading}
 
 same_tokens : (text : List ℕ) (ts us : List Token) → lexing_of text ≡ Ok ts → lexing_of text ≡ Ok us → ts ≡ us
 same_tokens text ts us e f = ap (λ (r : Lexing). unwrap_or (result_ok r) []) (sym e ∙ f)

@@ -1,5 +1,5 @@
 -- The lines of a text by the places of its line feeds.
-use Rattle.std.specs.Prelude.{ℕ, zero, suc, ◌+◌, Bool, List, [], ◌∷◌, length, get_or, filter}
+use Rattle.std.specs.Prelude.{ℕ, ◌+◌, Bool, List, [], ◌∷◌, length, get_or, filter}
 use Rattle.mj_lexer.specs.Places.{is_line_feed}
 use Rattle.mj_parser.specs.Locations.{numbers}
 

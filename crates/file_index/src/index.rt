@@ -1,12 +1,11 @@
 //! The tokens of places, found by search.
-ghost use Rattle.std.specs.Prelude.{◌≡◌, ◌<◌, ◌≤◌, length, find, IfOk, IfSome, map};
-ghost use Rattle.std.specs.List.{AllWithin};
+ghost use Rattle.std.specs.Prelude.{◌≡◌, ◌<◌, ◌≤◌, length, IfOk, IfSome};
 ghost use Rattle.mj_parser.specs.Locations.{existing, class_start, class_end, class_name, field_name, method_start, name_of_method, token_of};
-ghost use Rattle.file_index.specs.Standing.{is_named};
 
+use crate::methods::{ClassMethods, index_classes};
 use crate::terminals::TerminalPlaces;
 use mj_lexer::{Name, Terminal, Token};
-use mj_parser::{method_name, name};
+use mj_parser::method_name;
 use mj_tree::Place;
 use std::alloc::{AllocError, Global};
 use std::marker::Model;
@@ -19,13 +18,14 @@ pub struct TokenIndex<'a> {
     classes: TerminalPlaces<'a>,
     semicolons: TerminalPlaces<'a>,
     publics: TerminalPlaces<'a>,
+    methods: Vec<ClassMethods<'a>>,
 }
 
 impl<'a> Model for TokenIndex<'a> {
     ghost use Rattle.std.specs.Prelude.{◌≡◌, List};
     ghost use Rattle.mj_lexer.specs.declared.token.Token.{Token};
     ghost use Rattle.mj_lexer.specs.declared.token.Terminal.TheVariants as terminals;
-    ghost use Rattle.file_index.specs.Standing.{Standing, standing};
+    ghost use Rattle.file_index.specs.Standing.{Standing, standing, classes_of};
 
     ghost Value = { List Token };
 
@@ -34,7 +34,8 @@ impl<'a> Model for TokenIndex<'a> {
     ghost invariant = { λ t.
         (t.classes ≡ standing t.tokens.now terminals.Class)
         × (t.semicolons ≡ standing t.tokens.now terminals.Semicolon)
-        × (t.publics ≡ standing t.tokens.now terminals.Public) };
+        × (t.publics ≡ standing t.tokens.now terminals.Public)
+        × (t.methods.items ≡ classes_of t.tokens.now) };
 }
 
 impl<'a> TokenIndex<'a> {
@@ -42,11 +43,16 @@ impl<'a> TokenIndex<'a> {
     pub fn new(alloc: Global, tokens: &'a [Token]) -> Result<Self, AllocError>
         ensures { IfOk result (λ t. t ≡ tokens.now) }
     {
+        let classes = TerminalPlaces::new(alloc, tokens, Terminal::Class)?;
+        let semicolons = TerminalPlaces::new(alloc, tokens, Terminal::Semicolon)?;
+        let publics = TerminalPlaces::new(alloc, tokens, Terminal::Public)?;
+        let methods = index_classes(alloc, tokens, &classes, &publics)?;
         Ok(TokenIndex {
             tokens,
-            classes: TerminalPlaces::new(alloc, tokens, Terminal::Class)?,
-            semicolons: TerminalPlaces::new(alloc, tokens, Terminal::Semicolon)?,
-            publics: TerminalPlaces::new(alloc, tokens, Terminal::Public)?,
+            classes,
+            semicolons,
+            publics,
+            methods,
         })
     }
 
@@ -72,10 +78,7 @@ impl<'a> TokenIndex<'a> {
         ensures after { start ≤ result }
         ensures within { result ≤ length self.now }
     {
-        match self.classes.nth(start + 1, self.tokens.len(), 0) {
-            Some(next) => next,
-            None => self.tokens.len(),
-        }
+        self.classes.next(start)
     }
 
     /// The place of a class's name.
@@ -101,12 +104,9 @@ impl<'a> TokenIndex<'a> {
 
     /// The place of the `public` of a class's first method of a name, or of its `main`.
     fn method_start(&self, class: usize, method: &Name) -> Option<usize>
-        ensures value { result ≡ method_start self.now class method.now }
-        ensures within { IfSome result (λ at. at < length self.now) }
+        ensures { result ≡ method_start self.now class method.now }
     {
-        let start = self.class_start(class)?;
-        let end = self.class_end(start);
-        first_named(self.tokens, self.publics.within(start, end), method)
+        self.methods.get(class)?.first(method)
     }
 
     /// The place of the name of a class's method, or of `main`.
@@ -146,29 +146,4 @@ fn existing(tokens: &[Token], at: usize) -> Option<usize>
     ensures within { IfSome result (λ place. place < length tokens.now) }
 {
     if at < tokens.len() { Some(at) } else { None }
-}
-
-/// The first of these places of `public` behind which a method of this name is declared.
-fn first_named(tokens: &[Token], publics: &[usize], method: &Name) -> Option<usize>
-    requires { AllWithin (λ at. at < length tokens.now) publics.now 0 (length publics.now) }
-    ensures value { result ≡ find (is_named tokens.now method.now) publics.now }
-    ensures within { IfSome result (λ at. at < length tokens.now) }
-{
-    for at in publics {
-        if is_named(tokens, *at, method) {
-            return Some(*at);
-        }
-    }
-    None
-}
-
-/// Whether the method that begins at a place has this name.
-fn is_named(tokens: &[Token], at: usize, method: &Name) -> bool
-    requires { at < length tokens.now }
-    ensures { result ≡ is_named tokens.now method.now at }
-{
-    match name(tokens, method_name(tokens, at)) {
-        Some(found) => found == method,
-        None => false,
-    }
 }

@@ -2,6 +2,7 @@
 #![tactic(auto)]
 
 mod index;
+mod methods;
 mod places;
 mod reading;
 mod terminals;

@@ -1,5 +1,5 @@
 //! Where a symbol or reserved word stands.
-ghost use Rattle.std.specs.Prelude.{◌≡◌, ◌<◌, ◌≤◌, length, IfOk, IfSome, slice_get};
+ghost use Rattle.std.specs.Prelude.{◌≡◌, ◌<◌, ◌≤◌, ◌+◌, length, IfOk, IfSome, slice_get, unwrap_or};
 ghost use Rattle.std.specs.List.{AllWithin};
 ghost use Rattle.mj_parser.specs.Locations.{all_of};
 ghost use Rattle.file_index.specs.Standing.{Standing};
@@ -68,6 +68,22 @@ impl<'a> TerminalPlaces<'a> {
         match self.within(low, high).get(number) {
             Some(at) => Some(*at),
             None => None,
+        }
+    }
+
+    /// The first place behind this one, or the end.
+    pub fn next(&self, at: usize) -> usize
+        requires { at < length self.now.tokens }
+        ensures value { result ≡ unwrap_or
+            (slice_get (all_of self.now.tokens self.now.terminal (at + 1)
+            (length self.now.tokens)) 0) (length self.now.tokens) }
+        ensures after { at ≤ result }
+        ensures within { result ≤ length self.now.tokens }
+    {
+        let end = self.tokens.len();
+        match self.nth(at + 1, end, 0) {
+            Some(next) => next,
+            None => end,
         }
     }
 }

@@ -1,4 +1,4 @@
-pub mod Accepts
+pub mod Acceptance
 pub mod Climb
 pub mod Climbing
 pub mod Closed
@@ -6,7 +6,6 @@ pub mod Distinct
 pub mod Index
 pub mod Nearest
 pub mod Places
-pub mod Positions
 pub mod Rows
 pub mod Tables
 pub mod Walks

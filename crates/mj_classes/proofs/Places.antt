@@ -1,21 +1,16 @@
 -- Classes by their places, and steps up by them.
-use Rattle.std.proofs.Common.{◌≡◌, ℕ, zero, suc, ◌<◌, ◌≤◌, take, List, [], ◌∷◌, length, map, Option, Some, None, refl, sym, ap, ◌∙◌, arith, get_or}
-use Rattle.std.specs.Prelude.{Bool, find, position, option_map, option_and_then, slice_get}
+use Rattle.std.proofs.Common.{◌≡◌, ℕ, ◌≤◌, take, List, [], ◌∷◌, length, map, Option, Some, None, refl, sym, ap, ◌∙◌}
+use Rattle.std.specs.Prelude.{option_map, option_and_then, slice_get}
 use Rattle.std.specs.Str.{bytes_eq}
-use Rattle.std.proofs.lemmas.Option.{slice_get-map, slice_get_read, same_Some}
-use Rattle.std.proofs.lemmas.List.{length-map, take_all}
+use Rattle.std.proofs.lemmas.Option.{slice_get-map, same_Some}
+use Rattle.std.proofs.lemmas.List.{take_all}
 use Rattle.mj_tree.specs.Trees.{Name}
 use Rattle.mj_classes.specs.Declarations.{ClassDecl, decl, place, superclass_places}
 use Rattle.mj_classes.specs.Chains.{Ends}
 use Rattle.mj_classes.specs.Walks.{straight_end}
-use Rattle.mj_classes.proofs.Positions.{find_from_position, find_at_place, position_below}
+use Rattle.mj_tree.proofs.Positions.{at_some, find_from_position, position_below}
 
 -- ---- places
-
-pub at_some : {X : Type 0} (xs : List X) (i : ℕ) → i < length xs → (x : X) × (slice_get xs i ≡ Some x)
-at_some [] i lt = absurd (omega arith)
-at_some (x ∷ xs) zero lt = (x, refl)
-at_some (x ∷ xs) (suc i) lt = at_some xs i (omega arith)
 
 pub place_none : (cs : List ClassDecl) (c : Name) → place cs c ≡ None → decl cs c ≡ None
 unfolding decl
@@ -27,20 +22,6 @@ unfolding decl
 place_class cs c i e =
     let k = at_some cs i (position_below (λ k. bytes_eq k.name c) cs i e) in
     (k.0, k.1, find_from_position (λ k. bytes_eq k.name c) cs (Some i) e ∙ k.1)
-
--- what is read at a place
-pub read_at : {X : Type 0} (xs : List X) (at : ℕ) (x : X) → at < length xs → x ≡ get_or xs at x → slice_get xs at ≡ Some x
-read_at xs at x lt is = slice_get_read xs (length xs) at x refl lt is
-
-pub view_at : {X Y : Type 0} (view : X → Y) (xs : List X) (at : ℕ) (x : X) → at < length (map view xs) → x ≡ get_or xs at x → slice_get (map view xs) at ≡ Some (view x)
-view_at view xs at x lt is = slice_get-map view xs at ∙ ap (option_map view) (read_at xs at x (omega (arith, lt, length-map xs view)) is)
-
--- the first that passes a test is read at its place
-pub found_first : {X Y : Type 0} (view : X → Y) (p : Y → Bool) (xs : List X) (ys : List Y) (i : ℕ) (x : X) → map view xs ≡ ys → position p ys ≡ Some i → x ≡ get_or xs i x → find p ys ≡ Some (view x)
-found_first view p xs ys i x e h is =
-    let below = position_below p ys i h in
-    let at : position p (map view xs) ≡ Some i = ap (position p) e ∙ h in
-    ap (find p) (sym e) ∙ find_at_place view p xs i x at (omega (arith, below, ap length e, length-map xs view)) is
 
 -- what is told of each of the code's elements
 mapped : {X Y Z : Type 0} (f : X → Y) (g : Y → Z) (xs : List X) → map (λ x. g (f x)) xs ≡ map g (map f xs)

@@ -20,7 +20,7 @@ use Rattle.mj_tree.specs.Trees.{Name}
 use Rattle.mj_classes.specs.Declarations.{ClassDecl}
 use Rattle.mj_classes.specs.Members.{nearest, or_farther}
 use Rattle.mj_classes.specs.Tables.{AreAscending, IsTable, all_along, firsts}
-use Rattle.mj_classes.proofs.Positions.{names_tie, bytes_eq_back}
+use Rattle.mj_tree.proofs.Positions.{names_tie, bytes_eq_back}
 
 abbrev pub by_bytes : Name → Name → Ordering
 by_bytes = slice_cmp nat_cmp

@@ -1,10 +1,10 @@
 -- Chains of classes, and which types are accepted by which.
-use Rattle.std.specs.Prelude.{◌≡◌, ℕ, zero, suc, Bool, true, false, ◌||◌, List, [], ◌∷◌, ◌++◌, length, Option, Some, None, Contains, ◌⊎◌, if◌then◌else◌, option_and_then}
+use Rattle.std.specs.Prelude.{◌≡◌, ℕ, zero, suc, Bool, List, [], ◌∷◌, ◌++◌, length, Option, Some, None, Contains, ◌⊎◌, if◌then◌else◌, option_and_then}
 use Rattle.std.specs.Str.{bytes_eq}
 use Rattle.std.specs.List.{list_any, filter_map}
 use Rattle.mj_tree.specs.Trees.{Name}
 use Rattle.mj_tree.specs.declared.tree.Ty.{Ty}
-use Rattle.mj_tree.specs.declared.tree.Ty.TheVariants.{Int, Boolean, IntArray, Class}
+use Rattle.mj_tree.specs.declared.tree.Ty.TheVariants.{Class}
 use Rattle.mj_classes.specs.Declarations.{ClassDecl, decl}
 
 -- How a chain ends: its last class extends nothing, a name that is not declared, or a class of the
@@ -43,10 +43,10 @@ pub record IsChain (cs : List ClassDecl) (c : Name) (chain : List Name) (end : E
 
 -- A type is accepted by another: they are equal, or classes of which the second stands in the chain
 -- of the first.
-abbrev pub Sub : List ClassDecl → Ty → Ty → Type 0
-Sub cs (Class t) (Class u) =
+abbrev pub IsAcceptedBy : List ClassDecl → Ty → Ty → Type 0
+IsAcceptedBy cs (Class t) (Class u) =
     (t ≡ u) ⊎ ((chain : List Name) × (end : EndOf) × IsChain cs t chain end × Contains chain u)
-Sub cs t u = t ≡ u
+IsAcceptedBy cs t u = t ≡ u
 
 -- ---- the same as functions
 
@@ -84,11 +84,3 @@ chain_names (Some chain) = chain.0
 -- the classes of the chain of a class, none for one that is not declared
 unfoldable pub ancestry : List ClassDecl → Name → List ClassDecl
 ancestry cs c = filter_map (decl cs) (chain_names (chain_of cs c))
-
--- whether a value of the first type may stand where one of the second is wanted
-abbrev pub accepts : List ClassDecl → Ty → Ty → Bool
-accepts cs Int Int = true
-accepts cs Boolean Boolean = true
-accepts cs IntArray IntArray = true
-accepts cs (Class t) (Class u) = bytes_eq t u || is_in (chain_names (chain_of cs t)) u
-accepts cs t u = false

@@ -5,14 +5,13 @@ use Rattle.mj_tree.specs.declared.tree.Field.{Field}
 use Rattle.mj_tree.specs.declared.tree.FileTree.{FileTree}
 use Rattle.mj_tree.specs.Views.{main_view, class_view, method_view, file_view}
 use Rattle.mj_classes.specs.Declarations.{ClassDecl, main_decl, class_decl}
-use Rattle.mj_classes.specs.Chains.{EndOf, Chain}
+use Rattle.mj_classes.specs.Chains.{EndOf}
 use Rattle.mj_classes.specs.Chains as chains
 use Rattle.mj_classes.specs.declared.class.Tree.{Tree}
 use Rattle.mj_classes.specs.declared.class.Tree.TheVariants.{Main, Plain}
 use Rattle.mj_classes.specs.declared.class.ClassRef.{ClassRef}
 use Rattle.mj_classes.specs.declared.chain.End.{End}
 use Rattle.mj_classes.specs.declared.chain.End.TheVariants.{Top, Undeclared, Repeated}
-use Rattle.mj_classes.specs.declared.chain.ClassChain.{ClassChain}
 use Rattle.mj_classes.specs.declared.member.FieldMember.{FieldMember}
 use Rattle.mj_classes.specs.declared.member.MethodMember.{MethodMember}
 
@@ -33,10 +32,6 @@ abbrev pub end_view : End → EndOf
 end_view Top = chains.Top
 end_view (Undeclared u) = chains.Undeclared u.now
 end_view (Repeated u) = chains.Repeated u.now
-
--- the names and the end
-abbrev pub chain_view : ClassChain → Chain
-chain_view c = (map (λ k. (class_ref_view k).name) c.classes.items, end_view c.end)
 
 -- the owner's name and what it declares
 abbrev pub field_member_view : FieldMember → Name × Field

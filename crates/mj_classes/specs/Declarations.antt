@@ -1,5 +1,5 @@
 -- The classes that a project declares.
-use Rattle.std.specs.Prelude.{ℕ, suc, List, [], ◌∷◌, ◌++◌, map, find, position, Option, Some, None, option_and_then}
+use Rattle.std.specs.Prelude.{ℕ, suc, Bool, ◌&&◌, ◌==◌, not, length, List, [], ◌∷◌, ◌++◌, map, find, position, Option, Some, None, option_and_then}
 use Rattle.std.specs.Str.{bytes_eq}
 use Rattle.mj_tree.specs.Trees.{Name, Statement, Method, Main, Class, File}
 use Rattle.mj_tree.specs.declared.tree.Field.{Field}
@@ -15,6 +15,10 @@ pub record ClassDecl : Type 0 where
   pub main : Option Statement
   pub fields : List Field
   pub methods : List Method
+
+-- whether the class itself declares a field or a method
+abbrev pub has_members : ClassDecl → Bool
+has_members k = not ((length k.fields == 0) && (length k.methods == 0))
 
 -- A main class extends nothing and has no members.
 abbrev pub main_decl : ℕ → Main → ClassDecl

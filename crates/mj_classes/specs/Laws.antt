@@ -1,11 +1,11 @@
 -- What holds of chains, of what is accepted, and of members.
-use Rattle.std.specs.Prelude.{◌≡◌, ◌≢◌, ◌↔◌, List, Some, None, true}
+use Rattle.std.specs.Prelude.{◌≡◌, ◌≢◌, ◌↔◌, List, Some, None}
 use Rattle.mj_tree.specs.Trees.{Name, Method}
 use Rattle.mj_tree.specs.declared.tree.Ty.{Ty}
 use Rattle.mj_tree.specs.declared.tree.Ty.TheVariants.{Class}
 use Rattle.mj_tree.specs.declared.tree.Field.{Field}
 use Rattle.mj_classes.specs.Declarations.{ClassDecl, decl}
-use Rattle.mj_classes.specs.Chains.{EndOf, Repeated, IsChain, Sub, chain_of, accepts}
+use Rattle.mj_classes.specs.Chains.{EndOf, Repeated, IsChain, IsAcceptedBy, chain_of}
 use Rattle.mj_classes.specs.Members.{FieldOf, MethodOf, field_of, method_of}
 use Rattle.mj_classes.specs.Tables.{IsTable, field_table, method_table}
 
@@ -20,11 +20,11 @@ pub record ChainLaws : Type 0 where
 
 -- Acceptance is an order on the types whose chains end.
 pub record AcceptanceLaws : Type 0 where
-  pub given : (cs : List ClassDecl) (t u : Ty) → Sub cs t u ↔ (accepts cs t u ≡ true)
-  pub reflexive : (cs : List ClassDecl) (t : Ty) → Sub cs t t
-  pub transitive : (cs : List ClassDecl) (t u v : Ty) → Sub cs t u → Sub cs u v → Sub cs t v
-  pub antisymmetric : (cs : List ClassDecl) (t u : Name) → Sub cs (Class t) (Class u)
-      → Sub cs (Class u) (Class t) → t ≢ u
+  pub reflexive : (cs : List ClassDecl) (t : Ty) → IsAcceptedBy cs t t
+  pub transitive : (cs : List ClassDecl) (t u v : Ty)
+      → IsAcceptedBy cs t u → IsAcceptedBy cs u v → IsAcceptedBy cs t v
+  pub antisymmetric : (cs : List ClassDecl) (t u : Name)
+      → IsAcceptedBy cs (Class t) (Class u) → IsAcceptedBy cs (Class u) (Class t) → t ≢ u
       → (chain : List Name) × (again : Name) × IsChain cs t chain (Repeated again)
 
 pub record MemberLaws : Type 0 where

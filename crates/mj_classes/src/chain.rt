@@ -1,15 +1,14 @@
 //! The chain of a class.
-ghost use Rattle.std.specs.Prelude.{◌≡◌, None, IfOk, IfSome, MatchOption, option_map};
-ghost use Rattle.mj_classes.specs.Declarations.{decl};
+ghost use Rattle.std.specs.Prelude.{◌≡◌, ◌<◌, ◌+◌, ◌++◌, ◌∷◌, [], ℕ, List, length, filter, Some, None, IfOk, OnOk, MatchOption, option_map, slice_get};
+ghost use Rattle.mj_classes.specs.Declarations.{ClassDecl, decl, has_members, superclass_places};
 ghost use Rattle.mj_classes.specs.Chains.{chain_of, ancestry};
-ghost use Rattle.mj_classes.specs.Classes.{classes_view, class_ref_view, chain_view, end_view};
-ghost use Rattle.mj_classes.specs.Walks.{IsFirstAt, IsChainAt, straight_end};
+ghost use Rattle.mj_classes.specs.Classes.{classes_view, class_ref_view, end_view};
+ghost use Rattle.mj_classes.specs.Walks.{IsPlace, IsChainAt, IsInRing, RunsInto, LeadsTo, ClimbGives, straight_end};
 
 use crate::class::ClassRef;
 use crate::declarations::Declarations;
 use mj_lexer::Name;
 use std::alloc::{AllocError, Global};
-use std::collections::BTreeSet;
 
 /// How a chain ends.
 #[derive(Clone, Copy, Debug)]
@@ -25,8 +24,18 @@ pub enum End<'a> {
 /// The classes from one up, as far as they are declared and distinct.
 #[derive(Debug, Drop)]
 pub struct ClassChain<'a> {
+    /// Those that declare a field or a method, the nearest first. The others are passed without being kept.
     pub classes: Vec<ClassRef<'a>>,
     pub end: End<'a>,
+}
+
+/// Where a walk up leads.
+#[derive(Drop)]
+enum Climb<'a> {
+    /// To a class above which no other stands.
+    Straight(ClassChain<'a>),
+    /// Round and round, past the class at this place.
+    Round(usize),
 }
 
 impl<'a> Declarations<'a> {
@@ -34,11 +43,14 @@ impl<'a> Declarations<'a> {
 
     /// The chain of a class, if it is declared.
     pub fn chain(&self, alloc: Global, name: &Name) -> Result<Option<ClassChain<'a>>, AllocError>
-        ensures chain { IfOk result (λ o.
-            option_map chain_view o ≡ chain_of (declared_in self.now) name.now) }
+        ensures end { IfOk result (λ o.
+            option_map (λ c. end_view c.end) o
+            ≡ option_map (λ chain. chain.1) (chain_of (declared_in self.now) name.now)) }
         ensures classes { IfOk result (λ o.
             MatchOption o (decl (declared_in self.now) name.now ≡ None)
-            (λ c. classes_view c.classes.items ≡ ancestry (declared_in self.now) name.now)) }
+            (λ c.
+            classes_view c.classes.items
+            ≡ filter has_members (ancestry (declared_in self.now) name.now))) }
     {
         match self.place(name) {
             Some(first) => Ok(Some(self.climb(alloc, first)?)),
@@ -46,75 +58,136 @@ impl<'a> Declarations<'a> {
         }
     }
 
-    /// The chain of the class at this place, the first one of its name.
+    /// The chain of the class at this place.
     fn climb(&self, alloc: Global, first: usize) -> Result<ClassChain<'a>, AllocError>
-        requires { IsFirstAt (declared_in self.now) first }
+        requires { IsPlace (declared_in self.now) first }
         ensures { IfOk result (λ c.
-            IsChainAt (declared_in self.now) first (classes_view c.classes.items) (chain_view c)) }
+            IsChainAt (declared_in self.now) first
+            (classes_view c.classes.items) (end_view c.end)) }
     {
         match self.climb_straight(alloc, first)? {
-            Some(chain) => Ok(chain),
-            None => self.climb_round(alloc, first),
+            Climb::Straight(chain) => Ok(chain),
+            Climb::Round(on) => self.climb_round(alloc, first, self.around(on)),
         }
     }
 
-    /// The chain of the class at this place, unless it comes back. A walk that comes back meets a class which it has
-    /// passed; that class is replaced by a later one each time that twice as many steps were made.
-    fn climb_straight(
-        &self,
-        alloc: Global,
-        first: usize,
-    ) -> Result<Option<ClassChain<'a>>, AllocError>
-        requires { IsFirstAt (declared_in self.now) first }
-        ensures { IfOk result (λ o.
-            IfSome o (λ c.
-            IsChainAt (declared_in self.now) first (classes_view c.classes.items) (chain_view c))) }
+    /// Walks up from the class at this place, to the end of its chain or around. A walk that comes back meets a class
+    /// which it has passed; that class is replaced by a later one each time that twice as many steps were made.
+    fn climb_straight(&self, alloc: Global, first: usize) -> Result<Climb<'a>, AllocError>
+        requires { IsPlace (declared_in self.now) first }
+        ensures { IfOk result (ClimbGives (declared_in self.now) first) }
     {
         let mut classes = Vec::new(alloc);
         let mut at = first;
         let mut passed = first;
         for step in 0..self.classes().len() {
-            let class = self.class_at(at);
-            classes.push(class)?;
+            self.keep(&mut classes, at)?;
             if step.is_power_of_two() {
                 passed = at;
             }
             let Some(next) = self.superclass_of(at) else {
-                let end = straight_end(&class);
-                return Ok(Some(ClassChain { classes, end }));
+                let end = straight_end(&self.class_at(at));
+                return Ok(Climb::Straight(ClassChain { classes, end }));
             };
             if next == passed {
-                return Ok(None);
+                return Ok(Climb::Round(passed));
             }
             at = next;
         }
-        Ok(None)
+        Ok(Climb::Round(at))
     }
 
-    /// The chain of the class at this place, with the set of the names that were met.
-    fn climb_round(&self, alloc: Global, first: usize) -> Result<ClassChain<'a>, AllocError>
-        requires { IsFirstAt (declared_in self.now) first }
+    /// How many classes the ring has to which the class at this place belongs.
+    fn around(&self, on: usize) -> usize
+        requires { (c : List ℕ) × IsInRing (declared_in self.now) c on }
+        ensures { (c : List ℕ) (ring : IsInRing (declared_in self.now) c on)
+            → length ring.chain ≡ ring.entry + result }
+    {
+        let mut at = on;
+        for step in 0..self.classes().len() {
+            at = self.above(at);
+            if at == on {
+                return step + 1;
+            }
+        }
+        unreachable!();
+    }
+
+    /// The chain of the class at this place, which leads into a ring of so many classes. A walk that is as many steps
+    /// ahead of another from the same class meets it where the ring is entered.
+    fn climb_round(
+        &self,
+        alloc: Global,
+        first: usize,
+        around: usize,
+    ) -> Result<ClassChain<'a>, AllocError>
+        requires { RunsInto (declared_in self.now) first around }
         ensures { IfOk result (λ c.
-            IsChainAt (declared_in self.now) first (classes_view c.classes.items) (chain_view c)) }
+            IsChainAt (declared_in self.now) first
+            (classes_view c.classes.items) (end_view c.end)) }
     {
         let mut classes = Vec::new(alloc);
-        let mut names = BTreeSet::new(alloc);
-        let mut at = first;
-        'up: loop {
-            let class = self.class_at(at);
-            classes.push(class)?;
-            names.insert(class.name())?;
-            let Some(next) = self.superclass_of(at) else {
-                let end = straight_end(&class);
-                return Ok(ClassChain { classes, end });
-            };
-            let again = self.class_at(next).name();
-            if names.contains(&again) {
-                let end = End::Repeated(again);
+        let mut ahead = first;
+        for _ in 0..around {
+            self.keep(&mut classes, ahead)?;
+            ahead = self.above(ahead);
+        }
+        self.climb_to_entry(classes, first, ahead)
+    }
+
+    /// The chain of the class at the first place, of which these classes were passed on the way to the place ahead.
+    fn climb_to_entry(
+        &self,
+        passed: Vec<ClassRef<'a>>,
+        first: usize,
+        start: usize,
+    ) -> Result<ClassChain<'a>, AllocError>
+        requires { LeadsTo (declared_in self.now) first start (classes_view passed.items) }
+        ensures { IfOk result (λ c.
+            IsChainAt (declared_in self.now) first
+            (classes_view c.classes.items) (end_view c.end)) }
+    {
+        let mut classes = passed;
+        let mut behind = first;
+        let mut ahead = start;
+        for _ in 0..self.classes().len() {
+            if behind == ahead {
+                let end = End::Repeated(self.class_at(behind).name());
                 return Ok(ClassChain { classes, end });
             }
-            at = next;
+            self.keep(&mut classes, ahead)?;
+            behind = self.above(behind);
+            ahead = self.above(ahead);
         }
+        unreachable!();
+    }
+
+    /// Adds the class at this place, if it declares a member.
+    fn keep(&self, classes: &mut Vec<ClassRef<'a>>, at: usize) -> Result<(), AllocError>
+        requires { at < length (declared_in self.now) }
+        ensures { OnOk result
+            ((k : ClassDecl)
+            → slice_get (declared_in self.now) at ≡ Some k
+            → classes_view classes.new.items
+            ≡ classes_view classes.old.items ++ filter has_members (k ∷ [])) }
+    {
+        let class = self.class_at(at);
+        if class.has_members() {
+            classes.push(class)?;
+        }
+        Ok(())
+    }
+
+    /// The place of the class that the one at this place extends, which is declared.
+    fn above(&self, at: usize) -> usize
+        requires { (next : ℕ)
+            × (slice_get (superclass_places (declared_in self.now)) at ≡ Some (Some next)) }
+        ensures { slice_get (superclass_places (declared_in self.now)) at ≡ Some (Some result) }
+    {
+        let Some(next) = self.superclass_of(at) else {
+            unreachable!();
+        };
+        next
     }
 }
 

@@ -1,6 +1,7 @@
 //! A declared class.
 ghost use Rattle.std.specs.Prelude.{◌≡◌, map, option_copied};
 ghost use Rattle.mj_tree.specs.Views.{method_view};
+ghost use Rattle.mj_classes.specs.Declarations.{has_members};
 ghost use Rattle.mj_classes.specs.Classes.{class_ref_view};
 
 use mj_lexer::Name;
@@ -62,5 +63,12 @@ impl<'a> ClassRef<'a> {
             Tree::Main(_) => &[],
             Tree::Plain(class) => class.methods.as_slice(),
         }
+    }
+
+    /// Whether the class itself declares a field or a method.
+    pub fn has_members(&self) -> bool
+        ensures { result ≡ has_members (class_ref_view self.now) }
+    {
+        !(self.fields().is_empty() && self.methods().is_empty())
     }
 }

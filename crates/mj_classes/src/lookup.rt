@@ -1,6 +1,6 @@
 //! Look-ups along the chain of a class, which take no memory.
 ghost use Rattle.std.specs.Prelude.{◌≡◌, find, option_map};
-ghost use Rattle.mj_classes.specs.Chains.{ancestry, chain_of, chain_names, is_in, accepts};
+ghost use Rattle.mj_classes.specs.Chains.{ancestry, chain_of, chain_names, is_in};
 ghost use Rattle.mj_classes.specs.Members.{field_of, method_of};
 ghost use Rattle.mj_classes.specs.Classes.{class_ref_view, field_member_view, method_member_view};
 ghost use Rattle.mj_classes.specs.Walks.{is_sought, own_view};
@@ -9,7 +9,6 @@ use crate::declarations::Declarations;
 use crate::member::{FieldMember, MethodMember};
 use crate::own::OwnMembers;
 use mj_lexer::Name;
-use mj_tree::Ty;
 
 /// What a walk up a chain looks for: a class, or one that declares a member.
 #[derive(Clone, Copy)]
@@ -40,16 +39,6 @@ impl<'a> Declarations<'a> {
             ≡ is_in (chain_names (chain_of (declared_in self.now) class.now)) ancestor.now }
     {
         self.nearest(class, &Sought::Class(ancestor)).is_some()
-    }
-
-    /// Whether a value of one type may stand where another is wanted.
-    pub fn accepts(&self, ty: &Ty, wanted: &Ty) -> bool
-        ensures { result ≡ accepts (declared_in self.now) ty.now wanted.now }
-    {
-        match (ty, wanted) {
-            (Ty::Class(name), Ty::Class(other)) => name == other || self.descends(name, other),
-            _ => ty == wanted,
-        }
     }
 
     /// The field of a name that a class has: the nearest one.

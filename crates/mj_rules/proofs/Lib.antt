@@ -14,3 +14,4 @@ pub mod SentenceLaws
 pub mod LowerLaws
 pub mod LowerBodies
 pub mod WorldLaws
+pub mod Declaring

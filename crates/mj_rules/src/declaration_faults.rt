@@ -1,14 +1,14 @@
 //! The faults of the declarations of a class.
-ghost use Rattle.std.specs.Prelude.{◌≡◌, ◌++◌, map, drop, Some, IfOk, OnOk, is_some, option_map, option_copied};
+ghost use Rattle.std.specs.Prelude.{◌≡◌, ◌++◌, map, filter, Some, IfOk, OnOk, is_some, option_map, option_copied};
 ghost use Rattle.mj_tree.specs.Views.{method_view};
 ghost use Rattle.mj_answer.specs.Order.{IsAscendingByName};
-ghost use Rattle.mj_classes.specs.Declarations.{decl};
+ghost use Rattle.mj_classes.specs.Declarations.{decl, has_members};
 ghost use Rattle.mj_classes.specs.Chains.{chain_of, ancestry};
-ghost use Rattle.mj_classes.specs.Classes.{class_ref_view, classes_view, chain_view, end_view};
+ghost use Rattle.mj_classes.specs.Classes.{class_ref_view, classes_view, end_view};
 ghost use Rattle.mj_classes.specs.Index.{declared_in};
 ghost use Rattle.mj_project.specs.Repeats.{repeats};
-ghost use Rattle.mj_rules.specs.Tables.{row_sig, sig_in};
-ghost use Rattle.mj_rules.specs.FaultLists.{when_fault, each_numbered, superclass_faults, is_cycle, is_undeclared, field_faults, same_type, same_types, same_signature, override_faults, method_faults_of, declaration_faults};
+ghost use Rattle.mj_rules.specs.Tables.{row_sig, sig_in, behind};
+ghost use Rattle.mj_rules.specs.FaultLists.{when_fault, each_numbered, superclass_faults, is_cycle, is_undeclared, field_faults, same_type, same_types, same_signature, override_faults, method_faults_of, nearest_sig, declaration_faults};
 ghost use Rattle.mj_tree.specs.declared.place.Place.TheVariants as places;
 ghost use Rattle.mj_answer.specs.declared.code.Code.TheVariants.{E202};
 
@@ -247,10 +247,37 @@ pub fn add_methods(
     Ok(())
 }
 
-fn behind_first<'a, 'b>(classes: &'b [ClassRef<'a>]) -> &'b [ClassRef<'a>]
-    ensures { result.now ≡ drop 1 classes.now }
+/// These classes without the first, where that has this name.
+fn behind<'a, 'b>(name: &Name, classes: &'b [ClassRef<'a>]) -> &'b [ClassRef<'a>]
+    ensures { classes_view result.now ≡ behind name.now (classes_view classes.now) }
 {
-    &classes[classes.len().min(1)..]
+    match classes.first() {
+        Some(class) if class.name() == name => &classes[1..],
+        _ => classes,
+    }
+}
+
+/// Adds what is wrong with the methods of a class that has this name, and these classes of its chain declare members.
+fn add_method_faults(
+    alloc: Global,
+    faults: &mut Vec<Diagnostic>,
+    name: &Name,
+    classes: &[ClassRef],
+    methods: &[MethodTree],
+) -> Result<(), AllocError>
+    ensures { OnOk result
+        (faults.new.items
+        ≡ faults.old.items
+        ++ each_numbered
+        (method_faults_of (nearest_sig (behind name.now (classes_view classes.now)))) 0
+        (map method_view methods.now)
+        (repeats (map (λ m. m.name) (map method_view methods.now)))) }
+{
+    if methods.is_empty() {
+        return Ok(());
+    }
+    let rest = method_rows(alloc, behind(name, classes))?;
+    add_methods(alloc, faults, &rest, methods)
 }
 
 /// The faults of the declarations of a class with this chain.
@@ -260,10 +287,12 @@ pub fn declaration_faults(
     class: &ClassRef,
     chain: &ClassChain,
 ) -> Result<Vec<Diagnostic>, AllocError>
-    requires chain { chain_of (declared_in declarations.now) (class_ref_view class.now).name
-        ≡ Some (chain_view chain.now) }
+    requires end { option_map (λ found. found.1)
+        (chain_of (declared_in declarations.now) (class_ref_view class.now).name)
+        ≡ Some (end_view chain.now.end) }
     requires classes { classes_view chain.now.classes.items
-        ≡ ancestry (declared_in declarations.now) (class_ref_view class.now).name }
+        ≡ filter has_members
+        (ancestry (declared_in declarations.now) (class_ref_view class.now).name) }
     ensures { IfOk result (λ faults.
         faults.items
         ≡ declaration_faults (declared_in declarations.now) (class_ref_view class.now)) }
@@ -272,7 +301,12 @@ pub fn declaration_faults(
     add_superclass_fault(&mut faults, declarations, class)?;
     add_chain_fault(&mut faults, &chain.end)?;
     add_fields(alloc, &mut faults, declarations, class.fields())?;
-    let rest = method_rows(alloc, behind_first(&chain.classes))?;
-    add_methods(alloc, &mut faults, &rest, class.methods())?;
+    add_method_faults(
+        alloc,
+        &mut faults,
+        class.name(),
+        &chain.classes,
+        class.methods(),
+    )?;
     Ok(faults)
 }

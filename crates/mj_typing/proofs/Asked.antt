@@ -11,7 +11,7 @@ use Rattle.mj_typing.specs.declared.verdict.Verdict.TheVariants.{Wrong}
 use Rattle.mj_typing.specs.Inquiries.{Sig, Inquiry, Concludes, AsksDescent, AsksField, AsksMethod, AsksDeclared, and_then}
 use Rattle.mj_typing.specs.Phrases.{demand, demand_asked, is}
 use Rattle.mj_typing.specs.Steps.{Check, Proceeds, Aborts}
-use Rattle.mj_typing.specs.Table.{accepts, accepts_all, arguments}
+use Rattle.mj_typing.specs.Table.{is_accepted, are_accepted, arguments}
 
 pub and_then-and_then : {R S T : Type 0} (m : Inquiry R) (f : R → Inquiry S) (g : S → Inquiry T) → and_then (and_then m f) g ≡ and_then m (λ r. and_then (f r) g)
 and_then-and_then (Concludes r) f g = refl
@@ -59,27 +59,27 @@ module _ {S E : Type 0} (stands : S → Check → Check → Type 0) (halts : S �
 
 module _ {S E : Type 0} (stands : S → Check → Check → Type 0) (halts : S → Check → E → Type 0) (s : Sig) (ts : List Ty) (old : S) where
   -- there are as many arguments as formals
-  as_many : length ts ≡ length s.formals → (start : Check) (k : Verdict → Check) → stands old start (and_then (arguments s ts) k) → stands old start (and_then (demand_asked (accepts_all ts s.formals) E313 (is s.returns)) k)
+  as_many : length ts ≡ length s.formals → (start : Check) (k : Verdict → Check) → stands old start (and_then (arguments s ts) k) → stands old start (and_then (demand_asked (are_accepted ts s.formals) E313 (is s.returns)) k)
   unfolding arguments
   as_many same start k h =
-      subst (λ b. stands old start (and_then (cond b (demand_asked (accepts_all ts s.formals) E313 (is s.returns)) (Concludes (Wrong E312))) k)) (eq-eqb (length ts) (length s.formals) same) h
+      subst (λ b. stands old start (and_then (cond b (demand_asked (are_accepted ts s.formals) E313 (is s.returns)) (Concludes (Wrong E312))) k)) (eq-eqb (length ts) (length s.formals) same) h
 
-  pub goes_called : (us : List Ty) (ok : Bool) (v : Verdict) (new : S) → us ≡ s.formals → length ts ≡ length us → Proceeds stands (and_then (accepts_all ts us)) old ok new → demand ok E313 (is s.returns) ≡ Concludes v → Proceeds stands (and_then (arguments s ts)) old v new
+  pub goes_called : (us : List Ty) (ok : Bool) (v : Verdict) (new : S) → us ≡ s.formals → length ts ≡ length us → Proceeds stands (and_then (are_accepted ts us)) old ok new → demand ok E313 (is s.returns) ≡ Concludes v → Proceeds stands (and_then (arguments s ts)) old v new
   goes_called us ok v new u same l e =
-      let l' : Proceeds stands (and_then (accepts_all ts s.formals)) old ok new = subst (λ us. Proceeds stands (and_then (accepts_all ts us)) old ok new) u l in
-      record { goes = λ start k h. (goes_demand stands (accepts_all ts s.formals) E313 (is s.returns) ok v old new l' e).goes start k (as_many (same ∙ ap length u) start k h) }
+      let l' : Proceeds stands (and_then (are_accepted ts s.formals)) old ok new = subst (λ us. Proceeds stands (and_then (are_accepted ts us)) old ok new) u l in
+      record { goes = λ start k h. (goes_demand stands (are_accepted ts s.formals) E313 (is s.returns) ok v old new l' e).goes start k (as_many (same ∙ ap length u) start k h) }
 
-  pub up_called : (us : List Ty) (e : E) (new : S) → us ≡ s.formals → length ts ≡ length us → Aborts stands halts (and_then (accepts_all ts us)) old e new → Aborts stands halts (and_then (arguments s ts)) old e new
+  pub up_called : (us : List Ty) (e : E) (new : S) → us ≡ s.formals → length ts ≡ length us → Aborts stands halts (and_then (are_accepted ts us)) old e new → Aborts stands halts (and_then (arguments s ts)) old e new
   up_called us e new u same l =
-      let l' : Aborts stands halts (and_then (accepts_all ts s.formals)) old e new = subst (λ us. Aborts stands halts (and_then (accepts_all ts us)) old e new) u l in
-      record { ends = λ start k h. (up_demand stands halts (accepts_all ts s.formals) E313 (is s.returns) e old new l').ends start k (as_many (same ∙ ap length u) start k h) }
+      let l' : Aborts stands halts (and_then (are_accepted ts s.formals)) old e new = subst (λ us. Aborts stands halts (and_then (are_accepted ts us)) old e new) u l in
+      record { ends = λ start k h. (up_demand stands halts (are_accepted ts s.formals) E313 (is s.returns) e old new l').ends start k (as_many (same ∙ ap length u) start k h) }
 
 module _ {S : Type 0} (stands : S → Check → Check → Type 0) where
   pub goes_miscounted : (s : Sig) (ts us : List Ty) (old : S) → us ≡ s.formals → (length ts ≡ length us → ⊥) → Proceeds stands (and_then (arguments s ts)) old (Wrong E312) old
   unfolding arguments
   goes_miscounted s ts us old u other =
       let off : nat_eq (length ts) (length s.formals) ≡ false = ne_eqb (length ts) (length s.formals) (λ e. other (e ∙ ap length (sym u))) in
-      record { goes = λ start k h. subst (λ b. stands old start (and_then (cond b (demand_asked (accepts_all ts s.formals) E313 (is s.returns)) (Concludes (Wrong E312))) k)) off h }
+      record { goes = λ start k h. subst (λ b. stands old start (and_then (cond b (demand_asked (are_accepted ts s.formals) E313 (is s.returns)) (Concludes (Wrong E312))) k)) off h }
 
 -- ---- a loop over arguments
 
@@ -98,41 +98,41 @@ at_end xs i h = nil_past xs i h
 module _ {S E : Type 0} (stands : S → Check → Check → Type 0) (halts : S → Check → E → Type 0) (ts us : List Ty) (old : S) where
   -- what is left of the arguments from an index on
   abbrev pub Left : ℕ → S → Type 0
-  Left i mid = Comes stands (and_then (accepts_all ts us)) (and_then (accepts_all (drop i ts) (drop i us))) old mid
+  Left i mid = Comes stands (and_then (are_accepted ts us)) (and_then (are_accepted (drop i ts) (drop i us))) old mid
 
   one_more : (i : ℕ) (t u : Ty) → i < length ts → i < length us → t ≡ get_or ts i t → u ≡ get_or us i u → {R : Type 0} (k : Bool → Inquiry R)
-      → and_then (accepts_all (drop i ts) (drop i us)) k ≡ and_then (accepts t u) (λ ok. and_then (cond ok (accepts_all (drop (i + 1) ts) (drop (i + 1) us)) (Concludes false)) k)
-  unfolding accepts_all
+      → and_then (are_accepted (drop i ts) (drop i us)) k ≡ and_then (is_accepted t u) (λ ok. and_then (cond ok (are_accepted (drop (i + 1) ts) (drop (i + 1) us)) (Concludes false)) k)
+  unfolding are_accepted
   one_more i t u h j e f k =
-      ap (λ xs. and_then (accepts_all xs (drop i us)) k) (front_at ts i t h e)
-      ∙ ap (λ ys. and_then (accepts_all (t ∷ drop (i + 1) ts) ys) k) (front_at us i u j f)
-      ∙ and_then-and_then (accepts t u) (λ ok. cond ok (accepts_all (drop (i + 1) ts) (drop (i + 1) us)) (Concludes false)) k
+      ap (λ xs. and_then (are_accepted xs (drop i us)) k) (front_at ts i t h e)
+      ∙ ap (λ ys. and_then (are_accepted (t ∷ drop (i + 1) ts) ys) k) (front_at us i u j f)
+      ∙ and_then-and_then (is_accepted t u) (λ ok. cond ok (are_accepted (drop (i + 1) ts) (drop (i + 1) us)) (Concludes false)) k
 
-  pub left_more : (i : ℕ) (t u : Ty) (ok : Bool) (mid new : S) → Left i mid → i < length ts → length ts ≡ length us → t ≡ get_or ts i t → u ≡ get_or us i u → Proceeds stands (and_then (accepts t u)) mid ok new → ok ≡ true → Left (i + 1) new
+  pub left_more : (i : ℕ) (t u : Ty) (ok : Bool) (mid new : S) → Left i mid → i < length ts → length ts ≡ length us → t ≡ get_or ts i t → u ≡ get_or us i u → Proceeds stands (and_then (is_accepted t u)) mid ok new → ok ≡ true → Left (i + 1) new
   left_more i t u ok mid new l h same e f g said = record {
     comes = λ start k w.
-        subst (λ b. stands new start (and_then (cond b (accepts_all (drop (i + 1) ts) (drop (i + 1) us)) (Concludes false)) k)) said
-        (g.goes start (λ ok. and_then (cond ok (accepts_all (drop (i + 1) ts) (drop (i + 1) us)) (Concludes false)) k)
+        subst (λ b. stands new start (and_then (cond b (are_accepted (drop (i + 1) ts) (drop (i + 1) us)) (Concludes false)) k)) said
+        (g.goes start (λ ok. and_then (cond ok (are_accepted (drop (i + 1) ts) (drop (i + 1) us)) (Concludes false)) k)
         (subst (stands mid start) (one_more i t u h (omega (arith, h, same)) e f k) (l.comes start k w)));
   }
 
-  pub left_refused : (i : ℕ) (t u : Ty) (ok : Bool) (mid new : S) → Left i mid → i < length ts → length ts ≡ length us → t ≡ get_or ts i t → u ≡ get_or us i u → Proceeds stands (and_then (accepts t u)) mid ok new → ok ≡ false → Proceeds stands (and_then (accepts_all ts us)) old false new
+  pub left_refused : (i : ℕ) (t u : Ty) (ok : Bool) (mid new : S) → Left i mid → i < length ts → length ts ≡ length us → t ≡ get_or ts i t → u ≡ get_or us i u → Proceeds stands (and_then (is_accepted t u)) mid ok new → ok ≡ false → Proceeds stands (and_then (are_accepted ts us)) old false new
   left_refused i t u ok mid new l h same e f g said = record {
     goes = λ start k w.
-        subst (λ b. stands new start (and_then (cond b (accepts_all (drop (i + 1) ts) (drop (i + 1) us)) (Concludes false)) k)) said
-        (g.goes start (λ ok. and_then (cond ok (accepts_all (drop (i + 1) ts) (drop (i + 1) us)) (Concludes false)) k)
+        subst (λ b. stands new start (and_then (cond b (are_accepted (drop (i + 1) ts) (drop (i + 1) us)) (Concludes false)) k)) said
+        (g.goes start (λ ok. and_then (cond ok (are_accepted (drop (i + 1) ts) (drop (i + 1) us)) (Concludes false)) k)
         (subst (stands mid start) (one_more i t u h (omega (arith, h, same)) e f k) (l.comes start k w)));
   }
 
-  pub left_up : (i : ℕ) (t u : Ty) (e : E) (mid new : S) → Left i mid → i < length ts → length ts ≡ length us → t ≡ get_or ts i t → u ≡ get_or us i u → Aborts stands halts (and_then (accepts t u)) mid e new → Aborts stands halts (and_then (accepts_all ts us)) old e new
+  pub left_up : (i : ℕ) (t u : Ty) (e : E) (mid new : S) → Left i mid → i < length ts → length ts ≡ length us → t ≡ get_or ts i t → u ≡ get_or us i u → Aborts stands halts (and_then (is_accepted t u)) mid e new → Aborts stands halts (and_then (are_accepted ts us)) old e new
   left_up i t u e mid new l h same is js g = record {
     ends = λ start k w.
-        g.ends start (λ ok. and_then (cond ok (accepts_all (drop (i + 1) ts) (drop (i + 1) us)) (Concludes false)) k)
+        g.ends start (λ ok. and_then (cond ok (are_accepted (drop (i + 1) ts) (drop (i + 1) us)) (Concludes false)) k)
         (subst (stands mid start) (one_more i t u h (omega (arith, h, same)) is js k) (l.comes start k w));
   }
 
-  pub left_none : (i : ℕ) (new : S) → Left i new → length ts ≤ i → Proceeds stands (and_then (accepts_all ts us)) old true new
-  unfolding accepts_all
+  pub left_none : (i : ℕ) (new : S) → Left i new → length ts ≤ i → Proceeds stands (and_then (are_accepted ts us)) old true new
+  unfolding are_accepted
   left_none i new l h = record {
-    goes = λ start k w. subst (λ xs. stands new start (and_then (accepts_all xs (drop i us)) k)) (at_end ts i h) (l.comes start k w);
+    goes = λ start k w. subst (λ xs. stands new start (and_then (are_accepted xs (drop i us)) k)) (at_end ts i h) (l.comes start k w);
   }

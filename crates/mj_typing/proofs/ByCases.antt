@@ -15,8 +15,8 @@ use Rattle.mj_typing.specs.declared.verdict.Verdict.TheVariants.{Is, Fine, Wrong
 use Rattle.mj_typing.specs.Types.{is_same, is_int, is_boolean, is_int_array, class_in}
 use Rattle.mj_typing.specs.Inquiries.{World, Inquiry, Concludes, AsksDescent, AsksField, AsksMethod, conclusion}
 use Rattle.mj_typing.specs.Phrases.{demand, demand_asked, demand_some, is, Phrase, Phrases, nothing, part, HasType, AllTyped}
-use Rattle.mj_typing.specs.Table.{Scope, local_of, accepts, accepts_all, literal, variable, local_or_field, this, negation, binary, index, array_length, arguments, call, new_array, new_object, no_parts, one_part, two_parts, three_parts, some_parts, phrase_of, phrases_of}
-use Rattle.mj_typing.specs.Cases.{Accepted, IsLocal, IsNoLocal, IsVariable, operand_type, result_type, HasTypeByCases, AcceptedBy}
+use Rattle.mj_typing.specs.Table.{Scope, local_of, is_accepted, are_accepted, literal, variable, local_or_field, this, negation, binary, index, array_length, arguments, call, new_array, new_object, no_parts, one_part, two_parts, three_parts, some_parts, phrase_of, phrases_of}
+use Rattle.mj_typing.specs.Cases.{Accepted, IsLocal, IsNoLocal, IsVariable, operand_type, result_type, HasTypeByCases, ArgumentsAccepted}
 use Rattle.mj_typing.proofs.Checks.{conclusion-and_then}
 use Rattle.mj_typing.proofs.Mistakes.{same_from, from_same}
 
@@ -88,43 +88,43 @@ module _ (w : World) where
 
   -- ---- what is accepted
 
-  class_accepts : (c d : Name) (b : Bool) → conclusion w (cond b (Concludes true) (AsksDescent c d (λ descends. Concludes descends))) ≡ cond b true (w.descends c d)
-  class_accepts c d true = refl
-  class_accepts c d false = refl
+  class_conclusion : (c d : Name) (b : Bool) → conclusion w (cond b (Concludes true) (AsksDescent c d (λ descends. Concludes descends))) ≡ cond b true (w.descends c d)
+  class_conclusion c d true = refl
+  class_conclusion c d false = refl
 
   class_accepted : (c d : Name) (b : Bool) → is_same c d ≡ b → cond b true (w.descends c d) ≡ true → Accepted w (ty.Class c) (ty.Class d)
   class_accepted c d true e h = inl (ap (λ (x : Name). ty.Class x) (same_from c d e))
   class_accepted c d false e h = inr (c, d, refl, refl, h)
 
-  pub accepted_from : (t u : Ty) → conclusion w (accepts t u) ≡ true → Accepted w t u
-  unfolding accepts
+  pub accepted_from : (t u : Ty) → conclusion w (is_accepted t u) ≡ true → Accepted w t u
+  unfolding is_accepted
   accepted_from ty.Int u e = inl (sym (int_is u e))
   accepted_from ty.Boolean u e = inl (sym (boolean_is u e))
   accepted_from ty.IntArray u e = inl (sym (array_is u e))
   accepted_from (ty.Class c) ty.Int e = absurd cc
   accepted_from (ty.Class c) ty.Boolean e = absurd cc
   accepted_from (ty.Class c) ty.IntArray e = absurd cc
-  accepted_from (ty.Class c) (ty.Class d) e = class_accepted c d (is_same c d) refl (sym (class_accepts c d (is_same c d)) ∙ e)
+  accepted_from (ty.Class c) (ty.Class d) e = class_accepted c d (is_same c d) refl (sym (class_conclusion c d (is_same c d)) ∙ e)
 
-  accepts_itself : (t : Ty) → conclusion w (accepts t t) ≡ true
-  unfolding accepts
-  accepts_itself ty.Int = refl
-  accepts_itself ty.Boolean = refl
-  accepts_itself ty.IntArray = refl
-  accepts_itself (ty.Class c) = let e = from_same c c refl in rw e refl
+  accepted_by_itself : (t : Ty) → conclusion w (is_accepted t t) ≡ true
+  unfolding is_accepted
+  accepted_by_itself ty.Int = refl
+  accepted_by_itself ty.Boolean = refl
+  accepted_by_itself ty.IntArray = refl
+  accepted_by_itself (ty.Class c) = let e = from_same c c refl in rw e refl
 
   cond_true : (b : Bool) (x : Bool) → x ≡ true → cond b true x ≡ true
   cond_true true x e = refl
   cond_true false x e = e
 
-  accepts_descendant : (c d : Name) → w.descends c d ≡ true → conclusion w (accepts (ty.Class c) (ty.Class d)) ≡ true
-  unfolding accepts
-  accepts_descendant c d e = class_accepts c d (is_same c d) ∙ cond_true (is_same c d) (w.descends c d) e
+  accepted_by_ancestor : (c d : Name) → w.descends c d ≡ true → conclusion w (is_accepted (ty.Class c) (ty.Class d)) ≡ true
+  unfolding is_accepted
+  accepted_by_ancestor c d e = class_conclusion c d (is_same c d) ∙ cond_true (is_same c d) (w.descends c d) e
 
-  pub from_accepted : (t u : Ty) → Accepted w t u → conclusion w (accepts t u) ≡ true
-  from_accepted t u (inl e) = subst (λ u. conclusion w (accepts t u) ≡ true) e (accepts_itself t)
+  pub from_accepted : (t u : Ty) → Accepted w t u → conclusion w (is_accepted t u) ≡ true
+  from_accepted t u (inl e) = subst (λ u. conclusion w (is_accepted t u) ≡ true) e (accepted_by_itself t)
   from_accepted t u (inr h) =
-      subst (λ t. conclusion w (accepts t u) ≡ true) (sym h.2) (subst (λ u. conclusion w (accepts (ty.Class h.0) u) ≡ true) (sym h.3) (accepts_descendant h.0 h.1 h.4))
+      subst (λ t. conclusion w (is_accepted t u) ≡ true) (sym h.2) (subst (λ u. conclusion w (is_accepted (ty.Class h.0) u) ≡ true) (sym h.3) (accepted_by_ancestor h.0 h.1 h.4))
 
   -- ---- variables
 
@@ -249,7 +249,7 @@ module _ (w : World) where
   first_accepted false rest e = absurd cc
 
   mutual
-    unfolding literal variable this negation index array_length arguments call new_array new_object accepts_all
+    unfolding literal variable this negation index array_length arguments call new_array new_object are_accepted
 
     pub by_cases : (s : Scope) (e : Expression) (t : Ty) → HasType w (phrase_of s e) t → HasTypeByCases w s e t
     by_cases s (Literal mark value) t h = let d = demand_holds (nat_le value 2147483647) E315 (is ty.Int) (Is t) tt (from_none (literal value) (Is t) h) in (leb-true value 2147483647 d.0, sym (is_inj ty.Int t d.1))
@@ -278,8 +278,8 @@ module _ (w : World) where
         let a = from_some (call m) (phrase_of s e) (phrases_of s es) (Is t) h in
         let c = given_holds (class_in a.0) E310 (λ c. AsksMethod c m (λ method. demand_some method E311 (λ s. arguments s a.1))) (Is t) tt a.4 in
         let sig = given_holds (w.method c.0 m) E311 (λ s. arguments s a.1) (Is t) tt c.2 in
-        let d = demand_holds (nat_eq (length a.1) (length sig.0.formals)) E312 (demand_asked (accepts_all a.1 sig.0.formals) E313 (is sig.0.returns)) (Is t) tt sig.2 in
-        let f = asked_holds (accepts_all a.1 sig.0.formals) E313 (is sig.0.returns) (Is t) tt d.1 in
+        let d = demand_holds (nat_eq (length a.1) (length sig.0.formals)) E312 (demand_asked (are_accepted a.1 sig.0.formals) E313 (is sig.0.returns)) (Is t) tt sig.2 in
+        let f = asked_holds (are_accepted a.1 sig.0.formals) E313 (is sig.0.returns) (Is t) tt d.1 in
         (c.0, sig.0, subst (HasTypeByCases w s e) (class_is a.0 c.0 c.1) (by_cases s e a.0 a.2), sig.1, arguments_by_cases s es a.1 sig.0.formals a.3 (eqb-true (length a.1) (length sig.0.formals) d.0) f.0, sym (is_inj sig.0.returns t f.1))
     by_cases s (NewArray mark e) t h =
         let a = from_one new_array (phrase_of s e) (Is t) h in
@@ -287,18 +287,18 @@ module _ (w : World) where
         (subst (HasTypeByCases w s e) (int_is a.0 d.0) (by_cases s e a.0 a.1), sym (is_inj ty.IntArray t d.1))
     by_cases s (NewObject mark c) t h = let d = demand_holds (w.is_declared c) E305 (is (ty.Class c)) (Is t) tt (from_none (new_object c) (Is t) h) in (d.0, sym (is_inj (ty.Class c) t d.1))
 
-    arguments_by_cases : (s : Scope) (es : Expressions) (ts us : List Ty) → AllTyped w (phrases_of s es) ts → length ts ≡ length us → conclusion w (accepts_all ts us) ≡ true → AcceptedBy w s es us
+    arguments_by_cases : (s : Scope) (es : Expressions) (ts us : List Ty) → AllTyped w (phrases_of s es) ts → length ts ≡ length us → conclusion w (are_accepted ts us) ≡ true → ArgumentsAccepted w s es us
     arguments_by_cases s none [] [] h n e = tt
     arguments_by_cases s none [] (u ∷ us) h n e = absurd (omega (arith, n))
     arguments_by_cases s none (t ∷ ts) us h n e = absurd h
     arguments_by_cases s (more x xs) [] us h n e = absurd h
     arguments_by_cases s (more x xs) (t ∷ ts) [] h n e = absurd (omega (arith, n))
     arguments_by_cases s (more x xs) (t ∷ ts) (u ∷ us) h n e =
-        let f = first_accepted (conclusion w (accepts t u)) (accepts_all ts us) (sym (conclusion-and_then w (accepts t u) (λ ok. cond ok (accepts_all ts us) (Concludes false))) ∙ e) in
+        let f = first_accepted (conclusion w (is_accepted t u)) (are_accepted ts us) (sym (conclusion-and_then w (is_accepted t u) (λ ok. cond ok (are_accepted ts us) (Concludes false))) ∙ e) in
         ((t, by_cases s x t h.0, accepted_from t u f.0), arguments_by_cases s xs ts us h.1 (omega (arith, n)) f.1)
 
   mutual
-    unfolding literal variable this negation index array_length arguments call new_array new_object accepts_all
+    unfolding literal variable this negation index array_length arguments call new_array new_object are_accepted
 
     pub from_cases : (s : Scope) (e : Expression) (t : Ty) → HasTypeByCases w s e t → HasType w (phrase_of s e) t
     from_cases s (Literal mark value) t h = ([], tt, demand_true (nat_le value 2147483647) E315 (is ty.Int) (le-leb value 2147483647 h.0) ∙ ap (λ (t : Ty). Is t) (sym h.1))
@@ -316,14 +316,14 @@ module _ (w : World) where
           ty.Class h.0 ∷ a.0,
           (from_cases s e (ty.Class h.0) h.2, a.1),
           given_some (w.method h.0 m) E311 (λ s. arguments s a.0) h.1 h.3
-              ∙ demand_true (nat_eq (length a.0) (length h.1.formals)) E312 (demand_asked (accepts_all a.0 h.1.formals) E313 (is h.1.returns)) (eq-eqb (length a.0) (length h.1.formals) a.2)
-              ∙ asked_true (accepts_all a.0 h.1.formals) E313 (is h.1.returns) a.3
+              ∙ demand_true (nat_eq (length a.0) (length h.1.formals)) E312 (demand_asked (are_accepted a.0 h.1.formals) E313 (is h.1.returns)) (eq-eqb (length a.0) (length h.1.formals) a.2)
+              ∙ asked_true (are_accepted a.0 h.1.formals) E313 (is h.1.returns) a.3
               ∙ ap (λ (t : Ty). Is t) (sym h.5),
         )
     from_cases s (NewArray mark e) t h = (ty.Int ∷ [], (from_cases s e ty.Int h.0, tt), ap (λ (t : Ty). Is t) (sym h.1))
     from_cases s (NewObject mark c) t h = ([], tt, demand_true (w.is_declared c) E305 (is (ty.Class c)) h.0 ∙ ap (λ (t : Ty). Is t) (sym h.1))
 
-    arguments_from_cases : (s : Scope) (es : Expressions) (us : List Ty) → AcceptedBy w s es us → (ts : List Ty) × AllTyped w (phrases_of s es) ts × (length ts ≡ length us) × (conclusion w (accepts_all ts us) ≡ true)
+    arguments_from_cases : (s : Scope) (es : Expressions) (us : List Ty) → ArgumentsAccepted w s es us → (ts : List Ty) × AllTyped w (phrases_of s es) ts × (length ts ≡ length us) × (conclusion w (are_accepted ts us) ≡ true)
     arguments_from_cases s none [] h = ([], tt, refl, refl)
     arguments_from_cases s none (u ∷ us) h = absurd h
     arguments_from_cases s (more x xs) [] h = absurd h
@@ -332,7 +332,7 @@ module _ (w : World) where
           h.0.0 ∷ a.0,
           (from_cases s x h.0.0 h.0.1, a.1),
           ap (λ (n : ℕ). suc n) a.2,
-          conclusion-and_then w (accepts h.0.0 u) (λ ok. cond ok (accepts_all a.0 us) (Concludes false))
-              ∙ ap (λ b. conclusion w (cond b (accepts_all a.0 us) (Concludes false))) (from_accepted h.0.0 u h.0.2)
+          conclusion-and_then w (is_accepted h.0.0 u) (λ ok. cond ok (are_accepted a.0 us) (Concludes false))
+              ∙ ap (λ b. conclusion w (cond b (are_accepted a.0 us) (Concludes false))) (from_accepted h.0.0 u h.0.2)
               ∙ a.3,
         )

@@ -11,7 +11,7 @@ use Rattle.mj_typing.specs.declared.verdict.Verdict.TheVariants.{Is, Fine, Wrong
 use Rattle.mj_typing.specs.declared.verdict.Mistake.{Mistake}
 use Rattle.mj_typing.specs.Inquiries.{World, Inquiry, conclusion}
 use Rattle.mj_typing.specs.Phrases.{Phrase, Phrases, phrase, nothing, part, demand, fine, HasType, AllTyped, Well, FaultIn, FaultInAny, FaultInSome}
-use Rattle.mj_typing.specs.Table.{Scope, main_scope, method_scope, phrase_of, name_phrase, own_phrase, statement_phrases, statements_phrases, return_phrase, method_phrases, main_phrases, condition, print, assign, store, return_value, accepts, variable}
+use Rattle.mj_typing.specs.Table.{Scope, main_scope, method_scope, phrase_of, name_phrase, own_phrase, statement_phrases, statements_phrases, return_phrase, method_phrases, main_phrases, condition, print, assign, store, return_value, is_accepted, variable}
 use Rattle.mj_typing.specs.Cases.{Accepted, IsVariable, HasTypeByCases, WellByCases, AllWellByCases, MethodIsWell, MainIsWell}
 use Rattle.mj_typing.specs.Laws.{count, IsOfExpression, IsOfStatement, Decides, DecideAll, DecidesStatement, AllDecide}
 use Rattle.mj_typing.proofs.Agree.{one_list, nowhere, first, later, first_or_later}
@@ -142,7 +142,7 @@ module _ (w : World) where
         subst (HasTypeByCases w s e) (int_is a.0 d.0) (by_cases w s e a.0 a.1)
     well_from s (Assign mark x x_mark e) h =
         let a = from_two w assign (name_phrase s x_mark x) (phrase_of s e) Fine h.0 in
-        let d = asked_holds w (accepts a.1 a.0) E318 fine Fine tt a.4 in
+        let d = asked_holds w (is_accepted a.1 a.0) E318 fine Fine tt a.4 in
         (a.1, a.0, name_typed s x_mark x a.0 a.2, by_cases w s e a.1 a.3, accepted_from w a.1 a.0 d.0)
     well_from s (Store mark x x_mark i e) h =
         let a = from_three w store (name_phrase s x_mark x) (phrase_of s i) (phrase_of s e) Fine h.0 in
@@ -164,7 +164,7 @@ module _ (w : World) where
     from_well s (While mark e a) h = (from_condition mark s e h.0, from_well s a h.1)
     from_well s (Print mark e) h = ((ty.Int ∷ [], (from_cases w s e ty.Int h, tt), refl), tt)
     from_well s (Assign mark x x_mark e) h =
-        ((h.1 ∷ h.0 ∷ [], (typed_name s x_mark x h.1 h.2, (from_cases w s e h.0 h.3, tt)), asked_true w (accepts h.0 h.1) E318 fine (from_accepted w h.0 h.1 h.4)), tt)
+        ((h.1 ∷ h.0 ∷ [], (typed_name s x_mark x h.1 h.2, (from_cases w s e h.0 h.3, tt)), asked_true w (is_accepted h.0 h.1) E318 fine (from_accepted w h.0 h.1 h.4)), tt)
     from_well s (Store mark x x_mark i e) h =
         ((ty.IntArray ∷ ty.Int ∷ ty.Int ∷ [], (typed_name s x_mark x ty.IntArray h.0, (from_cases w s i ty.Int h.1, (from_cases w s e ty.Int h.2, tt))), refl), tt)
 
@@ -176,12 +176,12 @@ module _ (w : World) where
   unfolding return_value
   return_from s mark wanted e h =
       let a = from_one w (return_value wanted) (phrase_of s e) Fine h in
-      let d = asked_holds w (accepts a.0 wanted) E319 fine Fine tt a.2 in
+      let d = asked_holds w (is_accepted a.0 wanted) E319 fine Fine tt a.2 in
       (a.0, by_cases w s e a.0 a.1, accepted_from w a.0 wanted d.0)
 
   from_return : (s : Scope) (mark : ℕ) (wanted : Ty) (e : Expression) → (t : Ty) × HasTypeByCases w s e t × Accepted w t wanted → Well w (return_phrase s mark wanted e)
   unfolding return_value
-  from_return s mark wanted e h = (h.0 ∷ [], (from_cases w s e h.0 h.1, tt), asked_true w (accepts h.0 wanted) E319 fine (from_accepted w h.0 wanted h.2))
+  from_return s mark wanted e h = (h.0 ∷ [], (from_cases w s e h.0 h.1, tt), asked_true w (is_accepted h.0 wanted) E319 fine (from_accepted w h.0 wanted h.2))
 
   pub method_well : (class : Name) (m : Method) → ((x : Mistake) → FaultInSome w (method_phrases class m) x → ⊥) → MethodIsWell w class m
   method_well class m h =

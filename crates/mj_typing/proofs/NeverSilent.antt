@@ -13,7 +13,7 @@ use Rattle.mj_typing.specs.declared.verdict.Verdict.{Verdict}
 use Rattle.mj_typing.specs.declared.verdict.Verdict.TheVariants.{Wrong}
 use Rattle.mj_typing.specs.Inquiries.{World, Sig, Inquiry, AsksField, AsksMethod, conclusion}
 use Rattle.mj_typing.specs.Phrases.{demand, demand_asked, demand_some, is, fine, Phrase}
-use Rattle.mj_typing.specs.Table.{Scope, main_scope, method_scope, local_of, accepts, accepts_all, literal, variable, local_or_field, parentheses, this, negation, binary, index, array_length, arguments, call, new_array, new_object, condition, print, assign, store, return_value, no_parts, one_part, two_parts, three_parts, some_parts, phrase_of, phrases_of, name_phrase, own_phrase, statement_phrases, statements_phrases, return_phrase, method_phrases, main_phrases}
+use Rattle.mj_typing.specs.Table.{Scope, main_scope, method_scope, local_of, is_accepted, are_accepted, literal, variable, local_or_field, parentheses, this, negation, binary, index, array_length, arguments, call, new_array, new_object, condition, print, assign, store, return_value, no_parts, one_part, two_parts, three_parts, some_parts, phrase_of, phrases_of, name_phrase, own_phrase, statement_phrases, statements_phrases, return_phrase, method_phrases, main_phrases}
 use Rattle.mj_typing.specs.Laws.{count, IsOfExpression, IsOfStatement, Decides, DecideAll, DecidesStatement, AllDecide}
 use Rattle.mj_typing.proofs.Checks.{conclusion-and_then}
 
@@ -101,7 +101,7 @@ module _ (w : World) where
 
   called_row : (s : Sig) (ts : List Ty) → E (conclusion w (arguments s ts))
   unfolding arguments
-  called_row s ts = demand_of w IsOfExpression wrong_e (nat_eq (length ts) (length s.formals)) E312 (demand_asked (accepts_all ts s.formals) E313 (is s.returns)) (demand_asked_of w IsOfExpression wrong_e (accepts_all ts s.formals) E313 (is s.returns) tt)
+  called_row s ts = demand_of w IsOfExpression wrong_e (nat_eq (length ts) (length s.formals)) E312 (demand_asked (are_accepted ts s.formals) E313 (is s.returns)) (demand_asked_of w IsOfExpression wrong_e (are_accepted ts s.formals) E313 (is s.returns) tt)
 
   call_row : (m : Name) (a : Ty) (ts : List Ty) → E (conclusion w (call m a ts))
   unfolding call
@@ -152,7 +152,7 @@ module _ (w : World) where
 
   assign_row : (x a : Ty) → IsOfStatement (conclusion w (assign x a))
   unfolding assign
-  assign_row x a = demand_asked_of w IsOfStatement wrong_s (accepts a x) E318 fine tt
+  assign_row x a = demand_asked_of w IsOfStatement wrong_s (is_accepted a x) E318 fine tt
 
   store_row : (x i a : Ty) → IsOfStatement (conclusion w (store x i a))
   unfolding store
@@ -160,7 +160,7 @@ module _ (w : World) where
 
   returned_row : (u a : Ty) → IsOfStatement (conclusion w (return_value u a))
   unfolding return_value
-  returned_row u a = demand_asked_of w IsOfStatement wrong_s (accepts a u) E319 fine tt
+  returned_row u a = demand_asked_of w IsOfStatement wrong_s (is_accepted a u) E319 fine tt
 
   own_decides : (s : Scope) (a : Statement) → DecidesStatement w (own_phrase s a)
   own_decides s (Block mark ss) = (no_row w IsOfStatement wrong_s fine tt, tt)

@@ -61,17 +61,17 @@ abbrev mutual
   HasTypeByCases w s (Length mark a) t = HasTypeByCases w s a ty.IntArray × (t ≡ ty.Int)
   HasTypeByCases w s (Call mark e m es) t =
       (c : Name) × (sig : Sig) × HasTypeByCases w s e (ty.Class c) × (w.method c m ≡ Some sig)
-      × AcceptedBy w s es sig.formals × (t ≡ sig.returns)
+      × ArgumentsAccepted w s es sig.formals × (t ≡ sig.returns)
   HasTypeByCases w s (NewArray mark e) t = HasTypeByCases w s e ty.Int × (t ≡ ty.IntArray)
   HasTypeByCases w s (NewObject mark c) t = (w.is_declared c ≡ true) × (t ≡ ty.Class c)
 
   -- as many arguments as formals, each accepted
-  pub AcceptedBy : World → Scope → Expressions → List Ty → Type 0
-  AcceptedBy w s none [] = Unit {0}
-  AcceptedBy w s none (u ∷ us) = ⊥
-  AcceptedBy w s (more e es) [] = ⊥
-  AcceptedBy w s (more e es) (u ∷ us) =
-      ((t : Ty) × HasTypeByCases w s e t × Accepted w t u) × AcceptedBy w s es us
+  pub ArgumentsAccepted : World → Scope → Expressions → List Ty → Type 0
+  ArgumentsAccepted w s none [] = Unit {0}
+  ArgumentsAccepted w s none (u ∷ us) = ⊥
+  ArgumentsAccepted w s (more e es) [] = ⊥
+  ArgumentsAccepted w s (more e es) (u ∷ us) =
+      ((t : Ty) × HasTypeByCases w s e t × Accepted w t u) × ArgumentsAccepted w s es us
 
 abbrev mutual
   pub WellByCases : World → Scope → Statement → Type 0
@@ -89,7 +89,7 @@ abbrev mutual
   AllWellByCases w s done = Unit {0}
   AllWellByCases w s (next a ss) = WellByCases w s a × AllWellByCases w s ss
 
--- the statements of a method are well, and its return type accepts what is returned
+-- the statements of a method are well, and what is returned is accepted by its return type
 abbrev pub MethodIsWell : World → Name → Method → Type 0
 MethodIsWell w class m =
     AllWellByCases w (method_scope class m) m.body

@@ -30,22 +30,22 @@ local_of (v ∷ vs) x = if is_same v.name x then Some v.ty else local_of vs x
 -- ---- what is accepted
 
 -- a type is accepted by an equal one, and a class by one that stands in its chain
-unfoldable pub accepts : Ty → Ty → Inquiry Bool
-accepts ty.Int wanted = Concludes (is_int wanted)
-accepts ty.Boolean wanted = Concludes (is_boolean wanted)
-accepts ty.IntArray wanted = Concludes (is_int_array wanted)
-accepts (ty.Class c) ty.Int = Concludes false
-accepts (ty.Class c) ty.Boolean = Concludes false
-accepts (ty.Class c) ty.IntArray = Concludes false
-accepts (ty.Class c) (ty.Class d) =
+unfoldable pub is_accepted : Ty → Ty → Inquiry Bool
+is_accepted ty.Int wanted = Concludes (is_int wanted)
+is_accepted ty.Boolean wanted = Concludes (is_boolean wanted)
+is_accepted ty.IntArray wanted = Concludes (is_int_array wanted)
+is_accepted (ty.Class c) ty.Int = Concludes false
+is_accepted (ty.Class c) ty.Boolean = Concludes false
+is_accepted (ty.Class c) ty.IntArray = Concludes false
+is_accepted (ty.Class c) (ty.Class d) =
     if is_same c d then Concludes true else AsksDescent c d (λ descends. Concludes descends)
 
 -- each is accepted by its formal, up to the first that isn't
-unfoldable pub accepts_all : List Ty → List Ty → Inquiry Bool
-accepts_all [] us = Concludes true
-accepts_all (t ∷ ts) [] = Concludes true
-accepts_all (t ∷ ts) (u ∷ us) =
-    and_then (accepts t u) (λ ok. if ok then accepts_all ts us else Concludes false)
+unfoldable pub are_accepted : List Ty → List Ty → Inquiry Bool
+are_accepted [] us = Concludes true
+are_accepted (t ∷ ts) [] = Concludes true
+are_accepted (t ∷ ts) (u ∷ us) =
+    and_then (is_accepted t u) (λ ok. if ok then are_accepted ts us else Concludes false)
 
 -- ---- what an expression comes to, by the types of its immediate expressions
 
@@ -86,7 +86,7 @@ array_length a = demand (is_int_array a) E309 (is ty.Int)
 unfoldable pub arguments : Sig → List Ty → Inquiry Verdict
 arguments s ts =
     demand (nat_eq (length ts) (length s.formals)) E312
-    (demand_asked (accepts_all ts s.formals) E313 (is s.returns))
+    (demand_asked (are_accepted ts s.formals) E313 (is s.returns))
 
 unfoldable pub call : Name → Ty → List Ty → Inquiry Verdict
 call m a ts =
@@ -108,13 +108,13 @@ unfoldable pub print : Ty → Inquiry Verdict
 print a = demand (is_int a) E317 fine
 
 unfoldable pub assign : Ty → Ty → Inquiry Verdict
-assign x a = demand_asked (accepts a x) E318 fine
+assign x a = demand_asked (is_accepted a x) E318 fine
 
 unfoldable pub store : Ty → Ty → Ty → Inquiry Verdict
 store x i a = demand (is_int_array x) E307 (demand (is_int i) E308 (demand (is_int a) E318 fine))
 
 unfoldable pub return_value : Ty → Ty → Inquiry Verdict
-return_value wanted a = demand_asked (accepts a wanted) E319 fine
+return_value wanted a = demand_asked (is_accepted a wanted) E319 fine
 
 -- ---- the table
 

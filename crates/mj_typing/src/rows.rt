@@ -2,7 +2,7 @@
 ghost use Rattle.std.specs.Prelude.{◌≡◌, length, IfOk, IfErr};
 ghost use Rattle.mj_typing.specs.Inquiries.{Concludes, and_then};
 ghost use Rattle.mj_typing.specs.Steps.{Proceeds, Aborts};
-ghost use Rattle.mj_typing.specs.Table.{accepts, accepts_all, literal, variable, this, negation, binary, index, array_length, arguments, call, new_array, new_object, condition, print, assign, store, return_value};
+ghost use Rattle.mj_typing.specs.Table.{is_accepted, are_accepted, literal, variable, this, negation, binary, index, array_length, arguments, call, new_array, new_object, condition, print, assign, store, return_value};
 
 use crate::asking::{Asking, Signature, Stop};
 use crate::scope::Scope;
@@ -130,18 +130,19 @@ pub fn store(array: &Ty, at: &Ty, value: &Ty) -> Verdict
     }
 }
 
-/// Whether the second type accepts the first.
-#[tactic(auto, unfolding(crate::specs::Table::accepts))]
-fn accepts<A: Asking>(
+/// Whether the first type is accepted by the second.
+#[tactic(auto, unfolding(crate::specs::Table::is_accepted))]
+fn is_accepted<A: Asking>(
     alloc: Global,
     asking: &mut A,
     ty: &Ty,
     wanted: &Ty,
 ) -> Result<bool, Stop<A::Refusal>>
     ensures ok { IfOk result (λ b.
-        Proceeds A.stands (and_then (accepts ty.now wanted.now)) asking.old b asking.new) }
+        Proceeds A.stands (and_then (is_accepted ty.now wanted.now)) asking.old b asking.new) }
     ensures err { IfErr result (λ e.
-        Aborts A.stands A.halts (and_then (accepts ty.now wanted.now)) asking.old e asking.new) }
+        Aborts A.stands A.halts (and_then (is_accepted ty.now wanted.now))
+        asking.old e asking.new) }
     ensures follows { A.follows asking.old asking.new }
 {
     match (ty, wanted) {
@@ -160,7 +161,7 @@ fn accepts<A: Asking>(
 }
 
 /// Whether each of these types is accepted by its formal, up to the first that isn't.
-fn accepts_all<A: Asking>(
+fn are_accepted<A: Asking>(
     alloc: Global,
     asking: &mut A,
     types: &[Ty],
@@ -168,15 +169,15 @@ fn accepts_all<A: Asking>(
 ) -> Result<bool, Stop<A::Refusal>>
     requires { length types.now ≡ length formals.now }
     ensures ok { IfOk result (λ b.
-        Proceeds A.stands (and_then (accepts_all types.now formals.now)) asking.old b
+        Proceeds A.stands (and_then (are_accepted types.now formals.now)) asking.old b
         asking.new) }
     ensures err { IfErr result (λ e.
-        Aborts A.stands A.halts (and_then (accepts_all types.now formals.now)) asking.old e
+        Aborts A.stands A.halts (and_then (are_accepted types.now formals.now)) asking.old e
         asking.new) }
     ensures follows { A.follows asking.old asking.new }
 {
     for (n, ty) in types.iter().enumerate() {
-        if !accepts(alloc, asking, ty, &formals[n])? {
+        if !is_accepted(alloc, asking, ty, &formals[n])? {
             return Ok(false);
         }
     }
@@ -202,7 +203,7 @@ fn arguments<A: Asking>(
     if types.len() != formals.len() {
         return Ok(Verdict::Wrong(Code::E312));
     }
-    if !accepts_all(alloc, asking, types, formals)? {
+    if !are_accepted(alloc, asking, types, formals)? {
         return Ok(Verdict::Wrong(Code::E313));
     }
     Ok(Verdict::Is(method.returns().copy(alloc)?))
@@ -299,7 +300,7 @@ pub fn assign<A: Asking>(
         asking.new) }
     ensures follows { A.follows asking.old asking.new }
 {
-    if accepts(alloc, asking, value, target)? {
+    if is_accepted(alloc, asking, value, target)? {
         Ok(Verdict::Fine)
     } else {
         Ok(Verdict::Wrong(Code::E318))
@@ -319,7 +320,7 @@ pub fn return_value<A: Asking>(
         asking.new) }
     ensures follows { A.follows asking.old asking.new }
 {
-    if accepts(alloc, asking, value, wanted)? {
+    if is_accepted(alloc, asking, value, wanted)? {
         Ok(Verdict::Fine)
     } else {
         Ok(Verdict::Wrong(Code::E319))

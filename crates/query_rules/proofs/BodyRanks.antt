@@ -1,5 +1,5 @@
 -- The check of a body reads headers, chains and members.
-use Rattle.std.proofs.Common.{Bool, true, false, length, nat_eq, List, [], ◌∷◌, ◌++◌, Option, Some, None, if◌then◌else◌}
+use Rattle.std.proofs.Common.{Bool, true, false, length, nat_eq, List, [], ◌∷◌, Option, Some, None, if◌then◌else◌}
 use Rattle.std.specs.List.{AllByRecursion}
 use Rattle.item_ids.specs.declared.key.Key.{Key}
 use Rattle.item_ids.specs.declared.key.Key.TheVariants as keys
@@ -10,7 +10,7 @@ use Rattle.mj_tree.specs.declared.tree.Variable.{Variable}
 use Rattle.mj_typing.specs.Types.{is_same}
 use Rattle.mj_typing.specs.Inquiries.{World, Sig, conclusion}
 use Rattle.mj_typing.specs.Phrases.{type_of, types_of}
-use Rattle.mj_typing.specs.Table.{Scope, main_scope, method_scope, local_of, accepts, name_phrase, phrase_of, phrases_of}
+use Rattle.mj_typing.specs.Table.{Scope, main_scope, method_scope, local_of, is_accepted, name_phrase, phrase_of, phrases_of}
 use Rattle.tree_bytes.specs.Bodies.{BodyValue, OfMain, OfMethod}
 use Rattle.query_rules.specs.BodyReads.{type_reads, field_reads, accept_reads, value_reads, arguments_reads, called_reads, call_reads, exp_reads, exps_reads, statement_reads, statements_reads, return_reads, types_reads, method_reads, body_reads}
 use Rattle.query_rules.proofs.Firsts.{all_append, all_flat}
@@ -56,7 +56,7 @@ module _ (P : Key → Type 0) (header : (c : Name) → P (keys.Header c)) (chain
     arguments_all : (ts us : List Ty) → All (arguments_reads w ts us)
     arguments_all [] us = tt
     arguments_all (t ∷ ts) [] = tt
-    arguments_all (t ∷ ts) (u ∷ us) = all_append P (accept_reads t u) _ (accept_all t u) (when_all (conclusion w (accepts t u)) (arguments_reads w ts us) (arguments_all ts us))
+    arguments_all (t ∷ ts) (u ∷ us) = all_append P (accept_reads t u) _ (accept_all t u) (when_all (conclusion w (is_accepted t u)) (arguments_reads w ts us) (arguments_all ts us))
 
     called_all : (ts : List Ty) (o : Option Sig) → All (called_reads w ts o)
     called_all ts None = tt

@@ -10,7 +10,7 @@ use Rattle.mj_tree.specs.declared.tree.Variable.{Variable}
 use Rattle.mj_typing.specs.Types.{is_same}
 use Rattle.mj_typing.specs.Inquiries.{World, Sig, conclusion}
 use Rattle.mj_typing.specs.Phrases.{type_of, types_of}
-use Rattle.mj_typing.specs.Table.{Scope, main_scope, method_scope, local_of, accepts, name_phrase, phrase_of, phrases_of}
+use Rattle.mj_typing.specs.Table.{Scope, main_scope, method_scope, local_of, is_accepted, name_phrase, phrase_of, phrases_of}
 use Rattle.tree_bytes.specs.Bodies.{BodyValue, OfMain, OfMethod}
 
 -- a declared type: the header of a class
@@ -45,7 +45,7 @@ abbrev pub arguments_reads : World → List Ty → List Ty → List Key
 arguments_reads w [] us = []
 arguments_reads w (t ∷ ts) [] = []
 arguments_reads w (t ∷ ts) (u ∷ us) =
-    accept_reads t u ++ (if conclusion w (accepts t u) then arguments_reads w ts us else [])
+    accept_reads t u ++ (if conclusion w (is_accepted t u) then arguments_reads w ts us else [])
 
 -- where the method is there and the count is right
 abbrev pub called_reads : World → List Ty → Option Sig → List Key

@@ -1,7 +1,7 @@
 -- What the keys of a project name: trees, classes, methods and bodies.
 use Rattle.std.specs.Prelude.{List, [], map, Option, Some, None, option_map, option_and_then, is_some, slice_get, if◌then◌else◌}
 use Rattle.std.specs.Str.{bytes_eq}
-use Rattle.mj_tree.specs.Trees.{Name, Statement, Method, File}
+use Rattle.mj_tree.specs.Trees.{Name, Statement, File}
 use Rattle.mj_answer.specs.declared.diagnostic.Diagnostic.{Diagnostic}
 use Rattle.mj_classes.specs.Declarations.{ClassDecl, decl}
 use Rattle.mj_classes.specs.Chains.{EndOf, Chain}

@@ -6,7 +6,7 @@ use Rattle.mj_tree.specs.declared.place.Place.TheVariants.{Inside}
 use Rattle.mj_answer.specs.AnswerValues.{ClassAnswerValue, AnswerValue}
 use Rattle.mj_answer.specs.declared.diagnostic.Diagnostic.{Diagnostic}
 use Rattle.mj_classes.specs.Declarations.{ClassDecl}
-use Rattle.mj_classes.specs.Chains.{Sub}
+use Rattle.mj_classes.specs.Chains.{IsAcceptedBy}
 use Rattle.mj_typing.specs.declared.verdict.Mistake.{Mistake}
 use Rattle.mj_typing.specs.Phrases.{type_of}
 use Rattle.mj_typing.specs.Table.{method_scope, main_scope, phrase_of}
@@ -17,9 +17,10 @@ use Rattle.mj_rules.specs.Worlds.{world_of}
 use Rattle.mj_rules.specs.Rules.{Rules}
 use Rattle.rule_laws.specs.Typing.{world_in, IsMethodIn, IsMainIn, HasTypeIn, HasTypeInMain, IsFaultIn, IsFaultInMain}
 
--- a type is accepted in the check of a body where it is by the chains of the classes
+-- a type is accepted in the check of a body exactly where the chains of the classes say so
 abbrev pub AcceptanceLaw : Type 0
-AcceptanceLaw = (cs : List ClassDecl) (t u : Ty) → Accepted (world_of cs) t u ↔ Sub cs t u
+AcceptanceLaw =
+    (cs : List ClassDecl) (t u : Ty) → Accepted (world_of cs) t u ↔ IsAcceptedBy cs t u
 
 -- the type that a check computes is the one that an expression has
 pub record TypeLaws : Type 0 where

@@ -5,11 +5,12 @@ use mj_classes::{ClassChain, ClassRef, Declarations, End};
 use std::alloc::{AllocError, Global};
 use std::test::*;
 
-/// A file with the main class `M`, one that is no sentence, and one that declares a class again and has cycles.
+/// A file with the main class `M`, one that is no sentence, and one that declares a class again and has cycles, two of
+/// which are entered from outside.
 const TEXTS: &[&str] = &[
     "class M { public static void main(String[] a) { { } } } class A { int x; boolean x; int y; public int g() { return 1; } public boolean f() { return true; } } class B extends A { boolean x; public A f() { return this; } public int f() { return 1; } }",
     "no file",
-    "class A extends B { int z; } class C extends D { int k; } class D extends C { int n; } class E extends C { } class F extends F { } class G extends Missing { int x; }",
+    "class A extends B { int z; } class C extends D { int k; } class D extends C { int n; } class E extends C { public int e() { return 1; } } class F extends F { int f; } class G extends Missing { int x; } class H extends E { } class P extends Q { } class Q extends R { int q; } class R extends S { } class S extends Q { public int s() { return 1; } }",
 ];
 
 /// How a chain ends, or that there is none.
@@ -21,8 +22,8 @@ enum Ending {
     NoChain,
 }
 
-/// A class, the numbers of its file and of the class in it, the names of its chain, and the chain's end. Of a class that
-/// isn't declared the numbers say nothing.
+/// A class, the numbers of its file and of the class in it, the names of those classes of its chain that declare members,
+/// and the chain's end. Of a class that isn't declared the numbers say nothing.
 struct Chain {
     class: &'static str,
     file: usize,
@@ -36,7 +37,7 @@ const CHAINS: &[Chain] = &[
         class: "M",
         file: 0,
         number: 0,
-        names: &["M"],
+        names: &[],
         end: Ending::Top,
     },
     Chain {
@@ -87,6 +88,41 @@ const CHAINS: &[Chain] = &[
         number: 5,
         names: &["G"],
         end: Ending::Undeclared("Missing"),
+    },
+    Chain {
+        class: "H",
+        file: 2,
+        number: 6,
+        names: &["E", "C", "D"],
+        end: Ending::Repeated("C"),
+    },
+    Chain {
+        class: "P",
+        file: 2,
+        number: 7,
+        names: &["Q", "S"],
+        end: Ending::Repeated("Q"),
+    },
+    Chain {
+        class: "Q",
+        file: 2,
+        number: 8,
+        names: &["Q", "S"],
+        end: Ending::Repeated("Q"),
+    },
+    Chain {
+        class: "R",
+        file: 2,
+        number: 9,
+        names: &["S", "Q"],
+        end: Ending::Repeated("R"),
+    },
+    Chain {
+        class: "S",
+        file: 2,
+        number: 10,
+        names: &["S", "Q"],
+        end: Ending::Repeated("S"),
     },
     Chain {
         class: "Missing",
@@ -165,5 +201,5 @@ fn are_chains(alloc: Global, texts: &[&str], count: usize) -> Result<bool, Alloc
 
 #[test]
 fn chains(rt: HostRuntime) {
-    assert!(rt; are_chains(rt.alloc(), TEXTS, 9) == Ok(true));
+    assert!(rt; are_chains(rt.alloc(), TEXTS, 14) == Ok(true));
 }

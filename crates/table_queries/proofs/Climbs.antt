@@ -8,7 +8,6 @@ use Rattle.result_bytes.specs.Payloads.{ChainValue}
 use Rattle.recorder.specs.Recording.{Recording}
 use Rattle.recorder.specs.Programs.{Prog, Stands, Goes, GivesUp}
 use Rattle.recorder.specs.declared.runner.RunFault.{RunFault}
-use Rattle.table_queries.specs.declared.supers.Climb.{Climb}
 use Rattle.table_queries.specs.declared.supers.Climb.TheVariants.{At, Over}
 use Rattle.table_queries.specs.Supers.{chain, climb_step, climb_on, chain_steps}
 

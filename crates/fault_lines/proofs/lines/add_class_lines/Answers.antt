@@ -1,6 +1,5 @@
-use Rattle.std.proofs.Common.{arith}
 use Rattle.fault_lines.specs.FaultLines.{of_class, IsLineOf}
-use Rattle.fault_lines.proofs.Pairs.{pairs_more, pairs_all}
+use Rattle.fault_lines.proofs.Pairs.{pairs_more}
 use Rattle.fault_lines.proofs.lines.add_class_lines.Goals as goal
 
 pub loop-fault-preserved : goal.loop-fault-preserved

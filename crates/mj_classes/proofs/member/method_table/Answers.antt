@@ -6,7 +6,7 @@ use Rattle.mj_classes.specs.Declarations.{ClassDecl}
 use Rattle.mj_classes.specs.Classes.{classes_view, class_ref_view, method_member_view}
 use Rattle.mj_classes.specs.Tables.{all_along, methods_along}
 use Rattle.mj_classes.specs.Rows.{method_rows, SayAlike}
-use Rattle.mj_classes.proofs.Index.{more}
+use Rattle.mj_tree.proofs.NamePlaces.{more}
 use Rattle.mj_classes.proofs.Rows.{class_added, table_of}
 use Rattle.mj_classes.proofs.member.method_table.Goals as goal
 

@@ -2,7 +2,7 @@ use Rattle.std.proofs.Common.{◌≡◌, ℕ, List, take}
 use Rattle.std.specs.BTreeMap.{get}
 use Rattle.std.specs.Ordering.{nat_cmp}
 use Rattle.std.specs.Cmp.Lexicographic.{slice_cmp}
-use Rattle.mj_classes.proofs.Index.{named_at}
+use Rattle.mj_tree.proofs.NamePlaces.{named_at}
 use Rattle.mj_classes.proofs.own.index_fields.Given as goal
 
 abbrev pub invariant-loop-at : goal.invariant-loop-at

@@ -3,7 +3,7 @@ use Rattle.std.specs.BTreeMap.{get}
 use Rattle.std.specs.Ordering.{nat_cmp, is_eq}
 use Rattle.std.specs.Cmp.Lexicographic.{slice_cmp}
 use Rattle.mj_tree.specs.Views.{method_view}
-use Rattle.mj_classes.proofs.Index.{index_kept, index_added}
+use Rattle.mj_tree.proofs.NamePlaces.{index_kept, index_added}
 use Rattle.mj_classes.proofs.own.index_methods.Goals as goal
 use Rattle.mj_classes.proofs.own.index_methods.Goals.{then-not-contains_key+in_ok-copy+in_ok-insert, else-not-contains_key}
 

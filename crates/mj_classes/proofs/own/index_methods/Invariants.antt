@@ -3,7 +3,7 @@ use Rattle.std.specs.BTreeMap.{get}
 use Rattle.std.specs.Ordering.{nat_cmp}
 use Rattle.std.specs.Cmp.Lexicographic.{slice_cmp}
 use Rattle.mj_tree.specs.Views.{method_view}
-use Rattle.mj_classes.proofs.Index.{named_at}
+use Rattle.mj_tree.proofs.NamePlaces.{named_at}
 use Rattle.mj_classes.proofs.own.index_methods.Given as goal
 
 abbrev pub invariant-loop-at : goal.invariant-loop-at

@@ -2,7 +2,7 @@ use Rattle.std.proofs.Common.{◌∙◌, List, None, Some, slice_get, sym, ap}
 use Rattle.mj_project.specs.Projects.{SourceFile}
 use Rattle.fault_lines.specs.FaultLines.{file_named}
 use Rattle.std.specs.Str.{bytes_eq}
-use Rattle.mj_classes.proofs.Positions.{find_from_position}
+use Rattle.mj_tree.proofs.Positions.{find_from_position}
 use Rattle.fault_lines.proofs.texts.Texts.named.Goals as goal
 
 pub returns-in_err-number : goal.returns-in_err-number

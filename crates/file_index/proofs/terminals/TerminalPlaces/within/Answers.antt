@@ -1,8 +1,7 @@
-use Rattle.std.proofs.Common.{◌≡◌, ◌∙◌, ℕ, ◌<◌, ◌≤◌, length, nat_le, sym, ap}
-use Rattle.std.specs.List.{AllWithin, filter}
+use Rattle.std.proofs.Common.{◌≡◌, ◌∙◌, length, nat_le, ap}
+use Rattle.std.specs.List.{filter}
 use Rattle.mj_parser.specs.Tokens.{has}
 use Rattle.mj_parser.specs.Locations.{all_of}
-use Rattle.file_index.specs.Lines.{places_where}
 use Rattle.file_index.proofs.Positions.{places_ascend, places_below, places_from, within_is}
 use Rattle.file_index.proofs.terminals.TerminalPlaces.within.Goals as goal
 

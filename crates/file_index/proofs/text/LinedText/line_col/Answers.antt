@@ -1,5 +1,5 @@
-use Rattle.std.proofs.Common.{◌≡◌, ◌∙◌, ℕ, ◌≤◌, List, length, min, arith, sym, ap}
-use Rattle.file_index.specs.Lines.{places_where, line_feeds, is_feed_at}
+use Rattle.std.proofs.Common.{◌≡◌, ◌∙◌, length, arith}
+use Rattle.file_index.specs.Lines.{line_feeds, is_feed_at}
 use Rattle.file_index.proofs.Positions.{places_ascend}
 use Rattle.file_index.proofs.Feeds.{feeds_before, start_before, line_found, column_found}
 use Rattle.file_index.proofs.text.LinedText.line_col.Goals as goal

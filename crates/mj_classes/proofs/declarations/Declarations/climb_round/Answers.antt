@@ -1,60 +1,46 @@
-use Rattle.std.proofs.Common.{◌∙◌, sym, arith}
-use Rattle.std.proofs.lemmas.Option.{slice_get_within}
-use Rattle.std.proofs.lemmas.List.{length-map}
-use Rattle.mj_classes.specs.Classes.{classes_view, class_ref_view}
-use Rattle.mj_classes.proofs.Places.{step_up}
-use Rattle.mj_classes.proofs.Climbing.{round_starts, round_here, round_ends, round_back, round_on, seen_after, name_at, fewer, straight_is}
+use Rattle.std.proofs.Common.{ap, arith}
+use Rattle.mj_classes.specs.Classes.{classes_view}
+use Rattle.mj_classes.proofs.Climbing.{has_class, class_of, ahead_starts, ahead_stands, ahead_on, goes_up, keeps, some_around, round_leads}
 use Rattle.mj_classes.proofs.declarations.Declarations.climb_round.Goals as goal
 
-pub up-init : goal.up-init
-up-init c =
-    (c.requires.0, c.requires.1, c.requires.0, round_starts (classes_view c.args.self.now.classes.items) c.args.first c.requires.0 _ _ c.requires.1 c.requires.2 c.new-classes.ensures.items c.new-names.ensures.empty)
-
-pub class_at-class-requires : goal.class_at-class-requires
-class_at-class-requires c = slice_get_within (classes_view c.args.self.now.classes.items) _ _ c.up.invariant.3.here
-
-pub superclass_of-requires : goal.superclass_of-requires
-superclass_of-requires c = slice_get_within (classes_view c.args.self.now.classes.items) _ _ c.up.invariant.3.here
-
-pub class_at-requires : goal.class_at-requires
-class_at-requires c =
+pub loop-init : goal.loop-init
+loop-init c =
     let cs = classes_view c.args.self.now.classes.items in
-    let step = step_up cs c.up.at _ c.in-Some.next c.up.invariant.3.here c.in-Some.ensures in
-    slice_get_within cs _ _ step.here
+    let r = c.requires in
+    (r.0, r.1, r.2, r.3, r.4, r.5, ahead_starts cs r.0 r.1 r.2 c.args.first r.3 r.4, ap (λ ks. classes_view ks) c.new-classes.ensures.items)
 
-pub returns-in_default : goal.returns-in_default
-returns-in_default c =
+pub keep-requires : goal.keep-requires
+keep-requires c =
     let cs = classes_view c.args.self.now.classes.items in
-    let inv = c.up.invariant in
-    let here = round_here cs inv.0.name _ _ c.up.at inv.2 c.class_at-class.result inv.3 c.class_at-class.ensures in
-    rw c.straight_end-end.ensures
-    (straight_is cs c.args.first inv.0 _ _ inv.1 (round_ends cs inv.0.name _ _ _ c.up.at c.class_at-class.result here c.in_ok-push.ensures.items c.in_default.ensures))
+    let inv = c.loop.invariant in
+    let most = (some_around cs inv.0 inv.1 inv.2 c.args.around inv.3 inv.5).1 in
+    has_class cs inv.1 _ c.loop.ahead (ahead_stands cs inv.1 inv.2 _ c.loop.ahead (omega arith) inv.6)
 
-pub returns-then-contains : goal.returns-then-contains
-returns-then-contains c =
+pub above-ahead-requires : goal.above-ahead-requires
+above-ahead-requires c =
     let cs = classes_view c.args.self.now.classes.items in
-    let inv = c.up.invariant in
-    let here = round_here cs inv.0.name _ _ c.up.at inv.2 c.class_at-class.result inv.3 c.class_at-class.ensures in
-    let step = step_up cs c.up.at (class_ref_view c.class_at-class.result) c.in-Some.next here.here c.in-Some.ensures in
-    let seen = seen_after cs inv.0.name _ _ c.up.names c.insert.new.self c.up.at c.class_at-class.result c.name.result here c.in_ok-push.ensures.items c.name.ensures c.in_ok-insert.ensures.updates.0 in
-    let name = name_at cs (class_ref_view c.class_at-class.result) (class_ref_view c.class_at.result) c.in-Some.next c.name-again.result.now step c.class_at.ensures c.name-again.ensures in
-    straight_is cs c.args.first inv.0 _ _ inv.1
-    (round_back cs inv.0.name _ _ c.up.names c.up.at c.in-Some.next c.class_at-class.result c.name-again.result.now here c.in_ok-push.ensures.items step name (sym (seen c.name-again.result) ∙ (sym c.contains.ensures ∙ c.if-contains.true)))
+    let inv = c.loop.invariant in
+    let most = (some_around cs inv.0 inv.1 inv.2 c.args.around inv.3 inv.5).1 in
+    goes_up cs inv.0 inv.1 inv.2 _ c.loop.ahead inv.3 (ahead_stands cs inv.1 inv.2 _ c.loop.ahead (omega arith) inv.6)
 
-pub up-smaller : goal.up-smaller
-up-smaller c =
+pub loop-preserved : goal.loop-preserved
+loop-preserved c =
     let cs = classes_view c.args.self.now.classes.items in
-    let inv = c.up.invariant in
-    let here = round_here cs inv.0.name _ _ c.up.at inv.2 c.class_at-class.result inv.3 c.class_at-class.ensures in
-    let less = fewer cs inv.0.name _ _ c.class_at-class.result here.climbing c.in_ok-push.ensures.items in
-    omega (arith, less, length-map c.args.self.now.classes.items class_ref_view)
+    let inv = c.loop.invariant in
+    let most = (some_around cs inv.0 inv.1 inv.2 c.args.around inv.3 inv.5).1 in
+    let stands = ahead_stands cs inv.1 inv.2 c.loop.counter c.loop.ahead (omega arith) inv.6 in
+    let k = class_of cs inv.1 c.loop.counter c.loop.ahead stands in (
+      inv.0,
+      inv.1,
+      inv.2,
+      inv.3,
+      inv.4,
+      inv.5,
+      ahead_on cs inv.0 inv.1 inv.2 c.loop.counter c.loop.ahead c.above-ahead.result inv.3 stands c.above-ahead.ensures,
+      keeps cs inv.1 c.loop.counter c.loop.ahead k.0 _ _ stands k.1 inv.7 (c.in_ok-keep.ensures k.0 k.1),
+    )
 
-pub up-preserved : goal.up-preserved
-up-preserved c =
-    let cs = classes_view c.args.self.now.classes.items in
-    let inv = c.up.invariant in
-    let here = round_here cs inv.0.name _ _ c.up.at inv.2 c.class_at-class.result inv.3 c.class_at-class.ensures in
-    let step = step_up cs c.up.at (class_ref_view c.class_at-class.result) c.in-Some.next here.here c.in-Some.ensures in
-    let seen = seen_after cs inv.0.name _ _ c.up.names c.insert.new.self c.up.at c.class_at-class.result c.name.result here c.in_ok-push.ensures.items c.name.ensures c.in_ok-insert.ensures.updates.0 in
-    let name = name_at cs (class_ref_view c.class_at-class.result) (class_ref_view c.class_at.result) c.in-Some.next c.name-again.result.now step c.class_at.ensures c.name-again.ensures in
-    (inv.0, inv.1, step.class, round_on cs inv.0.name _ _ c.up.names c.insert.new.self c.up.at c.in-Some.next c.class_at-class.result c.name-again.result.now here c.in_ok-push.ensures.items step name seen (sym (seen c.name-again.result) ∙ (sym c.contains.ensures ∙ c.if-contains.false)))
+pub climb_to_entry-requires : goal.climb_to_entry-requires
+climb_to_entry-requires c =
+    let inv = c.loop.invariant in
+    round_leads (classes_view c.args.self.now.classes.items) inv.0 inv.1 inv.2 c.args.first c.args.around c.loop.counter c.loop.ahead _ inv.3 inv.4 inv.5 inv.6 inv.7 (omega arith)

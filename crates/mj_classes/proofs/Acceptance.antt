@@ -1,62 +1,30 @@
--- What is accepted by what: the test is the relation, which is an order where chains end.
-use Rattle.std.proofs.Common.{◌≡◌, ◌≢◌, Bool, true, false, List, [], ◌∷◌, Option, Some, None, refl, sym, ap, ◌∙◌, subst, ◌⊎◌, inl, inr}
-use Rattle.std.specs.Prelude.{Contains, ◌||◌}
-use Rattle.std.specs.Str.{bytes_eq}
-use Rattle.std.proofs.lemmas.Slice.Eq.{bytes_eq-Decides}
+-- What is accepted by what is an order where chains end.
+use Rattle.std.proofs.Common.{◌≡◌, ◌≢◌, List, [], ◌∷◌, refl, sym, ap, ◌∙◌, subst, inl, inr}
+use Rattle.std.specs.Prelude.{Contains}
 use Rattle.mj_tree.specs.Trees.{Name}
 use Rattle.mj_tree.specs.declared.tree.Ty.{Ty}
 use Rattle.mj_tree.specs.declared.tree.Ty.TheVariants.{Int, Boolean, IntArray, Class}
 use Rattle.mj_classes.specs.Declarations.{ClassDecl}
-use Rattle.mj_classes.specs.Chains.{EndOf, Top, Undeclared, Repeated, Ends, Links, AreDistinct, IsChain, Sub, Chain, is_in, chain_names, accepts, chain_of}
-use Rattle.mj_classes.proofs.Distinct.{In, contains_in, in_contains, is_listed, listed_is}
-use Rattle.mj_classes.proofs.Climb.{chain_of_is, is_chain_of}
+use Rattle.mj_classes.specs.Chains.{EndOf, Top, Undeclared, Repeated, Ends, Links, AreDistinct, IsChain, IsAcceptedBy, chain_names}
+use Rattle.mj_classes.proofs.Distinct.{In, contains_in, in_contains}
+use Rattle.mj_classes.proofs.Climb.{chain_of_is}
 use Rattle.mj_classes.proofs.Closed.{chain_holds}
 
-stands : (cs : List ClassDecl) (t u : Name) (o : Option Chain) → chain_of cs t ≡ o → is_in (chain_names o) u ≡ true → (chain : List Name) × (end : EndOf) × IsChain cs t chain end × Contains chain u
-stands cs t u None e s = absurd cc
-stands cs t u (Some chain) e s = (chain.0, chain.1, is_chain_of cs t chain.0 chain.1 e, is_listed chain.0 u s)
+pub accepted_by_itself : (cs : List ClassDecl) (t : Ty) → IsAcceptedBy cs t t
+accepted_by_itself cs Int = refl
+accepted_by_itself cs Boolean = refl
+accepted_by_itself cs IntArray = refl
+accepted_by_itself cs (Class t) = inl refl
 
-pub sub_from_accepts : (cs : List ClassDecl) (t u : Ty) → accepts cs t u ≡ true → Sub cs t u
-sub_from_accepts cs Int Int e = refl
-sub_from_accepts cs Boolean Boolean e = refl
-sub_from_accepts cs IntArray IntArray e = refl
-sub_from_accepts cs (Class t) (Class u) e = go (bytes_eq t u) refl e
-  where
-    go : (b : Bool) → bytes_eq t u ≡ b → (b || is_in (chain_names (chain_of cs t)) u) ≡ true → (t ≡ u) ⊎ ((chain : List Name) × (end : EndOf) × IsChain cs t chain end × Contains chain u)
-    go true d e = inl ((bytes_eq-Decides t u).0 d)
-    go false d e = inr (stands cs t u (chain_of cs t) refl e)
-sub_from_accepts cs t u e = absurd cc
-
-pub accepts_from_sub : (cs : List ClassDecl) (t u : Ty) → Sub cs t u → accepts cs t u ≡ true
-accepts_from_sub cs Int u e = subst (λ (v : Ty). accepts cs Int v ≡ true) e refl
-accepts_from_sub cs Boolean u e = subst (λ (v : Ty). accepts cs Boolean v ≡ true) e refl
-accepts_from_sub cs IntArray u e = subst (λ (v : Ty). accepts cs IntArray v ≡ true) e refl
-accepts_from_sub cs (Class t) (Class u) (inl e) = let same = (bytes_eq-Decides t u).1 e in rw same refl
-accepts_from_sub cs (Class t) (Class u) (inr h) =
-    let chain = chain_of_is cs t h.0 h.1 h.2 in
-    let listed = listed_is h.0 u h.3 in
-    rw (chain, listed) (go (bytes_eq t u))
-  where
-    go : (b : Bool) → (b || true) ≡ true
-    go true = refl
-    go false = refl
-accepts_from_sub cs (Class t) u e = absurd cc
-
-pub sub_refl : (cs : List ClassDecl) (t : Ty) → Sub cs t t
-sub_refl cs Int = refl
-sub_refl cs Boolean = refl
-sub_refl cs IntArray = refl
-sub_refl cs (Class t) = inl refl
-
-pub sub_trans : (cs : List ClassDecl) (t u v : Ty) → Sub cs t u → Sub cs u v → Sub cs t v
-sub_trans cs Int u v e f = subst (λ (w : Ty). Sub cs w v) (sym e) f
-sub_trans cs Boolean u v e f = subst (λ (w : Ty). Sub cs w v) (sym e) f
-sub_trans cs IntArray u v e f = subst (λ (w : Ty). Sub cs w v) (sym e) f
-sub_trans cs (Class t) (Class u) (Class v) (inl e) f = subst (λ (n : Name). Sub cs (Class n) (Class v)) (sym e) f
-sub_trans cs (Class t) (Class u) (Class v) (inr h) (inl f) = inr (h.0, h.1, h.2, subst (Contains h.0) f h.3)
-sub_trans cs (Class t) (Class u) (Class v) (inr h) (inr k) = inr (h.0, h.1, h.2, chain_holds cs t u h.0 k.0 h.1 k.1 h.2 h.3 k.2 v k.3)
-sub_trans cs (Class t) (Class u) v e f = absurd cc
-sub_trans cs (Class t) u v e f = absurd cc
+pub accepted_along : (cs : List ClassDecl) (t u v : Ty) → IsAcceptedBy cs t u → IsAcceptedBy cs u v → IsAcceptedBy cs t v
+accepted_along cs Int u v e f = subst (λ (w : Ty). IsAcceptedBy cs w v) (sym e) f
+accepted_along cs Boolean u v e f = subst (λ (w : Ty). IsAcceptedBy cs w v) (sym e) f
+accepted_along cs IntArray u v e f = subst (λ (w : Ty). IsAcceptedBy cs w v) (sym e) f
+accepted_along cs (Class t) (Class u) (Class v) (inl e) f = subst (λ (n : Name). IsAcceptedBy cs (Class n) (Class v)) (sym e) f
+accepted_along cs (Class t) (Class u) (Class v) (inr h) (inl f) = inr (h.0, h.1, h.2, subst (Contains h.0) f h.3)
+accepted_along cs (Class t) (Class u) (Class v) (inr h) (inr k) = inr (h.0, h.1, h.2, chain_holds cs t u h.0 k.0 h.1 k.1 h.2 h.3 k.2 v k.3)
+accepted_along cs (Class t) (Class u) v e f = absurd cc
+accepted_along cs (Class t) u v e f = absurd cc
 
 -- ---- two classes that accept each other stand in a cycle
 
@@ -112,10 +80,10 @@ one_way cs t u chain other end last on is h at k ne =
           d.0 (in_contains is.rest t (r.within t (subst (λ (xs : List Name). In t xs) same k)))
     ]
 
-pub sub_antisym : (cs : List ClassDecl) (t u : Name) → Sub cs (Class t) (Class u) → Sub cs (Class u) (Class t) → t ≢ u → (chain : List Name) × (again : Name) × IsChain cs t chain (Repeated again)
-sub_antisym cs t u (inl e) s ne = absurd (ne e)
-sub_antisym cs t u (inr h) (inl e) ne = absurd (ne (sym e))
-sub_antisym cs t u (inr h) (inr k) ne = by_end h.1 h.2
+pub accepted_in_a_cycle : (cs : List ClassDecl) (t u : Name) → IsAcceptedBy cs (Class t) (Class u) → IsAcceptedBy cs (Class u) (Class t) → t ≢ u → (chain : List Name) × (again : Name) × IsChain cs t chain (Repeated again)
+accepted_in_a_cycle cs t u (inl e) s ne = absurd (ne e)
+accepted_in_a_cycle cs t u (inr h) (inl e) ne = absurd (ne (sym e))
+accepted_in_a_cycle cs t u (inr h) (inr k) ne = by_end h.1 h.2
   where
     by_end : (end : EndOf) → IsChain cs t h.0 end → (chain : List Name) × (again : Name) × IsChain cs t chain (Repeated again)
     by_end Top is = absurd (one_way cs t u h.0 k.0 Top k.1 (λ b. b) is (contains_in h.0 u h.3) k.2 (contains_in k.0 t k.3) ne)

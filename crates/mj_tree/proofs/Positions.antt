@@ -1,5 +1,5 @@
 -- The first place in a list at which a test passes, and tests of names.
-use Rattle.std.proofs.Common.{◌≡◌, ℕ, ◌+◌, ◌<◌, ◌≤◌, Bool, true, false, List, [], ◌∷◌, ◌++◌, length, map, Option, Some, None, refl, sym, ap, ◌∙◌, subst, arith, inl, inr, cond, get_or, length-append}
+use Rattle.std.proofs.Common.{◌≡◌, ℕ, zero, suc, ◌+◌, ◌<◌, ◌≤◌, Bool, true, false, List, [], ◌∷◌, ◌++◌, length, map, Option, Some, None, refl, sym, ap, ◌∙◌, subst, arith, inl, inr, cond, get_or, length-append}
 use Rattle.std.specs.Prelude.{not, find, position, nat_lt, nat_eq, slice_get, option_map, option_and_then}
 use Rattle.std.specs.List.{position_or_len}
 use Rattle.std.specs.Str.{bytes_eq}
@@ -8,6 +8,7 @@ use Rattle.std.specs.Cmp.Lexicographic.{slice_cmp}
 use Rattle.std.proofs.lemmas.Bool.{cases_lt, false≢true}
 use Rattle.std.proofs.lemmas.Bool.Decides.{Decides-ltb, Decides-eqb, same_from_decides}
 use Rattle.std.proofs.lemmas.Cmp.{tied_itself, nat_list_cmp_total}
+use Rattle.std.proofs.lemmas.List.{length-map}
 use Rattle.std.proofs.lemmas.List.Folds.{find_at, position_or_len_push}
 use Rattle.std.proofs.lemmas.List.Quantifiers.{position-Some}
 use Rattle.std.proofs.lemmas.List.Sums.{prefix_len-le-length}
@@ -130,3 +131,24 @@ find-map {X} f p (x ∷ xs) = by (p (f x)) (find-map f p xs)
     by : (b : Bool) → find p (map f xs) ≡ option_map f (find (λ y. p (f y)) xs) → cond b (Some (f x)) (find p (map f xs)) ≡ option_map f (cond b (Some x) (find (λ y. p (f y)) xs))
     by true e = refl
     by false e = e
+
+-- ---- what stands at a place
+
+pub at_some : {X : Type 0} (xs : List X) (i : ℕ) → i < length xs → (x : X) × (slice_get xs i ≡ Some x)
+at_some [] i lt = absurd (omega arith)
+at_some (x ∷ xs) zero lt = (x, refl)
+at_some (x ∷ xs) (suc i) lt = at_some xs i (omega arith)
+
+-- what is read at a place
+pub read_at : {X : Type 0} (xs : List X) (at : ℕ) (x : X) → at < length xs → x ≡ get_or xs at x → slice_get xs at ≡ Some x
+read_at xs at x lt is = slice_get_read xs (length xs) at x refl lt is
+
+pub view_at : {X Y : Type 0} (view : X → Y) (xs : List X) (at : ℕ) (x : X) → at < length (map view xs) → x ≡ get_or xs at x → slice_get (map view xs) at ≡ Some (view x)
+view_at view xs at x lt is = slice_get-map view xs at ∙ ap (option_map view) (read_at xs at x (omega (arith, lt, length-map xs view)) is)
+
+-- the first that passes a test is read at its place
+pub found_first : {X Y : Type 0} (view : X → Y) (p : Y → Bool) (xs : List X) (ys : List Y) (i : ℕ) (x : X) → map view xs ≡ ys → position p ys ≡ Some i → x ≡ get_or xs i x → find p ys ≡ Some (view x)
+found_first view p xs ys i x e h is =
+    let below = position_below p ys i h in
+    let at : position p (map view xs) ≡ Some i = ap (position p) e ∙ h in
+    ap (find p) (sym e) ∙ find_at_place view p xs i x at (omega (arith, below, ap length e, length-map xs view)) is
