@@ -1,12 +1,6 @@
 -- Which items have a spelling: names, numbers in four bytes, and lists in their order.
-use Rattle.std.specs.Prelude.{◌≡◌, ℕ, ◌<◌, ◌≤◌, ◌^◌, List, [], ◌∷◌, length, Contains, IfSome}
+use Rattle.std.specs.Prelude.{ℕ, ◌<◌, ◌≤◌, List, [], ◌∷◌, length, Contains, IfSome}
 use Rattle.std.specs.List.{AllByRecursion}
-use Rattle.mj_tree.specs.declared.place.Place.{Place}
-use Rattle.mj_tree.specs.declared.place.Place.TheVariants.{Project, File, ClassOf, Class, Field, Method, Inside}
-use Rattle.mj_answer.specs.declared.diagnostic.Diagnostic.{Diagnostic}
-use Rattle.mj_answer.specs.declared.table.FieldRow.{FieldRow}
-use Rattle.mj_answer.specs.AnswerValues.{MethodRowValue, ClassTableValue, ClassAnswerValue, AnswerValue}
-use Rattle.mj_answer.specs.Order.{NameBefore, Before, IsAscendingBy, IsTableInOrder, IsClassInOrder}
 use Rattle.byte_readers.specs.Names.{IsName}
 use Rattle.tree_bytes.specs.Storable.{TyFits, FieldFits}
 use Rattle.result_bytes.specs.declared.parts.ChainEnd.{ChainEnd}

@@ -1,5 +1,5 @@
 -- Files of a project by their names, and the files that declare classes.
-use Rattle.std.proofs.Common.{◌≡◌, ℕ, zero, suc, ◌+◌, ◌<◌, ◌≤◌, Bool, true, false, cond, List, [], ◌∷◌, ◌++◌, map, slice_get, find, Option, Some, None, option_map, Contains, refl, sym, ap, ◌∙◌, subst, arith, ◌⊎◌, inl, inr}
+use Rattle.std.proofs.Common.{◌≡◌, ℕ, suc, ◌+◌, ◌<◌, Bool, true, false, cond, List, [], ◌∷◌, map, slice_get, find, Option, Some, None, option_map, refl, sym, ap, ◌∙◌, arith, inl, inr}
 use Rattle.std.specs.Prelude.{option_and_then}
 use Rattle.std.specs.Option.{option_or}
 use Rattle.std.specs.Str.{bytes_eq}
@@ -13,7 +13,7 @@ use Rattle.mj_project.specs.Projects.{SourceFile, names_of, IsProject}
 use Rattle.mj_project.proofs.Listed.{place_of, contains_before, map_at}
 use Rattle.mj_rules.specs.Sentences.{file_of, trees_of, classes_in}
 use Rattle.mj_rules.proofs.RowLemmas.{found_stands, finds_one}
-use Rattle.recorder.specs.Projects.{Project, bytes_at}
+use Rattle.recorder.specs.Projects.{Project}
 use Rattle.query_rules.specs.Items.{tree_at, name_of, file_of_class}
 
 -- what is found among views is the view of what is found

@@ -9,20 +9,20 @@ use Rattle.std.specs.Cmp.Lexicographic.{slice_cmp}
 use Rattle.std.specs.Str.{bytes_eq}
 use Rattle.std.proofs.lemmas.Map.Lookups.{exact_bytes}
 use Rattle.std.proofs.lemmas.Map.Views.{tells_apart}
-use Rattle.mj_tree.specs.Trees.{Name, Main, Class, File}
+use Rattle.mj_tree.specs.Trees.{Name, File}
 use Rattle.mj_tree.specs.Views.{main_view, class_view, file_view}
 use Rattle.mj_tree.specs.declared.tree.MainTree.{MainTree}
 use Rattle.mj_tree.specs.declared.tree.ClassTree.{ClassTree}
 use Rattle.mj_tree.specs.declared.tree.FileTree.{FileTree}
 use Rattle.mj_answer.specs.Order.{NameBefore, IsAscendingBy, IsAscendingByName}
-use Rattle.mj_classes.specs.Declarations.{number_classes, main_first, classes_of}
-use Rattle.mj_classes.proofs.Positions.{names_tie, same_name}
+use Rattle.mj_classes.specs.Declarations.{number_classes, main_first}
+use Rattle.mj_tree.proofs.Positions.{names_tie, same_name}
 use Rattle.mj_classes.proofs.Tables.{by_bytes, under}
 use Rattle.mj_rules.specs.FaultLists.{class_names}
 use Rattle.mj_rules.proofs.TableLaws.{found_name}
 use Rattle.result_bytes.specs.declared.files.IndexRow.{IndexRow}
 use Rattle.text_queries.specs.Index.{row_in, file_rows, first_file, first_rows}
-use Rattle.text_queries.proofs.Firsts.{ordered_entries, values_are, firsts_ascend}
+use Rattle.text_queries.proofs.Firsts.{values_are, firsts_ascend}
 
 -- ---- the rows of a file
 

@@ -5,7 +5,6 @@ use Rattle.item_ids.specs.declared.key.Key.TheVariants as keys
 use Rattle.mj_tree.specs.Trees.{Name, File}
 use Rattle.mj_classes.specs.Declarations.{ClassDecl}
 use Rattle.mj_project.specs.Projects.{IsProject}
-use Rattle.result_bytes.specs.Payloads.{HeaderValue}
 use Rattle.result_bytes.specs.declared.value.Value.{Value}
 use Rattle.result_bytes.specs.declared.value.Value.TheVariants as values
 use Rattle.recorder.specs.Projects.{Project}

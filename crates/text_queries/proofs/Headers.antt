@@ -1,5 +1,5 @@
 -- What a tree tells of a class, and the header of the class in it.
-use Rattle.std.proofs.Common.{◌≡◌, ℕ, suc, Bool, true, false, cond, List, [], ◌∷◌, map, find, Option, Some, None, option_map, refl, sym, ap, ◌∙◌}
+use Rattle.std.proofs.Common.{◌≡◌, ℕ, suc, Bool, true, false, cond, List, [], ◌∷◌, map, find, Option, Some, None, option_map, refl, ap, ◌∙◌}
 use Rattle.std.specs.Prelude.{option_and_then}
 use Rattle.std.specs.Str.{bytes_eq}
 use Rattle.mj_tree.specs.Trees.{Name, Main, Class, File}
@@ -9,7 +9,6 @@ use Rattle.mj_tree.specs.declared.tree.ClassTree.{ClassTree}
 use Rattle.mj_tree.specs.declared.tree.MethodTree.{MethodTree}
 use Rattle.mj_classes.specs.Declarations.{ClassDecl, main_decl, class_decl, number_classes, main_first, decl}
 use Rattle.tree_bytes.specs.NamedBodies.{first_class}
-use Rattle.result_bytes.specs.Payloads.{HeaderValue}
 use Rattle.query_rules.specs.Items.{header_of}
 use Rattle.text_queries.specs.ClassTrees.{class_named}
 use Rattle.text_queries.specs.NamedHeaders.{main_header, class_header, header_among, header_behind, header_named}

@@ -1,5 +1,5 @@
 -- The program of the index in a project.
-use Rattle.std.proofs.Common.{◌≡◌, ℕ, zero, suc, ◌+◌, List, [], ◌∷◌, ◌++◌, map, find, filter_map, slice_get, Option, Some, None, option_map, refl, sym, ap, ap₂, ◌∙◌, arith, append_assoc, append-nil}
+use Rattle.std.proofs.Common.{◌≡◌, ℕ, suc, ◌+◌, List, [], ◌∷◌, ◌++◌, map, find, filter_map, slice_get, Option, Some, None, option_map, refl, sym, ap, ap₂, ◌∙◌, arith, append_assoc, append-nil}
 use Rattle.std.specs.Prelude.{if◌then◌else◌}
 use Rattle.std.specs.List.{cons_option}
 use Rattle.std.specs.Str.{bytes_eq}
@@ -16,11 +16,11 @@ use Rattle.result_bytes.specs.declared.files.IndexRow.{IndexRow}
 use Rattle.result_bytes.specs.declared.value.Value.{Value}
 use Rattle.result_bytes.specs.declared.value.Value.TheVariants as values
 use Rattle.recorder.specs.Projects.{Project}
-use Rattle.recorder.specs.Programs.{Prog, Ret, runs, asks, Fits, each, is_seen}
+use Rattle.recorder.specs.Programs.{Ret, runs, asks, Fits, each, is_seen}
 use Rattle.recorder.proofs.Rules.{fold_of, each_runs, each_fits}
-use Rattle.query_rules.specs.Items.{tree_at, name_of, index_row, index_of}
+use Rattle.query_rules.specs.Items.{tree_at, name_of, index_row}
 use Rattle.query_rules.specs.Meaning.{mean}
-use Rattle.query_rules.specs.Reads.{all_trees, asked_keys, firsts, reads}
+use Rattle.query_rules.specs.Reads.{asked_keys, firsts, reads}
 use Rattle.text_queries.specs.Facts.{tree_in}
 use Rattle.text_queries.specs.Index.{row_in, file_rows, rows_step, first_rows, index_steps}
 use Rattle.text_queries.specs.Laws.{IndexTies}

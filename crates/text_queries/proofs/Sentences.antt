@@ -1,5 +1,5 @@
 -- The tree of a sentence can be stored.
-use Rattle.std.proofs.Common.{◌≡◌, ℕ, List, Option, Some, sym}
+use Rattle.std.proofs.Common.{◌≡◌, ℕ, List, Some, sym}
 use Rattle.mj_tree.specs.Trees.{File}
 use Rattle.mj_rules.specs.Sentences.{file_of}
 use Rattle.mj_rules.proofs.LowerLaws.{sentence_law}

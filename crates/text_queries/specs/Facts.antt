@@ -1,5 +1,5 @@
 -- What answers tell of texts and trees.
-use Rattle.std.specs.Prelude.{ℕ, List, [], Option, Some, None, option_map, find}
+use Rattle.std.specs.Prelude.{ℕ, List, [], Option, None, option_map, find}
 use Rattle.std.specs.Str.{bytes_eq}
 use Rattle.mj_tree.specs.Trees.{Name}
 use Rattle.mj_tree.specs.Trees as trees

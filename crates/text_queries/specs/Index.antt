@@ -1,5 +1,5 @@
 -- Each class with the file that declares it.
-use Rattle.std.specs.Prelude.{List, [], ◌∷◌, ◌++◌, map, filter_map, find, Option, Some, None, option_map}
+use Rattle.std.specs.Prelude.{List, [], ◌++◌, map, filter_map, find, Option, Some, None, option_map}
 use Rattle.std.specs.Str.{bytes_eq}
 use Rattle.item_ids.specs.declared.key.Key.TheVariants as keys
 use Rattle.mj_tree.specs.Trees.{Name, File}

@@ -1,6 +1,5 @@
 //! The header of a class.
-ghost use Rattle.std.specs.Prelude.{◌≡◌, IfOk, IfErr, map, find, option_map, option_copied, option_and_then};
-ghost use Rattle.std.specs.Str.{bytes_eq};
+ghost use Rattle.std.specs.Prelude.{◌≡◌, IfOk, IfErr, map, option_map, option_copied, option_and_then};
 ghost use Rattle.mj_tree.specs.Views.{class_view};
 ghost use Rattle.recorder.specs.Programs.{Goes, GivesUp};
 ghost use Rattle.query_rules.specs.Items.{header_of};
@@ -65,24 +64,12 @@ fn header_of_class(alloc: Global, class: &ClassTree) -> Result<Header, AllocErro
     Ok(Header::new(false, superclass, fields, methods))
 }
 
-/// The first of the classes that has this name.
-fn first_class<'t>(classes: &'t [ClassTree], name: &Name) -> Option<&'t ClassTree>
-    ensures { option_copied result ≡ find (λ class. bytes_eq class.name name.now) classes.now }
+/// The header of the first class of this name in a tree that isn't the main class.
+fn header_among(alloc: Global, tree: &Tree, class: &Name) -> Result<Option<Header>, AllocError>
+    ensures { IfOk result (λ header. header ≡ header_among class.now tree.now.classes) }
 {
-    classes.iter().find(|class| &class.name == name)
-}
-
-/// The header of the first of the classes that has this name.
-fn header_among(
-    alloc: Global,
-    classes: &[ClassTree],
-    name: &Name,
-) -> Result<Option<Header>, AllocError>
-    ensures { IfOk result (λ header.
-        header ≡ header_among name.now (map class_view classes.now)) }
-{
-    match first_class(classes, name) {
-        Some(class) => Ok(Some(header_of_class(alloc, class)?)),
+    match tree.class(class) {
+        Some(found) => Ok(Some(header_of_class(alloc, found)?)),
         None => Ok(None),
     }
 }
@@ -91,10 +78,9 @@ fn header_among(
 fn header_in(alloc: Global, tree: &Tree, class: &Name) -> Result<Option<Header>, AllocError>
     ensures { IfOk result (λ header. header ≡ header_named class.now tree.now) }
 {
-    let root = tree.root();
-    match &root.main {
+    match &tree.root().main {
         Some(main) if &main.name == class => Ok(Some(header_of_main(alloc))),
-        _ => header_among(alloc, &root.classes, class),
+        _ => header_among(alloc, tree, class),
     }
 }
 

@@ -19,7 +19,7 @@ fn read_tree(alloc: Global, bytes: &[u8]) -> Result<Option<Tree>, AllocError>
 {
     let tree = read_file(alloc, bytes)?;
     match tree {
-        Some(root) => Ok(Some(Tree::new(root))),
+        Some(root) => Ok(Some(Tree::new(alloc, root)?)),
         None => Ok(None),
     }
 }

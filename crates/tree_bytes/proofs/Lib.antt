@@ -1,3 +1,4 @@
 pub mod Levels
 pub mod Written
 pub mod Found
+pub mod Indexes

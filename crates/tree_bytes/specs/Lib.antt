@@ -12,3 +12,4 @@ pub mod ExpLaws
 pub mod StmtLaws
 pub mod FileLaws
 pub mod NamedBodies
+pub mod Indexes

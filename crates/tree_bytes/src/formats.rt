@@ -176,7 +176,8 @@ impl Format for TreeFormat {
 
     fn read(alloc: Global, bytes: &[u8]) -> Result<(Tree, &[u8]), ReadError> {
         let (root, rest) = read_file(alloc, bytes)?;
-        Ok((Tree::new(root), rest))
+        let tree = Tree::new(alloc, root)?;
+        Ok((tree, rest))
     }
 }
 

@@ -4,6 +4,7 @@
 mod expressions;
 mod files;
 mod formats;
+mod index;
 mod methods;
 mod named;
 mod statements;

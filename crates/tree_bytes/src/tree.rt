@@ -1,9 +1,12 @@
 //! Trees that have a spelling.
-ghost use Rattle.std.specs.Prelude.{◌≡◌, IfOk};
-ghost use Rattle.mj_tree.specs.Views.{file_view};
+ghost use Rattle.std.specs.Prelude.{◌≡◌, IfOk, option_and_then, option_copied, option_map};
+ghost use Rattle.mj_tree.specs.Views.{file_view, class_view, method_view};
+ghost use Rattle.tree_bytes.specs.NamedBodies.{first_class, first_method};
 ghost use Rattle.tree_bytes.specs.Storable.{FileFits};
 
-use mj_tree::{FileTree, MethodTree, Stmt};
+use crate::index::ClassIndex;
+use mj_lexer::Name;
+use mj_tree::{ClassTree, FileTree, MethodTree, Stmt};
 use std::alloc::{AllocError, Global};
 use std::marker::Model;
 
@@ -12,6 +15,7 @@ use std::marker::Model;
 #[derive(Debug, Drop)]
 pub struct Tree {
     root: FileTree,
+    index: ClassIndex,
 }
 
 impl Model for Tree {
@@ -23,20 +27,23 @@ impl Model for Tree {
     ghost coded = { file_code };
 
     ghost use Rattle.mj_tree.specs.Views.{file_view};
+    ghost use Rattle.tree_bytes.specs.Indexes.{IsIndexOf};
     ghost use Rattle.tree_bytes.specs.Storable.{FileFits};
 
     ghost view = { λ tree. file_view tree.root };
 
-    ghost invariant = { λ tree. FileFits (file_view tree.root) };
+    ghost invariant = { λ tree. FileFits (file_view tree.root)
+        × IsIndexOf tree.index (file_view tree.root).classes };
 }
 
 impl Tree {
     /// The tree with this root.
-    pub fn new(root: FileTree) -> Self
+    pub fn new(alloc: Global, root: FileTree) -> Result<Self, AllocError>
         requires { FileFits (file_view root) }
-        ensures { result ≡ file_view root }
+        ensures { IfOk result (λ tree. tree ≡ file_view root) }
     {
-        Tree { root }
+        let index = ClassIndex::new(alloc, &root.classes)?;
+        Ok(Tree { root, index })
     }
 
     /// The root.
@@ -45,6 +52,26 @@ impl Tree {
         ensures fits { FileFits self.now }
     {
         &self.root
+    }
+
+    /// The first class of this name. The main class is none of these.
+    pub fn class(&self, name: &Name) -> Option<&ClassTree>
+        ensures { option_map class_view (option_copied result)
+            ≡ first_class name.now self.now.classes }
+    {
+        let at = self.index.class(name)?;
+        Some(&self.root.classes[at])
+    }
+
+    /// The first method of this name in the first class of this name. The main class is none of these.
+    pub fn method(&self, class: &Name, method: &Name) -> Option<&MethodTree>
+        ensures { option_map method_view (option_copied result)
+            ≡ option_and_then (λ k. first_method method.now k.methods)
+            (first_class class.now self.now.classes) }
+    {
+        let class_at = self.index.class(class)?;
+        let method_at = self.index.method(class_at, method)?;
+        Some(&self.root.classes[class_at].methods[method_at])
     }
 }
 

@@ -6,4 +6,4 @@ pub new-requires : goal.new-requires
 new-requires c = (lawful_file.takes c.args.bytes.now _ _ (λ i. omega (arith, c.type_inv.bytes i)) c.in_ok-root.ensures).1
 
 pub returns : goal.returns
-returns c = rw c.new.ensures c.in_ok-root.ensures
+returns c = rw c.in_ok-tree.ensures c.in_ok-root.ensures
