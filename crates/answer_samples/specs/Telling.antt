@@ -1,5 +1,5 @@
 -- What short texts tell: keys by their names, and results by the digits that spell them.
-use Rattle.std.specs.Prelude.{◌≡◌, ◌<◌, ◌↔◌, ℕ, Bool, List, [], ◌∷◌, length, Option, Some, None, Ok, IsTrue, slice_set, slice_index, bit_xor}
+use Rattle.std.specs.Prelude.{◌≡◌, ◌<◌, ◌↔◌, ℕ, Bool, List, [], ◌∷◌, codes, length, Option, Some, None, Ok, IsTrue, slice_set, slice_index, bit_xor}
 use Rattle.std.specs.declared.cmp.Ordering.TheVariants.{Less}
 use Rattle.hex.specs.Hex.{decode_of, encode_lower}
 use Rattle.item_ids.specs.declared.kind.Kind.{Kind}
@@ -8,6 +8,7 @@ use Rattle.item_ids.specs.declared.key.Key.{Key}
 use Rattle.item_ids.specs.Kinds.{FitNames}
 use Rattle.item_ids.specs.Keys.{kind_of as kind_of_key, class_of, member_of, key_cmp}
 use Rattle.mj_answer.specs.Text.{text_of}
+use Rattle.mj_project.specs.Projects.{SourceFile}
 use Rattle.mj_tree.specs.Trees.{File}
 use Rattle.tree_bytes.specs.NamedBodies.{body_named}
 use Rattle.result_bytes.specs.declared.value.Value.{Value}
@@ -144,3 +145,9 @@ pub record IsSealedAs (kind : Kind) (digits print : List ℕ) (answer : Bool) : 
   pub value : Value
   pub of_digits : IsTold kind digits value
   pub told : IsTrue answer ↔ (encode_lower (print_of value) ≡ print)
+
+-- ---- projects
+
+-- the files of a project of the one file M.java
+abbrev pub one_file : List ℕ → List SourceFile
+one_file text = (record { name = codes "M.java"; bytes = text }) ∷ []

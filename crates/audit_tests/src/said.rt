@@ -52,7 +52,12 @@ fn said_with(alloc: Global, first: &Turned, second: &[u8]) -> Said {
 
 fn said_of(alloc: Global, files: &[&[u8]]) -> Said {
     let mut runner = SampleRunner::new(alloc);
-    match audit(alloc, &mut runner, files) {
+    told(audit(alloc, &mut runner, files))
+}
+
+/// What an audit told.
+pub(crate) fn told(audited: Result<Audited, AuditFault>) -> Said {
+    match audited {
         Ok(audited) => accepted(audited),
         Err(fault) => Said::Refused(fault),
     }

@@ -3,19 +3,15 @@ use Rattle.std.proofs.Common.{◌≡◌, ◌∙◌, ℕ, zero, suc, ◌<◌, Lis
 use Rattle.std.specs.Prelude.{Contains, IfSome}
 use Rattle.std.specs.declared.alloc.Global.{Global}
 use Rattle.std.specs.declared.sync.Arc.{Arc}
-use Rattle.item_ids.specs.declared.key.Key.{Key}
 use Rattle.item_ids.specs.declared.key.Key.TheVariants.{Answer}
-use Rattle.item_ids.specs.declared.kind.Kind.TheVariants as kinds
-use Rattle.result_bytes.specs.declared.value.Value.{Value}
-use Rattle.result_bytes.specs.declared.value.Value.TheVariants as values
-use Rattle.result_bytes.specs.Values.{kind_of as kind_of_value}
 use Rattle.recorder.specs.Projects.{Project}
 use Rattle.query_rules.specs.Meaning.{mean}
 use Rattle.query_rules.specs.Reads.{reads}
+use Rattle.providers.proofs.AnswerKind.{answer_value}
 use Rattle.sessions.specs.Sessions.{RecordValue, SessionValue, IsSession, Entry, entries, entry_at, entry_of}
 use Rattle.sessions.proofs.EntryRules.{entry_of_place}
 use Rattle.graph_rules.specs.Steps.{State}
-use Rattle.graph_rules.specs.Graphs.{AreClosed, IsRoot, answer, IsReached}
+use Rattle.graph_rules.specs.Graphs.{AreClosed, answer}
 use Rattle.graph_rules.specs.Graphs.IsReached.{root as starts}
 use Rattle.graph_rules.proofs.SessionRules.{session_graph}
 use Rattle.job_table.specs.Tables.{IsFull, session_in as session_at_table}
@@ -23,22 +19,7 @@ use Rattle.session_cache.specs.Names.{most}
 use Rattle.session_cache.specs.Starts.{session_in}
 use Rattle.driver.specs.Sessions.{AreEventsOf, IsSessionOf}
 use Rattle.driver.specs.declared.reports.Reports.{Reports}
-use Rattle.cached_check.specs.Checks.{IsAnswerValue, IsAnswerIn, IsAnswered, IsNextSession}
-
-answer_value : (v : Value) → kind_of_value v ≡ kinds.Answer → IsAnswerValue v
-answer_value (values.Answer a) is = (a, refl)
-answer_value (values.Files x) is = absurd cc
-answer_value (values.Source x) is = absurd cc
-answer_value (values.Tree x) is = absurd cc
-answer_value (values.Index x) is = absurd cc
-answer_value (values.Header x) is = absurd cc
-answer_value (values.Method x) is = absurd cc
-answer_value (values.Sig x) is = absurd cc
-answer_value (values.Supers x) is = absurd cc
-answer_value (values.Members x) is = absurd cc
-answer_value (values.CheckClass x) is = absurd cc
-answer_value (values.CheckBody x) is = absurd cc
-answer_value (values.Diags x) is = absurd cc
+use Rattle.cached_check.specs.Checks.{IsAnswered, IsNextSession}
 
 -- a record at some place of the list that is mapped
 mapped_at : (rs xs : List RecordValue) (i : ℕ) (r : Entry) → i < length (map (entry_of rs) xs) → get_or (map (entry_of rs) xs) i r ≡ r

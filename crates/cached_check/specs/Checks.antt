@@ -1,8 +1,8 @@
 -- The session that comes next, and the answer that a session records.
-use Rattle.std.specs.Prelude.{◌≡◌, ℕ, List, Option, Some, string_bytes}
+use Rattle.std.specs.Prelude.{◌≡◌, ℕ, List, Option, Some, String, string_bytes}
+use Rattle.std.specs.declared.alloc.Global.{Global}
 use Rattle.item_ids.specs.declared.key.Key.TheVariants.{Answer}
 use Rattle.mj_answer.specs.AnswerValues.{AnswerValue}
-use Rattle.result_bytes.specs.declared.value.Value.{Value}
 use Rattle.result_bytes.specs.declared.value.Value.TheVariants as values
 use Rattle.recorder.specs.Projects.{Project}
 use Rattle.query_rules.specs.Meaning.{mean}
@@ -10,10 +10,13 @@ use Rattle.query_rules.specs.Reads.{reads}
 use Rattle.sessions.specs.Sessions.{Entry, SessionValue, entry_at}
 use Rattle.graph_rules.specs.Steps.{Event}
 use Rattle.driver.specs.Sessions.{AreEventsOf}
-use Rattle.session_cache.specs.Starts.{IsStart, session_in}
+use Rattle.session_cache.specs.Starts.{IsStart, path_of, session_in}
+use Rattle.session_cache.specs.declared.place.Place.{Place}
 use Rattle.session_cache.specs.declared.start.Start.{Start}
 use Rattle.cached_check.specs.Lines.{AreNotes}
 use Rattle.cached_check.specs.declared.beginning.Beginning.{Beginning}
+use Rattle.cached_check.specs.declared.fault.CheckFault.{CheckFault}
+use Rattle.cached_check.specs.declared.fault.CheckFault.TheVariants as fault
 
 -- A session begins behind another one, or a chain; the notes tell of a file that isn't followed.
 pub record IsBeginning (dir : List ℕ) (b : Beginning) : Type 0 where
@@ -23,9 +26,13 @@ pub record IsBeginning (dir : List ℕ) (b : Beginning) : Type 0 where
   pub place : start.place ≡ Some b.place
   pub notes : AreNotes dir start.note (string_bytes b.notes)
 
--- it is an answer for a project
-abbrev pub IsAnswerValue : Value → Type 0
-IsAnswerValue v = (answer : AnswerValue) × (v ≡ values.Answer answer)
+-- why a session isn't kept: behind the notes, the file of the place can't be written, or memory ran
+-- out
+abbrev pub IsUnkept : List ℕ → Place → String Global → CheckFault → Type 0
+IsUnkept dir place notes (fault.CannotRead path) = ⊥
+IsUnkept dir place notes (fault.CannotWrite told path) =
+    (told ≡ notes) × (string_bytes path ≡ path_of dir place)
+IsUnkept dir place notes fault.OutOfMemory = Unit {0}
 
 -- the session's record of the answer has this one
 pub record IsAnswerIn (s : SessionValue) (answer : AnswerValue) : Type 0 where

@@ -1,8 +1,8 @@
 //! Where the next session begins, and where it is kept.
-ghost use Rattle.std.specs.Prelude.{IfOk, IfSome, string_bytes};
+ghost use Rattle.std.specs.Prelude.{IfOk, IfErr, IfSome, string_bytes};
 ghost use Rattle.session_cache.specs.Starts.{IsPlace, IsStart};
 ghost use Rattle.cached_check.specs.Lines.{AreNotes};
-ghost use Rattle.cached_check.specs.Checks.{IsBeginning};
+ghost use Rattle.cached_check.specs.Checks.{IsBeginning, IsUnkept};
 
 use crate::fault::CheckFault;
 use crate::words::note_text;
@@ -72,13 +72,13 @@ pub fn keep<R: Files + AllocGlobal>(
     notes: String,
 ) -> Result<(), CheckFault>
     requires { IsPlace place }
+    ensures { IfErr result (IsUnkept cache.now place notes) }
 {
     let file = file_bytes(rt.alloc(), session)?;
     match write_file(rt, cache, place, file.bytes()) {
         Ok(()) => Ok(()),
-        Err(CacheFault::CannotRead(path) | CacheFault::CannotWrite(path)) => {
-            Err(CheckFault::CannotWrite(notes, path))
-        }
+        Err(CacheFault::CannotWrite(path)) => Err(CheckFault::CannotWrite(notes, path)),
         Err(CacheFault::OutOfMemory) => Err(CheckFault::OutOfMemory),
+        Err(CacheFault::CannotRead(_)) => unreachable!(),
     }
 }

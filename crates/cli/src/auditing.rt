@@ -1,14 +1,14 @@
 //! The audit of a chain of session files.
 ghost use Rattle.std.specs.Prelude.{◌≡◌, ◌≢◌, IfOk, IfErr, map, string_bytes};
 ghost use Rattle.std.specs.Arc.{arc_value};
-ghost use Rattle.mini_java_audit.specs.Headline.{IsAnswerValue};
+ghost use Rattle.providers.specs.Answers.{IsAnswerValue};
 ghost use Rattle.cli.specs.Audits.{AuditsTo, IsAcceptedReport, accepted_line};
 ghost use Rattle.cli.specs.Endings.{status_of_failure};
 
 use crate::failure::Failure;
 use crate::files::read_files;
 use crate::report::{Report, Status};
-use mini_java_audit::{Audited, answer_of, audit_chain};
+use mini_java_audit::{Audited, audit_chain, audited_answer};
 use mj_rules::render;
 use std::alloc::{AllocError, Global};
 use std::fmt::Write;
@@ -46,7 +46,7 @@ fn accepted_report(alloc: Global, audited: &Audited) -> Result<Report, AllocErro
 {
     Ok(Report {
         notes: accepted_note(alloc, audited.sessions, audited.runs)?,
-        answer: render(alloc, answer_of(audited))?,
+        answer: render(alloc, audited_answer(audited))?,
         status: Status::Clean,
     })
 }

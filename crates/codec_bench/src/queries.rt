@@ -1,4 +1,12 @@
 //! The answer of a project by queries.
+ghost use Rattle.std.specs.Prelude.{◌≡◌, IfOk, string_bytes};
+ghost use Rattle.std.specs.Arc.{arc_value};
+ghost use Rattle.item_ids.specs.declared.key.Key.TheVariants.{Answer};
+ghost use Rattle.mj_answer.specs.AnswerValues.{AnswerValue};
+ghost use Rattle.mj_answer.specs.Text.{text_of};
+ghost use Rattle.result_bytes.specs.declared.value.Value.TheVariants as values;
+ghost use Rattle.query_rules.specs.Meaning.{mean};
+
 use crate::invalid;
 use fingerprint::Sealed;
 use mj_answer::render;
@@ -12,7 +20,9 @@ use std::io;
 use std::sync::Arc;
 
 /// The result of Answer, with nothing held before.
-pub fn answer(alloc: Global, project: &Project) -> io::Result<Arc<Sealed>> {
+pub fn answer(alloc: Global, project: &Project) -> io::Result<Arc<Sealed>>
+    ensures { IfOk result (λ sealed. arc_value sealed ≡ mean project.now Answer) }
+{
     let inputs = Inputs::new(alloc, project)?;
     let mut driver = Driver::new(alloc, inputs, MiniJava::new(alloc));
     match driver.answer() {
@@ -22,7 +32,11 @@ pub fn answer(alloc: Global, project: &Project) -> io::Result<Arc<Sealed>> {
 }
 
 /// What `mjrg scratch` prints of this answer.
-pub fn text(alloc: Global, value: &Value) -> io::Result<String> {
+pub fn text(alloc: Global, value: &Value) -> io::Result<String>
+    ensures { IfOk result (λ text.
+        (answer : AnswerValue) × (value.now ≡ values.Answer answer)
+        × (string_bytes text ≡ text_of answer)) }
+{
     match value {
         Value::Answer(whole) => Ok(render(alloc, whole.answer())?),
         _ => Err(invalid()),

@@ -118,44 +118,45 @@ fn bring_class<R: Runner>(
 {
     let header = bring(alloc, solo, runner, &Key::Header(class.copy(alloc)?))?;
     let methods = methods_in(header.value());
-    bring_signatures(alloc, solo, runner, class, methods)?;
+    bring_methods(alloc, solo, runner, class, methods, Part::Types)?;
     bring(alloc, solo, runner, &Key::Members(class.copy(alloc)?))?;
-    bring_bodies(alloc, solo, runner, class, methods)?;
+    bring_methods(alloc, solo, runner, class, methods, Part::Faults)?;
     bring(alloc, solo, runner, &Key::Diags(class.copy(alloc)?))?;
     Ok(())
 }
 
-/// Brings the types of each method of a class.
-fn bring_signatures<R: Runner>(
-    alloc: Global,
-    solo: &mut Solo<R>,
-    runner: &mut R,
-    class: &Name,
-    methods: &[Name],
-) -> Result<(), AllocError>
-    requires { IsFree solo.old.table }
-    ensures { OnOk result (WorksOn solo.old.table solo.new.table) }
-{
-    for method in methods {
-        let key = Key::Sig(class.copy(alloc)?, method.copy(alloc)?);
-        bring(alloc, solo, runner, &key)?;
-    }
-    Ok(())
+/// What is brought of a method.
+#[derive(Clone, Copy)]
+enum Part {
+    /// Its types.
+    Types,
+    /// The faults in its body.
+    Faults,
 }
 
-/// Brings the faults in the body of each method of a class.
-fn bring_bodies<R: Runner>(
+/// The key of this part of a method.
+fn part_key(alloc: Global, part: Part, class: &Name, method: &Name) -> Result<Key, AllocError> {
+    let (class, method) = (class.copy(alloc)?, method.copy(alloc)?);
+    match part {
+        Part::Types => Ok(Key::Sig(class, method)),
+        Part::Faults => Ok(Key::CheckBody(class, method)),
+    }
+}
+
+/// Brings this part of each method of a class.
+fn bring_methods<R: Runner>(
     alloc: Global,
     solo: &mut Solo<R>,
     runner: &mut R,
     class: &Name,
     methods: &[Name],
+    part: Part,
 ) -> Result<(), AllocError>
     requires { IsFree solo.old.table }
     ensures { OnOk result (WorksOn solo.old.table solo.new.table) }
 {
     for method in methods {
-        let key = Key::CheckBody(class.copy(alloc)?, method.copy(alloc)?);
+        let key = part_key(alloc, part, class, method)?;
         bring(alloc, solo, runner, &key)?;
     }
     Ok(())

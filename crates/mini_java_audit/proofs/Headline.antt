@@ -13,10 +13,11 @@ use Rattle.mj_rules.specs.Answering.{rules_of}
 use Rattle.mj_rules.specs.Laws.{AnswerLaw}
 use Rattle.query_rules.specs.Meaning.{mean}
 use Rattle.query_rules.specs.Reads.{reads}
+use Rattle.providers.proofs.AnswerKind.{answer_value}
 use Rattle.sessions.specs.Sessions.{SessionValue, IsSession, past_entry}
 use Rattle.graph_rules.proofs.SessionRules.{session_graph}
 use Rattle.audit_replay.specs.Audits.{IsAccepted, AreApart, last_of, HasValue}
-use Rattle.mini_java_audit.specs.Headline.{IsAcceptedChain, IsAnswerValue, IsOfTheRules}
+use Rattle.mini_java_audit.specs.Headline.{IsAcceptedChain, IsOfTheRules}
 
 means_the_rules : (p : Project) → mean p Answer ≡ values.Answer (rules_of p)
 unfolding mean
@@ -37,21 +38,6 @@ last_is : (past : Option SessionValue) (ss : List SessionValue) → AllByRecursi
 last_is past [] each before s is = before s is
 last_is past (t ∷ ts) each before s is =
     last_is (Some t) ts each.1 (λ u same. subst IsSession (ap (λ (o : Option SessionValue). unwrap_or o t) same) each.0) s is
-
-answer_value : (v : Value) → kind_of_value v ≡ kinds.Answer → IsAnswerValue v
-answer_value (values.Answer answer) is = (answer, refl)
-answer_value (values.Files x) is = absurd cc
-answer_value (values.Source x) is = absurd cc
-answer_value (values.Tree x) is = absurd cc
-answer_value (values.Index x) is = absurd cc
-answer_value (values.Header x) is = absurd cc
-answer_value (values.Method x) is = absurd cc
-answer_value (values.Sig x) is = absurd cc
-answer_value (values.Supers x) is = absurd cc
-answer_value (values.Members x) is = absurd cc
-answer_value (values.CheckClass x) is = absurd cc
-answer_value (values.CheckBody x) is = absurd cc
-answer_value (values.Diags x) is = absurd cc
 
 held_kind : (o : Option SessionValue) → ((s : SessionValue) → o ≡ Some s → IsSession s) → (v : Value) → HasValue (past_entry o) Answer v → kind_of_value v ≡ kinds.Answer
 held_kind None is v h = absurd (none-some h.entry h.has)

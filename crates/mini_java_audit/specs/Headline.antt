@@ -8,11 +8,8 @@ use Rattle.result_bytes.specs.declared.value.Value.TheVariants as values
 use Rattle.recorder.specs.Projects.{Project}
 use Rattle.query_rules.specs.Meaning.{mean}
 use Rattle.query_rules.specs.Reads.{reads}
+use Rattle.providers.specs.Answers.{IsAnswerValue}
 use Rattle.audit_replay.specs.Audits.{IsAccepted, AreApart}
-
--- it is an answer for a project
-abbrev pub IsAnswerValue : Value → Type 0
-IsAnswerValue v = (answer : AnswerValue) × (v ≡ values.Answer answer)
 
 -- it is the answer that the static rules give the files
 pub record IsOfTheRules (files : Project) (v : Value) : Type 0 where

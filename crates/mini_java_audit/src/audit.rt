@@ -6,14 +6,14 @@ ghost use Rattle.result_bytes.specs.declared.value.Value.TheVariants as values;
 ghost use Rattle.query_rules.specs.Meaning.{mean};
 ghost use Rattle.query_rules.specs.Reads.{reads};
 ghost use Rattle.audit_replay.specs.Audits.{AuditRefuses};
-ghost use Rattle.mini_java_audit.specs.Headline.{IsAcceptedChain, IsAnswerValue};
+ghost use Rattle.providers.specs.Answers.{IsAnswerValue};
+ghost use Rattle.mini_java_audit.specs.Headline.{IsAcceptedChain};
 
 use audit_graph::AuditFault;
 use audit_replay::{Audited, audit};
 use mj_answer::Answer;
 use mj_rules::answer_laws;
-use providers::MiniJava;
-use result_bytes::Value;
+use providers::{MiniJava, answer_of};
 use std::alloc::Global;
 
 /// Audits the files of a chain of sessions of MiniJava projects. Where no two different results that they record have one
@@ -30,12 +30,9 @@ pub fn audit_chain(alloc: Global, chain: &[&[u8]]) -> Result<Audited, AuditFault
 }
 
 /// The answer that an accepted chain ends with.
-pub fn answer_of(audited: &Audited) -> &Answer
+pub fn audited_answer(audited: &Audited) -> &Answer
     requires { IsAnswerValue (arc_value audited.now.answer) }
     ensures { arc_value audited.now.answer ≡ values.Answer result.now }
 {
-    match audited.answer.value() {
-        Value::Answer(whole) => whole.answer(),
-        _ => unreachable!(),
-    }
+    answer_of(audited.answer.value())
 }

@@ -4,6 +4,6 @@
 mod audit;
 mod laws;
 
-pub use audit::{answer_of, audit_chain};
+pub use audit::{audit_chain, audited_answer};
 pub use audit_replay::Audited;
 pub use laws::accepted_are_the_rules;

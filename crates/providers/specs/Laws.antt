@@ -1,5 +1,5 @@
 -- The programs of all kinds are tied to what queries mean and read.
-use Rattle.std.proofs.Common.{◌≡◌, ◌<◌, refl, arith}
+use Rattle.std.proofs.Common.{◌<◌, arith}
 use Rattle.item_ids.specs.declared.key.Key.{Key}
 use Rattle.item_ids.specs.declared.key.Key.TheVariants as keys
 use Rattle.recorder.specs.Backed.{rank, RunnerLaws}

@@ -1,2 +1,3 @@
 pub mod Programs
 pub mod Laws
+pub mod Answers

@@ -3,15 +3,14 @@
 ghost use Rattle.std.specs.Prelude.{◌<◌, IfOk};
 ghost use Rattle.recorder.specs.Backed.{rank as rank_of};
 
-use answer_samples::{Asked, Unfit, is_key, is_spelled, key_of};
+use answer_samples::{Asked, Unfit, is_key, is_spelled, key_of, project_of};
 use item_ids::{Key, Kind, rank};
-use mj_project::Project;
 use project_inputs::Inputs;
 use providers::MiniJava;
 use query_driver::Driver;
 use recorder::{AnswerList, Recorder, Runner};
 use run_samples::{Given, comes_to, list_of};
-use std::alloc::{AllocError, Global};
+use std::alloc::Global;
 use std::test::*;
 
 /// A query with its value's canonical bytes, and the answers that are there, which are its reads in order.
@@ -349,23 +348,6 @@ fn runs_of_the_runner(rt: HostRuntime) -> Result<(), Fail> {
         assert!(rt; is_right(rt, row)?);
     }
     Ok(())
-}
-
-/// One file with this text.
-fn file_of(alloc: Global, text: &str) -> Result<Vec<(String, Vec<u8>)>, AllocError> {
-    let name = String::from_str(alloc, "M.java")?;
-    let bytes = text.as_bytes().to_vec(alloc)?;
-    let mut files = Vec::new(alloc);
-    files.push((name, bytes))?;
-    Ok(files)
-}
-
-/// The project of one file.
-fn project_of(alloc: Global, text: &str) -> Result<Project, Unfit> {
-    match Project::new(alloc, file_of(alloc, text)?) {
-        Ok(project) => Ok(project),
-        Err(_) => Err(Unfit),
-    }
 }
 
 /// A driver of the queries of the project of one file.

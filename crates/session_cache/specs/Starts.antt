@@ -1,5 +1,5 @@
 -- Where the next session of a cache begins.
-use Rattle.std.specs.Prelude.{◌≡◌, ◌≢◌, ◌⊎◌, ℕ, ◌+◌, ◌<◌, ◌≤◌, List, ◌++◌, Option, Some, None, Result, Ok, Err, IfSome, codes, if◌then◌else◌, nat_lt}
+use Rattle.std.specs.Prelude.{◌≡◌, ◌≢◌, ◌⊎◌, ℕ, ◌+◌, ◌<◌, ◌≤◌, List, ◌++◌, Option, Some, None, Result, Ok, Err, IfSome, codes, string_bytes, if◌then◌else◌, nat_lt}
 use Rattle.std.specs.Arc.{arc_value}
 use Rattle.std.specs.declared.alloc.Global.{Global}
 use Rattle.std.specs.declared.sync.Arc.{Arc}
@@ -7,6 +7,8 @@ use Rattle.sessions.specs.Sessions.{SessionValue}
 use Rattle.session_file.specs.declared.fault.FileFault.{FileFault}
 use Rattle.session_cache.specs.Names.{most, name_of}
 use Rattle.session_cache.specs.declared.names.Named.TheVariants.{Chain, Session}
+use Rattle.session_cache.specs.declared.fault.CacheFault.{CacheFault}
+use Rattle.session_cache.specs.declared.fault.CacheFault.TheVariants.{CannotRead, CannotWrite, OutOfMemory}
 use Rattle.session_cache.specs.declared.place.Place.{Place}
 use Rattle.session_cache.specs.declared.start.Why.{Why}
 use Rattle.session_cache.specs.declared.start.Why.TheVariants.{Refused, Number, Full}
@@ -66,3 +68,9 @@ pub record IsStart (start : Start) : Type 0 where
   pub number : IfSome start.place (λ p. p.number ≡ number_behind (session_in start.past))
   pub room : IfSome (session_in start.past) (λ s. s.number < most)
   pub noted : IfSome start.note (λ note. IsPlace note.place)
+
+-- why the file of a place isn't written: it can't be, or memory ran out
+abbrev pub IsUnwritten : List ℕ → Place → CacheFault → Type 0
+IsUnwritten dir place (CannotRead path) = ⊥
+IsUnwritten dir place (CannotWrite path) = string_bytes path ≡ path_of dir place
+IsUnwritten dir place OutOfMemory = Unit {0}

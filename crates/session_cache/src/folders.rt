@@ -1,8 +1,8 @@
 //! Reading and writing the cache.
-ghost use Rattle.std.specs.Prelude.{◌≡◌, ◌≤◌, IfOk};
+ghost use Rattle.std.specs.Prelude.{◌≡◌, ◌≤◌, IfOk, IfErr};
 ghost use Rattle.sessions.specs.Spelling.{file_of};
 ghost use Rattle.session_cache.specs.Names.{most};
-ghost use Rattle.session_cache.specs.Starts.{IsPlace, IsStart};
+ghost use Rattle.session_cache.specs.Starts.{IsPlace, IsStart, IsUnwritten};
 
 use crate::fault::CacheFault;
 use crate::names::{Named, highest};
@@ -103,6 +103,7 @@ pub fn write_file<R: Files + AllocGlobal>(
     bytes: &[u8],
 ) -> Result<(), CacheFault>
     requires { IsPlace place }
+    ensures { IfErr result (IsUnwritten dir.now place) }
 {
     let alloc = rt.alloc();
     let folder = chain_path(alloc, dir, place.chain)?;

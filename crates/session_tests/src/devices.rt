@@ -2,9 +2,8 @@
 ghost use Rattle.std.specs.Prelude.{◌≡◌};
 ghost use Rattle.session_file.specs.Devices.{one_more};
 
-use crate::first::FIRST;
 use session_file::{DeviceFault, Feed, FileFault, MemoryFeed, ReaderFeed, Sink, WriterSink};
-use session_samples::{file_of, write_to};
+use session_samples::{FIRST, file_of, write_to};
 use std::alloc::Global;
 use std::test::*;
 

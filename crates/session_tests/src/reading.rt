@@ -1,8 +1,8 @@
 //! Sessions from files, and what is no file.
 
-use crate::first::{FIRST, file_of_first};
+use crate::first::file_of_first;
 use session_file::FileFault;
-use session_samples::{fault_of, file_of, is_read_again};
+use session_samples::{FIRST, fault_of, file_of, is_read_again};
 use std::alloc::Global;
 use std::test::*;
 

@@ -1,10 +1,10 @@
 //! Files of sessions, and faults as texts.
 
-use crate::first::{FIRST, file_of_first};
+use crate::first::file_of_first;
 use answer_samples::is_print;
 use fingerprint::Print;
 use session_file::FileFault;
-use session_samples::digest_of;
+use session_samples::{FIRST, digest_of};
 use std::alloc::Global;
 use std::test::*;
 

@@ -1,8 +1,7 @@
 //! Replays of events.
 
 use crate::runs::outcome_of;
-use crate::tables::project_of;
-use answer_samples::{Asked, Unfit, key_of};
+use answer_samples::{Asked, Unfit, key_of, project_of};
 use job_table::{Event, ReplayFault, Table};
 use mj_project::Project;
 use providers::MiniJava;
