@@ -1,5 +1,5 @@
 -- Green and executed keys have the values and reads of the project whose files the session holds.
-use Rattle.std.proofs.Common.{◌≡◌, ℕ, suc, zero, ◌+◌, ◌<◌, ◌≤◌, Bool, true, false, List, [], ◌∷◌, take, length, refl, sym, ap, ◌∙◌, subst, Option, Some, None, option_map, arith}
+use Rattle.std.proofs.Common.{◌≡◌, ℕ, suc, zero, ◌<◌, Bool, true, false, List, [], ◌∷◌, take, length, refl, sym, ap, ◌∙◌, subst, Some, option_map, arith}
 use Rattle.std.specs.Prelude.{Contains}
 use Rattle.std.specs.List.{AllByRecursion}
 use Rattle.std.proofs.lemmas.List.{take_all}
@@ -10,8 +10,7 @@ use Rattle.item_ids.specs.Keys.{kind_of}
 use Rattle.fingerprint.specs.Prints.{print_of}
 use Rattle.mj_project.specs.Projects.{IsProject}
 use Rattle.recorder.specs.Projects.{Project}
-use Rattle.recorder.specs.Backed.{Meaning, ReadLists, ReadValue, RunnerLaws, rank, keys, AreLower, Alike, Gives, GivesEach, Backed}
-use Rattle.sessions.specs.declared.mark.Mark.{Mark}
+use Rattle.recorder.specs.Backed.{Meaning, ReadLists, ReadValue, RunnerLaws, rank, keys, AreLower, Alike, Gives, GivesEach}
 use Rattle.sessions.specs.declared.mark.Mark.TheVariants.{Input, Green, Executed}
 use Rattle.sessions.specs.Marks.{is_input, is_input_mark}
 use Rattle.sessions.specs.Sessions.{Entry}

@@ -1,5 +1,5 @@
 -- The project whose files a session holds.
-use Rattle.std.proofs.Common.{◌≡◌, ℕ, suc, zero, ◌+◌, ◌<◌, ◌≤◌, ◌⊎◌, inl, inr, Bool, true, false, cond, List, [], ◌∷◌, map, take, length, get_or, find, slice_get, Option, Some, None, option_map, All, refl, sym, ap, ◌∙◌, subst, arith, bytes_eq}
+use Rattle.std.proofs.Common.{◌≡◌, ℕ, suc, zero, inl, inr, true, false, cond, List, [], ◌∷◌, map, take, find, slice_get, Option, Some, None, option_map, All, refl, sym, ap, ◌∙◌, subst, arith, bytes_eq}
 use Rattle.std.specs.Prelude.{Contains}
 use Rattle.std.specs.List.{AllByRecursion}
 use Rattle.std.proofs.lemmas.Option.{none-some, same_Some}
@@ -7,7 +7,6 @@ use Rattle.std.proofs.lemmas.List.{length-map}
 use Rattle.std.proofs.lemmas.List.Elements.{at_from_Contains, All-from_recursion}
 use Rattle.std.proofs.lemmas.Slice.Eq.{bytes_eq-Decides}
 use Rattle.byte_readers.specs.Names.{IsName}
-use Rattle.item_ids.specs.declared.key.Key.{Key}
 use Rattle.item_ids.specs.declared.key.Key.TheVariants.{Files, Source}
 use Rattle.item_ids.specs.Keys.{kind_of}
 use Rattle.result_bytes.specs.declared.value.Value.{Value}
@@ -17,7 +16,7 @@ use Rattle.mj_project.specs.Projects.{SourceFile, names_of, IsFileName, IsProjec
 use Rattle.mj_project.proofs.Listed.{place_of}
 use Rattle.recorder.specs.Projects.{Project, bytes_at}
 use Rattle.sessions.specs.Sessions.{Entry, SessionValue, IsSession, entries, entry_at}
-use Rattle.graph_rules.specs.Pasts.{Past, IsGraph}
+use Rattle.graph_rules.specs.Pasts.{Past}
 use Rattle.graph_rules.specs.Next.{AreSources}
 use Rattle.graph_rules.proofs.NextRules.{all_at}
 use Rattle.graph_rules.proofs.SessionRules.{session_graph}

@@ -1,7 +1,7 @@
 -- Which records of a session are to be run again.
 use Rattle.std.specs.Prelude.{ℕ, ◌+◌, Bool, true, false, List, [], ◌∷◌, if◌then◌else◌}
 use Rattle.sessions.specs.declared.mark.Mark.{Mark}
-use Rattle.sessions.specs.declared.mark.Mark.TheVariants.{Input, Executed, Green}
+use Rattle.sessions.specs.declared.mark.Mark.TheVariants.{Executed}
 use Rattle.sessions.specs.Sessions.{RecordValue, SessionValue}
 
 abbrev pub is_executed : Mark → Bool

@@ -1,5 +1,5 @@
 -- What the check of one session over the one before answers.
-use Rattle.std.specs.Prelude.{◌≡◌, ℕ, List, Option, Some, None, Result, Ok, Err}
+use Rattle.std.specs.Prelude.{◌≡◌, ℕ, List, Option, None, Result, Ok, Err}
 use Rattle.std.specs.List.{AllByRecursion}
 use Rattle.item_ids.specs.declared.key.Key.TheVariants.{Files}
 use Rattle.sessions.specs.declared.mark.Mark.TheVariants.{Green}

@@ -1,31 +1,29 @@
 -- Records that differ from their runs are wrong.
-use Rattle.std.proofs.Common.{◌≡◌, inl, inr, ℕ, suc, zero, ◌+◌, ◌<◌, ◌≤◌, true, List, [], ◌∷◌, ◌++◌, map, take, length, slice_get, Some, None, Err, refl, sym, ap, ◌∙◌, subst, arith}
+use Rattle.std.proofs.Common.{◌≡◌, inl, inr, ℕ, suc, zero, ◌+◌, ◌<◌, ◌≤◌, List, [], ◌∷◌, ◌++◌, map, take, length, slice_get, Some, None, Err, refl, sym, ap, ◌∙◌, subst, arith}
 use Rattle.std.specs.Prelude.{◌≢◌, Contains}
 use Rattle.std.specs.List.{AllByRecursion}
 use Rattle.std.specs.declared.cmp.Ordering.TheVariants.{Less}
 use Rattle.std.specs.Ordering.{is_lt}
-use Rattle.std.proofs.lemmas.List.{length-take-le, length-map}
-use Rattle.std.proofs.lemmas.Option.{none-some, slice_get_within, get_or_from_slice_get}
+use Rattle.std.proofs.lemmas.List.{length-take-le}
+use Rattle.std.proofs.lemmas.Option.{slice_get_within, get_or_from_slice_get}
 use Rattle.item_ids.specs.declared.key.Key.{Key}
 use Rattle.item_ids.specs.Keys.{key_cmp}
 use Rattle.recorder.specs.Projects.{Project}
 use Rattle.recorder.specs.Backed.{Meaning, ReadLists, RunnerLaws, ReadValue, rank, keys, Gives, GivesEach}
-use Rattle.sessions.specs.Sessions.{RecordValue, SessionValue, IsSession, Entry, key_at, entry_of, entry_at}
+use Rattle.sessions.specs.Sessions.{SessionValue, IsSession, Entry, entry_of, entry_at}
 use Rattle.sessions.specs.Spelling.{file_of}
 use Rattle.sessions.proofs.EntryRules.{entry_of_place}
 use Rattle.mj_project.specs.Projects.{IsProject}
 use Rattle.graph_rules.specs.Pasts.{Past}
-use Rattle.graph_rules.specs.Next.{AreSources}
 use Rattle.graph_rules.proofs.NextRules.{all_at}
 use Rattle.graph_rules.proofs.SessionRules.{session_graph}
 use Rattle.audit_graph.specs.Steps.{IsStep}
 use Rattle.audit_graph.specs.Replays.{AreWithLower, IsHeld, is_before}
-use Rattle.audit_graph.specs.declared.fault.AuditFault.{AuditFault}
 use Rattle.audit_graph.specs.declared.fault.AuditFault.TheVariants as faults
 use Rattle.audit_graph.proofs.Entries.{contains_first, contains_later, contains_cases}
 use Rattle.audit_replay.specs.declared.mismatch.Mismatch.{Mismatch}
 use Rattle.audit_replay.specs.declared.mismatch.Mismatch.TheVariants.{OtherRead, UnreadEdges, OtherResult, OutOfMemory}
-use Rattle.audit_replay.specs.Reruns.{RerunGives, IsFirstMismatch, RefusesPlan}
+use Rattle.audit_replay.specs.Reruns.{RerunGives, IsFirstMismatch}
 use Rattle.audit_replay.specs.Audits.{ArePassed, AreApart, AreRight, IsRefusedBehind, last_of}
 use Rattle.audit_replay.specs.Refusals.{IsFirstWrong, HasFirstWrong}
 use Rattle.audit_replay.proofs.ChainRules.{front_right, before_means}

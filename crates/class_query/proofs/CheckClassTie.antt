@@ -1,10 +1,8 @@
 -- The faults of a class's declarations in a project.
 use Rattle.std.proofs.Common.{◌≡◌, ℕ, ◌+◌, ◌≤◌, Bool, true, false, not, List, [], ◌∷◌, ◌++◌, map, length, Option, Some, None, option_map, is_some, is_none, refl, sym, ap, ap₂, subst, ◌∙◌, arith, append_assoc}
-use Rattle.std.specs.List.{AllByRecursion}
 use Rattle.std.proofs.lemmas.Option.{same_Some}
 use Rattle.std.proofs.lemmas.List.{map-append}
 use Rattle.std.proofs.lemmas.Slice.Eq.{bytes_eq-Decides}
-use Rattle.item_ids.specs.declared.key.Key.{Key}
 use Rattle.item_ids.specs.declared.key.Key.TheVariants as keys
 use Rattle.mj_lexer.specs.Lexes.{limit}
 use Rattle.mj_tree.specs.Trees.{Name, Method}
@@ -28,7 +26,7 @@ use Rattle.result_bytes.specs.Payloads.{HeaderValue, ChainValue}
 use Rattle.result_bytes.specs.declared.value.Value.TheVariants as values
 use Rattle.recorder.specs.Projects.{Project}
 use Rattle.recorder.specs.Programs.{Prog, Ret, Fits, each}
-use Rattle.recorder.proofs.Rules.{fold_of, each_fits}
+use Rattle.recorder.proofs.Rules.{each_fits}
 use Rattle.query_rules.specs.Items.{class_at, header_of, end_value, chain_value, fault_set, faults_of}
 use Rattle.query_rules.specs.Meaning.{mean}
 use Rattle.query_rules.specs.BodyReads.{type_reads}

@@ -9,7 +9,7 @@ use Rattle.mj_lexer.specs.Lexing.{tokens_of}
 use Rattle.mj_lexer.proofs.Lexings.{Lexes-tokens_of}
 use Rattle.mj_tree.specs.Trees.{Name, Main, Class, File}
 use Rattle.mj_parser.specs.Rows.{row_size, InRow}
-use Rattle.mj_parser.specs.Declarations.{field_size, method_size, head_size, class_size, main_part_size, IsClass, Derives}
+use Rattle.mj_parser.specs.Declarations.{field_size, method_size, head_size, class_size, main_part_size, IsClass}
 use Rattle.mj_parser.specs.FileReading.{tree_of}
 use Rattle.mj_parser.proofs.FileFound.{file_found}
 use Rattle.mj_parser.proofs.Stands.{stands_within}

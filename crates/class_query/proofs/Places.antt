@@ -1,11 +1,10 @@
 -- What answers tell are faults in places of a class.
-use Rattle.std.proofs.Common.{◌≡◌, ℕ, ◌+◌, Bool, true, false, List, [], ◌∷◌, ◌++◌, Option, Some, None, map}
-use Rattle.std.specs.List.{AllByRecursion}
+use Rattle.std.proofs.Common.{ℕ, ◌+◌, Bool, true, false, List, [], ◌∷◌, ◌++◌, Option, Some, None, map}
 use Rattle.mj_tree.specs.Trees.{Name}
 use Rattle.mj_tree.specs.declared.place.Place.{Place}
 use Rattle.mj_tree.specs.declared.place.Place.TheVariants as places
 use Rattle.mj_answer.specs.declared.code.Code.{Code}
-use Rattle.mj_answer.specs.declared.code.Code.TheVariants.{E203, E204, E205, E206}
+use Rattle.mj_answer.specs.declared.code.Code.TheVariants.{E203, E205, E206}
 use Rattle.mj_answer.specs.declared.diagnostic.Diagnostic.{Diagnostic}
 use Rattle.mj_classes.proofs.Tables.{all_append}
 use Rattle.mj_project.specs.Repeats.{repeats}

@@ -1,5 +1,5 @@
 -- What is done stays done, and every step keeps what is known of each key.
-use Rattle.std.proofs.Common.{◌≡◌, ◌≢◌, ℕ, zero, suc, ◌<◌, List, [], ◌∷◌, ◌++◌, refl, sym, ap, ◌∙◌, subst, Bool, true, false, Option, Some, None, option_map, inl, inr, ◌⊎◌}
+use Rattle.std.proofs.Common.{◌≡◌, ◌≢◌, ℕ, ◌<◌, List, [], ◌∷◌, refl, sym, ap, ◌∙◌, subst, true, false, Option, Some, None, option_map, inl, inr, ◌⊎◌}
 use Rattle.std.specs.Prelude.{if◌then◌else◌}
 use Rattle.std.specs.List.{AllByRecursion}
 use Rattle.item_ids.specs.declared.key.Key.{Key}
@@ -12,9 +12,9 @@ use Rattle.sessions.specs.Sessions.{Entry}
 use Rattle.graph_rules.specs.Keys.{same_key, input_of}
 use Rattle.graph_rules.specs.Pasts.{Past, IsGraph, print_in}
 use Rattle.graph_rules.specs.Steps.{Status, Unknown, Claimed, Running, Done, State, Event, Claim, MarkGreen, Begin, Finish, Fail, at_opening, opening, with_status, IsDone, IsDoneWith, EdgeState, Open, Unchanged, Changed, edge_at, edge_of, Walk, AllUnchanged, OpenAt, ChangedAt, later, walk_on, walk, past_walk, MayRun, AreHeld, MayStep, green, after, after_all, AreSteps, Legal, state_after}
-use Rattle.graph_rules.specs.Sound.{IsBacked, AreBacked, IsGreen, IsExecuted, IsSoundAt, IsSound, IsDoneInOrder, IsInOrderAt, IsInOrder}
+use Rattle.graph_rules.specs.Sound.{IsBacked, AreBacked, IsSoundAt, IsSound, IsInOrderAt, IsInOrder}
 use Rattle.graph_rules.specs.Histories.{Keeps}
-use Rattle.graph_rules.proofs.KeyRules.{same_refl, same_is, same_sym, above, input_kind, marked_input, marked_other}
+use Rattle.graph_rules.proofs.KeyRules.{same_is, above, input_kind, marked_input, marked_other}
 
 -- the edge is open, or stays as it is
 edge_keeps : (pr : Option (List ℕ)) (x y : Status) → ((v : Value) (es : List Key) (m : Mark) → x ≡ Done v es m → y ≡ Done v es m)

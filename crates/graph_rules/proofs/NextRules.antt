@@ -1,8 +1,8 @@
 -- A sound state that closes is the next session.
-use Rattle.std.proofs.Common.{◌≡◌, ℕ, suc, zero, ◌+◌, ◌<◌, ◌≤◌, List, [], ◌∷◌, ◌++◌, map, take, length, refl, sym, ap, ◌∙◌, subst, true, false, Option, Some, None, option_map, arith, append-nil, length-append}
+use Rattle.std.proofs.Common.{◌≡◌, ℕ, suc, zero, ◌+◌, ◌<◌, List, [], ◌∷◌, ◌++◌, take, length, refl, sym, ap, ◌∙◌, subst, true, false, Option, Some, None, option_map, arith, append-nil, length-append}
 use Rattle.std.proofs.lemmas.List.Elements.{Contains-append_right, Contains-append_left, All-contains, All-from_recursion}
 use Rattle.std.proofs.lemmas.List.{take-map}
-use Rattle.std.proofs.lemmas.Option.{none-some, same_Some}
+use Rattle.std.proofs.lemmas.Option.{same_Some}
 use Rattle.std.proofs.lemmas.Slice.Eq.{bytes_eq-Decides}
 use Rattle.std.specs.Prelude.{if◌then◌else◌, Contains, slice_index_or, bytes_eq}
 use Rattle.std.specs.List.{AllByRecursion}
@@ -11,18 +11,16 @@ use Rattle.result_bytes.specs.declared.value.Value.{Value}
 use Rattle.fingerprint.specs.Prints.{print_of}
 use Rattle.mj_project.specs.Projects.{IsProject}
 use Rattle.recorder.specs.Projects.{Project}
-use Rattle.recorder.specs.Backed.{Meaning, ReadLists, ReadValue, rank, keys, IsOfKind, AreLower, Alike, RunnerLaws, Gives, GivesEach, BeginsWith, Backed}
-use Rattle.recorder.specs.Runs.{OutcomeValue, IsOutcome}
+use Rattle.recorder.specs.Backed.{Meaning, ReadLists, ReadValue, rank, keys, RunnerLaws, Gives, GivesEach}
 use Rattle.sessions.specs.declared.mark.Mark.{Mark}
 use Rattle.sessions.specs.declared.mark.Mark.TheVariants.{Input, Green, Executed}
 use Rattle.sessions.specs.Sessions.{Entry}
-use Rattle.graph_rules.specs.Keys.{input_of}
 use Rattle.graph_rules.specs.Pasts.{Past, IsGraph, print_in}
-use Rattle.graph_rules.specs.Steps.{Status, Unknown, Claimed, Running, Done, State, IsDoneWith, EdgeState, Open, Unchanged, Changed, edge_at, edge_of, Walk, AllUnchanged, walk, past_walk, MayRun, AreHeld}
+use Rattle.graph_rules.specs.Steps.{Status, Done, State, IsDoneWith, Unchanged, Changed, edge_at, edge_of, AllUnchanged, walk, MayRun, AreHeld}
 use Rattle.graph_rules.specs.Sound.{IsGreen, IsExecuted, IsSoundAt, IsSound}
-use Rattle.graph_rules.specs.Graphs.{IsRoot, IsReached, AreClosed, edge}
+use Rattle.graph_rules.specs.Graphs.{IsReached, AreClosed, edge}
 use Rattle.graph_rules.specs.Graphs.IsReached.{root as starts}
-use Rattle.graph_rules.specs.Next.{AreMeant, AreApart, IsReadIn, IsUnchanged, HasMark, IsNextEntry, AreNext}
+use Rattle.graph_rules.specs.Next.{AreMeant, AreApart, IsReadIn, HasMark, AreNext}
 use Rattle.graph_rules.specs.Next.{read as read_in}
 use Rattle.graph_rules.specs.Next.IsReadIn.{root as rooted}
 use Rattle.graph_rules.proofs.KeyRules.{input_rank, input_means}

@@ -1,17 +1,12 @@
 -- The order in which the keys of a legal history become done.
-use Rattle.std.proofs.Common.{◌≡◌, ℕ, List, [], ◌∷◌, ◌++◌, refl, sym, ap, ◌∙◌, subst, Bool, true, false, Option, Some, None, option_map}
-use Rattle.std.specs.Prelude.{if◌then◌else◌}
-use Rattle.std.specs.List.{AllByRecursion}
+use Rattle.std.proofs.Common.{◌≡◌, List, [], ◌∷◌, ◌++◌, refl, sym, ap, ◌∙◌, subst, Option, Some, None, option_map}
 use Rattle.item_ids.specs.declared.key.Key.{Key}
-use Rattle.result_bytes.specs.declared.value.Value.{Value}
 use Rattle.recorder.specs.Projects.{Project}
-use Rattle.recorder.specs.Backed.{ReadValue, keys}
-use Rattle.sessions.specs.declared.mark.Mark.{Mark}
+use Rattle.recorder.specs.Backed.{keys}
 use Rattle.sessions.specs.declared.mark.Mark.TheVariants.{Executed}
 use Rattle.sessions.specs.Sessions.{Entry}
-use Rattle.graph_rules.specs.Keys.{same_key}
 use Rattle.graph_rules.specs.Pasts.{Past}
-use Rattle.graph_rules.specs.Steps.{Status, Unknown, Claimed, Running, Done, State, Event, Claim, MarkGreen, Begin, Finish, Fail, opening, with_status, IsDone, IsNotDone, AllUnchanged, walk, AreHeld, MayStep, green, after, after_all, AreSteps, Legal, state_after}
+use Rattle.graph_rules.specs.Steps.{Status, Done, State, Event, Claim, MarkGreen, Begin, Finish, Fail, opening, with_status, IsNotDone, AllUnchanged, walk, MayStep, green, after, after_all, AreSteps, Legal, state_after}
 use Rattle.graph_rules.specs.Histories.{Keeps, MakesDone, HasEdgesDone, IsOrderly}
 use Rattle.graph_rules.proofs.KeyRules.{same_refl}
 use Rattle.graph_rules.proofs.Keeping.{keeps_all, walked_done, held_done}

@@ -1,5 +1,5 @@
 -- What a session tells of a key, by its records.
-use Rattle.std.proofs.Common.{◌≡◌, ℕ, ◌<◌, List, [], ◌∷◌, length, get_or, Option, Some, option_map, ap, ◌∙◌}
+use Rattle.std.proofs.Common.{◌≡◌, ℕ, ◌<◌, List, [], ◌∷◌, length, get_or, Some, option_map, ap, ◌∙◌}
 use Rattle.fingerprint.specs.Prints.{print_of}
 use Rattle.sessions.specs.Sessions.{RecordValue, SessionValue, IsSession, AreOnce, key_at, entry_at, past_entry}
 use Rattle.sessions.proofs.EntryRules.{key_of_place, entry_of_place, has_key, has_kind, has_lower, has_once, has_edge}

@@ -1,5 +1,5 @@
 -- What is reached by edges, and the entries of a finished state.
-use Rattle.std.specs.Prelude.{◌≡◌, ◌⊎◌, ℕ, suc, ◌<◌, List, [], ◌∷◌, Contains}
+use Rattle.std.specs.Prelude.{◌≡◌, ℕ, List, Contains}
 use Rattle.std.specs.declared.cmp.Ordering.TheVariants.{Less}
 use Rattle.item_ids.specs.declared.key.Key.{Key}
 use Rattle.item_ids.specs.declared.key.Key.TheVariants.{Files, Source, Answer}
@@ -10,7 +10,7 @@ use Rattle.mj_project.specs.Projects.{names_of}
 use Rattle.recorder.specs.Projects.{Project}
 use Rattle.sessions.specs.declared.mark.Mark.{Mark}
 use Rattle.sessions.specs.Sessions.{Entry}
-use Rattle.graph_rules.specs.Steps.{Status, Done, State}
+use Rattle.graph_rules.specs.Steps.{Done, State}
 
 -- Answer, or an input of the project
 pub data IsRoot (p : Project) : Key → Type 0 where

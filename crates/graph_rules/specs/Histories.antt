@@ -1,12 +1,12 @@
 -- What holds of the events of a legal history, one before the other.
-use Rattle.std.specs.Prelude.{◌≡◌, ℕ, List, [], ◌∷◌, ◌++◌, Option, Some, None}
+use Rattle.std.specs.Prelude.{◌≡◌, List, ◌∷◌, ◌++◌}
 use Rattle.std.specs.List.{AllByRecursion}
 use Rattle.item_ids.specs.declared.key.Key.{Key}
 use Rattle.result_bytes.specs.declared.value.Value.{Value}
 use Rattle.recorder.specs.Projects.{Project}
 use Rattle.sessions.specs.declared.mark.Mark.{Mark}
 use Rattle.graph_rules.specs.Pasts.{Past}
-use Rattle.graph_rules.specs.Steps.{Status, Done, State, Event, Claim, MarkGreen, Begin, Finish, Fail, IsDone, IsNotDone, after, state_after}
+use Rattle.graph_rules.specs.Steps.{Status, Done, State, Event, MarkGreen, Finish, IsDone, IsNotDone, after, state_after}
 
 -- what is done stays done as it is
 abbrev pub Keeps : State → State → Type 0

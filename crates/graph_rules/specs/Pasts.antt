@@ -1,7 +1,6 @@
 -- What a session holds, key by key.
 use Rattle.std.specs.Prelude.{◌≡◌, ℕ, List, Option, Some, option_map, Contains}
 use Rattle.item_ids.specs.declared.key.Key.{Key}
-use Rattle.result_bytes.specs.declared.value.Value.{Value}
 use Rattle.fingerprint.specs.Prints.{print_of}
 use Rattle.recorder.specs.Backed.{IsOfKind, AreLower, NoneTwice}
 use Rattle.sessions.specs.Sessions.{Entry}

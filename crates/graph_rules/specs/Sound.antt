@@ -1,19 +1,19 @@
 -- What holds of every key in each state that a legal history reaches.
-use Rattle.std.specs.Prelude.{◌≡◌, ℕ, ◌<◌, List, [], ◌∷◌, Option, Some}
+use Rattle.std.specs.Prelude.{◌≡◌, ◌<◌, List, [], Some}
 use Rattle.std.specs.List.{AllByRecursion}
 use Rattle.item_ids.specs.declared.key.Key.{Key}
 use Rattle.item_ids.specs.Keys.{kind_of}
 use Rattle.result_bytes.specs.declared.value.Value.{Value}
 use Rattle.recorder.specs.Projects.{Project}
 use Rattle.recorder.specs.Backed.{Meaning, ReadLists, ReadValue, rank, keys, AreLower, NoneTwice, IsOfKind}
-use Rattle.recorder.specs.Runs.{OutcomeValue, IsOutcome}
+use Rattle.recorder.specs.Runs.{IsOutcome}
 use Rattle.sessions.specs.declared.mark.Mark.{Mark}
 use Rattle.sessions.specs.declared.mark.Mark.TheVariants.{Input, Green, Executed}
 use Rattle.sessions.specs.Marks.{is_input, is_input_mark}
 use Rattle.sessions.specs.Sessions.{Entry}
 use Rattle.graph_rules.specs.Keys.{input_of}
 use Rattle.graph_rules.specs.Pasts.{Past}
-use Rattle.graph_rules.specs.Steps.{Status, Unknown, Claimed, Running, Done, State, Event, Claim, MarkGreen, Begin, Finish, Fail, AllUnchanged, walk, past_walk, MayRun, AreHeld, IsDone}
+use Rattle.graph_rules.specs.Steps.{Status, Unknown, Claimed, Running, Done, State, Event, Finish, AllUnchanged, walk, past_walk, MayRun, AreHeld, IsDone}
 
 -- an outcome that ends a run follows from its reads
 abbrev pub IsBacked : Meaning → ReadLists → Event → Type 0

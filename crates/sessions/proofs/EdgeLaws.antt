@@ -1,11 +1,11 @@
 -- Edges that are looked at one after the other.
-use Rattle.std.proofs.Common.{◌≡◌, ◌≢◌, ◌↔◌, ℕ, zero, suc, ◌<◌, ◌+◌, ◌≤◌, ◌⊎◌, inl, inr, Bool, true, false, cond, List, [], ◌∷◌, ◌++◌, length, map, take, get_or, set, refl, sym, ap, subst, ◌∙◌, arith}
-use Rattle.std.specs.Prelude.{IsTrue, ◌==◌}
+use Rattle.std.proofs.Common.{◌≡◌, ◌≢◌, ℕ, zero, suc, ◌<◌, ◌+◌, ◌≤◌, inl, inr, Bool, true, false, List, [], ◌∷◌, ◌++◌, length, take, get_or, set, refl, sym, ap, subst, ◌∙◌, arith}
+use Rattle.std.specs.Prelude.{◌==◌}
 use Rattle.std.specs.List.{AllByRecursion}
 use Rattle.std.proofs.lemmas.List.{get_or-set_same, get_or-set_other, length-set, map-set, length_push, map_push, take_more}
 use Rattle.std.proofs.lemmas.Bool.{cases_eq, ne_eqb, eq-eqb}
 use Rattle.item_ids.specs.declared.key.Key.{Key}
-use Rattle.sessions.specs.Sessions.{RecordValue, IsEdge, AreDistinct}
+use Rattle.sessions.specs.Sessions.{RecordValue, IsEdge}
 use Rattle.sessions.specs.Edges.{seen_in, IsNewEdge, AreEdges, IsNoneOf, Tells}
 use Rattle.sessions.specs.Refusals.{IsFirstBadEdge}
 use Rattle.sessions.proofs.Lists.{all_push, all_front, all_last, distinct_push, distinct_last}

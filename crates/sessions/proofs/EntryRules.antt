@@ -1,5 +1,5 @@
 -- What a session tells of a key, by its records.
-use Rattle.std.proofs.Common.{◌≡◌, ◌≢◌, ℕ, suc, zero, ◌+◌, ◌<◌, ◌≤◌, Bool, true, false, cond, List, [], ◌∷◌, map, take, length, get_or, find, Option, Some, None, option_map, All, ◌⊎◌, inl, inr, refl, sym, ap, ◌∙◌, subst, arith}
+use Rattle.std.proofs.Common.{◌≡◌, ◌≢◌, ℕ, suc, zero, ◌<◌, ◌≤◌, Bool, true, false, cond, List, [], ◌∷◌, map, take, length, get_or, find, Option, Some, None, option_map, All, inl, inr, refl, sym, ap, ◌∙◌, subst, arith}
 use Rattle.std.specs.Prelude.{Contains, HoldsAt}
 use Rattle.std.specs.List.Sorted.{IsNonDecreasingBy, IsPartitionPoint}
 use Rattle.std.specs.List.{AllByRecursion}
@@ -14,7 +14,7 @@ use Rattle.item_ids.specs.declared.key.Key.TheVariants.{Files}
 use Rattle.item_ids.specs.Keys.{key_cmp, key_total, kind_of}
 use Rattle.item_ids.proofs.Apart.{key_exact, key_itself}
 use Rattle.result_bytes.specs.Values.{kind_of as kind_of_value}
-use Rattle.sessions.specs.Sessions.{RecordValue, SessionValue, IsSession, FitsBehind, AreRecords, IsEdge, IsAbove, AreInside, AreBelow, AreOnce, AreDistinct, rank, key_at, entry_of, entries, entry_at, Entry}
+use Rattle.sessions.specs.Sessions.{RecordValue, SessionValue, IsSession, FitsBehind, AreRecords, IsEdge, IsAbove, AreInside, AreBelow, AreOnce, AreDistinct, rank, key_at, entry_of, entry_at, Entry}
 
 -- ---- look-ups
 

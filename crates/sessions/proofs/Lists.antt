@@ -1,5 +1,5 @@
 -- Lists with one more item at the end.
-use Rattle.std.proofs.Common.{◌≡◌, ◌≢◌, ℕ, List, [], ◌∷◌, ◌++◌, sym}
+use Rattle.std.proofs.Common.{◌≢◌, ℕ, List, [], ◌∷◌, ◌++◌, sym}
 use Rattle.std.specs.List.{AllByRecursion}
 use Rattle.sessions.specs.Sessions.{AreDistinct}
 

@@ -1,4 +1,4 @@
-use Rattle.std.proofs.Common.{◌<◌, ◌∙◌, sym, ap, length, Some}
+use Rattle.std.proofs.Common.{◌∙◌, sym, ap, Some}
 use Rattle.fingerprint.specs.Prints.{print_of}
 use Rattle.graph_rules.proofs.SessionRules.{print_of_place}
 use Rattle.audit_graph.proofs.places.print_of.Goals as goal

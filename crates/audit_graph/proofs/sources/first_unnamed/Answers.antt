@@ -1,4 +1,4 @@
-use Rattle.std.proofs.Common.{◌<◌, length, arith, false, refl}
+use Rattle.std.proofs.Common.{◌<◌, length, arith, refl}
 use Rattle.std.specs.BTreeSet.{contains}
 use Rattle.item_ids.specs.Keys.{key_cmp}
 use Rattle.audit_graph.proofs.PlaceRules.{unnamed_here, named_more}

@@ -1,9 +1,9 @@
-use Rattle.std.proofs.Common.{◌<◌, ◌≤◌, ◌∙◌, length, arith, ap, true, if◌then◌else◌}
+use Rattle.std.proofs.Common.{◌<◌, ◌∙◌, length, arith, ap, true, if◌then◌else◌}
 use Rattle.std.specs.BTreeSet.{contains}
 use Rattle.std.specs.Ordering.{is_eq}
 use Rattle.item_ids.specs.declared.key.Key.{Key}
 use Rattle.item_ids.specs.Keys.{key_cmp}
-use Rattle.audit_graph.proofs.PlaceRules.{set_more, set_all}
+use Rattle.audit_graph.proofs.PlaceRules.{set_more}
 use Rattle.audit_graph.proofs.sources.set_of.Goals as goal
 
 pub loop-key-preserved : goal.loop-key-preserved

@@ -1,4 +1,4 @@
-use Rattle.std.proofs.Common.{◌<◌, length, arith, ◌∙◌}
+use Rattle.std.proofs.Common.{◌<◌, length, arith}
 use Rattle.sessions.proofs.RecordLaws.{fits_more}
 use Rattle.sessions.proofs.checks.check_records.Goals as goal
 

@@ -1,5 +1,5 @@
-use Rattle.std.proofs.Common.{◌≡◌, true, List, Bool, ap, ◌∙◌, set}
-use Rattle.sessions.proofs.EdgeLaws.{seen_set, turns_after}
+use Rattle.std.proofs.Common.{true, List, Bool, ap, ◌∙◌, set}
+use Rattle.sessions.proofs.EdgeLaws.{seen_set}
 use Rattle.sessions.proofs.seen.SeenEdges.admit.Goals as goal
 
 pub returns-clause-seen : goal.returns-clause-seen

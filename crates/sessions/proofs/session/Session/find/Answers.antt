@@ -1,4 +1,4 @@
-use Rattle.std.proofs.Common.{◌≡◌, ap, ◌∙◌}
+use Rattle.std.proofs.Common.{ap, ◌∙◌}
 use Rattle.sessions.specs.Sessions.{RecordValue}
 use Rattle.sessions.proofs.EntryRules.{entry_here, edges_here, no_entry}
 use Rattle.sessions.proofs.session.Session.find.Goals as goal
