@@ -171,9 +171,8 @@ impl<'a> Declarations<'a> {
             → classes_view classes.new.items
             ≡ classes_view classes.old.items ++ filter has_members (k ∷ [])) }
     {
-        let class = self.class_at(at);
-        if class.has_members() {
-            classes.push(class)?;
+        if self.has_members_at(at) {
+            classes.push(self.class_at(at))?;
         }
         Ok(())
     }

@@ -5,7 +5,7 @@ ghost use Rattle.std.specs.BTreeMap.{get};
 ghost use Rattle.std.specs.Cmp.Lexicographic.{slice_cmp};
 ghost use Rattle.std.specs.Ordering.{nat_cmp};
 ghost use Rattle.mj_tree.specs.Views.{class_view, file_view};
-ghost use Rattle.mj_classes.specs.Declarations.{classes_of, number_classes, declarations, decl, place, superclass_places};
+ghost use Rattle.mj_classes.specs.Declarations.{ClassDecl, has_members, classes_of, number_classes, declarations, decl, place, superclass_places};
 ghost use Rattle.mj_classes.specs.Classes.{class_ref_view, classes_view, files_view};
 
 use crate::class::{ClassRef, Tree};
@@ -22,11 +22,14 @@ pub struct Declarations<'a> {
     by_name: BTreeMap<Name, usize>,
     /// For each class the place of the one that it extends, if that is declared.
     superclasses: Vec<Option<usize>>,
+    /// For each class whether it declares a field or a method, so that a walk up a long chain reads no trees.
+    declares: Vec<bool>,
     /// For each class what it declares itself.
     members: Vec<OwnMembers<'a>>,
     ghost indexed: { (q : List ℕ) → get (slice_cmp nat_cmp) by_name q
         ≡ position (λ k. bytes_eq k.name q) (classes_view classes.items) },
     ghost linked: { superclasses.items ≡ superclass_places (classes_view classes.items) },
+    ghost flagged: { declares.items ≡ map has_members (classes_view classes.items) },
     ghost listed: { map (λ m. m.class) members.items ≡ classes.items },
 }
 
@@ -40,11 +43,13 @@ impl<'a> Declarations<'a> {
         let classes = all_classes(alloc, files)?;
         let by_name = index_by_name(alloc, &classes)?;
         let superclasses = link(alloc, &classes, &by_name)?;
+        let declares = flag_members(alloc, &classes)?;
         let members = own_members(alloc, &classes)?;
         Ok(Declarations {
             classes,
             by_name,
             superclasses,
+            declares,
             members,
         })
     }
@@ -85,6 +90,14 @@ impl<'a> Declarations<'a> {
         ensures { slice_get (superclass_places (declared_in self.now)) at ≡ Some result }
     {
         self.superclasses[at]
+    }
+
+    /// Whether the class at this place declares a field or a method itself.
+    pub(crate) fn has_members_at(&self, at: usize) -> bool
+        requires { at < length (declared_in self.now) }
+        ensures { (k : ClassDecl) → slice_get (declared_in self.now) at ≡ Some k → result ≡ has_members k }
+    {
+        self.declares[at]
     }
 
     /// What the class at this place declares itself.
@@ -199,6 +212,17 @@ fn superclass_place(class: &ClassRef, by_name: &BTreeMap<Name, usize>) -> Option
         (class_ref_view class.now).superclass }
 {
     by_name.get(class.superclass()?).copied()
+}
+
+/// For each class whether it declares a field or a method.
+fn flag_members(alloc: Global, classes: &[ClassRef]) -> Result<Vec<bool>, AllocError>
+    ensures { IfOk result (λ v. v.items ≡ map has_members (classes_view classes.now)) }
+{
+    let mut flags = Vec::new(alloc);
+    for class in classes {
+        flags.push(class.has_members())?;
+    }
+    Ok(flags)
 }
 
 /// What each class declares itself.
