@@ -13,7 +13,7 @@ use Rattle.mj_tree.specs.Trees.{File}
 use Rattle.tree_bytes.specs.NamedBodies.{body_named}
 use Rattle.result_bytes.specs.declared.value.Value.{Value}
 use Rattle.result_bytes.specs.declared.value.Value.TheVariants.{Tree, Header, Method, Answer}
-use Rattle.result_bytes.specs.Values.{IsValue, canon, kind_of}
+use Rattle.result_bytes.specs.Values.{IsValue, canon, kind_of_value}
 use Rattle.fingerprint.specs.Prints.{print_of}
 use Rattle.answer_samples.specs.declared.keys.Asked.{Asked}
 
@@ -57,7 +57,7 @@ Tell digits bytes = decode_of digits ≡ Ok bytes
 -- the bytes spell this value, of this kind
 pub record Spell (kind : Kind) (bytes : List ℕ) (v : Value) : Type 0 where
   pub is_value : IsValue v
-  pub of_kind : kind_of v ≡ kind
+  pub of_kind : kind_of_value v ≡ kind
   pub spelled : bytes ≡ canon v
 
 -- the bytes spell a value of the kind
@@ -67,7 +67,7 @@ IsSpelling kind bytes = (v : Value) × Spell kind bytes v
 -- the digits tell what spells this value, of this kind
 pub record IsTold (kind : Kind) (digits : List ℕ) (v : Value) : Type 0 where
   pub is_value : IsValue v
-  pub of_kind : kind_of v ≡ kind
+  pub of_kind : kind_of_value v ≡ kind
   pub spelled : Tell digits (canon v)
 
 abbrev pub IsToldSpelling : Kind → List ℕ → Type 0

@@ -2,7 +2,7 @@
 ghost use Rattle.std.specs.Prelude.{◌≡◌, ◌↔◌, IsTrue, IfOk, MatchOption, Err};
 ghost use Rattle.std.specs.Arc.{arc_value};
 ghost use Rattle.hex.specs.Hex.{encode_lower};
-ghost use Rattle.result_bytes.specs.Values.{IsValue, canon, kind_of};
+ghost use Rattle.result_bytes.specs.Values.{IsValue, canon, kind_of_value};
 ghost use Rattle.fingerprint.specs.Opening.{IsOpened};
 ghost use Rattle.fingerprint.specs.Prints.{print_of};
 ghost use Rattle.answer_samples.specs.Telling.{Tell, IsTold, IsOpenable, IsSealedAs};
@@ -17,7 +17,7 @@ use std::sync::Arc;
 
 /// The result of the kind that these digits spell.
 pub fn sealed_of(alloc: Global, kind: Kind, digits: &str) -> Result<Arc<Sealed>, Unfit>
-    ensures kind { IfOk result (λ answer. kind_of (arc_value answer) ≡ kind) }
+    ensures kind { IfOk result (λ answer. kind_of_value (arc_value answer) ≡ kind) }
     ensures told { IfOk result (λ answer. IsTold kind digits.now (arc_value answer)) }
 {
     let value = value_of(alloc, kind, digits)?;
@@ -64,7 +64,7 @@ fn is_result(
     print: Print,
 ) -> Result<bool, AllocError>
     ensures { IfOk result (λ b. IsTrue b
-        ↔ ((bytes.now ≡ canon sealed) × (kind_of sealed ≡ kind) × (print.0 ≡ print_of sealed))) }
+        ↔ ((bytes.now ≡ canon sealed) × (kind_of_value sealed ≡ kind) × (print.0 ≡ print_of sealed))) }
 {
     let shared = Arc::new(alloc, sealed)?;
     Ok(shared.bytes() == bytes && shared.value().kind() == kind && shared.print() == print)

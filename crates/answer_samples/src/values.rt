@@ -2,7 +2,7 @@
 ghost use Rattle.std.specs.Prelude.{◌≡◌, ◌↔◌, ◌<◌, ℕ, length, IsTrue, IfOk, IfErr, MatchOption, Err};
 ghost use Rattle.std.specs.Arc.{arc_value};
 ghost use Rattle.result_bytes.specs.declared.value.Value.{Value};
-ghost use Rattle.result_bytes.specs.Values.{canon, kind_of, decoding, IsUnlessMemory};
+ghost use Rattle.result_bytes.specs.Values.{canon, kind_of_value, decoding, IsUnlessMemory};
 ghost use Rattle.answer_samples.specs.Telling.{Tell, Spell, IsSpelling, IsTold, IsPrintedAs, IsPrintOf, IsToldSpelling, IsTightness, AreSpellings, Counts, AllCount, flipped};
 
 use crate::unfit::Unfit;
@@ -55,7 +55,7 @@ fn read(alloc: Global, kind: Kind, bytes: &[u8]) -> Result<Arc<Value>, Refusal>
 
 /// The value of the kind that these digits spell.
 pub fn value_of(alloc: Global, kind: Kind, digits: &str) -> Result<Value, Unfit>
-    ensures kind { IfOk result (λ value. kind_of value ≡ kind) }
+    ensures kind { IfOk result (λ value. kind_of_value value ≡ kind) }
     ensures told { IfOk result (IsTold kind digits.now) }
 {
     let bytes = bytes_of(alloc, digits)?;

@@ -12,7 +12,7 @@ use Rattle.item_ids.specs.Keys.{key_cmp, kind_of}
 use Rattle.item_ids.proofs.Apart.{test_same, test_itself}
 use Rattle.result_bytes.specs.declared.value.Value.{Value}
 use Rattle.result_bytes.specs.declared.value.Value.TheVariants as values
-use Rattle.result_bytes.specs.Values.{kind_of as kind_of_value}
+use Rattle.result_bytes.specs.Values.{kind_of_value}
 use Rattle.sessions.specs.Sessions.{Entry, RecordValue, SessionValue, IsSession, entry_at, entry_of, entries}
 use Rattle.sessions.proofs.EntryRules.{entry_here, no_entry}
 use Rattle.audit_graph.specs.Firsts.{IsFirstWithout}

@@ -2,7 +2,7 @@
 use Rattle.std.proofs.Common.{◌≡◌, List, Option, refl, sym, subst, ◌∙◌}
 use Rattle.recorder.specs.Backed.{ReadValue}
 use Rattle.recorder.specs.Recording.{Recording}
-use Rattle.recorder.specs.Programs.{Prog, Reached, Stands, Goes, GivesUp}
+use Rattle.recorder.specs.Programs.{Prog, Reached, IsAt, Goes, GivesUp}
 use Rattle.recorder.specs.declared.refused.Refused.{Refused}
 use Rattle.recorder.specs.declared.runner.RunFault.{RunFault}
 use Rattle.mj_typing.specs.declared.verdict.Mistake.{Mistake}
@@ -44,14 +44,14 @@ module _ {S D : Type 0} (told : List ReadValue) (refused : Option Refused) (at :
   pub goes_by : {X : Type 0} (ask : (X → Check) → Check) (step : (X → Prog) → Prog) → ((f : X → Check) (k : List Mistake → Prog) → reads_of (ask f) k ≡ step (λ x. reads_of (f x) k)) → (old new : S) (x : X) → Goes step (at old) x (at new) → Proceeds StandsAt ask old x new
   goes_by ask step same old new x g = record {
     goes = λ start f h. record {
-      comes = λ prog k b. g.goes prog (λ x. reads_of (f x) k) (subst (Stands prog (at old)) (same f k) (h.comes prog k b));
+      comes = λ prog k b. g.goes prog (λ x. reads_of (f x) k) (subst (IsAt prog (at old)) (same f k) (h.comes prog k b));
     };
   }
 
   pub gives_up_by : {X : Type 0} (ask : (X → Check) → Check) (step : (X → Prog) → Prog) → ((f : X → Check) (k : List Mistake → Prog) → reads_of (ask f) k ≡ step (λ x. reads_of (f x) k)) → (old new : S) (e : RunFault) → GivesUp step (at old) e (at new) → Aborts StandsAt HaltsAt ask old (stops.Refused e) new
   gives_up_by ask step same old new e g = record {
     ends = λ start f h. record {
-      ends = λ prog k b. g.halts prog (λ x. reads_of (f x) k) (subst (Stands prog (at old)) (same f k) (h.comes prog k b));
+      ends = λ prog k b. g.halts prog (λ x. reads_of (f x) k) (subst (IsAt prog (at old)) (same f k) (h.comes prog k b));
     };
   }
 
@@ -70,4 +70,4 @@ module _ {S D : Type 0} (told : List ReadValue) (refused : Option Refused) (at :
 -- a check that asks nothing
 pub none_asked : {D : Type 0} (check : Check) (mistakes given : List Mistake) (r : Recording D) → check ≡ Concludes mistakes → mistakes ≡ given → Goes (reads_of check) r given r
 unfolding reads_of
-none_asked check mistakes given r is e = record { goes = λ prog k s. subst (λ ms. Stands prog r (k ms)) e (subst (λ c. Stands prog r (reads_of c k)) is s) }
+none_asked check mistakes given r is e = record { goes = λ prog k s. subst (λ ms. IsAt prog r (k ms)) e (subst (λ c. IsAt prog r (reads_of c k)) is s) }

@@ -2,7 +2,7 @@
 use Rattle.std.specs.Prelude.{◌≡◌, ◌==◌, ◌++◌, ℕ, Bool, List, [], Option, Some, None, codes, count_by, decimal}
 use Rattle.sessions.specs.declared.mark.Mark.{Mark}
 use Rattle.sessions.specs.declared.mark.Mark.TheVariants.{Executed, Green}
-use Rattle.sessions.specs.Marks.{number_of}
+use Rattle.sessions.specs.Marks.{mark_number}
 use Rattle.sessions.specs.Sessions.{RecordValue, SessionValue}
 use Rattle.session_cache.specs.Starts.{path_of}
 use Rattle.session_cache.specs.declared.start.Note.{Note}
@@ -11,7 +11,7 @@ use Rattle.session_cache.specs.declared.start.Why.TheVariants.{Refused, Number, 
 
 -- a record has the mark; marks are told apart by their numbers
 abbrev pub has_mark : Mark → RecordValue → Bool
-has_mark mark r = number_of r.mark == number_of mark
+has_mark mark r = mark_number r.mark == mark_number mark
 
 -- how many records have the mark
 abbrev pub many_of : Mark → List RecordValue → ℕ

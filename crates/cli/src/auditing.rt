@@ -1,7 +1,7 @@
 //! The audit of a chain of session files.
 ghost use Rattle.std.specs.Prelude.{◌≡◌, ◌≢◌, IfOk, IfErr, map, string_bytes};
 ghost use Rattle.std.specs.Arc.{arc_value};
-ghost use Rattle.providers.specs.Answers.{IsAnswerValue};
+ghost use Rattle.providers.specs.AnswerValues.{IsAnswerValue};
 ghost use Rattle.cli.specs.Audits.{AuditsTo, IsAcceptedReport, accepted_line};
 ghost use Rattle.cli.specs.Endings.{status_of_failure};
 
@@ -21,13 +21,13 @@ pub(crate) fn audit<R: Files + AllocGlobal>(rt: &R, names: Vec<String>) -> Resul
 {
     let alloc = rt.alloc();
     let files = read_files(rt, names)?;
-    let chain = chain_of(alloc, &files)?;
+    let chain = chain_bytes(alloc, &files)?;
     let audited = audit_chain(alloc, chain.as_slice())?;
     Ok(accepted_report(alloc, &audited)?)
 }
 
 // The bytes of the files, in their order.
-fn chain_of<'a>(alloc: Global, files: &'a [(String, Vec<u8>)]) -> Result<Vec<&'a [u8]>, AllocError>
+fn chain_bytes<'a>(alloc: Global, files: &'a [(String, Vec<u8>)]) -> Result<Vec<&'a [u8]>, AllocError>
     ensures { IfOk result (λ chain.
         map (λ bytes. bytes.now) chain.items ≡ map (λ file. file.1.items) files.now) }
 {

@@ -1,7 +1,7 @@
 //! Sealed results.
 ghost use Rattle.std.specs.Prelude.{◌≡◌, ◌↔◌, IsTrue, IfOk};
 ghost use Rattle.result_bytes.specs.declared.value.Value.{Value};
-ghost use Rattle.result_bytes.specs.Values.{IsValue, canon, kind_of};
+ghost use Rattle.result_bytes.specs.Values.{IsValue, canon, kind_of_value};
 ghost use Rattle.fingerprint.specs.Prints.{print_of};
 ghost use Rattle.fingerprint.specs.Opening.{IsOpened, IsOkUnlessMemory};
 
@@ -115,10 +115,10 @@ pub fn open_sealed(
     print: Print,
 ) -> Result<Sealed, OpenFault>
     // What is opened is a value of the kind, with these bytes and this print.
-    ensures found { IfOk result (λ v. IsValue v × (kind_of v ≡ kind) × (bytes.items ≡ canon v)
+    ensures found { IfOk result (λ v. IsValue v × (kind_of_value v ≡ kind) × (bytes.items ≡ canon v)
         × (print.0 ≡ print_of v)) }
     // The bytes and the print of a value are opened, unless memory runs out.
-    ensures only { (v : Value) → IsValue v → kind_of v ≡ kind → bytes.items ≡ canon v
+    ensures only { (v : Value) → IsValue v → kind_of_value v ≡ kind → bytes.items ≡ canon v
         → print.0 ≡ print_of v
         → IsOkUnlessMemory result v }
     // Which fault it is.

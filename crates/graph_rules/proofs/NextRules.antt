@@ -20,7 +20,7 @@ use Rattle.graph_rules.specs.Steps.{Status, Done, State, IsDoneWith, Unchanged, 
 use Rattle.graph_rules.specs.Sound.{IsGreen, IsExecuted, IsSoundAt, IsSound}
 use Rattle.graph_rules.specs.Graphs.{IsReached, AreClosed, edge}
 use Rattle.graph_rules.specs.Graphs.IsReached.{root as starts}
-use Rattle.graph_rules.specs.Next.{AreMeant, AreApart, IsReadIn, HasMark, AreNext}
+use Rattle.graph_rules.specs.Next.{AreMeant, HasNoClash, IsReadIn, HasMark, AreNext}
 use Rattle.graph_rules.specs.Next.{read as read_in}
 use Rattle.graph_rules.specs.Next.IsReadIn.{root as rooted}
 use Rattle.graph_rules.proofs.KeyRules.{input_rank, input_means}
@@ -120,7 +120,7 @@ Means mean reads p s q = (m : Mark) × (s.at q ≡ Done (mean p q) (reads p q) m
 
 module _ (mean : Meaning) (reads : ReadLists) (laws : RunnerLaws mean reads) (past : Past) (p old : Project) (s : State)
     (project : IsProject p) (old_project : IsProject old) (graph : IsGraph past)
-    (sound : IsSound mean reads past p s) (meant : AreMeant mean reads past old) (apart : AreApart mean reads past p)
+    (sound : IsSound mean reads past p s) (meant : AreMeant mean reads past old) (apart : HasNoClash mean reads past p)
     (done : (q : Key) → IsReached p s q → (v : Value) × (es : List Key) × (m : Mark) × (s.at q ≡ Done v es m)) where
   gives_each : (told : List ReadValue) → AreHeld s told → AllByRecursion (λ e. (u : Value) → IsDoneWith u (s.at e) → mean p e ≡ u) (keys told) → GivesEach (mean p) told
   gives_each [] h a = tt
@@ -249,7 +249,7 @@ module _ (mean : Meaning) (reads : ReadLists) (laws : RunnerLaws mean reads) (pa
 
 -- what a sound state closes with
 pub closed_next : (mean : Meaning) (reads : ReadLists) → RunnerLaws mean reads → (past : Past) (p old : Project) (s : State) (entries : List Entry) → IsProject p → IsProject old → IsGraph past
-    → IsSound mean reads past p s → AreClosed p s entries → AreMeant mean reads past old → AreApart mean reads past p → AreNext mean reads past p entries
+    → IsSound mean reads past p s → AreClosed p s entries → AreMeant mean reads past old → HasNoClash mean reads past p → AreNext mean reads past p entries
 closed_next mean reads laws past p old s entries project old_project graph sound closed meant apart =
     let done : (q : Key) → IsReached p s q → (v : Value) × (es : List Key) × (m : Mark) × (s.at q ≡ Done v es m)
     = λ q reached. let a = closed.all q reached in (a.0.value, a.0.reads, a.0.mark, ap s.at (sym a.2) ∙ (closed.each a.0 a.1).1) in

@@ -62,8 +62,8 @@ pub data IsReadIn (reads : ReadLists) (p : Project) : Key → Type 0 where
   read : (q e : Key) → IsReadIn reads p q → Contains (reads p q) e → IsReadIn reads p e
 
 -- Of the past's values and those of the next session, no two that differ have one print.
-abbrev pub AreApart : Meaning → ReadLists → Past → Project → Type 0
-AreApart mean reads past p =
+abbrev pub HasNoClash : Meaning → ReadLists → Past → Project → Type 0
+HasNoClash mean reads past p =
     (q k : Key) (r : Entry) → IsReadIn reads p q → past k ≡ Some r
     → print_of r.value ≡ print_of (mean p q) → r.value ≡ mean p q
 

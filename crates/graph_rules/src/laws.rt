@@ -11,7 +11,7 @@ ghost use Rattle.graph_rules.specs.Steps.{State, Event, Legal, state_after};
 ghost use Rattle.graph_rules.specs.Sound.{AreBacked, IsSound, IsInOrder};
 ghost use Rattle.graph_rules.specs.Histories.{IsOrderly};
 ghost use Rattle.graph_rules.specs.Graphs.{AreClosed};
-ghost use Rattle.graph_rules.specs.Next.{AreMeant, AreApart, AreNext};
+ghost use Rattle.graph_rules.specs.Next.{AreMeant, HasNoClash, AreNext};
 
 /// Keys are told apart just where they differ.
 pub fn keys_apart()
@@ -55,7 +55,7 @@ pub fn closed_is_next()
     ensures { (mean : Meaning) (reads : ReadLists) → RunnerLaws mean reads
         → (past : Past) (p old : Project) (s : State) (entries : List Entry) → IsProject p
         → IsProject old → IsGraph past → IsSound mean reads past p s → AreClosed p s entries
-        → AreMeant mean reads past old → AreApart mean reads past p
+        → AreMeant mean reads past old → HasNoClash mean reads past p
         → AreNext mean reads past p entries }
 {}
 

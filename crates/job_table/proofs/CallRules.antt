@@ -14,7 +14,7 @@ use Rattle.graph_rules.specs.Steps.{Status, Claimed, Running, Done, State, Event
 use Rattle.job_table.specs.declared.nodes.Node.{Node}
 use Rattle.job_table.specs.declared.fault.TableFault.{TableFault}
 use Rattle.job_table.specs.declared.fault.TableFault.TheVariants as fault
-use Rattle.job_table.specs.Nodes.{status_in, unless_input, state_of_nodes, AreApart}
+use Rattle.job_table.specs.Nodes.{status_in, unless_input, state_of_nodes, KeysStandOnce}
 use Rattle.job_table.specs.Kept.{IsKept}
 use Rattle.job_table.specs.Tables.{TableValue, state_of, IsStep, adds}
 use Rattle.job_table.specs.Walks.{IsWhyNot}
@@ -43,7 +43,7 @@ mark_may past p ns b h kept q w r found nf stands all = (
 
 pub mark_kept : (past : Past) (p : Project) (ns ms : List Node) (b : Bool) (h : List Event) → IsKept past p ns b h → (q : Key) (w : ℕ) (r : Entry) (x : Status)
     → past q ≡ Some r → b ≡ false → status_in ns q ≡ Claimed w → AllUnchanged ≡ walk past (state_of_nodes p ns false) r.reads
-    → x ≡ Done r.value r.reads Green → (AreApart ns → AreApart ms) → ((k : Key) → status_in ms k ≡ (if same_key q k then x else status_in ns k))
+    → x ≡ Done r.value r.reads Green → (KeysStandOnce ns → KeysStandOnce ms) → ((k : Key) → status_in ms k ≡ (if same_key q k then x else status_in ns k))
     → IsKept past p ms b (h ++ MarkGreen w q ∷ [])
 mark_kept past p ns ms b h kept q w r x found nf stands all xis apart put =
     kept_put past p ns b h kept ms (MarkGreen w q) q x (mark_may past p ns b h kept q w r found nf stands all)
@@ -74,7 +74,7 @@ begin_may past p ns b h kept q w nf stands may =
 
 pub begin_kept : (past : Past) (p : Project) (ns ms : List Node) (b : Bool) (h : List Event) → IsKept past p ns b h → (q : Key) (w : ℕ)
     → b ≡ false → status_in ns q ≡ Claimed w → MayRun (past_walk past (state_of_nodes p ns false) q)
-    → (AreApart ns → AreApart ms) → ((k : Key) → status_in ms k ≡ (if same_key q k then Running w else status_in ns k))
+    → (KeysStandOnce ns → KeysStandOnce ms) → ((k : Key) → status_in ms k ≡ (if same_key q k then Running w else status_in ns k))
     → IsKept past p ms b (h ++ Begin w q ∷ [])
 begin_kept past p ns ms b h kept q w nf stands may apart put =
     kept_put past p ns b h kept ms (Begin w q) q (Running w) (begin_may past p ns b h kept q w nf stands may) (λ s. refl)
@@ -119,7 +119,7 @@ finish_may past p ns b h kept o w nf stands all =
 
 pub finish_kept : (past : Past) (p : Project) (ns ms : List Node) (b : Bool) (h : List Event) → IsKept past p ns b h → (o : OutcomeValue) (w : ℕ) (x : Status)
     → b ≡ false → status_in ns o.key ≡ Running w → AreHeld (state_of_nodes p ns false) o.told
-    → x ≡ Done o.value (keys o.told) Executed → (AreApart ns → AreApart ms) → ((k : Key) → status_in ms k ≡ (if same_key o.key k then x else status_in ns k))
+    → x ≡ Done o.value (keys o.told) Executed → (KeysStandOnce ns → KeysStandOnce ms) → ((k : Key) → status_in ms k ≡ (if same_key o.key k then x else status_in ns k))
     → IsKept past p ms b (h ++ Finish w o ∷ [])
 finish_kept past p ns ms b h kept o w x nf stands all xis apart put =
     kept_put past p ns b h kept ms (Finish w o) o.key x (finish_may past p ns b h kept o w nf stands all)

@@ -18,7 +18,7 @@ use Rattle.graph_rules.proofs.KeyRules.{same_is, same_refl}
 use Rattle.graph_rules.proofs.Keeping.{sound_history, in_order}
 use Rattle.job_table.specs.declared.nodes.Node.{Node}
 use Rattle.job_table.specs.declared.fault.CloseFault.TheVariants as fault
-use Rattle.job_table.specs.Nodes.{status_of, status_in, status_at, unless_input, state_of_nodes, has_key, AreApart}
+use Rattle.job_table.specs.Nodes.{status_of, status_in, status_at, unless_input, state_of_nodes, has_key, KeysStandOnce}
 use Rattle.job_table.specs.Kept.{IsKept}
 use Rattle.job_table.specs.Tables.{TableValue}
 use Rattle.job_table.specs.Closes.{IsQuiet, AreQuiet, IsClosing, CloseGives}
@@ -46,7 +46,7 @@ quiet_rest ns n q absent h =
       | false ↦ λ is k. k
     ]) refl h
 
-all_quiet : (ns : List Node) → AreApart ns → ((q : Key) → IsQuiet (status_in ns q)) → AllQuiet ns
+all_quiet : (ns : List Node) → KeysStandOnce ns → ((q : Key) → IsQuiet (status_in ns q)) → AllQuiet ns
 all_quiet [] apart h = tt
 all_quiet (n ∷ ns) apart h = (rw (same_refl n.key) at (h n.key), all_quiet ns apart.1 (λ q. quiet_rest ns n q apart.0 (h q)))
 

@@ -8,7 +8,7 @@ use Rattle.recorder.specs.Backed.{rank}
 use Rattle.graph_rules.specs.Keys.{same_key, input_of}
 use Rattle.graph_rules.proofs.KeyRules.{same_refl, same_is, same_sym}
 use Rattle.graph_rules.specs.Steps.{Status, Unknown, IsHeldBy}
-use Rattle.job_table.specs.Nodes.{status_of, status_in, status_at, unless_input, has_key, AreApart, IsFirst, AllAbove}
+use Rattle.job_table.specs.Nodes.{status_of, status_in, status_at, unless_input, has_key, KeysStandOnce, IsFirst, AllAbove}
 use Rattle.job_table.specs.declared.nodes.Node.{Node}
 use Rattle.job_table.specs.declared.nodes.Standing.{Standing}
 use Rattle.job_table.specs.declared.nodes.Standing.TheVariants as standing
@@ -90,7 +90,7 @@ not_here ns w m k absent held =
       | false ↦ λ is. refl
     ]) refl
 
-pub held_above : (ns : List Node) (w r : ℕ) → AreApart ns → ((k : Key) → IsHeldBy w (status_in ns k) → r < rank k) → AllAbove w r ns
+pub held_above : (ns : List Node) (w r : ℕ) → KeysStandOnce ns → ((k : Key) → IsHeldBy w (status_in ns k) → r < rank k) → AllAbove w r ns
 held_above [] w r apart h = tt
 held_above (m ∷ ns) w r apart h = (
   (λ held. h m.key (rw (same_refl m.key) held)),
@@ -133,7 +133,7 @@ absent_head ns m q a =
       | false ↦ λ h. (refl, h)
     ]) a
 
-pub apart_last : (ns : List Node) (n : Node) → AreApart ns → has_key n.key ns ≡ false → AreApart (ns ++ n ∷ [])
+pub apart_last : (ns : List Node) (n : Node) → KeysStandOnce ns → has_key n.key ns ≡ false → KeysStandOnce (ns ++ n ∷ [])
 apart_last [] n a absent = (refl, tt)
 apart_last (m ∷ ns) n a absent =
     let h = absent_head ns m n.key absent in
@@ -147,7 +147,7 @@ status_last (m ∷ ns) n q k x here is absent =
     put_later m.key q k x (status_of m.standing) (status_in ns k) _ h.0 (status_last ns n q k x here is h.1)
 
 pub apart_put : (ns : List Node) (at : ℕ) (n : Node) (s : Standing) → n ≡ get_or ns at n → at < length ns
-    → AreApart ns → AreApart (set ns at (record { key = n.key; standing = s }))
+    → KeysStandOnce ns → KeysStandOnce (set ns at (record { key = n.key; standing = s }))
 apart_put [] at n s is lt a = absurd (omega arith)
 apart_put (m ∷ ns) zero n s is lt a = rw is a
 apart_put (m ∷ ns) (suc at) n s is lt a = (key_put ns m.key at n s is (omega arith) ∙ a.0, apart_put ns at n s is (omega arith) a.1)

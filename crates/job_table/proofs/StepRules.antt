@@ -15,7 +15,7 @@ use Rattle.graph_rules.specs.Sound.{IsBacked, AreBacked}
 use Rattle.graph_rules.proofs.KeyRules.{same_refl, same_is}
 use Rattle.graph_rules.proofs.Orders.{after_all_append, steps_append}
 use Rattle.job_table.specs.declared.nodes.Node.{Node}
-use Rattle.job_table.specs.Nodes.{status_of, status_in, status_at, unless_input, state_of_nodes, has_key, AreApart, IsFirst, AllAbove}
+use Rattle.job_table.specs.Nodes.{status_of, status_in, status_at, unless_input, state_of_nodes, has_key, KeysStandOnce, IsFirst, AllAbove}
 use Rattle.job_table.specs.Kept.{IsKept}
 use Rattle.job_table.proofs.NodeRules.{above_held, held_above, first_known, unknown_absent, apart_last, status_last}
 
@@ -66,7 +66,7 @@ put_inner p x y q k v none some unknown =
 
 -- a table in which one key stands otherwise, and its event
 pub kept_step : (past : Past) (p : Project) (ns ms : List Node) (b : Bool) (h : List Event) (e : Event) (q : Key) (x : Status)
-    → IsKept past p ns b h → MayStep past (state_after past p h) e → ((s : State) → after past s e ≡ with_status s q x) → input_of p q ≡ None → AreApart ms
+    → IsKept past p ns b h → MayStep past (state_after past p h) e → ((s : State) → after past s e ≡ with_status s q x) → input_of p q ≡ None → KeysStandOnce ms
     → ((k : Key) → status_in ms k ≡ (if same_key q k then x else status_in ns k))
     → IsKept past p ms b (h ++ e ∷ [])
 kept_step past p ns ms b h e q x kept may is none apart put =
@@ -182,7 +182,7 @@ module _ (past : Past) (p : Project) (ns : List Node) (b : Bool) (h : List Event
 
   -- a key that stands otherwise
   pub kept_put : (ms : List Node) (e : Event) (q : Key) (x : Status) → MayStep past (state_after past p h) e → ((s : State) → after past s e ≡ with_status s q x)
-      → input_of p q ≡ None → (AreApart ns → AreApart ms) → ((k : Key) → status_in ms k ≡ (if same_key q k then x else status_in ns k)) → IsKept past p ms b (h ++ e ∷ [])
+      → input_of p q ≡ None → (KeysStandOnce ns → KeysStandOnce ms) → ((k : Key) → status_in ms k ≡ (if same_key q k then x else status_in ns k)) → IsKept past p ms b (h ++ e ∷ [])
   kept_put ms e q x may is none apart put = kept_step past p ns ms b h e q x kept may is none (apart kept.apart) put
 
 -- a state just after a key was written tells it

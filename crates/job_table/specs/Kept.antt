@@ -9,7 +9,7 @@ use Rattle.graph_rules.specs.Keys.{input_of}
 use Rattle.graph_rules.specs.Pasts.{Past}
 use Rattle.graph_rules.specs.Steps.{Unknown, Event, Claim, MarkGreen, Begin, Finish, Fail, Legal, state_after}
 use Rattle.job_table.specs.declared.nodes.Node.{Node}
-use Rattle.job_table.specs.Nodes.{status_at, status_in, AreApart}
+use Rattle.job_table.specs.Nodes.{status_at, status_in, KeysStandOnce}
 use Rattle.job_table.specs.declared.event.Event.{Event as StoredEvent}
 use Rattle.job_table.specs.declared.event.Event.TheVariants as stored
 
@@ -29,5 +29,5 @@ pub record IsKept (past : Past) (p : Project) (ns : List Node) (failed : Bool)
   pub legal : Legal past p history
   pub status : (q : Key) → status_at p ns q ≡ (state_after past p history).at q
   pub failed_is : failed ≡ (state_after past p history).failed
-  pub apart : AreApart ns
+  pub apart : KeysStandOnce ns
   pub inner : (q : Key) (v : Value) → input_of p q ≡ Some v → status_in ns q ≡ Unknown

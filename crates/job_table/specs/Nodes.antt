@@ -29,9 +29,9 @@ has_key q [] = false
 has_key q (n ∷ ns) = if same_key n.key q then true else has_key q ns
 
 -- no key stands twice
-abbrev pub AreApart : List Node → Type 0
-AreApart [] = Unit {0}
-AreApart (n ∷ ns) = (has_key n.key ns ≡ false) × AreApart ns
+abbrev pub KeysStandOnce : List Node → Type 0
+KeysStandOnce [] = Unit {0}
+KeysStandOnce (n ∷ ns) = (has_key n.key ns ≡ false) × KeysStandOnce ns
 
 -- the first node of the key is at this place
 abbrev pub IsFirst : List Node → Key → ℕ → Type 0

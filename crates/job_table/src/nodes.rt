@@ -5,7 +5,7 @@ ghost use Rattle.recorder.specs.Backed.{rank};
 ghost use Rattle.graph_rules.specs.Keys.{same_key};
 ghost use Rattle.item_ids.specs.declared.key.Key.{Key};
 ghost use Rattle.graph_rules.specs.Steps.{Unknown, Claimed, Running, Done, IsHeldBy, IsDone, IsDoneWith, IsNotDone};
-ghost use Rattle.job_table.specs.Nodes.{status_of, status_in, status_at, AreApart, IsFirst, AllAbove};
+ghost use Rattle.job_table.specs.Nodes.{status_of, status_in, status_at, KeysStandOnce, IsFirst, AllAbove};
 ghost use Rattle.job_table.specs.Closes.{IsQuiet};
 ghost use Rattle.job_table.specs.Reached.{AllQuiet};
 
@@ -198,7 +198,7 @@ pub fn put(nodes: &mut Vec<Node>, at: usize, standing: Standing)
     requires { at < vec_len nodes.old }
     ensures written { (q k : Key) → IsFirst nodes.old.items q at → status_in nodes.new.items k
         ≡ (if same_key q k then status_of standing else status_in nodes.old.items k) }
-    ensures apart { AreApart nodes.old.items → AreApart nodes.new.items }
+    ensures apart { KeysStandOnce nodes.old.items → KeysStandOnce nodes.new.items }
 {
     let node = &mut nodes[at];
     node.standing = standing;

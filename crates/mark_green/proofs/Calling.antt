@@ -18,8 +18,8 @@ use Rattle.job_table.specs.declared.fault.TableFault.{TableFault}
 use Rattle.job_table.specs.declared.fault.TableFault.TheVariants as table
 use Rattle.mark_green.specs.declared.fault.Fault.{Fault}
 use Rattle.mark_green.specs.declared.fault.Fault.TheVariants as fault
-use Rattle.mark_green.specs.Leaves.{Stops, IsOthers, Stands}
-use Rattle.mark_green.specs.Ensures.{EnsureGives, GivesUp, WorkGives, IsFaultOf}
+use Rattle.mark_green.specs.Leaves.{Stops, IsOthers, HasStatus}
+use Rattle.mark_green.specs.Ensures.{EnsureGives, IsGivenUp, WorkGives, IsFaultOf}
 use Rattle.mark_green.proofs.GoingOn.{on_none, on_one, on_then, stops_then, Changes, changes_by, changed_work, changed_others, changed_leaves, changed_done, changed_stands, leaves_none}
 
 not_both : (b : Bool) → b ≡ true → b ≡ false → ⊥
@@ -53,7 +53,7 @@ fail_stops w (Err table.OutOfMemory) t u f = absurd f
 pub claim_changes : (t : TableValue) (w : ℕ) (q : Key) → IsStep t (Claim w q) → Changes q (Claimed w) t (adds t (Claim w q))
 claim_changes t w q may = changes_by t (Claim w q) q (Claimed w) may refl
 
-claim_stands : (t : TableValue) (w : ℕ) (q : Key) → IsStep t (Claim w q) → Stands (Claimed w) w q (adds t (Claim w q))
+claim_stands : (t : TableValue) (w : ℕ) (q : Key) → IsStep t (Claim w q) → HasStatus (Claimed w) w q (adds t (Claim w q))
 claim_stands t w q may = changed_stands t (adds t (Claim w q)) w q (Claimed w) (claim_changes t w q may) may.0 refl (λ k n h. may.2 k h)
 
 claim_gives : (t v : TableValue) (w : ℕ) (q : Key) (r : Result (Arc Value Global) Fault) → IsStep t (Claim w q) → WorkGives (adds t (Claim w q)) w q r v → EnsureGives t w q r v
@@ -66,9 +66,9 @@ claim_gives t v w q (Err fault.Busy) may h = (
   changed_others t (adds t (Claim w q)) w q (Claimed w) (claim_changes t w q may) refl h.2,
 )
 
-pub ask_work : (w : ℕ) (q : Key) (r : Result (Arc Value Global) Fault) (t u v : TableValue) → AskGives t w q (Ok asked.Yours) u → (Stands (Claimed w) w q u → WorkGives u w q r v) → EnsureGives t w q r v
+pub ask_work : (w : ℕ) (q : Key) (r : Result (Arc Value Global) Fault) (t u v : TableValue) → AskGives t w q (Ok asked.Yours) u → (HasStatus (Claimed w) w q u → WorkGives u w q r v) → EnsureGives t w q r v
 ask_work w q r t u v a work =
-    let moved = subst (λ (x : TableValue). Stands (Claimed w) w q x → WorkGives x w q r v) a.1 work in
+    let moved = subst (λ (x : TableValue). HasStatus (Claimed w) w q x → WorkGives x w q r v) a.1 work in
     claim_gives t v w q r a.0 (moved (claim_stands t w q a.0))
 
 pub ask_done : (w : ℕ) (q : Key) (v : Arc Value Global) (t u : TableValue) → AskGives t w q (Ok (asked.Done v)) u → EnsureGives t w q (Ok v) u
@@ -135,7 +135,7 @@ walk_open o i s n = let e : Some AllUnchanged ≡ Some (OpenAt i) = sym s ∙ n 
 walk_changed : (o : Option Walk) (i : ℕ) → o ≡ Some AllUnchanged → o ≡ Some (ChangedAt i) → ⊥
 walk_changed o i s n = let e : Some AllUnchanged ≡ Some (ChangedAt i) = sym s ∙ n in cc
 
-pub mark_refused : (w : ℕ) (q : Key) (f : TableFault) (g : Fault) → IsFaultOf f g → (t u v : TableValue) → Stands (Claimed w) w q t → walk_in t q ≡ Some AllUnchanged → MarkGives t w q (Err f) u → Stops u v → WorkGives t w q (Err g) v
+pub mark_refused : (w : ℕ) (q : Key) (f : TableFault) (g : Fault) → IsFaultOf f g → (t u v : TableValue) → HasStatus (Claimed w) w q t → walk_in t q ≡ Some AllUnchanged → MarkGives t w q (Err f) u → Stops u v → WorkGives t w q (Err g) v
 mark_refused w q table.OutOfMemory g is t u v st all m s = memory_gives t u v w q g is m.1 s
 mark_refused w q table.Failed g is t u v st all m s = absurd (not_both (state_of t).failed m.0 st.failed)
 mark_refused w q table.NotYours g is t u v st all m s = absurd (m.1 st.at)
@@ -151,21 +151,21 @@ mark_refused w q (table.StaleRead i) g is t u v st all m s = absurd m
 pub begin_changes : (t : TableValue) (w : ℕ) (q : Key) → IsStep t (Begin w q) → Changes q (Running w) t (adds t (Begin w q))
 begin_changes t w q may = changes_by t (Begin w q) q (Running w) may refl
 
-others_above : (t : TableValue) (w : ℕ) (q : Key) (x : Status) → Stands x w q t → (k : Key) → (k ≡ q → ⊥) → IsHeldBy w ((state_of t).at k) → rank q < rank k
+others_above : (t : TableValue) (w : ℕ) (q : Key) (x : Status) → HasStatus x w q t → (k : Key) → (k ≡ q → ⊥) → IsHeldBy w ((state_of t).at k) → rank q < rank k
 others_above t w q x st k n h = elim (st.above k h) [
   | inl e ↦ absurd (n e)
   | inr lt ↦ lt
 ]
 
-begin_gives : (w : ℕ) (q : Key) (r : Result (Arc Value Global) Fault) (t v : TableValue) → Stands (Claimed w) w q t → IsStep t (Begin w q) → (Stands (Running w) w q (adds t (Begin w q)) → WorkGives (adds t (Begin w q)) w q r v) → WorkGives t w q r v
+begin_gives : (w : ℕ) (q : Key) (r : Result (Arc Value Global) Fault) (t v : TableValue) → HasStatus (Claimed w) w q t → IsStep t (Begin w q) → (HasStatus (Running w) w q (adds t (Begin w q)) → WorkGives (adds t (Begin w q)) w q r v) → WorkGives t w q r v
 begin_gives w q r t v st may work =
     let c = begin_changes t w q may in
     let u = adds t (Begin w q) in
     changed_work t u w q (Running w) c v r refl (work (changed_stands t u w q (Running w) c st.failed refl (others_above t w q (Claimed w) st)))
 
-pub begin_work : (w : ℕ) (q : Key) (r : Result (Arc Value Global) Fault) (x : Unit {0}) (t u v : TableValue) → Stands (Claimed w) w q t → BeginGives t w q (Ok x) u → (Stands (Running w) w q u → WorkGives u w q r v) → WorkGives t w q r v
+pub begin_work : (w : ℕ) (q : Key) (r : Result (Arc Value Global) Fault) (x : Unit {0}) (t u v : TableValue) → HasStatus (Claimed w) w q t → BeginGives t w q (Ok x) u → (HasStatus (Running w) w q u → WorkGives u w q r v) → WorkGives t w q r v
 begin_work w q r x t u v st b work =
-    let moved = subst (λ (y : TableValue). Stands (Running w) w q y → WorkGives y w q r v) b.1 work in
+    let moved = subst (λ (y : TableValue). HasStatus (Running w) w q y → WorkGives y w q r v) b.1 work in
     begin_gives w q r t v st b.0 moved
 
 may_open : (o : Option Walk) (i : ℕ) → MayRun o → o ≡ Some (OpenAt i) → ⊥
@@ -174,7 +174,7 @@ may_open o i may e = let m : MayRun (Some (OpenAt i)) = subst MayRun e may in m
 may_unchanged : (o : Option Walk) → MayRun o → o ≡ Some AllUnchanged → ⊥
 may_unchanged o may e = let m : MayRun (Some AllUnchanged) = subst MayRun e may in m
 
-pub begin_refused : (w : ℕ) (q : Key) (f : TableFault) (g : Fault) → IsFaultOf f g → (t u v : TableValue) → Stands (Claimed w) w q t → MayRun (walk_in t q) → BeginGives t w q (Err f) u → Stops u v → WorkGives t w q (Err g) v
+pub begin_refused : (w : ℕ) (q : Key) (f : TableFault) (g : Fault) → IsFaultOf f g → (t u v : TableValue) → HasStatus (Claimed w) w q t → MayRun (walk_in t q) → BeginGives t w q (Err f) u → Stops u v → WorkGives t w q (Err g) v
 begin_refused w q table.OutOfMemory g is t u v st may b s = memory_gives t u v w q g is b.1 s
 begin_refused w q table.Failed g is t u v st may b s = absurd (not_both (state_of t).failed b.0 st.failed)
 begin_refused w q table.NotYours g is t u v st may b s = absurd (b.1 st.at)
@@ -204,7 +204,7 @@ not_stale s [] i h f = f
 not_stale s (r ∷ rs) zero h f = f h.0
 not_stale s (r ∷ rs) (suc i) h f = not_stale s rs i h.1 f.1
 
-pub finish_refused : (w : ℕ) (q : Key) (o : OutcomeValue) (f : TableFault) (g : Fault) → o.key ≡ q → IsFaultOf f g → (t u v : TableValue) → AreHeld (state_of t) o.told → Stands (Running w) w q t → FinishGives t w o (Err f) u → Stops u v → WorkGives t w q (Err g) v
+pub finish_refused : (w : ℕ) (q : Key) (o : OutcomeValue) (f : TableFault) (g : Fault) → o.key ≡ q → IsFaultOf f g → (t u v : TableValue) → AreHeld (state_of t) o.told → HasStatus (Running w) w q t → FinishGives t w o (Err f) u → Stops u v → WorkGives t w q (Err g) v
 finish_refused w q o table.OutOfMemory g key is t u v held st b s = memory_gives t u v w q g is b.1 s
 finish_refused w q o table.Failed g key is t u v held st b s = absurd (not_both (state_of t).failed b.0 st.failed)
 finish_refused w q o table.NotYours g key is t u v held st b s = absurd (b.1 (ap (state_of t).at key ∙ st.at))
@@ -217,13 +217,13 @@ finish_refused w q o table.NotInPast g key is t u v held st b s = absurd b
 
 -- ---- a past edge
 
-below_it : (x : Status) (w : ℕ) (q e : Key) (t : TableValue) → Stands x w q t → rank e < rank q → IsBelow (state_of t) w e
+below_it : (x : Status) (w : ℕ) (q e : Key) (t : TableValue) → HasStatus x w q t → rank e < rank q → IsBelow (state_of t) w e
 below_it x w q e t st lt = λ k h. elim (st.above k h) [
   | inl is ↦ subst (λ (y : Key). rank e < rank y) (sym is) lt
   | inr more ↦ (let below : rank e < rank k = omega (arith, lt, more) in below)
 ]
 
-pub edge_gives_up : (x : Status) (w : ℕ) (q e : Key) (f : Fault) (t u : TableValue) → Stands x w q t → rank e < rank q → EnsureGives t w e (Err f) u → GivesUp t w f u
+pub edge_gives_up : (x : Status) (w : ℕ) (q e : Key) (f : Fault) (t u : TableValue) → HasStatus x w q t → rank e < rank q → EnsureGives t w e (Err f) u → IsGivenUp t w f u
 edge_gives_up x w q e fault.Stopped t u st lt h = elim h.1 [
   | inl failed ↦ absurd (not_both (state_of t).failed failed st.failed)
   | inr isnt ↦ absurd (isnt (below_it x w q e t st lt))
@@ -233,26 +233,26 @@ edge_gives_up x w q e fault.Busy t u st lt h = h
 
 -- ---- what a call and giving up come to, in their order
 
-pub mark_ok : (w : ℕ) (q : Key) (v : Arc Value Global) (t u : TableValue) → MarkGives t w q (Ok v) u → Stands (Claimed w) w q t → walk_in t q ≡ Some AllUnchanged → WorkGives t w q (Ok v) u
+pub mark_ok : (w : ℕ) (q : Key) (v : Arc Value Global) (t u : TableValue) → MarkGives t w q (Ok v) u → HasStatus (Claimed w) w q t → walk_in t q ≡ Some AllUnchanged → WorkGives t w q (Ok v) u
 mark_ok w q v t u m st all = mark_done w q v t u m
 
-pub mark_ended : (w : ℕ) (q : Key) (f : TableFault) (g : Fault) → IsFaultOf f g → (t u v : TableValue) → MarkGives t w q (Err f) u → Stops u v → Stands (Claimed w) w q t → walk_in t q ≡ Some AllUnchanged → WorkGives t w q (Err g) v
+pub mark_ended : (w : ℕ) (q : Key) (f : TableFault) (g : Fault) → IsFaultOf f g → (t u v : TableValue) → MarkGives t w q (Err f) u → Stops u v → HasStatus (Claimed w) w q t → walk_in t q ≡ Some AllUnchanged → WorkGives t w q (Err g) v
 mark_ended w q f g is t u v m s st all = mark_refused w q f g is t u v st all m s
 
-pub finish_ok : (w : ℕ) (q : Key) (a : Arc Value Global) (o p : OutcomeValue) (x : Unit {0}) → p ≡ o → o.key ≡ q → arc_value a ≡ o.value → (t u : TableValue) → FinishGives t w p (Ok x) u → Stands (Running w) w q t → AreHeld (state_of t) o.told → WorkGives t w q (Ok a) u
+pub finish_ok : (w : ℕ) (q : Key) (a : Arc Value Global) (o p : OutcomeValue) (x : Unit {0}) → p ≡ o → o.key ≡ q → arc_value a ≡ o.value → (t u : TableValue) → FinishGives t w p (Ok x) u → HasStatus (Running w) w q t → AreHeld (state_of t) o.told → WorkGives t w q (Ok a) u
 finish_ok w q a o p x same key is t u f st held = finish_done w q a o x key is t u (subst (λ (y : OutcomeValue). FinishGives t w y (Ok x) u) same f)
 
-pub finish_ended : (w : ℕ) (q : Key) (o p : OutcomeValue) (f : TableFault) (g : Fault) → p ≡ o → o.key ≡ q → IsFaultOf f g → (t u v : TableValue) → FinishGives t w p (Err f) u → Stops u v → Stands (Running w) w q t → AreHeld (state_of t) o.told → WorkGives t w q (Err g) v
+pub finish_ended : (w : ℕ) (q : Key) (o p : OutcomeValue) (f : TableFault) (g : Fault) → p ≡ o → o.key ≡ q → IsFaultOf f g → (t u v : TableValue) → FinishGives t w p (Err f) u → Stops u v → HasStatus (Running w) w q t → AreHeld (state_of t) o.told → WorkGives t w q (Err g) v
 finish_ended w q o p f g same key is t u v b s st held = finish_refused w q o f g key is t u v held st (subst (λ (y : OutcomeValue). FinishGives t w y (Err f) u) same b) s
 
-pub stopped_early : (w : ℕ) (q : Key) (told : List ReadValue) (g : Fault) → g ≡ fault.OutOfMemory → (t v : TableValue) → Stops t v → Stands (Running w) w q t → AreHeld (state_of t) told → WorkGives t w q (Err g) v
+pub stopped_early : (w : ℕ) (q : Key) (told : List ReadValue) (g : Fault) → g ≡ fault.OutOfMemory → (t v : TableValue) → Stops t v → HasStatus (Running w) w q t → AreHeld (state_of t) told → WorkGives t w q (Err g) v
 stopped_early w q told g is t v s st held = memory_gives t t v w q g is refl s
 
-pub work_memory : (w : ℕ) (q : Key) (g : Fault) → g ≡ fault.OutOfMemory → (t v : TableValue) → Stops t v → Stands (Claimed w) w q t → WorkGives t w q (Err g) v
+pub work_memory : (w : ℕ) (q : Key) (g : Fault) → g ≡ fault.OutOfMemory → (t v : TableValue) → Stops t v → HasStatus (Claimed w) w q t → WorkGives t w q (Err g) v
 work_memory w q g is t v s st = memory_gives t t v w q g is refl s
 
-pub start_ok : (w : ℕ) (q : Key) (r : Result (Arc Value Global) Fault) (x : Unit {0}) (t u v : TableValue) → BeginGives t w q (Ok x) u → (Stands (Running w) w q u → WorkGives u w q r v) → Stands (Claimed w) w q t → MayRun (walk_in t q) → WorkGives t w q r v
+pub start_ok : (w : ℕ) (q : Key) (r : Result (Arc Value Global) Fault) (x : Unit {0}) (t u v : TableValue) → BeginGives t w q (Ok x) u → (HasStatus (Running w) w q u → WorkGives u w q r v) → HasStatus (Claimed w) w q t → MayRun (walk_in t q) → WorkGives t w q r v
 start_ok w q r x t u v b work st may = begin_work w q r x t u v st b work
 
-pub start_ended : (w : ℕ) (q : Key) (f : TableFault) (g : Fault) → IsFaultOf f g → (t u v : TableValue) → BeginGives t w q (Err f) u → Stops u v → Stands (Claimed w) w q t → MayRun (walk_in t q) → WorkGives t w q (Err g) v
+pub start_ended : (w : ℕ) (q : Key) (f : TableFault) (g : Fault) → IsFaultOf f g → (t u v : TableValue) → BeginGives t w q (Err f) u → Stops u v → HasStatus (Claimed w) w q t → MayRun (walk_in t q) → WorkGives t w q (Err g) v
 start_ended w q f g is t u v b s st may = begin_refused w q f g is t u v st may b s

@@ -18,8 +18,8 @@ use Rattle.graph_rules.proofs.Keeping.{held_keeps}
 use Rattle.job_table.specs.Tables.{TableValue, past_of, state_of, IsStep, adds}
 use Rattle.mark_green.specs.declared.fault.Fault.{Fault}
 use Rattle.mark_green.specs.declared.fault.Fault.TheVariants as fault
-use Rattle.mark_green.specs.Leaves.{Knows, Tells, GoesOn, Stops, Leaves, LeavesBut, IsOthers, Stands}
-use Rattle.mark_green.specs.Ensures.{GivesUp, WorkGives}
+use Rattle.mark_green.specs.Leaves.{Knows, Tells, GoesOn, Stops, Leaves, LeavesBut, IsOthers, HasStatus}
+use Rattle.mark_green.specs.Ensures.{IsGivenUp, WorkGives}
 use Rattle.mark_green.specs.Moves.{state_on, keeps_on}
 
 -- ---- what is known of tables
@@ -145,7 +145,7 @@ others_back t u w back o = record {
   holds = subst (λ (x : Status). IsHeldBy o.worker x) (back o.key o.worker o.holds o.other) o.holds;
 }
 
-pub stands_on : (x : Status) (w : ℕ) (q : Key) (t u : TableValue) → Leaves t u → Stands x w q t → Stands x w q u
+pub stands_on : (x : Status) (w : ℕ) (q : Key) (t u : TableValue) → Leaves t u → HasStatus x w q t → HasStatus x w q u
 stands_on x w q t u l s = record {
   failed = l.failed ∙ s.failed;
   at = l.stays q w (subst (λ (y : Status). IsHeldBy w y) (sym s.at) s.mine) ∙ s.at;
@@ -164,12 +164,12 @@ leaves_then t u v l m = record {
   held = λ k w h. let e = m.held k w h in e ∙ l.held k w (subst (λ (y : Status). IsHeldBy w y) e h);
 }
 
-pub gives_up_on : (t u v : TableValue) (w : ℕ) (f : Fault) → GoesOn t u → (IsOthers u w → IsOthers t w) → GivesUp u w f v → GivesUp t w f v
+pub gives_up_on : (t u v : TableValue) (w : ℕ) (f : Fault) → GoesOn t u → (IsOthers u w → IsOthers t w) → IsGivenUp u w f v → IsGivenUp t w f v
 gives_up_on t u v w fault.Stopped g o h = h
 gives_up_on t u v w fault.OutOfMemory g o h = stops_then t u v g h
 gives_up_on t u v w fault.Busy g o h = (on_then t u v g h.0, h.1, o h.2)
 
-pub leaves_gives_up : (t u v : TableValue) (w : ℕ) (f : Fault) → Leaves t u → GivesUp u w f v → GivesUp t w f v
+pub leaves_gives_up : (t u v : TableValue) (w : ℕ) (f : Fault) → Leaves t u → IsGivenUp u w f v → IsGivenUp t w f v
 leaves_gives_up t u v w f l h = gives_up_on t u v w f l.goes_on (others_back t u w (λ k a is n. l.held k a is)) h
 
 pub leaves_work : (t u v : TableValue) (w : ℕ) (q : Key) (r : Result (Arc Value Global) Fault) → Leaves t u → WorkGives u w q r v → WorkGives t w q r v
@@ -226,7 +226,7 @@ module _ (t u : TableValue) (w : ℕ) (q : Key) (x : Status) (c : Changes q x t 
       }
 
   -- the worker's other keys are above
-  pub changed_stands : (state_of t).failed ≡ false → IsHeldBy w x → ((k : Key) → (k ≡ q → ⊥) → IsHeldBy w ((state_of t).at k) → rank q < rank k) → Stands x w q u
+  pub changed_stands : (state_of t).failed ≡ false → IsHeldBy w x → ((k : Key) → (k ≡ q → ⊥) → IsHeldBy w ((state_of t).at k) → rank q < rank k) → HasStatus x w q u
   changed_stands nf mine above = record {
     failed = c.failed ∙ nf;
     at = c.here;

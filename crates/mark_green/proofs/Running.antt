@@ -22,8 +22,8 @@ use Rattle.mark_green.specs.declared.fault.Fault.{Fault}
 use Rattle.mark_green.specs.declared.fault.Fault.TheVariants as fault
 use Rattle.mark_green.specs.declared.asking.Stop.{Stop}
 use Rattle.mark_green.specs.declared.asking.Stop.TheVariants as stop
-use Rattle.mark_green.specs.Leaves.{Knows, Tells, GoesOn, Stops, Leaves, Stands}
-use Rattle.mark_green.specs.Ensures.{GivesUp, WorkGives, FetchGives, TurnGives, IsFaultOf, IsFaultOfStop, StopsFor}
+use Rattle.mark_green.specs.Leaves.{Knows, Tells, GoesOn, Stops, Leaves, HasStatus}
+use Rattle.mark_green.specs.Ensures.{IsGivenUp, WorkGives, FetchGives, TurnGives, IsFaultOf, IsFaultOfStop, StopsFor}
 use Rattle.mark_green.specs.Moves.{IsDoneIn, StopGives, Halts, Moves}
 use Rattle.mark_green.proofs.GoingOn.{on_none, on_one, stops_then, changed_others, changed_leaves, changed_stands, leaves_none, leaves_then, leaves_gives_up, leaves_work, stands_on, gives_up_on, held_on, tells_here}
 use Rattle.mark_green.proofs.Calling.{claim_changes, ask_others}
@@ -144,14 +144,14 @@ halts_held w r x held (Some t) (Some u) h k = held_on t u h.1.0 held k
 not_both : (b : Bool) → b ≡ true → b ≡ false → ⊥
 not_both b t f = cc
 
-below_run : (w : ℕ) (q k : Key) (t : TableValue) → Stands (Running w) w q t → rank k < rank q → IsBelow (state_of t) w k
+below_run : (w : ℕ) (q k : Key) (t : TableValue) → HasStatus (Running w) w q t → rank k < rank q → IsBelow (state_of t) w k
 below_run w q k t st lt = λ j h. elim (st.above j h) [
   | inl is ↦ subst (λ (y : Key). rank k < rank y) (sym is) lt
   | inr more ↦ (let below : rank k < rank j = omega (arith, lt, more) in below)
 ]
 
-refused_gives_up : (w : ℕ) (q k : Key) (f : TableFault) (g : Fault) → IsFaultOf f g → (t u v : TableValue) → Stands (Running w) w q t → rank k < rank q → AskGives t w k (Err f) u → GoesOn t u → Stops u v → GivesUp t w g v
-refused_gives_up w q k table.OutOfMemory g is t u v st lt a on s = subst (λ (x : Fault). GivesUp t w x v) (sym is) (stops_then t u v on s)
+refused_gives_up : (w : ℕ) (q k : Key) (f : TableFault) (g : Fault) → IsFaultOf f g → (t u v : TableValue) → HasStatus (Running w) w q t → rank k < rank q → AskGives t w k (Err f) u → GoesOn t u → Stops u v → IsGivenUp t w g v
+refused_gives_up w q k table.OutOfMemory g is t u v st lt a on s = subst (λ (x : Fault). IsGivenUp t w x v) (sym is) (stops_then t u v on s)
 refused_gives_up w q k table.OutOfRank g is t u v st lt a on s = absurd (a.1 (below_run w q k t st lt))
 refused_gives_up w q k table.NotYours g is t u v st lt a on s = absurd a
 refused_gives_up w q k (table.EdgeOpen i) g is t u v st lt a on s = absurd a
@@ -161,20 +161,20 @@ refused_gives_up w q k table.NothingChanged g is t u v st lt a on s = absurd a
 refused_gives_up w q k (table.StaleRead i) g is t u v st lt a on s = absurd a
 refused_gives_up w q k table.Failed g is t u v st lt a on s = absurd a
 
-busy_gives_up : (w : ℕ) (k : Key) (g : Fault) → g ≡ fault.Busy → (t u v : TableValue) → AskGives t w k (Ok asked.Busy) u → v ≡ u → GivesUp t w g v
+busy_gives_up : (w : ℕ) (k : Key) (g : Fault) → g ≡ fault.Busy → (t u v : TableValue) → AskGives t w k (Ok asked.Busy) u → v ≡ u → IsGivenUp t w g v
 busy_gives_up w k g is t u v a e =
-    subst (λ (x : Fault). GivesUp t w x v) (sym is) (subst (λ (x : TableValue). GivesUp t w fault.Busy x) (sym (e ∙ a.3)) (on_none t, a.0.0, ask_others w k t u a))
+    subst (λ (x : Fault). IsGivenUp t w x v) (sym is) (subst (λ (x : TableValue). IsGivenUp t w fault.Busy x) (sym (e ∙ a.3)) (on_none t, a.0.0, ask_others w k t u a))
 
-pub stop_gives_up : (w : ℕ) (q : Key) (x : Stop) (g : Fault) → IsFaultOfStop x g → (t u v : TableValue) → GoesOn t u × StopGives t w (rank q) x u → StopsFor x u v → Stands (Running w) w q t → GivesUp t w g v
-stop_gives_up w q (stop.Lacks k) g is t u v h s st = subst (λ (y : Fault). GivesUp t w y v) (sym is) (stops_then t u v h.0 s)
+pub stop_gives_up : (w : ℕ) (q : Key) (x : Stop) (g : Fault) → IsFaultOfStop x g → (t u v : TableValue) → GoesOn t u × StopGives t w (rank q) x u → StopsFor x u v → HasStatus (Running w) w q t → IsGivenUp t w g v
+stop_gives_up w q (stop.Lacks k) g is t u v h s st = subst (λ (y : Fault). IsGivenUp t w y v) (sym is) (stops_then t u v h.0 s)
 stop_gives_up w q stop.Busy g is t u v h s st = busy_gives_up w h.1.0 g is t u v h.1.1 s
 stop_gives_up w q stop.Stopped g is t u v h s st = absurd (not_both (state_of t).failed h.1.1.0 st.failed)
 stop_gives_up w q (stop.Refused f) g is t u v h s st = refused_gives_up w q h.1.0 f g is t u v st h.1.1 h.1.2 h.0 s
-stop_gives_up w q stop.OutOfMemory g is t u v h s st = subst (λ (y : Fault). GivesUp t w y v) (sym is) (stops_then t u v h.0 s)
+stop_gives_up w q stop.OutOfMemory g is t u v h s st = subst (λ (y : Fault). IsGivenUp t w y v) (sym is) (stops_then t u v h.0 s)
 
 -- ---- a key that a run lacked
 
-fetched_at : (w : ℕ) (q k : Key) (r : Result (Unit {0}) Fault) (held : List ReadValue) (t v : TableValue) → Stands (Running w) w q t → IsStep t (Claim w k)
+fetched_at : (w : ℕ) (q k : Key) (r : Result (Unit {0}) Fault) (held : List ReadValue) (t v : TableValue) → HasStatus (Running w) w q t → IsStep t (Claim w k)
     → FetchGives (adds t (Claim w k)) w k r held v → (o : Result (Option OutcomeValue) Fault)
     → ((x : Unit {0}) → r ≡ Ok x → o ≡ Ok None) → ((f : Fault) → r ≡ Err f → o ≡ Err f) → TurnGives t w q o held v
 fetched_at w q k (Ok x) held t v st may h o ok err =
@@ -183,20 +183,20 @@ fetched_at w q k (Ok x) held t v st may h o ok err =
     subst (λ (y : Result (Option OutcomeValue) Fault). TurnGives t w q y held v) (sym (ok x refl)) (l, h.2)
 fetched_at w q k (Err f) held t v st may h o ok err =
     let c = claim_changes t w k may in
-    let g : GivesUp t w f v = gives_up_on t (adds t (Claim w k)) v w f c.goes_on (changed_others t (adds t (Claim w k)) w k (Claimed w) c refl) h in
+    let g : IsGivenUp t w f v = gives_up_on t (adds t (Claim w k)) v w f c.goes_on (changed_others t (adds t (Claim w k)) w k (Claimed w) c refl) h in
     subst (λ (y : Result (Option OutcomeValue) Fault). TurnGives t w q y held v) (sym (err f refl)) g
 
-claimed_stands : (w : ℕ) (q k : Key) (t : TableValue) → (state_of t).failed ≡ false → IsStep t (Claim w k) → Stands (Claimed w) w k (adds t (Claim w k))
+claimed_stands : (w : ℕ) (q k : Key) (t : TableValue) → (state_of t).failed ≡ false → IsStep t (Claim w k) → HasStatus (Claimed w) w k (adds t (Claim w k))
 claimed_stands w q k t nf may = changed_stands t (adds t (Claim w k)) w k (Claimed w) (claim_changes t w k may) nf refl (λ j n h. may.2 j h)
 
 pub fetched : (w : ℕ) (q k : Key) (r : Result (Unit {0}) Fault) (old held : List ReadValue) (o : Result (Option OutcomeValue) Fault)
     → ((x : Unit {0}) → r ≡ Ok x → o ≡ Ok None) → ((f : Fault) → r ≡ Err f → o ≡ Err f)
-    → (t u v : TableValue) → GoesOn t u × StopGives t w (rank q) (stop.Lacks k) u → (Stands (Claimed w) w k u → AreHeld (state_of u) old → FetchGives u w k r held v)
-    → Stands (Running w) w q t → AreHeld (state_of t) old → TurnGives t w q o held v
+    → (t u v : TableValue) → GoesOn t u × StopGives t w (rank q) (stop.Lacks k) u → (HasStatus (Claimed w) w k u → AreHeld (state_of u) old → FetchGives u w k r held v)
+    → HasStatus (Running w) w q t → AreHeld (state_of t) old → TurnGives t w q o held v
 fetched w q k r old held o ok err t u v h f st all =
     let a = h.1 in
     let there = held_on t u h.0 old all in
-    let moved = subst (λ (x : TableValue). Stands (Claimed w) w k x → AreHeld (state_of x) old → FetchGives x w k r held v) a.1 f in
+    let moved = subst (λ (x : TableValue). HasStatus (Claimed w) w k x → AreHeld (state_of x) old → FetchGives x w k r held v) a.1 f in
     let here = subst (λ (x : TableValue). AreHeld (state_of x) old) a.1 there in
     fetched_at w q k r held t v st a.0 (moved (claimed_stands w q k t st.failed a.0) here) o ok err
 
@@ -206,7 +206,7 @@ one_more : (s : State) (held : List ReadValue) (k : Key) (v : Value) → AreHeld
 one_more s [] k v all d = (d, tt)
 one_more s (r ∷ rs) k v all d = (all.0, one_more s rs k v all.1 d)
 
-pub work_held : (w : ℕ) (k : Key) (v : Arc Value Global) (old new : List ReadValue) → new ≡ old ++ record { key = k; value = arc_value v } ∷ [] → (x : Unit {0}) → (t u : TableValue) → (Stands (Claimed w) w k t → WorkGives t w k (Ok v) u) → Stands (Claimed w) w k t → AreHeld (state_of t) old → FetchGives t w k (Ok x) new u
+pub work_held : (w : ℕ) (k : Key) (v : Arc Value Global) (old new : List ReadValue) → new ≡ old ++ record { key = k; value = arc_value v } ∷ [] → (x : Unit {0}) → (t u : TableValue) → (HasStatus (Claimed w) w k t → WorkGives t w k (Ok v) u) → HasStatus (Claimed w) w k t → AreHeld (state_of t) old → FetchGives t w k (Ok x) new u
 work_held w k v old new is x t u work st all =
     let h = work st in (
       h.0,
@@ -214,33 +214,33 @@ work_held w k v old new is x t u work st all =
       subst (λ (l : List ReadValue). AreHeld (state_of u) l) (sym is) (one_more (state_of u) old k (arc_value v) (held_on t u h.0.goes_on old all) h.1),
     )
 
-pub work_lost : (w : ℕ) (k : Key) (v : Arc Value Global) (g : Fault) → g ≡ fault.OutOfMemory → (old held : List ReadValue) → (t u z : TableValue) → (Stands (Claimed w) w k t → WorkGives t w k (Ok v) u) → Stops u z → Stands (Claimed w) w k t → AreHeld (state_of t) old → FetchGives t w k (Err g) held z
-work_lost w k v g is old held t u z work s st all = subst (λ (x : Fault). GivesUp t w x z) (sym is) (stops_then t u z (work st).0.goes_on s)
+pub work_lost : (w : ℕ) (k : Key) (v : Arc Value Global) (g : Fault) → g ≡ fault.OutOfMemory → (old held : List ReadValue) → (t u z : TableValue) → (HasStatus (Claimed w) w k t → WorkGives t w k (Ok v) u) → Stops u z → HasStatus (Claimed w) w k t → AreHeld (state_of t) old → FetchGives t w k (Err g) held z
+work_lost w k v g is old held t u z work s st all = subst (λ (x : Fault). IsGivenUp t w x z) (sym is) (stops_then t u z (work st).0.goes_on s)
 
 -- ---- runs, one after the other
 
-pub turns_none : (w : ℕ) (q : Key) (t : TableValue) → Stands (Running w) w q t → Leaves t t × AreHeld (state_of t) []
+pub turns_none : (w : ℕ) (q : Key) (t : TableValue) → HasStatus (Running w) w q t → Leaves t t × AreHeld (state_of t) []
 turns_none w q t st = (leaves_none t, tt)
 
-pub turns_more : (w : ℕ) (q : Key) (old new : List ReadValue) (t u v : TableValue) → (Stands (Running w) w q t → Leaves t u × AreHeld (state_of u) old) → (Stands (Running w) w q u → AreHeld (state_of u) old → TurnGives u w q (Ok None) new v) → Stands (Running w) w q t → Leaves t v × AreHeld (state_of v) new
+pub turns_more : (w : ℕ) (q : Key) (old new : List ReadValue) (t u v : TableValue) → (HasStatus (Running w) w q t → Leaves t u × AreHeld (state_of u) old) → (HasStatus (Running w) w q u → AreHeld (state_of u) old → TurnGives u w q (Ok None) new v) → HasStatus (Running w) w q t → Leaves t v × AreHeld (state_of v) new
 turns_more w q old new t u v so h st =
     let l = so st in
     let m = h (stands_on (Running w) w q t u l.0 st) l.1 in
     (leaves_then t u v l.0 m.0, m.1)
 
-pub turns_up : (w : ℕ) (q : Key) (f : Fault) (old new : List ReadValue) (t u v : TableValue) → (Stands (Running w) w q t → Leaves t u × AreHeld (state_of u) old) → (Stands (Running w) w q u → AreHeld (state_of u) old → TurnGives u w q (Err f) new v) → Stands (Running w) w q t → WorkGives t w q (Err f) v
+pub turns_up : (w : ℕ) (q : Key) (f : Fault) (old new : List ReadValue) (t u v : TableValue) → (HasStatus (Running w) w q t → Leaves t u × AreHeld (state_of u) old) → (HasStatus (Running w) w q u → AreHeld (state_of u) old → TurnGives u w q (Err f) new v) → HasStatus (Running w) w q t → WorkGives t w q (Err f) v
 turns_up w q f old new t u v so h st =
     let l = so st in leaves_gives_up t u v w f l.0 (h (stands_on (Running w) w q t u l.0 st) l.1)
 
-pub turns_end : (w : ℕ) (q : Key) (o : OutcomeValue) (old new : List ReadValue) (t u v : TableValue) → (Stands (Running w) w q t → Leaves t u × AreHeld (state_of u) old) → (Stands (Running w) w q u → AreHeld (state_of u) old → TurnGives u w q (Ok (Some o)) new v) → Stands (Running w) w q t → Leaves t v × AreHeld (state_of v) o.told
+pub turns_end : (w : ℕ) (q : Key) (o : OutcomeValue) (old new : List ReadValue) (t u v : TableValue) → (HasStatus (Running w) w q t → Leaves t u × AreHeld (state_of u) old) → (HasStatus (Running w) w q u → AreHeld (state_of u) old → TurnGives u w q (Ok (Some o)) new v) → HasStatus (Running w) w q t → Leaves t v × AreHeld (state_of v) o.told
 turns_end w q o old new t u v so h st =
     let l = so st in
     let m = h (stands_on (Running w) w q t u l.0 st) l.1 in
     (leaves_then t u v l.0 m.0, m.1)
 
-pub turns_ended : (w : ℕ) (q : Key) (told : List ReadValue) (r : Result (Arc Value Global) Fault) (t v z : TableValue) → (Stands (Running w) w q t → Leaves t v × AreHeld (state_of v) told) → (Stands (Running w) w q v → AreHeld (state_of v) told → WorkGives v w q r z) → Stands (Running w) w q t → WorkGives t w q r z
+pub turns_ended : (w : ℕ) (q : Key) (told : List ReadValue) (r : Result (Arc Value Global) Fault) (t v z : TableValue) → (HasStatus (Running w) w q t → Leaves t v × AreHeld (state_of v) told) → (HasStatus (Running w) w q v → AreHeld (state_of v) told → WorkGives v w q r z) → HasStatus (Running w) w q t → WorkGives t w q r z
 turns_ended w q told r t v z so e st =
     let l = so st in leaves_work t v z w q r l.0 (e (stands_on (Running w) w q t v l.0 st) l.1)
 
-pub turns_memory : (w : ℕ) (q : Key) (g : Fault) → g ≡ fault.OutOfMemory → (held : List ReadValue) → (t u v : TableValue) → (Stands (Running w) w q t → Leaves t u × AreHeld (state_of u) held) → Stops u v → Stands (Running w) w q t → WorkGives t w q (Err g) v
-turns_memory w q g is held t u v so s st = subst (λ (x : Fault). GivesUp t w x v) (sym is) (stops_then t u v (so st).0.goes_on s)
+pub turns_memory : (w : ℕ) (q : Key) (g : Fault) → g ≡ fault.OutOfMemory → (held : List ReadValue) → (t u v : TableValue) → (HasStatus (Running w) w q t → Leaves t u × AreHeld (state_of u) held) → Stops u v → HasStatus (Running w) w q t → WorkGives t w q (Err g) v
+turns_memory w q g is held t u v so s st = subst (λ (x : Fault). IsGivenUp t w x v) (sym is) (stops_then t u v (so st).0.goes_on s)

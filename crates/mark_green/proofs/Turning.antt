@@ -16,7 +16,7 @@ use Rattle.mark_green.specs.declared.fault.Fault.{Fault}
 use Rattle.mark_green.specs.declared.fault.Fault.TheVariants as fault
 use Rattle.mark_green.specs.declared.asking.Stop.{Stop}
 use Rattle.mark_green.specs.declared.asking.Stop.TheVariants as stop
-use Rattle.mark_green.specs.Leaves.{Knows, Tells, Stops, Leaves, Stands}
+use Rattle.mark_green.specs.Leaves.{Knows, Tells, Stops, Leaves, HasStatus}
 use Rattle.mark_green.specs.Ensures.{WorkGives, FetchGives, TurnGives, RunGives, IsFaultOf, IsFaultOfStop, StopsFor}
 use Rattle.mark_green.specs.Moves.{Halts}
 use Rattle.mark_green.proofs.GoingOn.{leaves_none, tells_map, tells_then, tells_here}
@@ -27,10 +27,10 @@ use Rattle.mark_green.proofs.Running.{stop_gives_up, fetched, work_held, work_lo
 
 -- bringing a claimed key to done, by the tables before and after
 abbrev pub Works : ℕ → Key → Result (Arc Value Global) Fault → Option TableValue → Option TableValue → Type 0
-Works w q r a b = Tells (λ t u. Stands (Claimed w) w q t → WorkGives t w q r u) a b
+Works w q r a b = Tells (λ t u. HasStatus (Claimed w) w q t → WorkGives t w q r u) a b
 
 abbrev pub Fetches : ℕ → Key → Result (Unit {0}) Fault → List ReadValue → List ReadValue → Option TableValue → Option TableValue → Type 0
-Fetches w k r old new a b = Tells (λ t u. Stands (Claimed w) w k t → AreHeld (state_of t) old → FetchGives t w k r new u) a b
+Fetches w k r old new a b = Tells (λ t u. HasStatus (Claimed w) w k t → AreHeld (state_of t) old → FetchGives t w k r new u) a b
 
 module _ (w : ℕ) (k : Key) (old new : List ReadValue) where
   pub fetch_ok : (v : Arc Value Global) → new ≡ old ++ record { key = k; value = arc_value v } ∷ [] → (x : Unit {0}) → (a b : Option TableValue) → Works w k (Ok v) a b → Fetches w k (Ok x) old new a b
@@ -52,7 +52,7 @@ abbrev no_turn : Fault → Result (Option OutcomeValue) Fault
 no_turn f = Err f
 
 abbrev pub Turns : ℕ → Key → Result (Option OutcomeValue) Fault → List ReadValue → List ReadValue → Option TableValue → Option TableValue → Type 0
-Turns w q r old new a b = Tells (λ t u. Stands (Running w) w q t → AreHeld (state_of t) old → TurnGives t w q r new u) a b
+Turns w q r old new a b = Tells (λ t u. HasStatus (Running w) w q t → AreHeld (state_of t) old → TurnGives t w q r new u) a b
 
 ran_here : (w : ℕ) (q : Key) (o : OutcomeValue) (old new : List ReadValue) (a : Option TableValue)
     → (Knows (λ t. AreHeld (state_of t) old) a → Knows (λ t. AreHeld (state_of t) o.told) a) → Turns w q (Ok (Some o)) old new a a
@@ -83,10 +83,10 @@ module _ (w : ℕ) (q : Key) (old new : List ReadValue) where
 
 -- so far the key runs, and these results are held
 abbrev pub Holds : ℕ → Key → List ReadValue → Option TableValue → Option TableValue → Type 0
-Holds w q held a b = Tells (λ t u. Stands (Running w) w q t → Leaves t u × AreHeld (state_of u) held) a b
+Holds w q held a b = Tells (λ t u. HasStatus (Running w) w q t → Leaves t u × AreHeld (state_of u) held) a b
 
 abbrev pub Ends : ℕ → Key → Result OutcomeValue Fault → Option TableValue → Option TableValue → Type 0
-Ends w q r a b = Tells (λ t u. Stands (Running w) w q t → RunGives t w r u) a b
+Ends w q r a b = Tells (λ t u. HasStatus (Running w) w q t → RunGives t w r u) a b
 
 module _ (w : ℕ) (q : Key) where
   pub holds_none : (held : List ReadValue) → held ≡ [] → (a : Option TableValue) → Holds w q held a a
@@ -108,17 +108,17 @@ module _ (w : ℕ) (q : Key) where
 -- ---- a run and its beginning
 
 abbrev pub Runs : ℕ → Key → Result (Arc Value Global) Fault → Option TableValue → Option TableValue → Type 0
-Runs w q r a b = Tells (λ t u. Stands (Running w) w q t → WorkGives t w q r u) a b
+Runs w q r a b = Tells (λ t u. HasStatus (Running w) w q t → WorkGives t w q r u) a b
 
 -- a claimed key that may run
 abbrev pub Starts : ℕ → Key → Result (Arc Value Global) Fault → Option TableValue → Option TableValue → Type 0
-Starts w q r a b = Tells (λ t u. Stands (Claimed w) w q t → MayRun (walk_in t q) → WorkGives t w q r u) a b
+Starts w q r a b = Tells (λ t u. HasStatus (Claimed w) w q t → MayRun (walk_in t q) → WorkGives t w q r u) a b
 
 abbrev pub Begins : ℕ → Key → Result (Unit {0}) TableFault → Option TableValue → Option TableValue → Type 0
 Begins w q r a b = Tells (λ t u. BeginGives t w q r u) a b
 
 module _ (w : ℕ) (q : Key) (r : Result (Arc Value Global) Fault) where
-  pub run_ended : (o : OutcomeValue) (a b c : Option TableValue) → Ends w q (Ok o) a b → Tells (λ t u. Stands (Running w) w q t → AreHeld (state_of t) o.told → WorkGives t w q r u) b c → Runs w q r a c
+  pub run_ended : (o : OutcomeValue) (a b c : Option TableValue) → Ends w q (Ok o) a b → Tells (λ t u. HasStatus (Running w) w q t → AreHeld (state_of t) o.told → WorkGives t w q r u) b c → Runs w q r a c
   run_ended o a b c so h = tells_then _ _ _ (turns_ended w q o.told r) a b c so h
 
   pub start_run : (x : Unit {0}) (a b c : Option TableValue) → Tells (λ t u. BeginGives t w q (Ok x) u) a b → Runs w q r b c → Starts w q r a c

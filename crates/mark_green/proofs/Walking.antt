@@ -18,7 +18,7 @@ use Rattle.job_table.specs.Tables.{TableValue, past_of, state_of}
 use Rattle.job_table.specs.Calls.{walk_in}
 use Rattle.job_table.proofs.WalkRules.{edge_with, edge_same, edge_other}
 use Rattle.mark_green.specs.declared.fault.Fault.{Fault}
-use Rattle.mark_green.specs.Leaves.{GoesOn, Leaves, Stands}
+use Rattle.mark_green.specs.Leaves.{GoesOn, Leaves, HasStatus}
 use Rattle.mark_green.specs.Ensures.{EnsureGives, EdgeGives, WalkGives, walk_over, HasEdges}
 use Rattle.mark_green.specs.Moves.{keeps_on}
 use Rattle.mark_green.proofs.GoingOn.{leaves_none, leaves_then, leaves_gives_up, stands_on}
@@ -82,7 +82,7 @@ pub walked_none : (records : List RecordValue) (edges : List ℕ) (t : TableValu
 walked_none records edges t = (leaves_none t, refl)
 
 module _ (records : List RecordValue) (edges : List ℕ) (i w : ℕ) (q : Key) where
-  pub walked_more : i < length edges → (t u v : TableValue) → (Stands (Claimed w) w q t → Walked records edges i t u) → EdgeGives u w (key_at records (get_or edges i 0)) (Ok true) v → Stands (Claimed w) w q t → Walked records edges (i + 1) t v
+  pub walked_more : i < length edges → (t u v : TableValue) → (HasStatus (Claimed w) w q t → Walked records edges i t u) → EdgeGives u w (key_at records (get_or edges i 0)) (Ok true) v → HasStatus (Claimed w) w q t → Walked records edges (i + 1) t v
   walked_more lt t u v so e st =
       let before = so st in (
         leaves_then t u v before.0 e.0,
@@ -90,7 +90,7 @@ module _ (records : List RecordValue) (edges : List ℕ) (i w : ℕ) (q : Key) w
             (walk_last (past_of v) (state_of v) (front_of records i edges) (key_at records (get_or edges i 0)) (walk_stays u v (front_of records i edges) e.0.goes_on before.1) e.1),
       )
 
-  pub walked_changed : i < length edges → (t u v : TableValue) → (Stands (Claimed w) w q t → Walked records edges i t u) → EdgeGives u w (key_at records (get_or edges i 0)) (Ok false) v → Stands (Claimed w) w q t → WalkGives t w (map (key_at records) edges) (Ok false) v
+  pub walked_changed : i < length edges → (t u v : TableValue) → (HasStatus (Claimed w) w q t → Walked records edges i t u) → EdgeGives u w (key_at records (get_or edges i 0)) (Ok false) v → HasStatus (Claimed w) w q t → WalkGives t w (map (key_at records) edges) (Ok false) v
   walked_changed lt t u v so e st =
       let before = so st in (
         leaves_then t u v before.0 e.0,
@@ -98,12 +98,12 @@ module _ (records : List RecordValue) (edges : List ℕ) (i w : ℕ) (q : Key) w
             (walk_ends (past_of v) (state_of v) (front_of records i edges) (key_at records (get_or edges i 0)) (map (key_at records) (drop (suc i) edges)) (walk_stays u v (front_of records i edges) e.0.goes_on before.1) e.1),
       )
 
-  pub walked_up : (f : Fault) (e : Key) → rank e < rank q → (t u v : TableValue) → (Stands (Claimed w) w q t → Walked records edges i t u) → EdgeGives u w e (Err f) v → Stands (Claimed w) w q t → WalkGives t w (map (key_at records) edges) (Err f) v
+  pub walked_up : (f : Fault) (e : Key) → rank e < rank q → (t u v : TableValue) → (HasStatus (Claimed w) w q t → Walked records edges i t u) → EdgeGives u w e (Err f) v → HasStatus (Claimed w) w q t → WalkGives t w (map (key_at records) edges) (Err f) v
   walked_up f e lt t u v so g st =
       let before = so st in
       leaves_gives_up t u v w f before.0 (edge_gives_up (Claimed w) w q e f u v (stands_on (Claimed w) w q t u before.0 st) lt g)
 
-  pub walked_all : i ≡ length edges → (t u : TableValue) → (Stands (Claimed w) w q t → Walked records edges i t u) → Stands (Claimed w) w q t → WalkGives t w (map (key_at records) edges) (Ok true) u
+  pub walked_all : i ≡ length edges → (t u : TableValue) → (HasStatus (Claimed w) w q t → Walked records edges i t u) → HasStatus (Claimed w) w q t → WalkGives t w (map (key_at records) edges) (Ok true) u
   walked_all end t u so st =
       let before = so st in
       let whole : take i edges ≡ edges = take_all i edges (omega arith) in

@@ -18,7 +18,7 @@ use Rattle.job_table.specs.declared.fault.Asked.TheVariants as asked
 use Rattle.job_table.specs.declared.fault.TableFault.{TableFault}
 use Rattle.mark_green.specs.declared.fault.Fault.{Fault}
 use Rattle.mark_green.specs.declared.fault.Fault.TheVariants as fault
-use Rattle.mark_green.specs.Leaves.{Knows, Tells, Stops, Stands}
+use Rattle.mark_green.specs.Leaves.{Knows, Tells, Stops, HasStatus}
 use Rattle.mark_green.specs.Ensures.{EnsureGives, WorkGives, EdgeGives, WalkGives, HasEdges, IsRecordUnder, IsFaultOf}
 use Rattle.mark_green.proofs.GoingOn.{leaves_work, stands_on, tells_map, tells_then, tells_here, tells_with}
 use Rattle.mark_green.proofs.Calling.{work_memory, ask_work, ask_done, ask_stopped, ask_busy, ask_refused}
@@ -54,11 +54,11 @@ module _ (s : SessionValue) (session : IsSession s) (at : ℕ) (r : RecordValue)
 -- ---- edges, one after the other
 
 abbrev pub Walks : SessionValue → ℕ → Key → List ℕ → Result Bool Fault → Option TableValue → Option TableValue → Type 0
-Walks s w q edges r a b = Tells (λ t u. t.past ≡ Some s → Stands (Claimed w) w q t → WalkGives t w (map (key_at s.records) edges) r u) a b
+Walks s w q edges r a b = Tells (λ t u. t.past ≡ Some s → HasStatus (Claimed w) w q t → WalkGives t w (map (key_at s.records) edges) r u) a b
 
 -- so far the first i edges are unchanged
 abbrev pub SoFar : SessionValue → ℕ → Key → List ℕ → ℕ → Option TableValue → Option TableValue → Type 0
-SoFar s w q edges i a b = Tells (λ t u. t.past ≡ Some s → Stands (Claimed w) w q t → Walked s.records edges i t u) a b
+SoFar s w q edges i a b = Tells (λ t u. t.past ≡ Some s → HasStatus (Claimed w) w q t → Walked s.records edges i t u) a b
 
 module _ (s : SessionValue) (w : ℕ) (q : Key) (edges : List ℕ) where
   pub far_none : (a : Option TableValue) → SoFar s w q edges 0 a a
@@ -81,7 +81,7 @@ module _ (s : SessionValue) (w : ℕ) (q : Key) (edges : List ℕ) where
 -- ---- a key over its past
 
 abbrev pub Overs : Option SessionValue → ℕ → Key → Result (Arc Value Global) Fault → Option TableValue → Option TableValue → Type 0
-Overs past w q r a b = Tells (λ t u. past ≡ t.past → Stands (Claimed w) w q t → WorkGives t w q r u) a b
+Overs past w q r a b = Tells (λ t u. past ≡ t.past → HasStatus (Claimed w) w q t → WorkGives t w q r u) a b
 
 first_walk : (t : TableValue) (q : Key) → t.past ≡ None → walk_in t q ≡ None
 first_walk t q none = ap (option_map (λ (r : Entry). walk (past_of t) (state_of t) r.reads)) (ap (λ (o : Option SessionValue). past_entry o q) none)
@@ -95,7 +95,7 @@ module _ (w : ℕ) (q : Key) (r : Result (Arc Value Global) Fault) where
     over_absent none a b h = tells_map _ _ (λ t u go has st. go st (subst MayRun (sym (walk_absent s q t (sym has) none)) tt)) a b h
 
     module _ (edges : List ℕ) (found : HasEdges s q edges) (a b c : Option TableValue) where
-      pub over_marked : Walks s w q edges (Ok true) a b → Tells (λ t u. Stands (Claimed w) w q t → walk_in t q ≡ Some AllUnchanged → WorkGives t w q r u) b c → Overs (Some s) w q r a c
+      pub over_marked : Walks s w q edges (Ok true) a b → Tells (λ t u. HasStatus (Claimed w) w q t → walk_in t q ≡ Some AllUnchanged → WorkGives t w q r u) b c → Overs (Some s) w q r a c
       over_marked walks marks = tells_then _ _ _ (λ t u v h m has st. (
           let l = h (sym has) st in
           leaves_work t u v w q r l.0 (m (stands_on (Claimed w) w q t u l.0 st) (walk_found s q u (l.0.goes_on.past ∙ sym has) edges found ∙ ap Some l.1))
@@ -116,7 +116,7 @@ module _ (w : ℕ) (q : Key) (r : Result (Arc Value Global) Fault) (past : Optio
     of_past : Overs (Some z) w q r a c → Overs (session_in past) w q r a c
     of_past h = subst (λ (o : Option SessionValue). Overs o w q r a c) (ap Some z_is ∙ sym (ap session_in is)) h
 
-    pub over_marked_at : x ≡ Ok true → Tells (λ t u. Stands (Claimed w) w q t → walk_in t q ≡ Some AllUnchanged → WorkGives t w q r u) b c → Overs (session_in past) w q r a c
+    pub over_marked_at : x ≡ Ok true → Tells (λ t u. HasStatus (Claimed w) w q t → walk_in t q ≡ Some AllUnchanged → WorkGives t w q r u) b c → Overs (session_in past) w q r a c
     over_marked_at x_is marks = of_past (over_marked w q r z edges there a b c (subst (λ (y : Result Bool Fault). Walks z w q edges y a b) x_is walks) marks)
 
     pub over_run_at : x ≡ Ok false → Starts w q r b c → Overs (session_in past) w q r a c

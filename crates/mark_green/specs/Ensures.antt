@@ -31,15 +31,15 @@ EnsureGives t w q (Err fault.Busy) u =
 
 -- why a key isn't brought to done that w has claimed or runs: memory ran out, or another worker had
 -- a key
-abbrev pub GivesUp : TableValue → ℕ → Fault → TableValue → Type 0
-GivesUp t w fault.Stopped u = ⊥
-GivesUp t w fault.OutOfMemory u = Stops t u
-GivesUp t w fault.Busy u = GoesOn t u × ((state_of u).failed ≡ false) × IsOthers t w
+abbrev pub IsGivenUp : TableValue → ℕ → Fault → TableValue → Type 0
+IsGivenUp t w fault.Stopped u = ⊥
+IsGivenUp t w fault.OutOfMemory u = Stops t u
+IsGivenUp t w fault.Busy u = GoesOn t u × ((state_of u).failed ≡ false) × IsOthers t w
 
 -- bringing a key to done that w has claimed or runs
 abbrev pub WorkGives : TableValue → ℕ → Key → Result (Arc Value Global) Fault → TableValue → Type 0
 WorkGives t w q (Ok v) u = LeavesBut q t u × IsDoneWith (arc_value v) ((state_of u).at q)
-WorkGives t w q (Err f) u = GivesUp t w f u
+WorkGives t w q (Err f) u = IsGivenUp t w f u
 
 -- bringing a past edge e to done, and whether it is unchanged then
 abbrev pub EdgeGives : TableValue → ℕ → Key → Result Bool Fault → TableValue → Type 0
@@ -55,7 +55,7 @@ walk_over t es = walk (past_of t) (state_of t) es
 abbrev pub WalkGives : TableValue → ℕ → List Key → Result Bool Fault → TableValue → Type 0
 WalkGives t w es (Ok true) u = Leaves t u × (walk_over u es ≡ AllUnchanged)
 WalkGives t w es (Ok false) u = Leaves t u × MayRun (Some (walk_over u es))
-WalkGives t w es (Err f) u = GivesUp t w f u
+WalkGives t w es (Err f) u = IsGivenUp t w f u
 
 -- the past has the key with these edges
 abbrev pub HasEdges : SessionValue → Key → List ℕ → Type 0
@@ -71,19 +71,19 @@ abbrev pub FetchGives : TableValue → ℕ → Key → Result (Unit {0}) Fault �
     → TableValue → Type 0
 FetchGives t w k (Ok _) held u =
     LeavesBut k t u × ((v : Value) × IsDoneWith v ((state_of u).at k)) × AreHeld (state_of u) held
-FetchGives t w k (Err f) held u = GivesUp t w f u
+FetchGives t w k (Err f) held u = IsGivenUp t w f u
 
 -- one run, or a key brought to done that it lacked
 abbrev pub TurnGives : TableValue → ℕ → Key → Result (Option OutcomeValue) Fault
     → List ReadValue → TableValue → Type 0
 TurnGives t w q (Ok (Some o)) held u = Leaves t u × AreHeld (state_of u) o.told
 TurnGives t w q (Ok None) held u = Leaves t u × AreHeld (state_of u) held
-TurnGives t w q (Err f) held u = GivesUp t w f u
+TurnGives t w q (Err f) held u = IsGivenUp t w f u
 
 -- runs, until one has an outcome
 abbrev pub RunGives : TableValue → ℕ → Result OutcomeValue Fault → TableValue → Type 0
 RunGives t w (Ok o) u = Leaves t u × AreHeld (state_of u) o.told
-RunGives t w (Err f) u = GivesUp t w f u
+RunGives t w (Err f) u = IsGivenUp t w f u
 
 -- a table's refusal for want of memory is one for want of memory, any other ends the work
 abbrev pub IsFaultOf : TableFault → Fault → Type 0

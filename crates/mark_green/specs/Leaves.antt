@@ -58,7 +58,7 @@ pub record IsOthers (t : TableValue) (w : ℕ) : Type 0 where
   pub holds : IsHeldBy worker ((state_of t).at key)
 
 -- Nobody failed, and the key stands so, by this worker, all of whose other keys are of higher rank.
-pub record Stands (x : Status) (w : ℕ) (q : Key) (t : TableValue) : Type 0 where
+pub record HasStatus (x : Status) (w : ℕ) (q : Key) (t : TableValue) : Type 0 where
   pub failed : (state_of t).failed ≡ false
   pub at : (state_of t).at q ≡ x
   pub mine : IsHeldBy w x

@@ -6,7 +6,7 @@ ghost use Rattle.sessions.specs.Sessions.{key_at};
 ghost use Rattle.graph_rules.specs.Steps.{Claimed, Running, MayRun, AreHeld};
 ghost use Rattle.job_table.specs.Tables.{session_in, state_of};
 ghost use Rattle.job_table.specs.Calls.{walk_in};
-ghost use Rattle.mark_green.specs.Leaves.{Tells, Stands};
+ghost use Rattle.mark_green.specs.Leaves.{Tells, HasStatus};
 ghost use Rattle.mark_green.specs.Ensures.{EnsureGives, WorkGives, EdgeGives, WalkGives, FetchGives, TurnGives, RunGives, IsRecordUnder, ShowsOutcomes};
 
 use crate::asking::Stop;
@@ -56,7 +56,7 @@ fn work<S: Store<Out = Arc<Outcome<R>>>, R: Runner>(
     key: &Key,
 ) -> Result<Arc<Sealed>, Fault>
     requires shows { ShowsOutcomes S.outcome_in }
-    ensures { Tells (λ t u. Stands (Claimed w) w key.now t → WorkGives t w key.now result u)
+    ensures { Tells (λ t u. HasStatus (Claimed w) w key.now t → WorkGives t w key.now result u)
         (S.table store.old) (S.table store.new) }
 {
     match store.past() {
@@ -76,7 +76,7 @@ fn work_over<S: Store<Out = Arc<Outcome<R>>>, R: Runner>(
     past: &Option<Arc<Session>>,
 ) -> Result<Arc<Sealed>, Fault>
     requires shows { ShowsOutcomes S.outcome_in }
-    ensures { Tells (λ t u. session_in past.now ≡ t.past → Stands (Claimed w) w key.now t
+    ensures { Tells (λ t u. session_in past.now ≡ t.past → HasStatus (Claimed w) w key.now t
         → WorkGives t w key.now result u) (S.table store.old) (S.table store.new) }
 {
     let Some(past) = past else {
@@ -105,7 +105,7 @@ fn walk_edges<S: Store<Out = Arc<Outcome<R>>>, R: Runner>(
 ) -> Result<bool, Fault>
     requires shows { ShowsOutcomes S.outcome_in }
     requires edges { AllByRecursion (IsRecordUnder past.now.records key.now) edges.now }
-    ensures { Tells (λ t u. t.past ≡ Some past.now → Stands (Claimed w) w key.now t
+    ensures { Tells (λ t u. t.past ≡ Some past.now → HasStatus (Claimed w) w key.now t
         → WalkGives t w (map (key_at past.now.records) edges.now) result u)
         (S.table store.old) (S.table store.new) }
 {
@@ -152,7 +152,7 @@ fn start<S: Store<Out = Arc<Outcome<R>>>, R: Runner>(
     key: &Key,
 ) -> Result<Arc<Sealed>, Fault>
     requires shows { ShowsOutcomes S.outcome_in }
-    ensures { Tells (λ t u. Stands (Claimed w) w key.now t → MayRun (walk_in t key.now)
+    ensures { Tells (λ t u. HasStatus (Claimed w) w key.now t → MayRun (walk_in t key.now)
         → WorkGives t w key.now result u) (S.table store.old) (S.table store.new) }
 {
     if rank(key.kind()) == 0 {
@@ -175,7 +175,7 @@ fn run<S: Store<Out = Arc<Outcome<R>>>, R: Runner>(
 ) -> Result<Arc<Sealed>, Fault>
     requires shows { ShowsOutcomes S.outcome_in }
     requires rank { 0 < rank_of_key key.now }
-    ensures { Tells (λ t u. Stands (Running w) w key.now t → WorkGives t w key.now result u)
+    ensures { Tells (λ t u. HasStatus (Running w) w key.now t → WorkGives t w key.now result u)
         (S.table store.old) (S.table store.new) }
 {
     let mut held = AnswerList::new(alloc);
@@ -201,7 +201,7 @@ fn turns<S: Store<Out = Arc<Outcome<R>>>, R: Runner>(
     requires rank { 0 < rank_of_key key.now }
     requires none_held { held.old ≡ [] }
     ensures key { IfOk result (λ o. o.key ≡ key.now) }
-    ensures gives { Tells (λ t u. Stands (Running w) w key.now t → RunGives t w result u)
+    ensures gives { Tells (λ t u. HasStatus (Running w) w key.now t → RunGives t w result u)
         (S.table store.old) (S.table store.new) }
 {
     'again: for _ in 0..u64::MAX {
@@ -227,7 +227,7 @@ fn turn<S: Store<Out = Arc<Outcome<R>>>, R: Runner>(
     requires shows { ShowsOutcomes S.outcome_in }
     requires rank { 0 < rank_of_key key.now }
     ensures key { IfOk result (λ ran. IfSome ran (λ o. o.key ≡ key.now)) }
-    ensures gives { Tells (λ t u. Stands (Running w) w key.now t → AreHeld (state_of t) held.old
+    ensures gives { Tells (λ t u. HasStatus (Running w) w key.now t → AreHeld (state_of t) held.old
         → TurnGives t w key.now result held.new u) (S.table store.old) (S.table store.new) }
 {
     match run_once(alloc, store, runner, w, key, held) {
@@ -251,7 +251,7 @@ fn fetch<S: Store<Out = Arc<Outcome<R>>>, R: Runner>(
     held: &mut AnswerList,
 ) -> Result<(), Fault>
     requires shows { ShowsOutcomes S.outcome_in }
-    ensures { Tells (λ t u. Stands (Claimed w) w lacked t → AreHeld (state_of t) held.old
+    ensures { Tells (λ t u. HasStatus (Claimed w) w lacked t → AreHeld (state_of t) held.old
         → FetchGives t w lacked result held.new u) (S.table store.old) (S.table store.new) }
 {
     match work(alloc, store, runner, w, &lacked) {

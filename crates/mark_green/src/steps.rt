@@ -4,7 +4,7 @@ ghost use Rattle.std.specs.Arc.{arc_value};
 ghost use Rattle.graph_rules.specs.Steps.{Claimed, Running, AllUnchanged, AreHeld};
 ghost use Rattle.job_table.specs.Tables.{state_of};
 ghost use Rattle.job_table.specs.Calls.{walk_in};
-ghost use Rattle.mark_green.specs.Leaves.{Tells, Stands};
+ghost use Rattle.mark_green.specs.Leaves.{Tells, HasStatus};
 ghost use Rattle.mark_green.specs.Ensures.{WorkGives, ShowsOutcomes};
 
 use crate::fault::Fault;
@@ -19,7 +19,7 @@ use std::sync::Arc;
 
 /// Marks a key that the worker has claimed, all of whose past edges are unchanged.
 pub(crate) fn mark<S: Store>(store: &mut S, w: u32, key: &Key) -> Result<Arc<Sealed>, Fault>
-    ensures { Tells (λ t u. Stands (Claimed w) w key.now t → walk_in t key.now ≡ Some AllUnchanged
+    ensures { Tells (λ t u. HasStatus (Claimed w) w key.now t → walk_in t key.now ≡ Some AllUnchanged
         → WorkGives t w key.now result u) (S.table store.old) (S.table store.new) }
 {
     match store.mark(w, key) {
@@ -50,7 +50,7 @@ pub(crate) fn end_run<S: Store<Out = Arc<Outcome<R>>>, R: Runner>(
 ) -> Result<Arc<Sealed>, Fault>
     requires shows { ShowsOutcomes S.outcome_in }
     requires key { outcome.key ≡ key.now }
-    ensures { Tells (λ t u. Stands (Running w) w key.now t → AreHeld (state_of t) outcome.told
+    ensures { Tells (λ t u. HasStatus (Running w) w key.now t → AreHeld (state_of t) outcome.told
         → WorkGives t w key.now result u) (S.table store.old) (S.table store.new) }
 {
     let Ok((sealed, outcome)) = share(alloc, outcome) else {

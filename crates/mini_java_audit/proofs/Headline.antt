@@ -7,7 +7,7 @@ use Rattle.item_ids.specs.declared.key.Key.TheVariants.{Answer}
 use Rattle.item_ids.specs.declared.kind.Kind.TheVariants as kinds
 use Rattle.result_bytes.specs.declared.value.Value.{Value}
 use Rattle.result_bytes.specs.declared.value.Value.TheVariants as values
-use Rattle.result_bytes.specs.Values.{kind_of as kind_of_value}
+use Rattle.result_bytes.specs.Values.{kind_of_value}
 use Rattle.recorder.specs.Projects.{Project}
 use Rattle.mj_rules.specs.Answering.{rules_of}
 use Rattle.mj_rules.specs.Laws.{AnswerLaw}

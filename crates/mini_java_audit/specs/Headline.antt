@@ -8,7 +8,7 @@ use Rattle.result_bytes.specs.declared.value.Value.TheVariants as values
 use Rattle.recorder.specs.Projects.{Project}
 use Rattle.query_rules.specs.Meaning.{mean}
 use Rattle.query_rules.specs.Reads.{reads}
-use Rattle.providers.specs.Answers.{IsAnswerValue}
+use Rattle.providers.specs.AnswerValues.{IsAnswerValue}
 use Rattle.audit_replay.specs.Audits.{IsAccepted, AreApart}
 
 -- it is the answer that the static rules give the files

@@ -6,7 +6,7 @@ ghost use Rattle.result_bytes.specs.declared.value.Value.TheVariants as values;
 ghost use Rattle.query_rules.specs.Meaning.{mean};
 ghost use Rattle.query_rules.specs.Reads.{reads};
 ghost use Rattle.audit_replay.specs.Audits.{AuditRefuses};
-ghost use Rattle.providers.specs.Answers.{IsAnswerValue};
+ghost use Rattle.providers.specs.AnswerValues.{IsAnswerValue};
 ghost use Rattle.mini_java_audit.specs.Headline.{IsAcceptedChain};
 
 use audit_graph::AuditFault;

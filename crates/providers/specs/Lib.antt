@@ -1,3 +1,3 @@
 pub mod Programs
 pub mod Laws
-pub mod Answers
+pub mod AnswerValues

@@ -1,7 +1,7 @@
 //! The answer that a result is.
 ghost use Rattle.std.specs.Prelude.{◌≡◌};
 ghost use Rattle.result_bytes.specs.declared.value.Value.TheVariants as values;
-ghost use Rattle.providers.specs.Answers.{IsAnswerValue};
+ghost use Rattle.providers.specs.AnswerValues.{IsAnswerValue};
 
 use mj_answer::Answer;
 use result_bytes::Value;

@@ -4,7 +4,7 @@ use Rattle.std.proofs.Math.Seq.{drop-nil}
 use Rattle.item_ids.specs.declared.key.Key.{Key}
 use Rattle.result_bytes.specs.declared.value.Value.{Value}
 use Rattle.recorder.specs.Recording.{Recording}
-use Rattle.recorder.specs.Programs.{Prog, runs, Fits, Stands, Goes, GivesUp, each, LoopAt}
+use Rattle.recorder.specs.Programs.{Prog, runs, Fits, IsAt, Goes, GivesUp, each, LoopAt}
 use Rattle.recorder.specs.declared.runner.RunFault.{RunFault}
 
 each_cons : {A S : Type 0} (step : A → S → (S → Prog) → Prog) (xs : List A) (i : ℕ) (a : A) → i < length xs → a ≡ get_or xs i a → (t : S) (k : S → Prog) → each step (drop i xs) t k ≡ step a t (λ u. each step (drop (i + 1) xs) u k)
@@ -25,13 +25,13 @@ module _ {A S D : Type 0} (step : A → S → (S → Prog) → Prog) (xs : List 
   loop_start = record { goes = λ prog k h. h }
 
   pub loop_more : (i : ℕ) (t u : S) (mid new : Recording D) (a : A) → LoopAt step xs s old i t mid → Goes (step a t) mid u new → i < length xs → a ≡ get_or xs i a → LoopAt step xs s old (i + 1) u new
-  loop_more i t u mid new a l g h e = record { goes = λ prog k w. g.goes prog (λ u. each step (drop (i + 1) xs) u k) (subst (Stands prog mid) (each_cons step xs i a h e t k) (l.goes prog k w)) }
+  loop_more i t u mid new a l g h e = record { goes = λ prog k w. g.goes prog (λ u. each step (drop (i + 1) xs) u k) (subst (IsAt prog mid) (each_cons step xs i a h e t k) (l.goes prog k w)) }
 
   pub loop_up : (i : ℕ) (t : S) (e : RunFault) (mid new : Recording D) (a : A) → LoopAt step xs s old i t mid → GivesUp (step a t) mid e new → i < length xs → a ≡ get_or xs i a → GivesUp (each step xs s) old e new
-  loop_up i t e mid new a l g h is = record { halts = λ prog k w. g.halts prog (λ u. each step (drop (i + 1) xs) u k) (subst (Stands prog mid) (each_cons step xs i a h is t k) (l.goes prog k w)) }
+  loop_up i t e mid new a l g h is = record { halts = λ prog k w. g.halts prog (λ u. each step (drop (i + 1) xs) u k) (subst (IsAt prog mid) (each_cons step xs i a h is t k) (l.goes prog k w)) }
 
   pub loop_end : (i : ℕ) (t : S) (new : Recording D) → LoopAt step xs s old i t new → length xs ≤ i → Goes (each step xs s) old t new
-  loop_end i t new l h = record { goes = λ prog k w. subst (Stands prog new) (each_nil step xs i h t k) (l.goes prog k w) }
+  loop_end i t new l h = record { goes = λ prog k w. subst (IsAt prog new) (each_nil step xs i h t k) (l.goes prog k w) }
 
 -- what a loop means, where each step means a change of the state
 unfoldable pub fold_of : {A S : Type 0} → (A → S → S) → List A → S → S

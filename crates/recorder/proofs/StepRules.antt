@@ -3,7 +3,7 @@ use Rattle.std.proofs.Common.{◌≡◌, ◌⊎◌, inl, inr, sym, ◌∙◌, ap
 use Rattle.item_ids.specs.declared.key.Key.{Key}
 use Rattle.result_bytes.specs.declared.value.Value.{Value}
 use Rattle.recorder.specs.Recording.{Recording, key_of, IsUnread, IsForMemory, IsByReader, Answers, Refuses}
-use Rattle.recorder.specs.Programs.{Prog, Ask, Reached, Again, First, Stands, Halts, IsAsked, Goes, GivesUp}
+use Rattle.recorder.specs.Programs.{Prog, Ask, Reached, Again, First, IsAt, Halts, IsAsked, Goes, GivesUp}
 use Rattle.recorder.specs.declared.reader.ReadFault.{ReadFault}
 use Rattle.recorder.specs.declared.refused.Refused.{Refused}
 use Rattle.recorder.specs.declared.runner.RunFault.{RunFault}
@@ -11,7 +11,7 @@ use Rattle.recorder.specs.declared.runner.RunFault.TheVariants.{Read, OutOfMemor
 
 -- ---- one read
 
-pub ask_answered : {D : Type 0} (prog : Prog) (k : Key) (f : Value → Prog) (v : Value) (old new : Recording D) → Answers old k v new → Stands prog old (Ask k f) → Stands prog new (f v)
+pub ask_answered : {D : Type 0} (prog : Prog) (k : Key) (f : Value → Prog) (v : Value) (old new : Recording D) → Answers old k v new → IsAt prog old (Ask k f) → IsAt prog new (f v)
 ask_answered prog k f v old new a s = record {
   reached = elim a.told [
     | inl h ↦ subst (λ r. Reached prog r.told (f v)) (sym h.0) (Again old.told k f v s.reached h.1)
@@ -35,7 +35,7 @@ module _ {D : Type 0} (prog : Prog) (faults : Key → ReadFault → Type 0) (k :
   key_kept None h = tt
   key_kept (Some x) h = h
 
-  pub ask_refused : Refuses faults old k e new → Stands prog old (Ask k f) → Halts prog (Read e) new
+  pub ask_refused : Refuses faults old k e new → IsAt prog old (Ask k f) → Halts prog (Read e) new
   ask_refused r s = record {
     rest = Ask k f;
     reached = subst (λ told. Reached prog told (Ask k f)) (sym r.told) s.reached;
@@ -47,7 +47,7 @@ module _ {D : Type 0} (prog : Prog) (faults : Key → ReadFault → Type 0) (k :
     fault = λ g same. let h : e ≡ g = cc in r.fault ∙ ap Some h;
   }
 
-pub halts_memory : {D : Type 0} (prog p : Prog) (r : Recording D) → Stands prog r p → Halts prog OutOfMemory r
+pub halts_memory : {D : Type 0} (prog p : Prog) (r : Recording D) → IsAt prog r p → Halts prog OutOfMemory r
 halts_memory prog p r s = record {
   rest = p;
   reached = s.reached;
@@ -63,7 +63,7 @@ halts_memory prog p r s = record {
 
 module _ {X D : Type 0} where
   pub goes_done : (x y : X) (r : Recording D) → x ≡ y → Goes (λ (k : X → Prog). k x) r y r
-  goes_done x y r e = record { goes = λ prog k s. subst (λ z. Stands prog r (k z)) e s }
+  goes_done x y r e = record { goes = λ prog k s. subst (λ z. IsAt prog r (k z)) e s }
 
   pub memory_gone : (step : (X → Prog) → Prog) (r : Recording D) (e : RunFault) → e ≡ OutOfMemory → GivesUp step r e r
   memory_gone step r e h = record { halts = λ prog k s. subst (λ f. Halts prog f r) (sym h) (halts_memory prog (step k) r s) }

@@ -7,7 +7,7 @@ use Rattle.recorder.specs.Projects.{Project}
 use Rattle.recorder.specs.Backed.{Meaning, ReadLists, rank, IsOfKind, IsNext}
 use Rattle.recorder.specs.Recording.{Recording, key_of}
 use Rattle.recorder.specs.Runs.{IsRun}
-use Rattle.recorder.specs.Programs.{Prog, Ret, Ask, runs, asks, Fits, Reached, Start, Stands, IsAsked, Goes, GivesUp, Tied}
+use Rattle.recorder.specs.Programs.{Prog, Ret, Ask, runs, asks, Fits, Reached, Start, IsAt, IsAsked, Goes, GivesUp, Tied}
 use Rattle.recorder.specs.declared.runner.RunFault.{RunFault}
 use Rattle.recorder.proofs.Reach.{reached_lower, reached_next, reached_asked, reached_backed}
 
@@ -46,7 +46,7 @@ run_performed prog_of mean reads t q h {D = D} old new result unread unrefused s
     nothing_refused : new.refused ≡ None → IsGood (key_of new)
     nothing_refused e = subst (λ o. IsGood (key_of {D = D} (record { inner = new.inner; told = new.told; refused = o }))) (sym e) tt
 
-    start : Stands (step Ret) old (step Ret)
+    start : IsAt (step Ret) old (step Ret)
     start = record { reached = subst (λ told. Reached (step Ret) told (step Ret)) (sym unread) Start; unrefused = unrefused }
 
     by_result : (result : Result Value RunFault) → IfOk result (λ v. Goes step old v new) → IfErr result (λ e. GivesUp step old e new) → IsRun mean reads q new result

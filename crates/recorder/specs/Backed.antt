@@ -7,7 +7,7 @@ use Rattle.item_ids.specs.Kinds.{rank_of}
 use Rattle.item_ids.specs.Keys.{kind_of, IsKey}
 use Rattle.result_bytes.specs.declared.value.Value.{Value}
 use Rattle.result_bytes.specs.declared.value.Value.TheVariants as values
-use Rattle.result_bytes.specs.Values.{kind_of as kind_of_value, IsValue}
+use Rattle.result_bytes.specs.Values.{kind_of_value, IsValue}
 use Rattle.mj_project.specs.Projects.{names_of, IsProject}
 use Rattle.recorder.specs.Projects.{Project, bytes_at}
 

@@ -20,13 +20,13 @@ coded_value = value_contracts.the_row.coded
 abbrev coded_refused : Coded (Option Refused)
 coded_refused = coded_option refused_contracts.the_row.coded
 
-abbrev pub coded_told : Coded ReadValue
-coded_told =
+abbrev pub coded_read : Coded ReadValue
+coded_read =
     code_by (Key × Value) (coded× coded_key coded_value)
     (λ t. (t.key, t.value)) (λ p. record { key = p.0; value = p.1 }) (λ _. refl)
 
 abbrev pub coded_reads : Coded (List ReadValue)
-coded_reads = coded_list coded_told
+coded_reads = coded_list coded_read
 
 -- over any reader
 abbrev pub coded_recording : {D : Type 0} → Coded D → Coded (Recording D)
@@ -37,8 +37,8 @@ coded_recording {D} inner =
     (λ p. record { inner = p.0; told = p.1.0; refused = p.1.1 })
     (λ _. refl)
 
-abbrev pub coded_ran : Coded OutcomeValue
-coded_ran =
+abbrev pub coded_outcome : Coded OutcomeValue
+coded_outcome =
     code_by (Key × (List ReadValue × Value)) (coded× coded_key (coded× coded_reads coded_value))
     (λ r. (r.key, (r.told, r.value)))
     (λ p. record { key = p.0; told = p.1.0; value = p.1.1 })

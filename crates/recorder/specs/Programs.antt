@@ -65,7 +65,7 @@ pub data Reached (prog : Prog) : List ReadValue → Prog → Type 0 where
       → Reached prog (told ++ record { key = k; value = v } ∷ []) (f v)
 
 -- with this recorder a run of prog stands at p
-pub record Stands {D : Type 0} (prog : Prog) (r : Recording D) (p : Prog) : Type 0 where
+pub record IsAt {D : Type 0} (prog : Prog) (r : Recording D) (p : Prog) : Type 0 where
   pub reached : Reached prog r.told p
   pub unrefused : r.refused ≡ None
 
@@ -85,12 +85,12 @@ pub record Halts {D : Type 0} (prog : Prog) (e : RunFault) (r : Recording D) : T
 -- Whatever program begins with the step stands behind it, with its value x.
 pub record Goes {X D : Type 0} (step : (X → Prog) → Prog) (old : Recording D) (x : X)
     (new : Recording D) : Type 0 where
-  pub goes : (prog : Prog) (k : X → Prog) → Stands prog old (step k) → Stands prog new (k x)
+  pub goes : (prog : Prog) (k : X → Prog) → IsAt prog old (step k) → IsAt prog new (k x)
 
 -- Whatever program begins with the step has given up in it.
 pub record GivesUp {X D : Type 0} (step : (X → Prog) → Prog) (old : Recording D) (e : RunFault)
     (new : Recording D) : Type 0 where
-  pub halts : (prog : Prog) (k : X → Prog) → Stands prog old (step k) → Halts prog e new
+  pub halts : (prog : Prog) (k : X → Prog) → IsAt prog old (step k) → Halts prog e new
 
 -- With a recorder that hadn't read, a step was performed that is the whole of prog.
 pub record Performs {D : Type 0} (prog : Prog) (old : Recording D) (result : Result Value RunFault)
@@ -110,5 +110,5 @@ each step (a ∷ rest) s k = step a s (λ t. each step rest t k)
 -- A loop over xs that began with s at old stands before the item i, with t at new.
 pub record LoopAt {A S D : Type 0} (step : A → S → (S → Prog) → Prog) (xs : List A) (s : S)
     (old : Recording D) (i : ℕ) (t : S) (new : Recording D) : Type 0 where
-  pub goes : (prog : Prog) (k : S → Prog) → Stands prog old (each step xs s k)
-      → Stands prog new (each step (drop i xs) t k)
+  pub goes : (prog : Prog) (k : S → Prog) → IsAt prog old (each step xs s k)
+      → IsAt prog new (each step (drop i xs) t k)

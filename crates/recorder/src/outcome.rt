@@ -28,11 +28,11 @@ pub struct Outcome<R: Runner> {
 impl<R: Runner> Model for Outcome<R> {
     ghost use Rattle.std.specs.Arc.{arc_value};
     ghost use Rattle.recorder.specs.Runs.{OutcomeValue, IsOutcome};
-    ghost use Rattle.recorder.specs.Codes.{coded_ran};
+    ghost use Rattle.recorder.specs.Codes.{coded_outcome};
 
     ghost Value = { OutcomeValue };
 
-    ghost coded = { coded_ran };
+    ghost coded = { coded_outcome };
 
     ghost view = { λ o. record { key = o.key; told = o.reads.items; value = arc_value o.sealed } };
 

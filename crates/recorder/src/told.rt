@@ -21,11 +21,11 @@ pub struct Read {
 impl Model for Read {
     ghost use Rattle.std.specs.Arc.{arc_value};
     ghost use Rattle.recorder.specs.Backed.{ReadValue};
-    ghost use Rattle.recorder.specs.Codes.{coded_told};
+    ghost use Rattle.recorder.specs.Codes.{coded_read};
 
     ghost Value = { ReadValue };
 
-    ghost coded = { coded_told };
+    ghost coded = { coded_read };
 
     ghost view = { λ r. record { key = r.key; value = arc_value r.answer } };
 }

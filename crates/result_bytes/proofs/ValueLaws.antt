@@ -14,16 +14,16 @@ use Rattle.result_bytes.specs.declared.refusal.Refusal.{Refusal}
 use Rattle.result_bytes.specs.declared.refusal.Refusal.TheVariants.{Trailing, WrongKind}
 use Rattle.result_bytes.specs.declared.value.Value.{Value}
 use Rattle.result_bytes.specs.declared.value.Value.TheVariants.{Files, Source, Tree, Index, Header, Method, Sig, Supers, Members, CheckClass, CheckBody, Diags, Answer}
-use Rattle.result_bytes.specs.Values.{kind_of, content, canon, IsValue, content_at, whole, decoding}
+use Rattle.result_bytes.specs.Values.{kind_of_value, content, canon, IsValue, content_at, whole, decoding}
 use Rattle.result_bytes.specs.ItemLaws.{lawful_file_names, lawful_text, lawful_index, lawful_header, lawful_signature, lawful_chain}
 use Rattle.answer_bytes.specs.AnswerLaws.{lawful_table, lawful_class_faults, lawful_answer}
 
 record Content (kind : Kind) (bytes : List ℕ) (v : Value) (rest : List ℕ) : Type 0 where
   pub takes : Takes bytes (content v) rest
-  pub kind_is : kind_of v ≡ kind
+  pub kind_is : kind_of_value v ≡ kind
   pub fits : IsValue v
 
-of_kind : {A : Type 0} {p : Decoder A} {sp : A → List ℕ} {P : A → Type 0} (law : Lawful p sp P) (make : A → Value) (kind : Kind) → ((a : A) → content (make a) ≡ sp a) → ((a : A) → kind_of (make a) ≡ kind) → ((a : A) → P a → IsValue (make a))
+of_kind : {A : Type 0} {p : Decoder A} {sp : A → List ℕ} {P : A → Type 0} (law : Lawful p sp P) (make : A → Value) (kind : Kind) → ((a : A) → content (make a) ≡ sp a) → ((a : A) → kind_of_value (make a) ≡ kind) → ((a : A) → P a → IsValue (make a))
     → (bytes : List ℕ) (v : Value) (rest : List ℕ) → IsBytes bytes → made_at make p bytes ≡ Ok (v, rest) → Content kind bytes v rest
 of_kind {A} {p} {sp} {P} law make kind spelled is fit bytes v rest fits e =
     let m = made_takes law make bytes v rest fits e in
@@ -46,7 +46,7 @@ content_takes kinds.CheckBody bytes v rest fits e = of_kind lawful_class_faults 
 content_takes kinds.Diags bytes v rest fits e = of_kind lawful_class_faults Diags kinds.Diags (λ _. refl) (λ _. refl) (λ a h. h) bytes v rest fits e
 content_takes kinds.Answer bytes v rest fits e = of_kind lawful_answer Answer kinds.Answer (λ _. refl) (λ _. refl) (λ a h. h) bytes v rest fits e
 
-content_again : (v : Value) (rest : List ℕ) → IsValue v → content_at (kind_of v) (content v ++ rest) ≡ Ok (v, rest)
+content_again : (v : Value) (rest : List ℕ) → IsValue v → content_at (kind_of_value v) (content v ++ rest) ≡ Ok (v, rest)
 unfolding content_at IsValue
 content_again (Files x) rest h = made_again lawful_file_names Files x rest h
 content_again (Source x) rest h = made_again (lawful_option lawful_text) Source x rest h
@@ -88,24 +88,24 @@ behind_kind : (b n : ℕ) (r : Result Value Refusal) (v : Value) → cond (eqb b
 behind_kind b n r v e = kind_tested b n r v (eqb b n) refl e
 
 -- what is decoded is a value of the kind, and the bytes are its spelling
-pub decoded_takes : (kind : Kind) (bytes : List ℕ) (v : Value) → IsBytes bytes → decoding kind bytes ≡ Ok v → IsValue v × (kind_of v ≡ kind) × (bytes ≡ canon v)
+pub decoded_takes : (kind : Kind) (bytes : List ℕ) (v : Value) → IsBytes bytes → decoding kind bytes ≡ Ok v → IsValue v × (kind_of_value v ≡ kind) × (bytes ≡ canon v)
 unfolding decoding canon
 decoded_takes kind [] v fits e = absurd cc
 decoded_takes kind (b ∷ bytes) v fits e =
     let k = behind_kind b (number_of kind) _ v e in
     let c = content_takes kind bytes v [] (IsBytes-rest b bytes fits) (whole_is _ _ v k.1) in
-    (c.fits, c.kind_is, ap (λ (x : ℕ). x ∷ bytes) (k.0 ∙ ap number_of (sym c.kind_is)) ∙ ap (λ (x : List ℕ). number_of (kind_of v) ∷ x) (c.takes.parts ∙ append-nil (content v)))
+    (c.fits, c.kind_is, ap (λ (x : ℕ). x ∷ bytes) (k.0 ∙ ap number_of (sym c.kind_is)) ∙ ap (λ (x : List ℕ). number_of (kind_of_value v) ∷ x) (c.takes.parts ∙ append-nil (content v)))
 
 -- the spelling of a value is decoded
-pub decoded_again : (v : Value) → IsValue v → decoding (kind_of v) (canon v) ≡ Ok v
+pub decoded_again : (v : Value) → IsValue v → decoding (kind_of_value v) (canon v) ≡ Ok v
 unfolding decoding canon
 decoded_again v h =
-    let c : content_at (kind_of v) (content v) ≡ Ok (v, []) = ap (content_at (kind_of v)) (sym (append-nil (content v))) ∙ content_again v [] h in
-    let same : eqb (number_of (kind_of v)) (number_of (kind_of v)) ≡ true = eq-eqb _ _ refl in
+    let c : content_at (kind_of_value v) (content v) ≡ Ok (v, []) = ap (content_at (kind_of_value v)) (sym (append-nil (content v))) ∙ content_again v [] h in
+    let same : eqb (number_of (kind_of_value v)) (number_of (kind_of_value v)) ≡ true = eq-eqb _ _ refl in
     rw (same, c) refl
 
-pub decoded_at : (kind : Kind) (bytes : List ℕ) (v : Value) → IsValue v → kind_of v ≡ kind → bytes ≡ canon v → decoding kind bytes ≡ Ok v
-decoded_at kind bytes v h k e = ap (λ (x : Kind). decoding x bytes) (sym k) ∙ ap (decoding (kind_of v)) e ∙ decoded_again v h
+pub decoded_at : (kind : Kind) (bytes : List ℕ) (v : Value) → IsValue v → kind_of_value v ≡ kind → bytes ≡ canon v → decoding kind bytes ≡ Ok v
+decoded_at kind bytes v h k e = ap (λ (x : Kind). decoding x bytes) (sym k) ∙ ap (decoding (kind_of_value v)) e ∙ decoded_again v h
 
 number_apart : (a b : Kind) → number_of a ≡ number_of b → a ≡ b
 number_apart kinds.Files kinds.Files e = refl
@@ -124,12 +124,12 @@ number_apart kinds.Answer kinds.Answer e = refl
 number_apart a b e = absurd cc
 
 -- the first byte of a spelling is the number of the kind
-first_byte : (v w : Value) → canon v ≡ canon w → number_of (kind_of v) ≡ number_of (kind_of w)
+first_byte : (v w : Value) → canon v ≡ canon w → number_of (kind_of_value v) ≡ number_of (kind_of_value w)
 unfolding canon
 first_byte v w e = cc
 
 -- values with one spelling are one
 pub one_value : (v w : Value) → IsValue v → IsValue w → canon v ≡ canon w → v ≡ w
 one_value v w hv hw e =
-    let k : kind_of w ≡ kind_of v = number_apart _ _ (sym (first_byte v w e)) in
-    right_is v w (sym (decoded_again v hv) ∙ decoded_at (kind_of v) (canon v) w hw k e)
+    let k : kind_of_value w ≡ kind_of_value v = number_apart _ _ (sym (first_byte v w e)) in
+    right_is v w (sym (decoded_again v hv) ∙ decoded_at (kind_of_value v) (canon v) w hw k e)

@@ -22,20 +22,20 @@ use Rattle.answer_bytes.specs.Storable.{TableFits, ClassFaultsFit, AnswerFits}
 use Rattle.result_bytes.specs.Reading.{file_names_at, text_at, index_at, header_at, signature_at, chain_at}
 use Rattle.answer_bytes.specs.Reading.{table_at, class_faults_at, answer_at}
 
-abbrev pub kind_of : Value → Kind
-kind_of (Files names) = kinds.Files
-kind_of (Source bytes) = kinds.Source
-kind_of (Tree tree) = kinds.Tree
-kind_of (Index rows) = kinds.Index
-kind_of (Header h) = kinds.Header
-kind_of (Method b) = kinds.Method
-kind_of (Sig s) = kinds.Sig
-kind_of (Supers c) = kinds.Supers
-kind_of (Members t) = kinds.Members
-kind_of (CheckClass faults) = kinds.CheckClass
-kind_of (CheckBody faults) = kinds.CheckBody
-kind_of (Diags faults) = kinds.Diags
-kind_of (Answer a) = kinds.Answer
+abbrev pub kind_of_value : Value → Kind
+kind_of_value (Files names) = kinds.Files
+kind_of_value (Source bytes) = kinds.Source
+kind_of_value (Tree tree) = kinds.Tree
+kind_of_value (Index rows) = kinds.Index
+kind_of_value (Header h) = kinds.Header
+kind_of_value (Method b) = kinds.Method
+kind_of_value (Sig s) = kinds.Sig
+kind_of_value (Supers c) = kinds.Supers
+kind_of_value (Members t) = kinds.Members
+kind_of_value (CheckClass faults) = kinds.CheckClass
+kind_of_value (CheckBody faults) = kinds.CheckBody
+kind_of_value (Diags faults) = kinds.Diags
+kind_of_value (Answer a) = kinds.Answer
 
 -- what stands behind the kind's number
 abbrev pub content : Value → List ℕ
@@ -55,7 +55,7 @@ content (Answer a) = answer a
 
 -- the canonical bytes
 unfoldable pub canon : Value → List ℕ
-canon v = number_of (kind_of v) ∷ content v
+canon v = number_of (kind_of_value v) ∷ content v
 
 -- the ranges, levels and orders that a value keeps in its type
 unfoldable pub IsValue : Value → Type 0

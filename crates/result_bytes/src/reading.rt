@@ -2,7 +2,7 @@
 ghost use Rattle.std.specs.Prelude.{◌≡◌, IfOk};
 ghost use Rattle.byte_readers.specs.Reading.{Decodes};
 ghost use Rattle.result_bytes.specs.declared.value.Value.{Value};
-ghost use Rattle.result_bytes.specs.Values.{IsValue, canon, kind_of, content_at, decoding, refusal, IsUnlessMemory};
+ghost use Rattle.result_bytes.specs.Values.{IsValue, canon, kind_of_value, content_at, decoding, refusal, IsUnlessMemory};
 
 use crate::class::{HeaderFormat, SignatureFormat, SupersFormat};
 use crate::files::{TextFormat, read_file_names, read_index};
@@ -17,9 +17,9 @@ use tree_bytes::{BodyFormat, TreeFormat};
 /// The value of a kind that the bytes spell, all of them.
 pub fn decode(alloc: Global, kind: Kind, bytes: &[u8]) -> Result<Value, Refusal>
     // What is read is a value of the kind, spelled so.
-    ensures found { IfOk result (λ v. IsValue v × (kind_of v ≡ kind) × (bytes.now ≡ canon v)) }
+    ensures found { IfOk result (λ v. IsValue v × (kind_of_value v ≡ kind) × (bytes.now ≡ canon v)) }
     // What is spelled so is read, unless memory runs out.
-    ensures only { (v : Value) → IsValue v → kind_of v ≡ kind → bytes.now ≡ canon v
+    ensures only { (v : Value) → IsValue v → kind_of_value v ≡ kind → bytes.now ≡ canon v
         → IsUnlessMemory result (Ok v) }
     // Which refusal it is.
     ensures exact { IsUnlessMemory result (decoding kind bytes.now) }

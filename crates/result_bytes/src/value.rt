@@ -39,11 +39,11 @@ pub enum Value {
 }
 
 impl Value {
-    ghost use Rattle.result_bytes.specs.Values.{kind_of};
+    ghost use Rattle.result_bytes.specs.Values.{kind_of_value};
 
     /// The kind of query that it is a result of.
     pub fn kind(&self) -> Kind
-        ensures { result ≡ kind_of self.now }
+        ensures { result ≡ kind_of_value self.now }
     {
         match self {
             Value::Files(_) => Kind::Files,

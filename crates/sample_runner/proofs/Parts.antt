@@ -2,7 +2,7 @@
 use Rattle.std.proofs.Common.{◌≡◌, ℕ, List, [], ◌∷◌, map, Option, Result, Ok, Err, IfOk, IfErr, sym, ◌∙◌, ap, subst, refl}
 use Rattle.std.specs.Global.{Vec, Box}
 use Rattle.recorder.specs.Recording.{Recording}
-use Rattle.recorder.specs.Programs.{Prog, Stands, Goes, GivesUp, each}
+use Rattle.recorder.specs.Programs.{Prog, IsAt, Goes, GivesUp, each}
 use Rattle.recorder.specs.declared.runner.RunFault.{RunFault}
 use Rattle.sample_runner.specs.Phrases.{Phrase as SpecPhrase, Called, phrases_of}
 use Rattle.sample_runner.specs.Programs.{phrase_step, phrases_step, part_step, meet_step}
@@ -22,10 +22,10 @@ each_part (e ∷ rest) s k = λ i. phrase_step (view_of e) (λ t. meet_step s t 
 module _ {D : Type 0} (e : SpecPhrase) (parts : List Phrase) (s : Option (List ℕ)) (old mid new : Recording D) where
   pub called_ok : (r : Result (Option (List ℕ)) RunFault) → Goes (phrase_step e) old s mid → IfOk r (λ t. Goes (each (λ x. part_step (view_of x)) parts s) mid t new) → IfOk r (λ t. Goes (phrase_step (Called e (phrases_of (map view_of parts)))) old t new)
   unfolding phrase_step phrases_step
-  called_ok (Ok t) g h = record { goes = λ prog k w. h.goes prog k (subst (Stands prog mid) (each_part parts s k) (g.goes prog (λ u. phrases_step (phrases_of (map view_of parts)) u k) w)) }
+  called_ok (Ok t) g h = record { goes = λ prog k w. h.goes prog k (subst (IsAt prog mid) (each_part parts s k) (g.goes prog (λ u. phrases_step (phrases_of (map view_of parts)) u k) w)) }
   called_ok (Err f) g h = tt
 
   pub called_err : (r : Result (Option (List ℕ)) RunFault) → Goes (phrase_step e) old s mid → IfErr r (λ f. GivesUp (each (λ x. part_step (view_of x)) parts s) mid f new) → IfErr r (λ f. GivesUp (phrase_step (Called e (phrases_of (map view_of parts)))) old f new)
   unfolding phrase_step phrases_step
   called_err (Ok t) g h = tt
-  called_err (Err f) g h = record { halts = λ prog k w. h.halts prog k (subst (Stands prog mid) (each_part parts s k) (g.goes prog (λ u. phrases_step (phrases_of (map view_of parts)) u k) w)) }
+  called_err (Err f) g h = record { halts = λ prog k w. h.halts prog k (subst (IsAt prog mid) (each_part parts s k) (g.goes prog (λ u. phrases_step (phrases_of (map view_of parts)) u k) w)) }

@@ -14,13 +14,13 @@ use Rattle.recorder.specs.Projects.{Project, bytes_at}
 use Rattle.sample_runner.specs.Phrases.{Phrase, Phrases, Named, Called, NoMore, More, phrase_for}
 
 -- a file that is there has a header, which says of an empty one that it is main
-abbrev pub header_of : Option (List ℕ) → Option HeaderValue
-header_of None = None
-header_of (Some bytes) =
+abbrev pub header_value : Option (List ℕ) → Option HeaderValue
+header_value None = None
+header_value (Some bytes) =
     Some (record { is_main = length bytes == 0; superclass = None; fields = []; methods = [] })
 
 abbrev pub header_at : Project → List ℕ → Option HeaderValue
-header_at p file = header_of (bytes_at p file)
+header_at p file = header_value (bytes_at p file)
 
 abbrev pub is_main : Option HeaderValue → Bool
 is_main None = false

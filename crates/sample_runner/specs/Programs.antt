@@ -8,7 +8,7 @@ use Rattle.result_bytes.specs.declared.value.Value.TheVariants.{Files, Source, H
 use Rattle.recorder.specs.Projects.{Project}
 use Rattle.recorder.specs.Programs.{Prog, Ret, Ask, asks, each}
 use Rattle.sample_runner.specs.Phrases.{Phrase, Phrases, Named, Called, NoMore, More, phrase_for}
-use Rattle.sample_runner.specs.Meaning.{header_of, is_main, signature_of, faults_if, empty_of, sample_mean}
+use Rattle.sample_runner.specs.Meaning.{header_value, is_main, signature_of, faults_if, empty_of, sample_mean}
 
 -- ---- what an answer tells
 
@@ -32,7 +32,7 @@ signature_in _ = None
 
 -- Header(f): its Source
 abbrev pub header_steps : List ℕ → (Value → Prog) → Prog
-header_steps f k = Ask (keys.Source f) (λ v. k (Header (header_of (bytes_in v))))
+header_steps f k = Ask (keys.Source f) (λ v. k (Header (header_value (bytes_in v))))
 
 -- Sig(f, g): Header of f, and where f is there, Header of g and that of f again
 abbrev pub sig_both : List ℕ → List ℕ → (Value → Prog) → Prog

@@ -3,7 +3,7 @@ ghost use Rattle.std.specs.Prelude.{◌≡◌, List, ℕ, IfOk, IfErr, Some, Non
 ghost use Rattle.std.specs.Arc.{arc_value};
 ghost use Rattle.item_ids.specs.declared.key.Key.TheVariants as keys;
 ghost use Rattle.recorder.specs.Programs.{Ask, Goes, GivesUp};
-ghost use Rattle.sample_runner.specs.Meaning.{header_of, signature_of};
+ghost use Rattle.sample_runner.specs.Meaning.{header_value, signature_of};
 ghost use Rattle.sample_runner.specs.Programs.{header_in as header_told, signature_in as signature_told, bytes_in as bytes_told, header_steps, sig_steps, sig_both};
 
 use fingerprint::Sealed;
@@ -63,7 +63,7 @@ fn bytes_in(value: &Value) -> Option<&Text>
 
 /// The header of a file with these bytes.
 fn header_for(alloc: Global, text: Option<&Text>) -> Option<Header>
-    ensures { result ≡ header_of (option_copied text.entry) }
+    ensures { result ≡ header_value (option_copied text.entry) }
 {
     match text {
         Some(text) => {

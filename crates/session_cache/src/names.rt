@@ -53,7 +53,7 @@ fn number_in(what: Named, name: &[u8]) -> Option<u32>
     ensures { IsSpelled (name_of what) name.now result }
 {
     match what {
-        Named::Chain => number_of(name.strip_prefix(b"c".as_slice())?),
+        Named::Chain => parse_number(name.strip_prefix(b"c".as_slice())?),
         Named::Session => number_before(name.strip_prefix(b"s".as_slice())?),
     }
 }
@@ -67,7 +67,7 @@ fn number_before(name: &[u8]) -> Option<u32>
     if !is_session_end(end) {
         return None;
     }
-    number_of(digits)
+    parse_number(digits)
 }
 
 /// Whether this is the end of the name of a session.
@@ -79,7 +79,7 @@ fn is_session_end(end: &[u8]) -> bool
 
 /// The number that stands in four decimal digits.
 #[tactic(auto, using(crate::proofs::NameRules::not_four))]
-fn number_of(digits: &[u8]) -> Option<u32>
+fn parse_number(digits: &[u8]) -> Option<u32>
     ensures { IsSpelled four_digits digits.now result }
 {
     match digits {

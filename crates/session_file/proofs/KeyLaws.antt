@@ -7,7 +7,7 @@ use Rattle.item_ids.specs.declared.kind.Kind.TheVariants.{Files, Source, Tree, I
 use Rattle.item_ids.specs.Kinds.{number_of}
 use Rattle.sessions.specs.declared.mark.Mark.{Mark}
 use Rattle.sessions.specs.declared.mark.Mark.TheVariants.{Input, Executed, Green}
-use Rattle.sessions.specs.Marks.{number_of as mark_number}
+use Rattle.sessions.specs.Marks.{mark_number}
 use Rattle.session_file.specs.Keys.{kind_with, mark_with}
 
 pub kind_again : (kind : Kind) → kind_with (number_of kind) ≡ Some kind

@@ -14,7 +14,7 @@ use Rattle.byte_readers.specs.Names.{IsName}
 use Rattle.byte_readers.specs.Laws.{found_passes}
 use Rattle.sessions.specs.declared.mark.Mark.{Mark}
 use Rattle.sessions.specs.declared.mark.Mark.TheVariants.{Input, Executed, Green}
-use Rattle.sessions.specs.Marks.{number_of as mark_number}
+use Rattle.sessions.specs.Marks.{mark_number}
 use Rattle.sessions.specs.Keys.{HasNames}
 use Rattle.session_file.specs.Keys.{all_kinds, kind_with, mark_with, name_with, same, are_names, key_of_parts, key_of_kind, key_of_some, key_with}
 

@@ -10,7 +10,7 @@ use Rattle.byte_readers.specs.Spelling.{four, eight}
 use Rattle.result_bytes.specs.declared.value.Value.{Value}
 use Rattle.result_bytes.specs.Values.{canon}
 use Rattle.fingerprint.specs.Prints.{print_of}
-use Rattle.sessions.specs.Marks.{number_of}
+use Rattle.sessions.specs.Marks.{mark_number}
 use Rattle.sessions.specs.Sessions.{RecordValue, SessionValue}
 use Rattle.sessions.specs.Spelling.{start, key_bytes, result_bytes, record_bytes, head_bytes, body_bytes, file_of, digest_of}
 use Rattle.session_file.specs.Parts.{front_bytes}
@@ -19,11 +19,11 @@ pub head_is : (s : SessionValue) (a b c d : List ℕ) → a ≡ start → b ≡ 
 unfolding head_bytes four eight
 head_is s a b c d ea eb ec ed = rw (ea, eb, ec, ed, append-nil) refl
 
-pub front_is : (r : RecordValue) (k cl c ml m t n : List ℕ) → k ≡ kind_number (kind_of r.key) ∷ [] → cl ≡ length (class_text r.key) ∷ [] → c ≡ class_text r.key → ml ≡ length (member_text r.key) ∷ [] → m ≡ member_text r.key → t ≡ number_of r.mark ∷ [] → n ≡ to_be_bytes w64 (length r.edges)
+pub front_is : (r : RecordValue) (k cl c ml m t n : List ℕ) → k ≡ kind_number (kind_of r.key) ∷ [] → cl ≡ length (class_text r.key) ∷ [] → c ≡ class_text r.key → ml ≡ length (member_text r.key) ∷ [] → m ≡ member_text r.key → t ≡ mark_number r.mark ∷ [] → n ≡ to_be_bytes w64 (length r.edges)
     → k ++ (cl ++ (c ++ (ml ++ (m ++ (t ++ (n ++ [])))))) ≡ front_bytes r
 unfolding front_bytes key_bytes eight
 front_is r k cl c ml m t n ek ecl ec eml em et en =
-    rw (ek, ecl, ec, eml, em, et, en, append-nil) (ap (λ (xs : List ℕ). kind_number (kind_of r.key) ∷ (length (class_text r.key) ∷ xs)) (sym (append_assoc (class_text r.key) (length (member_text r.key) ∷ member_text r.key) (number_of r.mark ∷ to_be_bytes w64 (length r.edges)))))
+    rw (ek, ecl, ec, eml, em, et, en, append-nil) (ap (λ (xs : List ℕ). kind_number (kind_of r.key) ∷ (length (class_text r.key) ∷ xs)) (sym (append_assoc (class_text r.key) (length (member_text r.key) ∷ member_text r.key) (mark_number r.mark ∷ to_be_bytes w64 (length r.edges)))))
 
 pub result_is : (v : Value) (p n b : List ℕ) → p ≡ print_of v → n ≡ to_be_bytes w64 (length (canon v)) → b ≡ canon v → p ++ (n ++ (b ++ [])) ≡ result_bytes v
 unfolding result_bytes eight
@@ -32,8 +32,8 @@ result_is v p n b ep en eb = rw (ep, en, eb, append-nil) refl
 pub record_is : (r : RecordValue) → front_bytes r ++ (flat_map eight r.edges ++ result_bytes r.value) ≡ record_bytes r
 unfolding record_bytes front_bytes
 record_is r =
-    append_assoc (key_bytes r.key) (number_of r.mark ∷ eight (length r.edges)) (flat_map eight r.edges ++ result_bytes r.value)
-    ∙ ap (λ (xs : List ℕ). key_bytes r.key ++ (number_of r.mark ∷ xs)) (sym (append_assoc (eight (length r.edges)) (flat_map eight r.edges) (result_bytes r.value)))
+    append_assoc (key_bytes r.key) (mark_number r.mark ∷ eight (length r.edges)) (flat_map eight r.edges ++ result_bytes r.value)
+    ∙ ap (λ (xs : List ℕ). key_bytes r.key ++ (mark_number r.mark ∷ xs)) (sym (append_assoc (eight (length r.edges)) (flat_map eight r.edges) (result_bytes r.value)))
 
 pub body_is : (s : SessionValue) → head_bytes s ++ flat_map record_bytes s.records ≡ body_bytes s
 unfolding body_bytes

@@ -14,11 +14,11 @@ use Rattle.byte_readers.specs.Spelling.{eight, name, list}
 use Rattle.byte_readers.specs.Reading.{byte_at, eight_at}
 use Rattle.result_bytes.specs.declared.refusal.Refusal.{Refusal}
 use Rattle.result_bytes.specs.declared.value.Value.{Value}
-use Rattle.result_bytes.specs.Values.{IsValue, canon, decoding, kind_of as kind_of_value}
+use Rattle.result_bytes.specs.Values.{IsValue, canon, decoding, kind_of_value}
 use Rattle.result_bytes.proofs.ValueLaws.{decoded_takes, decoded_at}
 use Rattle.fingerprint.specs.Prints.{print_of}
 use Rattle.sessions.specs.declared.mark.Mark.{Mark}
-use Rattle.sessions.specs.Marks.{is_input, is_input_mark, number_of as mark_number}
+use Rattle.sessions.specs.Marks.{is_input, is_input_mark, mark_number}
 use Rattle.sessions.specs.Keys.{HasNames}
 use Rattle.sessions.specs.Sessions.{RecordValue, IsAbove, FitsBehind, AreRecords}
 use Rattle.sessions.specs.Edges.{AreEdges}

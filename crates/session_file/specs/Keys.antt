@@ -8,7 +8,7 @@ use Rattle.item_ids.specs.declared.key.Key.{Key}
 use Rattle.item_ids.specs.declared.key.Key.TheVariants.{Files, Source, Tree, Index, Header, Method, Sig, Supers, Members, CheckClass, CheckBody, Diags, Answer}
 use Rattle.sessions.specs.declared.mark.Mark.{Mark}
 use Rattle.sessions.specs.declared.mark.Mark.TheVariants.{Input, Executed, Green}
-use Rattle.sessions.specs.Marks.{number_of as mark_number}
+use Rattle.sessions.specs.Marks.{mark_number}
 
 abbrev pub all_kinds : List Kind
 all_kinds =

@@ -27,17 +27,17 @@ abbrev pub ◌>>=◌ : {A B : Type 0} → Result A FileFault → (A → Result B
 (Err e) >>= f = Err e
 
 -- A reader answers a value and the bytes behind it.
-abbrev pub Reader : Type 0 → Type 0
-Reader A = List ℕ → Result (A × List ℕ) FileFault
+abbrev pub Parser : Type 0 → Type 0
+Parser A = List ℕ → Result (A × List ℕ) FileFault
 
 -- What a function returned, seen by view, is what reading gives, unless memory ran out.
 abbrev pub Stops : {Y : Type 0} → Stop → Result Y FileFault → Type 0
 Stops stops.Memory read = Unit {0}
 Stops (stops.Breach fault) read = read ≡ Err fault
 
-abbrev pub Gives : {X Y : Type 0} → (X → Y) → Result X Stop → Result Y FileFault → Type 0
-Gives view (Ok x) read = read ≡ Ok (view x)
-Gives view (Err stop) read = Stops stop read
+abbrev pub ReadsAs : {X Y : Type 0} → (X → Y) → Result X Stop → Result Y FileFault → Type 0
+ReadsAs view (Ok x) read = read ≡ Ok (view x)
+ReadsAs view (Err stop) read = Stops stop read
 
 -- the answer, unless memory ran out
 abbrev pub IsUnlessMemory : {A : Type 0} → Result A FileFault → Result A FileFault → Type 0
@@ -52,12 +52,12 @@ whole (Ok x) = Ok x
 whole (Err breach) = Err Truncated
 
 -- so many bytes
-unfoldable pub bytes_at : ℕ → Reader (List ℕ)
+unfoldable pub bytes_at : ℕ → Parser (List ℕ)
 bytes_at n bytes =
     if nat_lt (length bytes) n then Err Truncated else Ok (take n bytes, drop n bytes)
 
 -- one byte of length, and so many bytes
-unfoldable pub text_at : Reader (List ℕ)
+unfoldable pub text_at : Parser (List ℕ)
 text_at bytes = do
   n ← whole (byte_at bytes)
   bytes_at n.0 n.1
@@ -83,7 +83,7 @@ item_with (Some key) (Some mark) = Some (record { key = key; mark = mark })
 item_with _ _ = None
 
 -- a key and its mark
-unfoldable pub item_at : ℕ → Reader ItemValue
+unfoldable pub item_at : ℕ → Parser ItemValue
 item_at i bytes = do
   kind ← whole (byte_at bytes)
   class ← text_at kind.1
@@ -111,7 +111,7 @@ is_next_edge front key edges e =
     nat_lt e (length front) && (nat_lt (rank (key_at front e)) (rank key) && not (is_among edges e))
 
 -- so many edges, behind those before them
-unfoldable pub edges_from : List RecordValue → Key → List ℕ → ℕ → Reader (List ℕ)
+unfoldable pub edges_from : List RecordValue → Key → List ℕ → ℕ → Parser (List ℕ)
 edges_from front key edges zero bytes = Ok (edges, bytes)
 edges_from front key edges (suc n) bytes = do
   e ← whole (eight_at bytes)
@@ -119,7 +119,7 @@ edges_from front key edges (suc n) bytes = do
       then edges_from front key (edges ++ e.0 ∷ []) n e.1
       else Err (BadEdge (length front) (length edges))
 
-unfoldable pub edges_at : List RecordValue → Key → Reader (List ℕ)
+unfoldable pub edges_at : List RecordValue → Key → Parser (List ℕ)
 edges_at front key bytes = do
   n ← whole (eight_at bytes)
   edges_from front key [] n.0 n.1
@@ -129,7 +129,7 @@ value_with_print print (Ok v) = if bytes_eq print (print_of v) then Some v else 
 value_with_print print (Err refusal) = None
 
 -- a value of a kind that has the print in front of it
-unfoldable pub result_at : ℕ → Kind → Reader Value
+unfoldable pub result_at : ℕ → Kind → Parser Value
 result_at i kind bytes = do
   print ← bytes_at 32 bytes
   n ← whole (eight_at print.1)
@@ -141,13 +141,13 @@ pub record RestValue : Type 0 where
   pub value : Value
 
 -- what stands behind a key and its mark
-unfoldable pub rest_at : List RecordValue → Key → Reader RestValue
+unfoldable pub rest_at : List RecordValue → Key → Parser RestValue
 rest_at front key bytes = do
   edges ← edges_at front key bytes
   value ← result_at (length front) (kind_of key) edges.1
   Ok (record { edges = edges.0; value = value.0 }, value.1)
 
-unfoldable pub record_at : List RecordValue → Reader RecordValue
+unfoldable pub record_at : List RecordValue → Parser RecordValue
 record_at front bytes = do
   item ← item_at (length front) bytes
   place ← check_place front item.0
@@ -160,7 +160,7 @@ record_at front bytes = do
 -- ---- the file
 
 -- so many records, behind those in front of them
-unfoldable pub records_from : List RecordValue → ℕ → Reader (List RecordValue)
+unfoldable pub records_from : List RecordValue → ℕ → Parser (List RecordValue)
 records_from front zero bytes = Ok (front, bytes)
 records_from front (suc n) bytes = do
   r ← record_at front bytes
@@ -181,7 +181,7 @@ magic_at bytes =
     if nat_lt (length bytes) 4 then Err BadMagic
     else (if bytes_eq (take 4 bytes) magic then Ok (drop 4 bytes) else Err BadMagic)
 
-unfoldable pub head_at : Reader HeadValue
+unfoldable pub head_at : Parser HeadValue
 head_at bytes = do
   rest ← magic_at bytes
   version ← whole (two_at rest)

@@ -1,7 +1,7 @@
 //! Edges of records.
 ghost use Rattle.std.specs.Prelude.{◌≡◌, false, List, ℕ, [], length};
 ghost use Rattle.std.specs.List.{AllByRecursion};
-ghost use Rattle.session_file.specs.Reading.{Gives, edges_at, edges_from};
+ghost use Rattle.session_file.specs.Reading.{ReadsAs, edges_at, edges_from};
 
 use crate::fault::FileFault;
 use crate::parts::eight;
@@ -21,7 +21,7 @@ pub(crate) fn read_edges<'a>(
 ) -> Result<(Vec<usize>, &'a [u8]), Stop>
     requires length { length seen.old ≡ length front.now }
     requires unseen { AllByRecursion (λ b. b ≡ false) seen.old }
-    ensures value { Gives (λ x. (x.0.items, x.1.now)) result
+    ensures value { ReadsAs (λ x. (x.0.items, x.1.now)) result
         (edges_at front.now key.now bytes.now) }
     ensures length { length seen.new ≡ length seen.old }
 {
@@ -40,7 +40,7 @@ fn read_items<'a>(
 ) -> Result<(Vec<usize>, &'a [u8]), Stop>
     requires length { length seen.old ≡ length front.now }
     requires unseen { AllByRecursion (λ b. b ≡ false) seen.old }
-    ensures value { Gives (λ x. (x.0.items, x.1.now)) result
+    ensures value { ReadsAs (λ x. (x.0.items, x.1.now)) result
         (edges_from front.now key.now [] count bytes.now) }
     ensures length { length seen.new ≡ length seen.old }
 {

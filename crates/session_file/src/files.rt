@@ -2,7 +2,7 @@
 ghost use Rattle.std.specs.Prelude.{◌≡◌, ◌≤◌, List, ℕ, Ok, IfOk};
 ghost use Rattle.sessions.specs.Sessions.{SessionValue, IsSession};
 ghost use Rattle.sessions.specs.Spelling.{file_of};
-ghost use Rattle.session_file.specs.Reading.{Gives, IsUnlessMemory, end_at, file_at, head_at, magic_at};
+ghost use Rattle.session_file.specs.Reading.{ReadsAs, IsUnlessMemory, end_at, file_at, head_at, magic_at};
 
 use crate::fault::FileFault;
 use crate::parts::{bytes, demand, eight, four, two};
@@ -44,7 +44,7 @@ pub fn read(alloc: Global, bytes: &[u8]) -> Result<Session, FileFault>
 /// Reads the file.
 #[tactic(auto, unfolding(crate::specs::Reading::file_at))]
 fn read_file(alloc: Global, source: &[u8]) -> Result<Session, Stop>
-    ensures { Gives (λ s. s) result (file_at source.now) }
+    ensures { ReadsAs (λ s. s) result (file_at source.now) }
 {
     let (head, rest) = read_head(source)?;
     let (records, rest) = read_records(alloc, head.count, rest)?;
@@ -58,7 +58,7 @@ fn read_file(alloc: Global, source: &[u8]) -> Result<Session, Stop>
 /// Reads what stands before the records.
 #[tactic(auto, unfolding(crate::specs::Reading::head_at))]
 fn read_head(source: &[u8]) -> Result<(Head, &[u8]), Stop>
-    ensures { Gives (λ x. (
+    ensures { ReadsAs (λ x. (
       record { number = x.0.number; link = x.0.link; count = x.0.count },
       x.1.now,
     ))
@@ -82,7 +82,7 @@ fn read_head(source: &[u8]) -> Result<(Head, &[u8]), Stop>
 /// The bytes behind the first four, which begin each file.
 #[tactic(auto, unfolding(crate::specs::Reading::magic_at))]
 fn read_magic(source: &[u8]) -> Result<&[u8], Stop>
-    ensures { Gives (λ x. x.now) result (magic_at source.now) }
+    ensures { ReadsAs (λ x. x.now) result (magic_at source.now) }
 {
     if source.len() < 4 {
         return Err(Stop::Breach(FileFault::BadMagic));
@@ -97,7 +97,7 @@ fn read_magic(source: &[u8]) -> Result<&[u8], Stop>
 /// The bytes are the digest of the body, and nothing behind it.
 #[tactic(auto, unfolding(crate::specs::Reading::end_at))]
 fn check_end(body: &[u8], source: &[u8]) -> Result<(), Stop>
-    ensures { Gives (λ x. x) result (end_at body.now source.now) }
+    ensures { ReadsAs (λ x. x) result (end_at body.now source.now) }
 {
     let (digest, rest) = bytes(32, source)?;
     let print = Print::of(body);

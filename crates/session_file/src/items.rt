@@ -3,7 +3,7 @@ ghost use Rattle.std.specs.Prelude.{◌≡◌, ◌≤◌, length, IfOk, IfSome, 
 ghost use Rattle.std.specs.Str.{is_utf8};
 ghost use Rattle.mj_lexer.specs.Bytes.{most_name_bytes};
 ghost use Rattle.session_file.specs.Keys.{key_of_kind, key_with, kind_with, mark_with};
-ghost use Rattle.session_file.specs.Reading.{Gives, item_at, item_with};
+ghost use Rattle.session_file.specs.Reading.{ReadsAs, item_at, item_with};
 
 use crate::fault::FileFault;
 use crate::parts::{byte, text};
@@ -32,7 +32,7 @@ impl Model for Item {
 /// Reads the key and the mark of the record at an index.
 #[tactic(auto, unfolding(crate::specs::Reading::item_at))]
 pub(crate) fn read_item(alloc: Global, index: usize, bytes: &[u8]) -> Result<(Item, &[u8]), Stop>
-    ensures { Gives (λ x. (x.0, x.1.now)) result (item_at index bytes.now) }
+    ensures { ReadsAs (λ x. (x.0, x.1.now)) result (item_at index bytes.now) }
 {
     let (kind, rest) = byte(bytes)?;
     let (class, rest) = text(rest)?;

@@ -3,7 +3,7 @@ ghost use Rattle.std.specs.Prelude.{◌≡◌, false, [], length};
 ghost use Rattle.std.specs.Arc.{arc_value};
 ghost use Rattle.std.specs.List.{AllByRecursion};
 ghost use Rattle.std.specs.Option.{option_copied};
-ghost use Rattle.session_file.specs.Reading.{Gives, is_behind, check_place, record_at, records_from, rest_at};
+ghost use Rattle.session_file.specs.Reading.{ReadsAs, is_behind, check_place, record_at, records_from, rest_at};
 
 use crate::edges::read_edges;
 use crate::fault::FileFault;
@@ -30,7 +30,7 @@ pub(crate) fn read_records(
     count: u64,
     bytes: &[u8],
 ) -> Result<(Vec<Record>, &[u8]), Stop>
-    ensures { Gives (λ x. (x.0.items, x.1.now)) result (records_from [] count bytes.now) }
+    ensures { ReadsAs (λ x. (x.0.items, x.1.now)) result (records_from [] count bytes.now) }
 {
     let mut seen = SeenEdges::new(alloc);
     let mut records = Vec::new(alloc);
@@ -54,7 +54,7 @@ fn read_record<'a>(
 ) -> Result<(Record, &'a [u8]), Stop>
     requires length { length seen.old ≡ length front.now }
     requires unseen { AllByRecursion (λ b. b ≡ false) seen.old }
-    ensures value { Gives (λ x. (x.0, x.1.now)) result (record_at front.now bytes.now) }
+    ensures value { ReadsAs (λ x. (x.0, x.1.now)) result (record_at front.now bytes.now) }
     ensures length { length seen.new ≡ length seen.old }
 {
     let (item, rest) = read_item(alloc, front.len(), bytes)?;
@@ -71,7 +71,7 @@ fn read_record<'a>(
 /// The key is greater than the one before, and it is an input just where it is marked so.
 #[tactic(auto, unfolding(crate::specs::Reading::check_place))]
 fn check_place(front: &[Record], item: &Item) -> Result<(), Stop>
-    ensures { Gives (λ x. x) result (check_place front.now item.now) }
+    ensures { ReadsAs (λ x. x) result (check_place front.now item.now) }
 {
     demand(
         is_behind(front.last(), &item.key),
@@ -104,7 +104,7 @@ fn read_rest<'a>(
 ) -> Result<(Rest, &'a [u8]), Stop>
     requires length { length seen.old ≡ length front.now }
     requires unseen { AllByRecursion (λ b. b ≡ false) seen.old }
-    ensures value { Gives (λ x. (
+    ensures value { ReadsAs (λ x. (
       record { edges = x.0.edges.items; value = arc_value x.0.sealed },
       x.1.now,
     ))

@@ -2,7 +2,7 @@
 ghost use Rattle.std.specs.Prelude.{◌≡◌, length, IfOk, IfErr};
 ghost use Rattle.std.specs.Arc.{arc_value};
 ghost use Rattle.result_bytes.specs.Values.{decoding};
-ghost use Rattle.session_file.specs.Reading.{Gives, value_with_print, result_at};
+ghost use Rattle.session_file.specs.Reading.{ReadsAs, value_with_print, result_at};
 
 use crate::fault::FileFault;
 use crate::parts::{bytes, eight};
@@ -21,7 +21,7 @@ pub(crate) fn read_result(
     kind: Kind,
     source: &[u8],
 ) -> Result<(Arc<Sealed>, &[u8]), Stop>
-    ensures { Gives (λ x. (arc_value x.0, x.1.now)) result (result_at index kind source.now) }
+    ensures { ReadsAs (λ x. (arc_value x.0, x.1.now)) result (result_at index kind source.now) }
 {
     let (print, rest) = bytes(32, source)?;
     let (count, rest) = eight(rest)?;

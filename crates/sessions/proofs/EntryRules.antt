@@ -13,7 +13,7 @@ use Rattle.item_ids.specs.declared.key.Key.{Key}
 use Rattle.item_ids.specs.declared.key.Key.TheVariants.{Files}
 use Rattle.item_ids.specs.Keys.{key_cmp, key_total, kind_of}
 use Rattle.item_ids.proofs.Apart.{key_exact, key_itself}
-use Rattle.result_bytes.specs.Values.{kind_of as kind_of_value}
+use Rattle.result_bytes.specs.Values.{kind_of_value}
 use Rattle.sessions.specs.Sessions.{RecordValue, SessionValue, IsSession, FitsBehind, AreRecords, IsEdge, IsAbove, AreInside, AreBelow, AreOnce, AreDistinct, rank, key_at, entry_of, entry_at, Entry}
 
 -- ---- look-ups

@@ -5,10 +5,10 @@ use Rattle.item_ids.specs.declared.kind.Kind.TheVariants.{Files, Source}
 use Rattle.sessions.specs.declared.mark.Mark.{Mark}
 use Rattle.sessions.specs.declared.mark.Mark.TheVariants.{Input, Executed, Green}
 
-abbrev pub number_of : Mark → ℕ
-number_of Input = 0
-number_of Executed = 1
-number_of Green = 2
+abbrev pub mark_number : Mark → ℕ
+mark_number Input = 0
+mark_number Executed = 1
+mark_number Green = 2
 
 -- whether keys of the kind are inputs, which no query computes
 abbrev pub is_input : Kind → Bool

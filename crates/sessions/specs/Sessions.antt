@@ -8,7 +8,7 @@ use Rattle.item_ids.specs.declared.key.Key.TheVariants.{Files}
 use Rattle.item_ids.specs.Kinds.{rank_of}
 use Rattle.item_ids.specs.Keys.{kind_of, key_cmp}
 use Rattle.result_bytes.specs.declared.value.Value.{Value}
-use Rattle.result_bytes.specs.Values.{IsValue, canon, kind_of as kind_of_value}
+use Rattle.result_bytes.specs.Values.{IsValue, canon, kind_of_value}
 use Rattle.sessions.specs.declared.mark.Mark.{Mark}
 use Rattle.sessions.specs.Marks.{is_input, is_input_mark}
 use Rattle.sessions.specs.Keys.{HasNames}

@@ -8,7 +8,7 @@ use Rattle.byte_readers.specs.Spelling.{four, eight, name, list}
 use Rattle.result_bytes.specs.declared.value.Value.{Value}
 use Rattle.result_bytes.specs.Values.{canon}
 use Rattle.fingerprint.specs.Prints.{print_of}
-use Rattle.sessions.specs.Marks.{number_of as mark_number}
+use Rattle.sessions.specs.Marks.{mark_number}
 use Rattle.sessions.specs.Sessions.{RecordValue, SessionValue}
 
 -- `MJRG`, and version 1

@@ -1,6 +1,6 @@
 //! How keys became done.
 ghost use Rattle.std.specs.Prelude.{◌≡◌, ◌<◌, ◌↔◌, IsSome, IfSome};
-ghost use Rattle.sessions.specs.Marks.{number_of};
+ghost use Rattle.sessions.specs.Marks.{mark_number};
 
 /// How a key became done.
 #[derive(Clone, Copy, Debug, PartialEq, Eq)]
@@ -16,7 +16,7 @@ pub enum Mark {
 impl Mark {
     /// The mark's number, by which it is written in files.
     pub fn number(self) -> u8
-        ensures { result ≡ number_of self }
+        ensures { result ≡ mark_number self }
     {
         match self {
             Mark::Input => 0,
@@ -27,7 +27,7 @@ impl Mark {
 
     /// The mark that has this number.
     pub fn from_number(number: u8) -> Option<Mark>
-        ensures found { IfSome result (λ mark. number_of mark ≡ number) }
+        ensures found { IfSome result (λ mark. mark_number mark ≡ number) }
         ensures known { IsSome result ↔ (number < 3) }
     {
         match number {

@@ -6,14 +6,14 @@ use Rattle.result_bytes.specs.declared.parts.ChainEnd.{ChainEnd}
 use Rattle.result_bytes.specs.declared.parts.ChainEnd.TheVariants.{Top}
 use Rattle.result_bytes.specs.Payloads.{ChainValue}
 use Rattle.recorder.specs.Recording.{Recording}
-use Rattle.recorder.specs.Programs.{Prog, Stands, Goes, GivesUp}
+use Rattle.recorder.specs.Programs.{Prog, IsAt, Goes, GivesUp}
 use Rattle.recorder.specs.declared.runner.RunFault.{RunFault}
 use Rattle.table_queries.specs.declared.supers.Climb.TheVariants.{At, Over}
 use Rattle.table_queries.specs.Supers.{chain, climb_step, climb_on, chain_steps}
 
 -- A loop that began at old stands before its round i, with these names and this next class, at now.
 pub record ClimbAt {D : Type 0} (rows : List IndexRow) (first : Name) (old : Recording D) (i : ℕ) (names : List Name) (c : Name) (now : Recording D) : Type 0 where
-  pub goes : (prog : Prog) (k : ChainValue → Prog) → Stands prog old (chain_steps (length rows) rows [] first k) → Stands prog now (chain_steps (length rows - i) rows names c k)
+  pub goes : (prog : Prog) (k : ChainValue → Prog) → IsAt prog old (chain_steps (length rows) rows [] first k) → IsAt prog now (chain_steps (length rows - i) rows names c k)
 
 more_left : (n i : ℕ) → i < n → n - i ≡ suc (n - (i + 1))
 more_left n i h = omega (arith, h)
@@ -34,20 +34,20 @@ module _ {D : Type 0} (rows : List IndexRow) (first : Name) (old : Recording D) 
   pub climb_more : (i : ℕ) (names more : List Name) (c next : Name) (mid new : Recording D) → ClimbAt rows first old i names c mid → Goes (climb_step rows names c) mid (more, At next) new → i < length rows
       → ClimbAt rows first old (i + 1) more next new
   climb_more i names more c next mid new l g h = record {
-    goes = λ prog k w. g.goes prog (λ at. climb_on (chain_steps (length rows - (i + 1)) rows) at k) (subst (Stands prog mid) (round names c i h k) (l.goes prog k w));
+    goes = λ prog k w. g.goes prog (λ at. climb_on (chain_steps (length rows - (i + 1)) rows) at k) (subst (IsAt prog mid) (round names c i h k) (l.goes prog k w));
   }
 
   pub climb_over : (i : ℕ) (names more : List Name) (c : Name) (end : ChainEnd) (mid new : Recording D) → ClimbAt rows first old i names c mid → Goes (climb_step rows names c) mid (more, Over end) new → i < length rows
       → Goes (chain_steps (length rows) rows [] first) old (chain more end) new
   climb_over i names more c end mid new l g h = record {
-    goes = λ prog k w. g.goes prog (λ at. climb_on (chain_steps (length rows - (i + 1)) rows) at k) (subst (Stands prog mid) (round names c i h k) (l.goes prog k w));
+    goes = λ prog k w. g.goes prog (λ at. climb_on (chain_steps (length rows - (i + 1)) rows) at k) (subst (IsAt prog mid) (round names c i h k) (l.goes prog k w));
   }
 
   pub climb_up : (i : ℕ) (names : List Name) (c : Name) (e : RunFault) (mid new : Recording D) → ClimbAt rows first old i names c mid → GivesUp (climb_step rows names c) mid e new → i < length rows
       → GivesUp (chain_steps (length rows) rows [] first) old e new
   climb_up i names c e mid new l g h = record {
-    halts = λ prog k w. g.halts prog (λ at. climb_on (chain_steps (length rows - (i + 1)) rows) at k) (subst (Stands prog mid) (round names c i h k) (l.goes prog k w));
+    halts = λ prog k w. g.halts prog (λ at. climb_on (chain_steps (length rows - (i + 1)) rows) at k) (subst (IsAt prog mid) (round names c i h k) (l.goes prog k w));
   }
 
   pub climb_end : (i : ℕ) (names : List Name) (c : Name) (new : Recording D) → ClimbAt rows first old i names c new → length rows ≤ i → Goes (chain_steps (length rows) rows [] first) old (chain names Top) new
-  climb_end i names c new l h = record { goes = λ prog k w. subst (Stands prog new) (last names c i h k) (l.goes prog k w) }
+  climb_end i names c new l h = record { goes = λ prog k w. subst (IsAt prog new) (last names c i h k) (l.goes prog k w) }

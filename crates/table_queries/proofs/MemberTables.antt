@@ -23,7 +23,7 @@ use Rattle.mj_classes.proofs.Rows.{name_order, under-append, sorted_rows}
 use Rattle.mj_classes.proofs.Tables.{by_bytes, under, under_first, firsts_ascend, firsts_are, all_append}
 use Rattle.mj_rules.specs.Tables.{field_row}
 use Rattle.result_bytes.specs.Payloads.{HeaderValue, SignatureValue}
-use Rattle.recorder.specs.Programs.{Prog, Stands, Halts, Goes, GivesUp, each}
+use Rattle.recorder.specs.Programs.{Prog, IsAt, Halts, Goes, GivesUp, each}
 use Rattle.recorder.specs.Recording.{Recording}
 use Rattle.recorder.specs.declared.runner.RunFault.{RunFault}
 use Rattle.recorder.specs.declared.runner.RunFault.TheVariants.{OutOfMemory}
@@ -196,10 +196,10 @@ rows_ascend rows rest h = by_names (λ row. row.name) rows (ascend_before NameBe
 
 module _ {A B S D : Type 0} (step : B → S → (S → Prog) → Prog) (view : A → B) (xs : List A) (s : S) (old new : Recording D) where
   pub seen_goes : (t : S) → Goes (each (λ a. step (view a)) xs s) old t new → Goes (each step (map view xs) s) old t new
-  seen_goes t g = record { goes = λ prog k w. g.goes prog k (subst (Stands prog old) (each_map step view xs s k) w) }
+  seen_goes t g = record { goes = λ prog k w. g.goes prog k (subst (IsAt prog old) (each_map step view xs s k) w) }
 
   pub seen_up : (e : RunFault) → GivesUp (each (λ a. step (view a)) xs s) old e new → GivesUp (each step (map view xs) s) old e new
-  seen_up e g = record { halts = λ prog k w. g.halts prog k (subst (Stands prog old) (each_map step view xs s k) w) }
+  seen_up e g = record { halts = λ prog k w. g.halts prog k (subst (IsAt prog old) (each_map step view xs s k) w) }
 
 -- ---- the table of a chain
 
@@ -207,11 +207,11 @@ module _ {D : Type 0} (ls : List Link) (ms : List (Name × Name)) (is : ms ≡ m
   abbrev with_fields : List MethodRowValue → ClassTableValue
   with_fields rows = record { fields = map field_row (fields_told ls); methods = rows }
 
-  begins : (prog : Prog) (k : ClassTableValue → Prog) → Stands prog old (table_steps ls k) → Stands prog old (each types_step ms [] (λ rows. k (with_fields rows)))
-  begins prog k w = subst (λ (xs : List (Name × Name)). Stands prog old (each types_step xs [] (λ rows. k (with_fields rows)))) (sym is) w
+  begins : (prog : Prog) (k : ClassTableValue → Prog) → IsAt prog old (table_steps ls k) → IsAt prog old (each types_step ms [] (λ rows. k (with_fields rows)))
+  begins prog k w = subst (λ (xs : List (Name × Name)). IsAt prog old (each types_step xs [] (λ rows. k (with_fields rows)))) (sym is) w
 
   pub table_goes : (rows : List MethodRowValue) (whole : ClassTableValue) → Goes (each types_step ms []) old rows new → whole ≡ with_fields rows → Goes (table_steps ls) old whole new
-  table_goes rows whole g e = record { goes = λ prog k w. subst (λ (t : ClassTableValue). Stands prog new (k t)) (sym e) (g.goes prog (λ rows. k (with_fields rows)) (begins prog k w)) }
+  table_goes rows whole g e = record { goes = λ prog k w. subst (λ (t : ClassTableValue). IsAt prog new (k t)) (sym e) (g.goes prog (λ rows. k (with_fields rows)) (begins prog k w)) }
 
   pub table_up : (e : RunFault) → GivesUp (each types_step ms []) old e new → GivesUp (table_steps ls) old e new
   table_up e g = record { halts = λ prog k w. g.halts prog (λ rows. k (with_fields rows)) (begins prog k w) }

@@ -6,4 +6,4 @@ use Rattle.session_cache.proofs.names.number_before.Goals as goal
 pub returns : goal.returns
 returns c =
     let cut = c.in_ok-digits.ensures.cases in
-    read_before c.args.name.now c.number_of.result (sym cut.2 ∙ c.if-not-is_session_end.ensures.0 refl) (subst (λ (l : List ℕ). IsSpelled four_digits l c.number_of.result) cut.1 c.number_of.ensures)
+    read_before c.args.name.now c.parse_number.result (sym cut.2 ∙ c.if-not-is_session_end.ensures.0 refl) (subst (λ (l : List ℕ). IsSpelled four_digits l c.parse_number.result) cut.1 c.parse_number.ensures)
