@@ -1,5 +1,5 @@
 use answer_samples::{Asked, Unfit, is_copy, is_less, is_made, is_named};
-use item_ids::{Kind, keys_in_order, rank, ranks_in_order};
+use item_ids::{Kind, rank};
 use std::alloc::Global;
 use std::test::*;
 
@@ -86,10 +86,4 @@ fn names_that_fit_no_kind(rt: HostRuntime) -> Result<(), Fail> {
         assert!(rt; !is_made(rt.alloc(), *asked)?, "{asked:?}");
     }
     Ok(())
-}
-
-#[test]
-fn laws(_rt: HostRuntime) {
-    keys_in_order();
-    ranks_in_order();
 }

@@ -1,7 +1,7 @@
 use answer_samples::Asked;
 use fingerprint::OpenFault;
 use item_ids::Kind;
-use recorder::{ReadFault, RunFault, programs_read_alike};
+use recorder::{ReadFault, RunFault};
 use result_bytes::Refusal;
 use run_samples::{Given, are_apart, are_same, holds};
 use std::fmt::Display;
@@ -79,9 +79,4 @@ fn texts_of_faults(rt: HostRuntime) -> Result<(), Fail> {
     assert!(rt; are_written(rt, OPEN_FAULTS)?);
     assert!(rt; are_written(rt, RUN_FAULTS)?);
     Ok(())
-}
-
-#[test]
-fn laws_of_reads(_rt: HostRuntime) {
-    programs_read_alike();
 }

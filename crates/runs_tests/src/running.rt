@@ -1,6 +1,6 @@
 use answer_samples::Asked;
 use item_ids::Kind;
-use recorder::{AnswerList, ReadFault, programs_are_runs, programs_keep_the_laws};
+use recorder::ReadFault;
 use run_samples::{Given, Kept, gives, is_log_empty, leaves, leaves_refused, logs};
 use std::test::*;
 
@@ -186,10 +186,4 @@ fn reads_that_are_refused(rt: HostRuntime) -> Result<(), Fail> {
         assert!(rt; leaves_refused(rt.alloc(), HEADER_A.0, *fault, *refused)?);
     }
     Ok(())
-}
-
-#[test]
-fn laws(_rt: HostRuntime) {
-    programs_keep_the_laws();
-    programs_are_runs::<AnswerList>();
 }

@@ -1,5 +1,5 @@
 //! Tests: expected values are from the language's rules and its worked examples.
-use mj_lexer::{Kind, Name, Token, front_laws, lex, lexing_laws, line_col, name_laws};
+use mj_lexer::{Kind, Name, Token, lex, line_col};
 use std::alloc::{AllocError, Global};
 use std::hash::{DefaultHasher, Hash, Hasher};
 use std::test::Fail;
@@ -154,11 +154,4 @@ fn names_in_order(rt: HostRuntime) -> Result<(), Fail> {
         assert!(rt; is_less(rt.alloc(), less, greater)?, "{less} {greater}");
     }
     Ok(())
-}
-
-#[test]
-fn laws() {
-    lexing_laws(b"a");
-    front_laws(b"a");
-    name_laws();
 }

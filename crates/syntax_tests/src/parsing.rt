@@ -1,7 +1,7 @@
 //! Tests: expected values are from the language's rules and its worked examples. Which texts are no file, where they
 //! stop being one, and the levels are compared row by row with the program's output.
 use mj_lexer::{LexFault, Name, Token, lex};
-use mj_parser::{grammar_laws, locate, mark_laws, parse};
+use mj_parser::{locate, parse};
 use mj_tree::{ClassTree, Exp, MainTree, MethodTree, Place, Stmt, Ty, Variable};
 use std::alloc::{AllocError, Global};
 use std::test::Fail;
@@ -66,8 +66,6 @@ fn is_marked(alloc: Global, text: &str) -> Result<bool, Fail> {
 
 #[test]
 fn marks(rt: HostRuntime) -> Result<(), Fail> {
-    grammar_laws();
-    mark_laws();
     assert!(rt; is_marked(rt.alloc(), MARKED)?);
     Ok(())
 }
