@@ -5,6 +5,7 @@ use Rattle.clap.specs.Simple.{on_top}
 use Rattle.clap.specs.Words.{App, Rule, new_app, new_rule, with_rule, with_subcommand}
 use Rattle.clap.specs.declared.builder.ArgAction.TheVariants.{Append}
 use Rattle.clap.specs.declared.builder.ValueParser.TheVariants as parser
+use Rattle.command_line.specs.Runnable.{most_jobs}
 use Rattle.command_line.specs.Subcommands.{name_of}
 use Rattle.command_line.specs.declared.asked.Subcommand.{Subcommand}
 use Rattle.command_line.specs.declared.asked.Subcommand.TheVariants.{Scratch, Audit, Show}
@@ -41,7 +42,7 @@ jobs_rule = record (new_rule (codes "jobs")) {
   long = Some (codes "jobs");
   value_names = 1;
   defaults = codes "1" ∷ [];
-  parser = Some (parser.Signed (pos 1) (pos 64));
+  parser = Some (parser.Signed (pos 1) (pos most_jobs));
 }
 
 abbrev pub check_app : App

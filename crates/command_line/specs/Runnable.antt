@@ -7,11 +7,15 @@ use Rattle.command_line.specs.declared.asked.Subcommand.TheVariants.{Scratch, Au
 use Rattle.command_line.specs.declared.asked.Words.{Words}
 use Rattle.command_line.specs.declared.asked.Words.TheVariants as words
 
+-- the most workers that `check` can have
+abbrev pub most_jobs : ℕ
+most_jobs = 64
+
 -- at least one FILE, and 1 to 64 workers
 pub record IsCheckable (w : CheckWords) : Type 0 where
   pub files : 0 < vec_len w.files
   pub some_jobs : 1 ≤ w.jobs
-  pub most_jobs : w.jobs ≤ 64
+  pub most_jobs : w.jobs ≤ most_jobs
 
 -- at least one FILE, and for `check` 1 to 64 workers
 abbrev pub IsRunnable : Words → Type 0

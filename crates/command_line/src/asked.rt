@@ -30,7 +30,7 @@ impl Subcommand {
     }
 
     /// The subcommand that this word asks for.
-    pub(crate) fn named(word: &str) -> Option<Subcommand>
+    pub(crate) fn of_word(word: &str) -> Option<Subcommand>
         ensures found { IfSome result (λ subcommand. name_of subcommand ≡ word.now) }
         ensures known { (subcommand : Subcommand) → word.now ≡ name_of subcommand
             → result ≡ Some subcommand }

@@ -26,6 +26,9 @@ pub(crate) const CACHE: &str = "cache";
 /// The option that has the number of workers.
 pub(crate) const JOBS: &str = "jobs";
 
+/// The most workers that `check` can have.
+pub(crate) const MOST_JOBS: u8 = 64;
+
 /// The program with its subcommands.
 pub(crate) fn program<'a>(alloc: Global) -> Result<Command<'a>, AllocError>
     ensures { IfOk result (λ command. app_of command ≡ program_app) }
@@ -85,7 +88,7 @@ fn jobs<'a>(alloc: Global) -> Arg<'a>
     Arg::new(alloc, JOBS)
         .long(JOBS)
         .value_name("N")
-        .value_parser(value_parser!(u8).range(1..=64))
+        .value_parser(value_parser!(u8).range(1..=MOST_JOBS as i64))
         .default_value("1")
         .help(help::JOBS)
 }

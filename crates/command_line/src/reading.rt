@@ -4,12 +4,12 @@ ghost use Rattle.std.specs.Prelude.{IsTrue, List, None, codes, map, string_bytes
 ghost use Rattle.std.specs.Prelude.{◌≤◌};
 ghost use Rattle.clap.specs.Words.{all_of, found_of, kind_of, rows_of, subcommand_name_of};
 ghost use Rattle.command_line.specs.CommandLine.{Asks, asks_plainly};
-ghost use Rattle.command_line.specs.Matches.{AreMet, files_in};
-ghost use Rattle.command_line.specs.Runnable.{IsRunnable, files_of_words, subcommand_of_words};
+ghost use Rattle.command_line.specs.Matches.{AreMet, IsCacheIn, files_in};
+ghost use Rattle.command_line.specs.Runnable.{IsRunnable, files_of_words, most_jobs, subcommand_of_words};
 ghost use Rattle.command_line.specs.Subcommands.{Text, command_name, is_just_one, name_of, takes};
 
 use crate::asked::{CheckWords, Subcommand, Words, WordsFault};
-use crate::command::{CACHE, CHECK, FILE, JOBS, PROGRAM, program};
+use crate::command::{CACHE, CHECK, FILE, JOBS, MOST_JOBS, PROGRAM, program};
 use clap::error::ErrorKind;
 use clap::{ArgMatches, Error};
 use std::alloc::{AllocError, Global};
@@ -56,7 +56,7 @@ fn choose(alloc: Global, matches: &ArgMatches<'_>) -> Result<Words, WordsFault>
     let Some((name, given)) = matches.subcommand() else {
         return Err(unreadable(alloc));
     };
-    let Some(subcommand) = Subcommand::named(name) else {
+    let Some(subcommand) = Subcommand::of_word(name) else {
         return check_words(alloc, name, given);
     };
     let files = values(alloc, given)?;
@@ -73,6 +73,7 @@ fn check_words(alloc: Global, name: &str, given: &ArgMatches<'_>) -> Result<Word
         Some name.now ≡ Some (command_name (subcommand_of_words words))) }
     ensures files { IfOk result (λ words.
         all_of (codes "FILE") (rows_of (found_of given.now)) ≡ Some (files_of_words words)) }
+    ensures cache { IfOk result (IsCacheIn given.now) }
 {
     if name != CHECK {
         return Err(unreadable(alloc));
@@ -95,10 +96,10 @@ fn check_words(alloc: Global, name: &str, given: &ArgMatches<'_>) -> Result<Word
 // How many workers `check` has.
 fn jobs(given: &ArgMatches<'_>) -> Option<usize>
     ensures some { IfSome result (λ jobs. 1 ≤ jobs) }
-    ensures most { IfSome result (λ jobs. jobs ≤ 64) }
+    ensures most { IfSome result (λ jobs. jobs ≤ most_jobs) }
 {
     let jobs = given.get_one::<u8>(JOBS)?;
-    if jobs == 0 || jobs > 64 {
+    if jobs == 0 || jobs > MOST_JOBS {
         return None;
     }
     Some(usize::from(jobs))

@@ -1,11 +1,12 @@
 -- The names of chains, which are folders, and of the files of their sessions.
 use Rattle.std.specs.Prelude.{◌≡◌, ◌≢◌, ℕ, ◌/◌, ◌%◌, ◌≤◌, List, ◌++◌, Option, Some, None, Contains, codes, decimal}
+use Rattle.sessions.specs.Sessions.{most_number}
 use Rattle.session_cache.specs.declared.names.Named.{Named}
 use Rattle.session_cache.specs.declared.names.Named.TheVariants.{Chain, Session}
 
--- the greatest number of a chain in its cache, and of a session in its chain
+-- the greatest number of a chain in its cache, which is that of a session in its chain
 abbrev pub most : ℕ
-most = 9999
+most = most_number
 
 -- a number up to 9999 in four decimal digits
 abbrev pub four_digits : ℕ → List ℕ

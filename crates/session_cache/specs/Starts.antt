@@ -1,5 +1,5 @@
 -- Where the next session of a cache begins.
-use Rattle.std.specs.Prelude.{◌≡◌, ◌≢◌, ◌⊎◌, ℕ, ◌+◌, ◌<◌, ◌≤◌, List, ◌++◌, Option, Some, None, Result, Ok, Err, IfSome, codes, string_bytes, if◌then◌else◌, nat_lt}
+use Rattle.std.specs.Prelude.{◌≡◌, ◌≢◌, ◌⊎◌, ℕ, ◌+◌, ◌<◌, ◌≤◌, List, ◌++◌, Option, Some, None, Result, Ok, Err, IfSome, IsSomeAnd, codes, string_bytes, if◌then◌else◌, nat_lt}
 use Rattle.std.specs.Arc.{arc_value}
 use Rattle.std.specs.declared.alloc.Global.{Global}
 use Rattle.std.specs.declared.sync.Arc.{Arc}
@@ -62,12 +62,24 @@ number_behind None = 0
 number_behind (Some s) = s.number + 1
 
 -- The place, where there is one, is that of the next session, which the past leaves room for. What is
--- noted is noted of a place.
+-- noted is noted of a place, and where there is none for the session, of one in the last chain.
 pub record IsStart (start : Start) : Type 0 where
   pub place : IfSome start.place IsPlace
   pub number : IfSome start.place (λ p. p.number ≡ number_behind (session_in start.past))
   pub room : IfSome (session_in start.past) (λ s. s.number < most)
   pub noted : IfSome start.note (λ note. IsPlace note.place)
+  pub ended : start.place ≡ None → IsSomeAnd start.note (λ note. note.place.chain ≡ most)
+
+-- why a folder or a file isn't read: it can't be, or memory ran out
+abbrev pub IsUnread : List ℕ → CacheFault → Type 0
+IsUnread path (CannotRead told) = string_bytes told ≡ path
+IsUnread path (CannotWrite told) = ⊥
+IsUnread path OutOfMemory = Unit {0}
+
+-- why there is no start: the folder of the cache, or the last file in it, isn't read
+abbrev pub IsStartless : List ℕ → CacheFault → Type 0
+IsStartless dir fault =
+    IsUnread dir fault ⊎ ((last : Place) × IsPlace last × IsUnread (path_of dir last) fault)
 
 -- why the file of a place isn't written: it can't be, or memory ran out
 abbrev pub IsUnwritten : List ℕ → Place → CacheFault → Type 0

@@ -1,8 +1,8 @@
 //! Reading and writing the cache.
-ghost use Rattle.std.specs.Prelude.{◌≡◌, ◌≤◌, IfOk, IfErr};
+ghost use Rattle.std.specs.Prelude.{◌≡◌, ◌≤◌, [], IfOk, IfErr, IsErrAnd};
 ghost use Rattle.sessions.specs.Spelling.{file_of};
 ghost use Rattle.session_cache.specs.Names.{most};
-ghost use Rattle.session_cache.specs.Starts.{IsPlace, IsStart, IsUnwritten};
+ghost use Rattle.session_cache.specs.Starts.{IsPlace, IsStart, IsStartless, IsUnread, IsUnwritten};
 
 use crate::fault::CacheFault;
 use crate::names::{Named, highest};
@@ -15,10 +15,16 @@ use std::io::{ErrorKind, Write};
 use std::rt::Files;
 use std::{fs, io};
 
-/// Where the next session begins in the cache of this folder. A folder that isn't there is an empty cache.
+/// Where the next session begins in the cache of this folder. A folder that isn't there is an empty cache; an empty word names
+/// no folder, and can't be read.
 pub fn find_start<R: Files + AllocGlobal>(rt: &R, dir: &str) -> Result<Start, CacheFault>
-    ensures { IfOk result IsStart }
+    ensures start { IfOk result IsStart }
+    ensures startless { IfErr result (IsStartless dir.now) }
+    ensures unnamed { dir.now ≡ [] → IsErrAnd result (IsUnread []) }
 {
+    if dir.is_empty() {
+        return Err(CacheFault::CannotRead(String::new(rt.alloc())));
+    }
     let chains = match names_in(rt, dir) {
         Ok(names) => names,
         Err(error) if error.kind() == ErrorKind::NotFound => return Ok(first_of(0)),
@@ -33,7 +39,8 @@ pub fn find_start<R: Files + AllocGlobal>(rt: &R, dir: &str) -> Result<Start, Ca
 /// Where the next session begins behind those of the last chain.
 fn start_in<R: Files + AllocGlobal>(rt: &R, dir: &str, chain: u32) -> Result<Start, CacheFault>
     requires { chain ≤ most }
-    ensures { IfOk result IsStart }
+    ensures start { IfOk result IsStart }
+    ensures startless { IfErr result (IsStartless dir.now) }
 {
     let folder = chain_path(rt.alloc(), dir, chain)?;
     let sessions = match names_in(rt, folder.as_str()) {
@@ -49,7 +56,8 @@ fn start_in<R: Files + AllocGlobal>(rt: &R, dir: &str, chain: u32) -> Result<Sta
 /// Where the next session begins behind the file at this place.
 fn start_at<R: Files + AllocGlobal>(rt: &R, dir: &str, last: Place) -> Result<Start, CacheFault>
     requires { IsPlace last }
-    ensures { IfOk result IsStart }
+    ensures start { IfOk result IsStart }
+    ensures startless { IfErr result (IsStartless dir.now) }
 {
     let alloc = rt.alloc();
     let path = last.path(alloc, dir)?;
@@ -74,7 +82,9 @@ fn names_in<R: Files + AllocGlobal>(rt: &R, folder: &str) -> io::Result<Vec<Stri
 }
 
 /// Why a folder or a file isn't read.
-fn unreadable(alloc: Global, path: &str, error: &io::Error) -> CacheFault {
+fn unreadable(alloc: Global, path: &str, error: &io::Error) -> CacheFault
+    ensures { IsUnread path.now result }
+{
     if error.kind() == ErrorKind::OutOfMemory {
         return CacheFault::OutOfMemory;
     }

@@ -2,7 +2,11 @@
 ghost use Rattle.std.specs.Prelude.{◌≡◌, ◌≤◌, ◌++◌, ◌∷◌, [], ℕ, map, string_bytes, IfSome, Some, OnOk, ◌⊎◌, ◌↔◌, ◌-◌, List, IsTrue, codes};
 ghost use Rattle.session_cache.specs.Names.{most, four_digits, name_of, IsDigit, AreFour, IsSpelled, IsHighest};
 
+use sessions::Session;
 use std::alloc::AllocError;
+
+/// The greatest number of a chain in its cache, which is that of a session in its chain.
+pub(crate) const MOST: u32 = Session::MOST;
 
 /// What has a number in a cache.
 #[derive(Clone, Copy, Debug, PartialEq, Eq)]

@@ -3,6 +3,7 @@ ghost use Rattle.std.specs.Prelude.{◌≡◌, ◌≤◌, None, IfOk};
 ghost use Rattle.session_cache.specs.Names.{most};
 ghost use Rattle.session_cache.specs.Starts.{IsPlace, IsStart, IsStartBehind, BeginsNext};
 
+use crate::names::MOST;
 use crate::place::Place;
 use session_file::FileFault;
 use sessions::Session;
@@ -76,7 +77,7 @@ fn start_after(alloc: Global, last: Place, session: Session) -> Result<Start, Al
     if session.number() != last.number {
         return Ok(begin_next(last, Why::Number));
     }
-    if last.number >= Session::MOST {
+    if last.number >= MOST {
         return Ok(begin_next(last, Why::Full));
     }
     Ok(Start {
@@ -95,7 +96,7 @@ fn begin_next(last: Place, why: Why) -> Start
     ensures next { BeginsNext last why result }
     ensures start { IsStart result }
 {
-    let place = if last.chain < 9999 {
+    let place = if last.chain < MOST {
         Some(Place {
             chain: last.chain + 1,
             number: 0,
