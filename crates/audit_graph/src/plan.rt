@@ -9,7 +9,7 @@ use std::marker::Model;
 /// The executed records of a session, which are to be run again. Contracts see their indices.
 #[derive(Drop)]
 pub struct Plan {
-    executed: Vec<usize>,
+    indices: Vec<usize>,
 }
 
 impl Model for Plan {
@@ -17,7 +17,7 @@ impl Model for Plan {
 
     ghost Value = { List ℕ };
 
-    ghost view = { λ p. p.executed.items };
+    ghost view = { λ p. p.indices.items };
 }
 
 impl Plan {
@@ -26,15 +26,15 @@ impl Plan {
         ensures { IfOk result (λ plan. plan ≡ executed_in session.now) }
     {
         Ok(Plan {
-            executed: executed_in(alloc, session)?,
+            indices: executed_in(alloc, session)?,
         })
     }
 
     /// The indices of the executed records, in order.
-    pub fn executed(&self) -> &[usize]
+    pub fn indices(&self) -> &[usize]
         ensures { result.now ≡ self.now }
     {
-        self.executed.as_slice()
+        self.indices.as_slice()
     }
 }
 

@@ -50,13 +50,20 @@ module _ (mean : Meaning) (reads : ReadLists) (files : List (List ℕ)) (old new
         p.passed.log ∙ (ap (λ (ss : List SessionValue). old ++ all_executed_keys ss) none ∙ append-nil old),
       )
 
-  pub no_answer : (s : SessionValue) → PassesSoFar mean reads files old new (Some s) runs → entry_at s Answer ≡ None → PassesWith mean reads files old new (λ last. last Answer ≡ None)
-  no_answer s p none = record {
-    sessions = p.sessions;
-    runs = runs;
-    passed = p.passed;
-    holds = ap (λ (o : Option SessionValue). past_entry o Answer) p.end ∙ none;
-  }
+  some_files : (s : SessionValue) (ss : List SessionValue) → last_of None ss ≡ Some s → map file_of ss ≡ files → files ≡ [] → ⊥
+  some_files s [] e spelled none = absurd (none-some s e)
+  some_files s (t ∷ ts) e spelled none = absurd (let h : (file_of t ∷ map file_of ts) ≡ [] = spelled ∙ none in cc)
+
+  pub no_answer : (s : SessionValue) → PassesSoFar mean reads files old new (Some s) runs → entry_at s Answer ≡ None → (files ≢ []) × PassesWith mean reads files old new (λ last. last Answer ≡ None)
+  no_answer s p none = (
+    some_files s p.sessions p.end p.passed.spelled,
+    record {
+      sessions = p.sessions;
+      runs = runs;
+      passed = p.passed;
+      holds = ap (λ (o : Option SessionValue). past_entry o Answer) p.end ∙ none;
+    },
+  )
 
   pub with_answer : (s : SessionValue) (v : Value) → PassesSoFar mean reads files old new (Some s) runs → HasValue (entry_at s) Answer v → PassesWith mean reads files old new (λ last. last Answer ≢ None)
   with_answer s v p h = record {

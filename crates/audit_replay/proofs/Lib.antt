@@ -6,5 +6,6 @@ pub mod LogRules
 pub mod FileRules
 pub mod ChainRules
 pub mod EndRules
+pub mod AuditLogs
 pub mod AgainstRules
 pub mod RefusalRules

@@ -135,7 +135,7 @@ abbrev pub AuditRefuses
     : Meaning → ReadLists → List (List ℕ) → List Key → List Key → AuditFault → Type 0
 AuditRefuses mean reads files old new EmptyChain = (files ≡ []) × (new ≡ old)
 AuditRefuses mean reads files old new NoAnswer =
-    PassesWith mean reads files old new (λ last. last Answer ≡ None)
+    (files ≢ []) × PassesWith mean reads files old new (λ last. last Answer ≡ None)
 AuditRefuses mean reads files old new SourcesDiffer = ⊥
 AuditRefuses mean reads files old new OutOfMemory =
     IsRefusedBehind mean reads files old new OutOfMemory

@@ -3,6 +3,7 @@ ghost use Rattle.std.specs.Prelude.{◌≡◌, map, IfOk, IfErr};
 ghost use Rattle.std.specs.Arc.{arc_value};
 ghost use Rattle.recorder.specs.Projects.{Project as Files};
 ghost use Rattle.audit_replay.specs.Audits.{IsAccepted, IsAcceptedUpTo, AuditRefuses};
+ghost use Rattle.audit_replay.specs.Logs.{RunsExecuted, RunsNoOther};
 
 use crate::answer::answer_of;
 use crate::files::audit_files;
@@ -33,6 +34,10 @@ pub fn audit<R: Runner>(
         × IsAccepted R.mean R.reads (map (λ f. f.now) chain.now) (R.log runner.old)
         (R.log runner.new) p (arc_value a.answer) a.sessions a.runs) }
     ensures refused { IfErr result (AuditRefuses R.mean R.reads (map (λ f. f.now) chain.now)
+        (R.log runner.old) (R.log runner.new)) }
+    ensures log { IfOk result (λ a. RunsExecuted (map (λ f. f.now) chain.now)
+        (R.log runner.old) (R.log runner.new) a.runs) }
+    ensures log_refused { IfErr result (λ _. RunsNoOther (map (λ f. f.now) chain.now)
         (R.log runner.old) (R.log runner.new)) }
 {
     match audit_chain(alloc, runner, chain) {

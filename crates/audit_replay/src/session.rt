@@ -26,8 +26,8 @@ pub(crate) fn audit_session<R: Runner>(
         Ok(plan) => plan,
         Err(fault) => return Err(fault),
     };
-    match run_plan(alloc, runner, k, session, plan.executed()) {
-        Ok(()) => Ok(plan.executed().len()),
+    match run_plan(alloc, runner, k, session, plan.indices()) {
+        Ok(()) => Ok(plan.indices().len()),
         Err(fault) => Err(fault),
     }
 }
