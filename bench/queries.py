@@ -2,7 +2,7 @@
 """Times the answer of a project by queries beside `mjrg scratch` on projects of 400 and 4,000 classes, in one run.
 
 The queries' results are kept by key, with no session: what a run costs beyond `scratch` is what asking, sealing and
-looking up cost. The program of the bench (`codec_bench`) is built by `rt build` in its folder. With --compare FOLDER it
+looking up cost. The program of the bench (`codec_bench`) is built by `rt run` in its folder. With --compare FOLDER it
 compares instead both programs' standard outputs on the recorded cases there, and ends with status 1 where one differs.
 """
 import argparse
@@ -96,10 +96,14 @@ def main():
     parser.add_argument("program", nargs="?", default=str(TOP / "mjrg"))
     parser.add_argument("--bench", default=str(TOP / "crates/codec_bench/out/codec_bench"), help="the bench's program")
     parser.add_argument("--fields", type=int, default=4, help="fields of a class beside its own (4)")
-    parser.add_argument("--methods", type=int, default=5, help="methods of a class (5)")
+    parser.add_argument("--methods", type=int, default=4, help="methods of a class beside its first (4)")
     parser.add_argument("--runs", type=int, default=3, help="runs of each program (3)")
     parser.add_argument("--compare", nargs="+", metavar="FOLDER", help="folders of recorded cases")
     options = parser.parse_args()
+    for program, maker in [(options.program, "./release"), (options.bench, "rt run in crates/codec_bench")]:
+        if not Path(program).is_file():
+            print(f"{program} isn't there: run {maker}", file=sys.stderr)
+            return 2
     if options.compare:
         return compare(options)
     few = measured(options, 400)
