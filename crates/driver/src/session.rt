@@ -56,15 +56,15 @@ fn drive_table<R: Runner>(
 ) -> Result<(Session, Reports), AllocError>
     requires crew { IsCrew workers }
     requires free { IsFree table }
-    ensures { IfOk result (λ done. IsSessionOf R.mean R.reads table.past table.project workers done.0
-        done.1) }
+    ensures { IfOk result (λ done. IsSessionOf R.mean R.reads table.past table.project workers
+        done.0 done.1) }
 {
     let mut solo = Solo::new(table);
     do_jobs(alloc, &mut solo, runner, project)?;
-    let table = solo.table();
+    let table = solo.into_table();
     table.laws();
     let reports = reports_of(alloc, table.history().len(), workers)?;
-    Ok((close(table)?, reports))
+    Ok((close(&table)?, reports))
 }
 
 /// The session of a table at which all jobs are done.

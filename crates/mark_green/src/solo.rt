@@ -42,10 +42,11 @@ impl<R: Runner> Solo<R> {
     }
 
     /// The table.
-    pub fn table(&self) -> &Table<R>
-        ensures { result.now ≡ self.now.table }
+    pub fn into_table(self) -> Table<R>
+        ensures { result ≡ self.table }
     {
-        &self.table
+        let Solo { table } = self;
+        table
     }
 }
 
