@@ -61,10 +61,10 @@ fn drive_table<R: Runner>(
 {
     let mut solo = Solo::new(table);
     do_jobs(alloc, &mut solo, runner, project)?;
-    let table = solo.into_table();
+    let table = solo.table();
     table.laws();
     let reports = reports_of(alloc, table.history().len(), workers)?;
-    Ok((close(&table)?, reports))
+    Ok((close(table)?, reports))
 }
 
 /// The session of a table at which all jobs are done.

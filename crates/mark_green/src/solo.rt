@@ -42,6 +42,13 @@ impl<R: Runner> Solo<R> {
     }
 
     /// The table.
+    pub fn table(&self) -> &Table<R>
+        ensures { result.now ≡ self.now.table }
+    {
+        &self.table
+    }
+
+    /// The table, given back.
     pub fn into_table(self) -> Table<R>
         ensures { result ≡ self.table }
     {
