@@ -17,8 +17,8 @@ IsCrew workers = (1 ≤ workers) × (workers ≤ 64)
 
 -- The events are a legal history over the past and the project, each outcome in it follows from its
 -- reads, and the session is what their last state closes with.
-pub record AreEventsOf (mean : Meaning) (reads : ReadLists) (past : Option SessionValue) (p : Project)
-    (history : List Event) (s : SessionValue) : Type 0 where
+pub record AreEventsOf (mean : Meaning) (reads : ReadLists) (past : Option SessionValue)
+    (p : Project) (history : List Event) (s : SessionValue) : Type 0 where
   pub legal : Legal (past_entry past) p history
   pub backed : AreBacked mean reads history
   pub may_close : MayClose (state_after (past_entry past) p history)
@@ -30,8 +30,8 @@ pub record AreReportsOn (history : List Event) (workers : ℕ) (r : Reports) : T
   pub first : r.events.items ≡ length history ∷ replicate (workers - 1) 0
 
 -- The session comes of a history, on which these are the reports.
-pub record IsSessionOf (mean : Meaning) (reads : ReadLists) (past : Option SessionValue) (p : Project)
-    (workers : ℕ) (s : SessionValue) (r : Reports) : Type 0 where
+pub record IsSessionOf (mean : Meaning) (reads : ReadLists) (past : Option SessionValue)
+    (p : Project) (workers : ℕ) (s : SessionValue) (r : Reports) : Type 0 where
   pub history : List Event
   pub events : AreEventsOf mean reads past p history s
   pub reports : AreReportsOn history workers r

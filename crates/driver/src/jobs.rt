@@ -2,7 +2,7 @@
 ghost use Rattle.std.specs.Prelude.{◌≡◌, ◌<◌, ◌≤◌, IfOk, OnOk, length, map, string_bytes};
 ghost use Rattle.std.specs.Arc.{arc_value};
 ghost use Rattle.item_ids.specs.declared.key.Key.TheVariants.{Answer};
-ghost use Rattle.mj_project.specs.Projects.{IsProject, source_view};
+ghost use Rattle.mj_project.specs.Projects.{IsProject, most_name_bytes, source_view};
 ghost use Rattle.driver.specs.Frees.{IsFree, WorksOn, Brings};
 
 use fingerprint::Sealed;
@@ -80,7 +80,7 @@ fn bring_tree<R: Runner>(
 ) -> Result<(), AllocError>
     requires free { IsFree solo.old.table }
     requires some { 0 < length file.now }
-    requires short { length file.now ≤ 255 }
+    requires short { length file.now ≤ most_name_bytes }
     ensures { OnOk result (WorksOn solo.old.table solo.new.table) }
 {
     let key = Key::Tree(Name::new(alloc, file)?);

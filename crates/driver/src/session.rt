@@ -56,8 +56,8 @@ fn drive_table<R: Runner>(
 ) -> Result<(Session, Reports), AllocError>
     requires crew { IsCrew workers }
     requires free { IsFree table }
-    ensures { IfOk result (λ done. IsSessionOf R.mean R.reads table.past table.project workers done.0
-        done.1) }
+    ensures { IfOk result (λ done. IsSessionOf R.mean R.reads table.past table.project workers
+        done.0 done.1) }
 {
     let mut solo = Solo::new(table);
     do_jobs(alloc, &mut solo, runner, project)?;

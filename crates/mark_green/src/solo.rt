@@ -47,6 +47,14 @@ impl<R: Runner> Solo<R> {
     {
         &self.table
     }
+
+    /// The table, given back.
+    pub fn into_table(self) -> Table<R>
+        ensures { result ≡ self.table }
+    {
+        let Solo { table } = self;
+        table
+    }
 }
 
 impl<R: Runner> Store for Solo<R> {

@@ -96,7 +96,7 @@ pub(crate) fn digest_behind(
 }
 
 /// The session, to be shared.
-fn share(alloc: Global, session: Session) -> Result<Arc<Session>, AllocError> {
+pub(crate) fn share(alloc: Global, session: Session) -> Result<Arc<Session>, AllocError> {
     Ok(Arc::new(alloc, session)?)
 }
 

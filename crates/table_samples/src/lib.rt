@@ -3,6 +3,7 @@
 
 mod calls;
 mod changes;
+mod driving;
 mod histories;
 mod replays;
 mod runs;
@@ -10,5 +11,6 @@ mod tables;
 
 pub use calls::{Call, Calls, Said, Saying, are_said};
 pub use changes::{Change, Other};
+pub use driving::{Counts, Unmade, are_reported, drive_fault};
 pub use histories::{History, is_history};
 pub use replays::{Replay, replay_of};

@@ -1,0 +1,144 @@
+//! What is reported of sessions that are run, why there is none, and the texts of those faults.
+
+use crate::records::ONE;
+use mark_green::Fault;
+use mini_java_driver::DriveFault;
+use std::alloc::Global;
+use std::test::*;
+use table_samples::{Counts, Unmade, are_reported, drive_fault};
+
+/// A first session of the class that prints 1 and one over it again, by so many workers: how many events each worker made
+/// in the first, how many there are, and the same of the second.
+struct Row {
+    workers: usize,
+    first: &'static [usize],
+    first_history: usize,
+    again: &'static [usize],
+    again_history: usize,
+}
+
+const ROWS: &[Row] = &[
+    // Ten queries are executed, three events for each, and green then, two events for each.
+    Row {
+        workers: 1,
+        first: &[30],
+        first_history: 30,
+        again: &[20],
+        again_history: 20,
+    },
+    // The first of the workers makes all events.
+    Row {
+        workers: 8,
+        first: &[30, 0, 0, 0, 0, 0, 0, 0],
+        first_history: 30,
+        again: &[20, 0, 0, 0, 0, 0, 0, 0],
+        again_history: 20,
+    },
+];
+
+fn is_reported(alloc: Global, row: &Row) -> bool {
+    let first = Counts {
+        workers: row.workers,
+        events: row.first,
+        history: row.first_history,
+    };
+    let again = Counts {
+        workers: row.workers,
+        events: row.again,
+        history: row.again_history,
+    };
+    are_reported(alloc, ONE, &first, &again) == Ok(true)
+}
+
+#[test]
+fn sessions_are_reported(rt: HostRuntime) {
+    for row in ROWS {
+        assert!(rt; is_reported(rt.alloc(), row));
+    }
+}
+
+/// A session that is refused, and why.
+struct Refused {
+    past: Option<u32>,
+    workers: usize,
+    fault: DriveFault,
+}
+
+const REFUSED: &[Refused] = &[
+    Refused {
+        past: None,
+        workers: 0,
+        fault: DriveFault::Workers,
+    },
+    Refused {
+        past: None,
+        workers: 65,
+        fault: DriveFault::Workers,
+    },
+    Refused {
+        past: Some(9999),
+        workers: 1,
+        fault: DriveFault::ChainFull,
+    },
+    // The number of workers is looked at first.
+    Refused {
+        past: Some(9999),
+        workers: 65,
+        fault: DriveFault::Workers,
+    },
+];
+
+fn is_refused(alloc: Global, row: &Refused) -> bool {
+    let unmade = Unmade {
+        past: row.past,
+        workers: row.workers,
+    };
+    drive_fault(alloc, ONE, &unmade) == Ok(Some(row.fault))
+}
+
+#[test]
+fn sessions_are_refused(rt: HostRuntime) {
+    for row in REFUSED {
+        assert!(rt; is_refused(rt.alloc(), row));
+    }
+}
+
+const DRIVE_TEXTS: &[(DriveFault, &str)] = &[
+    (DriveFault::Workers, "12.1 Workers"),
+    (DriveFault::OutOfMemory, "12.2 OutOfMemory"),
+    (DriveFault::ChainFull, "12.3 ChainFull"),
+];
+
+fn is_drive_text(alloc: Global, fault: DriveFault, want: &str) -> bool {
+    match format!(in alloc; "{fault}") {
+        Ok(text) => text.as_str() == want,
+        Err(_) => false,
+    }
+}
+
+#[test]
+fn drive_faults_are_printed(rt: HostRuntime) {
+    for (fault, want) in DRIVE_TEXTS {
+        assert!(rt; is_drive_text(rt.alloc(), *fault, want));
+    }
+}
+
+const GREEN_TEXTS: &[(Fault, &str)] = &[
+    (Fault::Stopped, "10.1 Stopped"),
+    (Fault::OutOfMemory, "10.2 OutOfMemory"),
+    (Fault::Busy, "10.3 Busy"),
+];
+
+fn is_green_text(alloc: Global, fault: Fault, want: &str) -> bool {
+    match format!(in alloc; "{fault}") {
+        Ok(text) => text.as_str() == want,
+        Err(_) => false,
+    }
+}
+
+#[test]
+fn green_faults_are_printed(rt: HostRuntime) {
+    for (fault, want) in GREEN_TEXTS {
+        assert!(rt; is_green_text(rt.alloc(), *fault, want));
+    }
+}
