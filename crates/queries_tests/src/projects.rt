@@ -397,7 +397,7 @@ fn runs_of_the_runner(rt: HostRuntime) -> Result<(), Fail> {
 const LACKING_MEMBERS: Kept = Kept {
     reads: &[METHOD_MAIN, HEADER_A],
     fault: Some(ReadFault::NotHeld),
-    refused: Some(MEMBERS_A.0),
+    refused: Some(Asked(Kind::Members, "A", "")),
 };
 
 /// Whether the run over the list is refused an answer that isn't there, of which this is kept, and is logged.

@@ -356,53 +356,32 @@ const OF_NO_PROJECT: &[Row] = &[
         ),
         reads: &[
             Given(
-            Asked(Kind::Supers, "B", ""),
-            "070100000000000000020142014100",
-        ),
+                Asked(Kind::Supers, "B", ""),
+                "070100000000000000020142014100",
+            ),
             Given(
-            Asked(Kind::Header, "B", ""),
-            "040100010141000000000000000000000000000000010167",
-        ),
-            Given(
-            Asked(Kind::Header, "A", ""),
-            "0400",
-        ),
-            Given(
-            Asked(Kind::Sig, "B", "g"),
-            "0600",
-        ),
+                Asked(Kind::Header, "B", ""),
+                "040100010141000000000000000000000000000000010167",
+            ),
+            Given(Asked(Kind::Header, "A", ""), "0400"),
+            Given(Asked(Kind::Sig, "B", "g"), "0600"),
         ],
     },
     Row {
-        query: Given(
-            Asked(Kind::Supers, "B", ""),
-            "07010000000000000001014200",
-        ),
+        query: Given(Asked(Kind::Supers, "B", ""), "07010000000000000001014200"),
         reads: &[
-            Given(
-            Asked(Kind::Index, "", ""),
-            "03000000000000000101420161",
-        ),
-            Given(
-            Asked(Kind::Header, "B", ""),
-            "0400",
-        ),
+            Given(Asked(Kind::Index, "", ""), "03000000000000000101420161"),
+            Given(Asked(Kind::Header, "B", ""), "0400"),
         ],
     },
     Row {
-        query: Given(
-            Asked(Kind::CheckClass, "B", ""),
-            "090000000000000000",
-        ),
+        query: Given(Asked(Kind::CheckClass, "B", ""), "090000000000000000"),
         reads: &[
             Given(
-            Asked(Kind::Header, "B", ""),
-            "040100010141000000000000000000000000000000010167",
-        ),
-            Given(
-            Asked(Kind::Supers, "B", ""),
-            "0700",
-        ),
+                Asked(Kind::Header, "B", ""),
+                "040100010141000000000000000000000000000000010167",
+            ),
+            Given(Asked(Kind::Supers, "B", ""), "0700"),
         ],
     },
     Row {
@@ -411,26 +390,11 @@ const OF_NO_PROJECT: &[Row] = &[
             "0c0000000000000002000066010161006500000000000000010143000000000000000000000000000000000000000000000000",
         ),
         reads: &[
-            Given(
-            Asked(Kind::Files, "", ""),
-            "0000000000000000010161",
-        ),
-            Given(
-            Asked(Kind::Tree, "a", ""),
-            "0200",
-        ),
-            Given(
-            Asked(Kind::Index, "", ""),
-            "03000000000000000101430161",
-        ),
-            Given(
-            Asked(Kind::Members, "C", ""),
-            "0800",
-        ),
-            Given(
-            Asked(Kind::Diags, "C", ""),
-            "0b0000000000000000",
-        ),
+            Given(Asked(Kind::Files, "", ""), "0000000000000000010161"),
+            Given(Asked(Kind::Tree, "a", ""), "0200"),
+            Given(Asked(Kind::Index, "", ""), "03000000000000000101430161"),
+            Given(Asked(Kind::Members, "C", ""), "0800"),
+            Given(Asked(Kind::Diags, "C", ""), "0b0000000000000000"),
         ],
     },
 ];

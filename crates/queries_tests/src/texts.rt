@@ -209,19 +209,10 @@ const TABLE: &[Row] = &[
         reads: &[Given(Asked(Kind::Method, "A", "g"), "0500")],
     },
     Row {
-        query: Given(
-            Asked(Kind::Header, "A", ""),
-            "0400",
-        ),
+        query: Given(Asked(Kind::Header, "A", ""), "0400"),
         reads: &[
-            Given(
-            Asked(Kind::Index, "", ""),
-            "03000000000000000101410161",
-        ),
-            Given(
-            Asked(Kind::Tree, "a", ""),
-            "0200",
-        ),
+            Given(Asked(Kind::Index, "", ""), "03000000000000000101410161"),
+            Given(Asked(Kind::Tree, "a", ""), "0200"),
         ],
     },
 ];
