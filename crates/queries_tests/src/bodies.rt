@@ -36,7 +36,9 @@ fn is_right(rt: HostRuntime, row: &Row) -> Result<bool, Unfit> {
 }
 
 // In order: a call of a method that is there; a field assigned a new object, and again where the object's class isn't
-// declared; an argument of a class below the formal's; a sum and a name at fault, and nothing said of the comparison.
+// declared; an argument of a class below the formal's; a sum and a name at fault, and nothing said of the comparison;
+// values of classes below a field's and the return's, and one of a local's own; two arguments of other classes than their
+// formals, of which the first isn't accepted; an element of a name that isn't there, assigned a new object.
 const TABLE: &[Row] = &[
     Row {
         class: "M",
@@ -123,6 +125,85 @@ const TABLE: &[Row] = &[
             "050100030000000b01000000161000000011020000001308000000120000000109000000140b000000170178",
         )],
         value: "0a000000000000000203046d61696e00000013013003046d61696e00000017012f",
+    },
+    Row {
+        class: "A",
+        method: "f",
+        reads: &[
+            Given(
+                Asked(Kind::Method, "A", "f"),
+                "05010101660301410000000000000002016203014200000004016303014300000007000000000000000101780301410000000b0000000000000002040000000f01610000000e0b00000010016204000000130178000000120b0000001401610b00000017016300000016",
+            ),
+            Given(
+                Asked(Kind::Header, "A", ""),
+                "040100000000000000000001016103014100000000000000010166",
+            ),
+            Given(
+                Asked(Kind::Header, "B", ""),
+                "04010001014100000000000000000000000000000000",
+            ),
+            Given(
+                Asked(Kind::Header, "C", ""),
+                "04010001014100000000000000000000000000000000",
+            ),
+            Given(
+                Asked(Kind::Members, "A", ""),
+                "08010000000000000001016101410301410000000000000001016601410000000000000002030142030143030141",
+            ),
+            Given(
+                Asked(Kind::Supers, "B", ""),
+                "070100000000000000020142014100",
+            ),
+            Given(
+                Asked(Kind::Supers, "C", ""),
+                "070100000000000000020143014100",
+            ),
+        ],
+        value: "0a0000000000000000",
+    },
+    Row {
+        class: "A",
+        method: "h",
+        reads: &[
+            Given(
+                Asked(Kind::Method, "A", "h"),
+                "0501010168000000000000000001017a03015a0000000400000000000000000000000000000000070000000b0c00000009016700000000000000020e0000000d01430e00000012014200000008",
+            ),
+            Given(Asked(Kind::Header, "Z", ""), "0400"),
+            Given(
+                Asked(Kind::Header, "C", ""),
+                "0401000000000000000000000000000000000000",
+            ),
+            Given(
+                Asked(Kind::Header, "B", ""),
+                "04010001014100000000000000000000000000000000",
+            ),
+            Given(
+                Asked(Kind::Members, "A", ""),
+                "0801000000000000000000000000000000020167014100000000000000020301420301410001680141000000000000000103015a00",
+            ),
+            Given(Asked(Kind::Supers, "C", ""), "07010000000000000001014300"),
+        ],
+        value: "0a00000000000000020301680000000400ce0301680000000b0139",
+    },
+    Row {
+        class: "A",
+        method: "f",
+        reads: &[
+            Given(
+                Asked(Kind::Method, "A", "f"),
+                "050101016600000000000000000000000000000000000000000000000001050000000a0178000000060800000008000000000e0000000b014108000000110000000000000010",
+            ),
+            Given(
+                Asked(Kind::Members, "A", ""),
+                "08010000000000000000000000000000000101660141000000000000000000",
+            ),
+            Given(
+                Asked(Kind::Header, "A", ""),
+                "04010000000000000000000000000000000000010166",
+            ),
+        ],
+        value: "0a000000000000000103016600000006012f",
     },
 ];
 

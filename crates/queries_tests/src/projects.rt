@@ -8,8 +8,8 @@ use item_ids::{Key, Kind, rank};
 use project_inputs::Inputs;
 use providers::MiniJava;
 use query_driver::Driver;
-use recorder::{AnswerList, Recorder, Runner};
-use run_samples::{Given, comes_to, list_of};
+use recorder::{AnswerList, ReadFault, Recorder, Runner};
+use run_samples::{Given, Kept, comes_to, list_of, wants};
 use std::alloc::Global;
 use std::test::*;
 
@@ -270,43 +270,86 @@ const TABLE: &[Row] = &[
 const ONE_LITERAL: &str =
     "class M { public static void main(String[] a) { System.out.println(1); } }";
 
+const TREE_OF_ONE: Given<'static> = Given(
+    Asked(Kind::Tree, "M.java", ""),
+    "020101014d030000000b0800000011000000010000000000000000",
+);
+
+const INDEX_OF_ONE: Given<'static> = Given(
+    Asked(Kind::Index, "", ""),
+    "030000000000000001014d064d2e6a617661",
+);
+
+const MAIN_OF_ONE: Given<'static> = Given(
+    Asked(Kind::Method, "M", "main"),
+    "050100030000000b080000001100000001",
+);
+
+const NO_METHOD: Given<'static> = Given(Asked(Kind::Method, "M", "f"), "0500");
+
 // Queries of its project, in which there is no other class.
 const OF_ONE_LITERAL: &[Row] = &[
     Row {
-        query: Given(
-            Asked(Kind::Tree, "M.java", ""),
-            "020101014d030000000b0800000011000000010000000000000000",
-        ),
+        query: TREE_OF_ONE,
         reads: &[Given(
             Asked(Kind::Source, "M.java", ""),
             "0101000000000000004a636c617373204d207b207075626c69632073746174696320766f6964206d61696e28537472696e675b5d206129207b2053797374656d2e6f75742e7072696e746c6e2831293b207d207d",
         )],
     },
     Row {
+        query: INDEX_OF_ONE,
+        reads: &[FILES, TREE_OF_ONE],
+    },
+    Row {
+        query: HEADER_M,
+        reads: &[INDEX_OF_ONE, TREE_OF_ONE],
+    },
+    Row {
+        query: MAIN_OF_ONE,
+        reads: &[INDEX_OF_ONE, TREE_OF_ONE],
+    },
+    Row {
+        query: NO_METHOD,
+        reads: &[INDEX_OF_ONE, TREE_OF_ONE],
+    },
+    Row {
+        query: SIG_MAIN,
+        reads: &[MAIN_OF_ONE],
+    },
+    Row {
+        query: Given(Asked(Kind::Sig, "M", "f"), "0600"),
+        reads: &[NO_METHOD],
+    },
+    Row {
+        query: SUPERS_M,
+        reads: &[INDEX_OF_ONE, HEADER_M],
+    },
+    Row {
+        query: MEMBERS_M,
+        reads: &[SUPERS_M, HEADER_M],
+    },
+    Row {
+        query: CLASS_M,
+        reads: &[HEADER_M, SUPERS_M],
+    },
+    Row {
         query: BODY_MAIN,
-        reads: &[Given(
-            Asked(Kind::Method, "M", "main"),
-            "050100030000000b080000001100000001",
-        )],
+        reads: &[MAIN_OF_ONE],
+    },
+    Row {
+        query: Given(Asked(Kind::CheckBody, "M", "f"), "0a0000000000000000"),
+        reads: &[NO_METHOD],
+    },
+    Row {
+        query: DIAGS_M,
+        reads: &[HEADER_M, CLASS_M, BODY_MAIN],
     },
     Row {
         query: Given(
             Asked(Kind::Answer, "", ""),
             "0c00000000000000000000000000000001014d000000000000000000000000000000000000000000000000",
         ),
-        reads: &[
-            FILES,
-            Given(
-                Asked(Kind::Tree, "M.java", ""),
-                "020101014d030000000b0800000011000000010000000000000000",
-            ),
-            Given(
-                Asked(Kind::Index, "", ""),
-                "030000000000000001014d064d2e6a617661",
-            ),
-            MEMBERS_M,
-            DIAGS_M,
-        ],
+        reads: &[FILES, TREE_OF_ONE, INDEX_OF_ONE, MEMBERS_M, DIAGS_M],
     },
 ];
 
@@ -346,6 +389,65 @@ fn is_right(rt: HostRuntime, row: &Row) -> Result<bool, Unfit> {
 fn runs_of_the_runner(rt: HostRuntime) -> Result<(), Fail> {
     for row in TABLE.iter().chain(OF_ONE_LITERAL) {
         assert!(rt; is_right(rt, row)?);
+    }
+    Ok(())
+}
+
+// What is kept where the list lacks the members of the second class, which the body of `main` calls.
+const LACKING_MEMBERS: Kept = Kept {
+    reads: &[METHOD_MAIN, HEADER_A],
+    fault: Some(ReadFault::NotHeld),
+    refused: Some(Asked(Kind::Members, "A", "")),
+};
+
+/// Whether the run over the list is refused an answer that isn't there, of which this is kept, and is logged.
+fn is_refused(
+    rt: HostRuntime,
+    key: &Key,
+    list: AnswerList,
+    query: Asked,
+    kept: Kept,
+) -> Result<bool, Unfit>
+    requires { 0 < rank_of key.now }
+{
+    let mut runner = MiniJava::new(rt.alloc());
+    let mut recorder = Recorder::new(rt.alloc(), list);
+    let result = runner.run(rt.alloc(), key, &mut recorder);
+    Ok(
+        wants(rt.alloc(), result, recorder, kept)?
+            && matches!(runner.log(), [one] if is_key(one, query)),
+    )
+}
+
+/// Whether the run of the query over the answers that are kept is refused another one.
+fn is_lacking(rt: HostRuntime, query: Asked, kept: Kept) -> Result<bool, Unfit> {
+    let key = query_of(rt.alloc(), query)?;
+    match list_of(rt.alloc(), kept.reads) {
+        Ok(list) => is_refused(rt, &key, list, query, kept),
+        Err(unfit) => Err(unfit),
+    }
+}
+
+/// Whether the row's run, over each beginning of its reads, is refused the read that comes next.
+fn is_refused_each(rt: HostRuntime, row: &Row) -> Result<bool, Unfit> {
+    for (count, next) in row.reads.iter().enumerate() {
+        let kept = Kept {
+            reads: &row.reads[..count],
+            fault: Some(ReadFault::NotHeld),
+            refused: Some(next.0),
+        };
+        if !is_lacking(rt, row.query.0, kept)? {
+            return Ok(false);
+        }
+    }
+    Ok(true)
+}
+
+#[test]
+fn reads_that_are_refused(rt: HostRuntime) -> Result<(), Fail> {
+    assert!(rt; is_lacking(rt, BODY_MAIN.0, LACKING_MEMBERS)?);
+    for row in TABLE.iter().chain(OF_ONE_LITERAL) {
+        assert!(rt; is_refused_each(rt, row)?);
     }
     Ok(())
 }

@@ -345,9 +345,63 @@ const TABLE: &[Row] = &[
     },
 ];
 
+// Answers that no project gives, in order: a chain of a class without header and a method without types, which are passed
+// over; a class of the index without header, which is its whole chain; a class with a header and without chain; a class of
+// the index without table, which has an empty one.
+const OF_NO_PROJECT: &[Row] = &[
+    Row {
+        query: Given(
+            Asked(Kind::Members, "B", ""),
+            "080100000000000000000000000000000000",
+        ),
+        reads: &[
+            Given(
+                Asked(Kind::Supers, "B", ""),
+                "070100000000000000020142014100",
+            ),
+            Given(
+                Asked(Kind::Header, "B", ""),
+                "040100010141000000000000000000000000000000010167",
+            ),
+            Given(Asked(Kind::Header, "A", ""), "0400"),
+            Given(Asked(Kind::Sig, "B", "g"), "0600"),
+        ],
+    },
+    Row {
+        query: Given(Asked(Kind::Supers, "B", ""), "07010000000000000001014200"),
+        reads: &[
+            Given(Asked(Kind::Index, "", ""), "03000000000000000101420161"),
+            Given(Asked(Kind::Header, "B", ""), "0400"),
+        ],
+    },
+    Row {
+        query: Given(Asked(Kind::CheckClass, "B", ""), "090000000000000000"),
+        reads: &[
+            Given(
+                Asked(Kind::Header, "B", ""),
+                "040100010141000000000000000000000000000000010167",
+            ),
+            Given(Asked(Kind::Supers, "B", ""), "0700"),
+        ],
+    },
+    Row {
+        query: Given(
+            Asked(Kind::Answer, "", ""),
+            "0c0000000000000002000066010161006500000000000000010143000000000000000000000000000000000000000000000000",
+        ),
+        reads: &[
+            Given(Asked(Kind::Files, "", ""), "0000000000000000010161"),
+            Given(Asked(Kind::Tree, "a", ""), "0200"),
+            Given(Asked(Kind::Index, "", ""), "03000000000000000101430161"),
+            Given(Asked(Kind::Members, "C", ""), "0800"),
+            Given(Asked(Kind::Diags, "C", ""), "0b0000000000000000"),
+        ],
+    },
+];
+
 #[test]
 fn values_of_classes_and_projects(rt: HostRuntime) -> Result<(), Fail> {
-    for row in TABLE {
+    for row in TABLE.iter().chain(OF_NO_PROJECT) {
         assert!(rt; is_right(rt, row)?);
     }
     Ok(())

@@ -44,7 +44,7 @@ fn is_right(rt: HostRuntime, row: &Row) -> Result<bool, Unfit> {
 // In order: a sentence, a text that is none, and a file that isn't there; classes of three files, of which one is no
 // sentence, with names that repeat, and a main class; the header of a class, of the first of two of a name, of the main
 // class, and of a class that isn't declared; a method, one that isn't there, one of no class, and `main`; the types of
-// a method, of `main`, and of none.
+// a method, of `main`, and of none; last, what no project gives: a class that the index has in a file without tree.
 const TABLE: &[Row] = &[
     Row {
         query: Given(
@@ -207,6 +207,13 @@ const TABLE: &[Row] = &[
     Row {
         query: Given(Asked(Kind::Sig, "A", "g"), "0600"),
         reads: &[Given(Asked(Kind::Method, "A", "g"), "0500")],
+    },
+    Row {
+        query: Given(Asked(Kind::Header, "A", ""), "0400"),
+        reads: &[
+            Given(Asked(Kind::Index, "", ""), "03000000000000000101410161"),
+            Given(Asked(Kind::Tree, "a", ""), "0200"),
+        ],
     },
 ];
 
