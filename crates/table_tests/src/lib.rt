@@ -10,3 +10,5 @@ mod driving;
 mod histories;
 #[cfg(test)]
 mod records;
+#[cfg(test)]
+mod texts;
