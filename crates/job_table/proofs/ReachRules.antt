@@ -1,7 +1,7 @@
 -- Keys that edges lead to.
 use Rattle.std.proofs.Common.{◌≡◌, ◌↔◌, ◌⊎◌, inl, inr, ℕ, zero, suc, ◌+◌, ◌<◌, ◌≤◌, List, [], ◌∷◌, ◌++◌, map, take, length, get_or, refl, sym, ap, ◌∙◌, subst, append-nil, eq-or-lt_of_le, true, arith}
-use Rattle.std.specs.Prelude.{Contains, HoldsAt}
-use Rattle.std.specs.Ordering.{eq_by_cmp}
+use Rattle.std.specs.Prelude.{Contains, Bool, false, if◌then◌else◌}
+use Rattle.std.specs.Ordering.{is_eq}
 use Rattle.std.proofs.lemmas.List.{take_more, append_assoc, get_or_append_left, get_or_default}
 use Rattle.std.proofs.lemmas.List.Elements.{All-contains, All-from_recursion, Contains-get_or, Contains-push, Contains-push_cases, Contains-append_left, Contains-append_right, Contains-append_cases}
 use Rattle.item_ids.specs.declared.key.Key.{Key}
@@ -16,7 +16,7 @@ use Rattle.graph_rules.specs.Steps.{Status, Done, State, IsDone}
 use Rattle.graph_rules.specs.Sound.{IsDoneInOrder, IsInOrderAt, IsInOrder}
 use Rattle.graph_rules.specs.Graphs.{IsRoot, answer, files, source, IsReached, edge}
 use Rattle.graph_rules.specs.Graphs.IsReached.{root as starts}
-use Rattle.job_table.specs.Reached.{key_in, AreRoots, AreReached, HasEdges, Spreads, Adds}
+use Rattle.job_table.specs.Reached.{key_in, AreRoots, AreReached, HasEdges, Spreads, AreAmong, Adds}
 
 -- ---- the roots
 
@@ -67,9 +67,14 @@ adds_none old = record {
   has = λ q h. absurd (let b = h.1 in omega arith);
 }
 
--- a key that one of the list equals is there
-pub has_key : (found : List Key) (x : Key) → (k : ℕ) × (k < length found) × HoldsAt (λ y. eq_by_cmp key_cmp y x ≡ true) found k → Contains found x
-has_key found x h = (h.0, h.1, test_same _ x (h.2 x))
+-- the set with a key that the list got too
+pub among_more : (test new : Key → Bool) (found : List Key) (x : Key) → AreAmong test found → ((q : Key) → new q ≡ (if is_eq (key_cmp x q) then true else test q))
+    → AreAmong new (found ++ x ∷ [])
+among_more test new found x among is q h = go (is_eq (key_cmp x q)) refl (sym (is q) ∙ h)
+  where
+    go : (b : Bool) → is_eq (key_cmp x q) ≡ b → (if b then true else test q) ≡ true → Contains (found ++ x ∷ []) q
+    go true same t = subst (λ (k : Key). Contains (found ++ x ∷ []) k) (test_same x q same) (Contains-push found x)
+    go false same t = Contains-append_left found (x ∷ []) q (among q t)
 
 -- a key that was there
 pub adds_old : (found : List Key) (x : Key) → Contains found x → Adds found (x ∷ []) found
@@ -113,10 +118,10 @@ adds_more old edges found new i x lt is so_far one = subst (λ (es : List Key). 
 
 -- ---- keys that are reached
 
-pub spreads_first : (p : Project) (s : State) (ks : List Key) → AreRoots p ks → Spreads p s ks 0
-spreads_first p s ks roots = record {
-  roots = λ q r. (roots q).1 r;
-  only = λ q h. starts q ((roots q).0 h);
+pub spreads_first : (p : Project) (s : State) (first ks : List Key) → AreRoots p first → Adds [] first ks → Spreads p s ks 0
+spreads_first p s first ks roots a = record {
+  roots = λ q r. a.has q ((roots q).1 r);
+  only = λ q h. starts q ((roots q).0 (a.only q (subst (λ (xs : List Key). Contains xs q) a.whole h)));
   closed = λ j lt. absurd (omega arith);
 }
 

@@ -1,5 +1,5 @@
 -- How a closing table finds the keys that it keeps, and what their records are.
-use Rattle.std.specs.Prelude.{◌≡◌, ◌↔◌, ℕ, ◌<◌, List, ◌++◌, map, length, Contains, slice_index_or}
+use Rattle.std.specs.Prelude.{◌≡◌, ◌↔◌, ℕ, ◌<◌, Bool, true, List, ◌++◌, map, length, Contains, slice_index_or}
 use Rattle.std.specs.List.{AllByRecursion}
 use Rattle.item_ids.specs.declared.key.Key.{Key}
 use Rattle.item_ids.specs.declared.key.Key.TheVariants.{Files}
@@ -45,6 +45,10 @@ pub record Spreads (p : Project) (s : State) (ks : List Key) (i : ℕ) : Type 0 
   pub roots : (q : Key) → IsRoot p q → Contains ks q
   pub only : (q : Key) → Contains ks q → IsReached p s q
   pub closed : (j : ℕ) → j < i → HasEdges s ks (key_in ks j)
+
+-- each key that passes the test is in the list
+abbrev pub AreAmong : (Key → Bool) → List Key → Type 0
+AreAmong test ks = (q : Key) → test q ≡ true → Contains ks q
 
 -- the list with those of the edges behind it that it hadn't
 pub record Adds (old edges new : List Key) : Type 0 where

@@ -1,6 +1,8 @@
 //! What a table closes with.
 ghost use Rattle.std.specs.Prelude.{◌≡◌, ◌<◌, ◌≤◌, [], ◌∷◌, false, map, length, IfOk, OnOk, Contains};
 ghost use Rattle.std.specs.List.{AllByRecursion};
+ghost use Rattle.std.specs.BTreeSet.{contains};
+ghost use Rattle.item_ids.specs.Keys.{key_cmp};
 ghost use Rattle.item_ids.specs.declared.key.Key.{Key as KeyValue};
 ghost use Rattle.item_ids.specs.declared.key.Key.TheVariants.{Answer};
 ghost use Rattle.sessions.specs.Sessions.{most_number, past_entry};
@@ -10,7 +12,7 @@ ghost use Rattle.graph_rules.specs.Sound.{IsInOrder};
 ghost use Rattle.job_table.specs.Tables.{session_in, IsFull};
 ghost use Rattle.job_table.specs.Nodes.{status_at, state_of_nodes};
 ghost use Rattle.job_table.specs.Closes.{next_number, next_link, IsClosing};
-ghost use Rattle.job_table.specs.Reached.{Ascend, key_in, AreRoots, AreReached, HasEdges, Adds, IsRecordOf, AreRecordsOf};
+ghost use Rattle.job_table.specs.Reached.{Ascend, key_in, AreRoots, AreReached, HasEdges, AreAmong, Adds, IsRecordOf, AreRecordsOf};
 
 use crate::nodes::{Entry, Node, entry_of};
 use item_ids::{Key, ranks_in_order};
@@ -19,6 +21,7 @@ use project_inputs::Inputs;
 use session_file::digest;
 use sessions::{Record, Session, check_kept};
 use std::alloc::{AllocError, Global};
+use std::collections::BTreeSet;
 use std::sync::Arc;
 
 /// The session behind the past, of the keys that the inputs and Answer lead to.
@@ -48,13 +51,16 @@ fn reach(alloc: Global, inputs: &Inputs, nodes: &Vec<Node>) -> Result<Vec<Key>, 
     ensures { IfOk result (λ v. AreReached inputs.now
         (state_of_nodes inputs.now nodes.now.items false) v.items) }
 {
-    let mut found = roots(alloc, inputs)?;
+    let first = roots(alloc, inputs)?;
+    let mut found = Vec::new(alloc);
+    let mut seen = BTreeSet::new(alloc);
+    add(alloc, &mut found, &mut seen, &first)?;
     for i in 0..usize::MAX {
         if i >= found.len() {
             return Ok(found);
         }
         let entry = entry_of(inputs, nodes, &found[i]);
-        add(alloc, &mut found, entry.edges)?;
+        add(alloc, &mut found, &mut seen, entry.edges)?;
     }
     Ok(found)
 }
@@ -68,24 +74,39 @@ fn roots(alloc: Global, inputs: &Inputs) -> Result<Vec<Key>, AllocError>
     Ok(keys)
 }
 
-/// Adds those of the edges that aren't there.
-fn add(alloc: Global, found: &mut Vec<Key>, edges: &[Key]) -> Result<(), AllocError>
-    ensures { OnOk result (Adds found.old.items edges.now found.new.items) }
+/// Adds those of the edges that the set hasn't.
+fn add(
+    alloc: Global,
+    found: &mut Vec<Key>,
+    seen: &mut BTreeSet<Key>,
+    edges: &[Key],
+) -> Result<(), AllocError>
+    requires seen { AreAmong (contains key_cmp seen.old) found.old.items }
+    ensures seen { OnOk result (AreAmong (contains key_cmp seen.new) found.new.items) }
+    ensures added { OnOk result (Adds found.old.items edges.now found.new.items) }
 {
     for key in edges {
-        add_key(alloc, found, key)?;
+        add_key(alloc, found, seen, key)?;
     }
     Ok(())
 }
 
-/// Adds a key, unless it is there.
-fn add_key(alloc: Global, found: &mut Vec<Key>, key: &Key) -> Result<(), AllocError>
-    ensures { OnOk result (Adds found.old.items (key.now ∷ []) found.new.items) }
+/// Adds a key to the list and the set, unless the set has it.
+fn add_key(
+    alloc: Global,
+    found: &mut Vec<Key>,
+    seen: &mut BTreeSet<Key>,
+    key: &Key,
+) -> Result<(), AllocError>
+    requires seen { AreAmong (contains key_cmp seen.old) found.old.items }
+    ensures seen { OnOk result (AreAmong (contains key_cmp seen.new) found.new.items) }
+    ensures added { OnOk result (Adds found.old.items (key.now ∷ []) found.new.items) }
 {
-    if found.contains(key) {
+    if seen.contains(key) {
         return Ok(());
     }
     found.push(key.copy(alloc)?)?;
+    seen.insert(key.copy(alloc)?)?;
     Ok(())
 }
 

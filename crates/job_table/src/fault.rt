@@ -2,6 +2,7 @@
 
 use fingerprint::Sealed;
 use std::sync::Arc;
+use thiserror::Error;
 
 /// What a worker is told that asks for a key.
 #[derive(Drop)]
@@ -17,47 +18,62 @@ pub enum Asked {
 }
 
 /// Why a call is refused. `usize` values are places in the key's list of past edges, or in an outcome's list of reads.
-#[derive(Clone, Copy, Debug, PartialEq, Eq)]
+#[derive(Clone, Copy, Debug, PartialEq, Eq, Error)]
 pub enum TableFault {
     /// The worker hasn't claimed the key, or doesn't run it.
+    #[error("9.1 NotYours")]
     NotYours,
     /// The key's rank isn't below the ranks of all that the worker has claimed or runs.
+    #[error("9.2 OutOfRank")]
     OutOfRank,
     /// This past edge isn't done, and those before it are unchanged.
+    #[error("9.3 EdgeOpen({0})")]
     EdgeOpen(usize),
     /// This past edge is changed, and those before it are unchanged.
+    #[error("9.4 EdgeChanged({0})")]
     EdgeChanged(usize),
     /// The past hasn't the key.
+    #[error("9.5 NotInPast")]
     NotInPast,
     /// All past edges are unchanged.
+    #[error("9.6 NothingChanged")]
     NothingChanged,
     /// The key of this read isn't done with the result that was read, and those before it are.
+    #[error("9.7 StaleRead({0})")]
     StaleRead(usize),
     /// A worker failed.
+    #[error("9.8 Failed")]
     Failed,
     /// Memory ran out.
+    #[error("out of memory")]
     OutOfMemory,
 }
 
 /// Why a table isn't opened.
-#[derive(Clone, Copy, Debug, PartialEq, Eq)]
+#[derive(Clone, Copy, Debug, PartialEq, Eq, Error)]
 pub enum OpenFault {
     /// The past has the number 9,999, behind which there is no session.
+    #[error("9.11 ChainFull")]
     ChainFull,
     /// Memory ran out.
+    #[error("out of memory")]
     OutOfMemory,
 }
 
 /// Why a table isn't closed.
-#[derive(Clone, Copy, Debug, PartialEq, Eq)]
+#[derive(Clone, Copy, Debug, PartialEq, Eq, Error)]
 pub enum CloseFault {
     /// A worker failed.
+    #[error("9.8 Failed")]
     Failed,
     /// A key is claimed or running.
+    #[error("9.10 StillRunning")]
     StillRunning,
     /// Answer isn't done.
+    #[error("9.9 NoAnswer")]
     NoAnswer,
     /// Memory ran out.
+    #[error("out of memory")]
     OutOfMemory,
 }
 
@@ -71,12 +87,15 @@ pub(crate) enum StepFault {
 }
 
 /// Why a list of events isn't replayed.
-#[derive(Clone, Copy, Debug, PartialEq, Eq)]
+#[derive(Clone, Copy, Debug, PartialEq, Eq, Error)]
 pub enum ReplayFault {
     /// The past has the number 9,999, behind which there is no session.
+    #[error("9.11 ChainFull")]
     ChainFull,
     /// This event is the first that is no step.
+    #[error("9.12 Illegal({0})")]
     Illegal(usize),
     /// Memory ran out.
+    #[error("out of memory")]
     OutOfMemory,
 }

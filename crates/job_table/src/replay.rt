@@ -88,7 +88,7 @@ fn by_call(called: Result<(), TableFault>) -> Result<(), StepFault>
 {
     match called {
         Ok(()) => Ok(()),
-        Err(fault) => Err(refusal(fault)),
+        Err(refused) => Err(refusal(refused)),
     }
 }
 

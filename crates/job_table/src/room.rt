@@ -92,29 +92,29 @@ pub struct MarkParts {
     pub answer: Arc<Sealed>,
 }
 
-/// Room for two more events, and what a key needs that is marked.
+/// Room for two more events, and what a key needs that is marked which had this record in the past.
 pub fn room_for_mark<R: Runner>(
     alloc: Global,
     history: &mut Vec<Event<R>>,
     key: &Key,
     past: &Session,
-    record: &Record,
+    had: &Record,
 ) -> Option<MarkParts>
-    requires { AreInside past.now.records record.now.edges }
+    requires { AreInside past.now.records had.now.edges }
     ensures history { (history.new.items ≡ history.old.items)
         × (vec_len history.new ≡ vec_len history.old)
         × (vec_capacity history.old ≤ vec_capacity history.new) }
     ensures key { IfSome result (λ parts. parts.noted ≡ key.now) }
     ensures edges { IfSome result (λ parts. parts.edges.items
-        ≡ map (key_at past.now.records) record.now.edges) }
-    ensures results { IfSome result (λ parts. (arc_value parts.sealed ≡ record.now.value)
-        × (arc_value parts.answer ≡ record.now.value)) }
+        ≡ map (key_at past.now.records) had.now.edges) }
+    ensures results { IfSome result (λ parts. (arc_value parts.sealed ≡ had.now.value)
+        × (arc_value parts.answer ≡ had.now.value)) }
     ensures room { IfSome result (λ _. vec_len history.new + 1 < vec_capacity history.new) }
 {
     let noted = key.copy(alloc).ok()?;
-    let edges = edge_keys(alloc, past, record.edges()).ok()?;
-    let sealed = Arc::try_clone(record.sealed()).ok()?;
-    let answer = Arc::try_clone(record.sealed()).ok()?;
+    let edges = edge_keys(alloc, past, had.edges()).ok()?;
+    let sealed = Arc::try_clone(had.sealed()).ok()?;
+    let answer = Arc::try_clone(had.sealed()).ok()?;
     history.reserve(2).ok()?;
     Some(MarkParts {
         noted,

@@ -194,7 +194,8 @@ impl<R: Runner> Table<R> {
     pub fn finish(&mut self, w: u32, outcome: Arc<Outcome<R>>) -> Result<(), TableFault>
         ensures { FinishGives self.old w (arc_value outcome) result self.new }
     {
-        if self.failed {
+        let stopped = self.failed;
+        if stopped {
             return Err(TableFault::Failed);
         }
         let Some(at) = find_running(&self.nodes, w, outcome.key()) else {

@@ -1,4 +1,4 @@
-use Rattle.std.proofs.Common.{◌≡◌, [], ◌∷◌, ◌++◌, map, false, arith, sym, ◌∙◌, refl}
+use Rattle.std.proofs.Common.{◌≡◌, [], ◌∷◌, ◌++◌, map, arith, sym, ◌∙◌, refl}
 use Rattle.graph_rules.specs.Steps.{Claimed, Begin}
 use Rattle.job_table.specs.Kept.{event_of}
 use Rattle.job_table.specs.Tables.{session_in}

@@ -1,4 +1,4 @@
-use Rattle.std.proofs.Common.{◌≡◌, [], ◌∷◌, ◌++◌, map, false, arith, sym, ◌∙◌, ap, refl}
+use Rattle.std.proofs.Common.{◌≡◌, [], ◌∷◌, ◌++◌, map, arith, sym, ◌∙◌, ap, refl}
 use Rattle.std.specs.Arc.{arc_value}
 use Rattle.recorder.specs.Runs.{OutcomeValue}
 use Rattle.graph_rules.specs.Steps.{Running, Finish}
@@ -14,7 +14,7 @@ returns-in_default g c =
     let kept = c.self.invariant.0 in
     let ke = c.key.ensures ∙ ap (λ (o : OutcomeValue). o.key) c.deref.ensures in
     rw (← c.self.view_is) (
-      sym kept.failed_is ∙ c.if-self.false,
+      sym kept.failed_is ∙ c.if-stopped.false,
       not_standing _ _ _ _ _ kept (arc_value c.args.outcome).key (Running c.args.w) tt (rw ke at c.in_default.ensures.none),
       refl,
     )
@@ -23,13 +23,13 @@ pub returns-in-Some-first_stale : goal.returns-in-Some-first_stale
 returns-in-Some-first_stale g c =
     let ke = c.key.ensures ∙ ap (λ (o : OutcomeValue). o.key) c.deref.ensures in
     let re = c.reads.ensures ∙ ap (λ (o : OutcomeValue). o.told) c.deref-2.ensures in
-    finish_stale (session_in c.self.inside.past) _ _ _ _ c.self.invariant.0 (arc_value c.args.outcome) c.args.w c.in-Some-first_stale.i c.if-self.false (rw ke at c.in-Some.ensures.running) (rw re at c.in-Some-first_stale.ensures) _ c.self.view_is
+    finish_stale (session_in c.self.inside.past) _ _ _ _ c.self.invariant.0 (arc_value c.args.outcome) c.args.w c.in-Some-first_stale.i c.if-stopped.false (rw ke at c.in-Some.ensures.running) (rw re at c.in-Some-first_stale.ensures) _ c.self.view_is
 
 pub returns-in_default-room_for_finish : goal.returns-in_default-room_for_finish
 returns-in_default-room_for_finish g c =
     let ke = c.key.ensures ∙ ap (λ (o : OutcomeValue). o.key) c.deref.ensures in
     let re = c.reads.ensures ∙ ap (λ (o : OutcomeValue). o.told) c.deref-2.ensures in (
-      finish_at (session_in c.self.inside.past) _ _ _ _ c.self.invariant.0 (arc_value c.args.outcome) c.args.w c.if-self.false (rw ke at c.in-Some.ensures.running) (rw re at c.in_default-first_stale.ensures) _ c.self.view_is,
+      finish_at (session_in c.self.inside.past) _ _ _ _ c.self.invariant.0 (arc_value c.args.outcome) c.args.w c.if-stopped.false (rw ke at c.in-Some.ensures.running) (rw re at c.in_default-first_stale.ensures) _ c.self.view_is,
       rw (← c.self.view_is, c.room_for_finish.ensures.history.0) refl,
     )
 
@@ -47,7 +47,7 @@ invariant_of-self-2 g c =
     let edges = rw c.deref-3.ensures at r.edges in
     let value = rw c.deref-3.ensures at r.value in
     rw (events_after g c) (
-      finish_kept _ _ _ _ _ _ c.self.invariant.0 o c.args.w _ c.if-self.false (rw ke at c.in-Some.ensures.running) (rw re at c.in_default-first_stale.ensures) (rw (edges, value) refl) c.put.ensures.apart
+      finish_kept _ _ _ _ _ _ c.self.invariant.0 o c.args.w _ c.if-stopped.false (rw ke at c.in-Some.ensures.running) (rw re at c.in_default-first_stale.ensures) (rw (edges, value) refl) c.put.ensures.apart
           (λ k. c.put.ensures.written o.key k (rw ke at c.in-Some.ensures.some.0)),
       backed_last g.R.Runner.mean g.R.Runner.reads (map event_of i.history.items) (Finish c.args.w o) c.self.invariant.1 (rw c.deref-3.ensures at c.room_for_finish.ensures.outcome),
       (λ _. omega (arith, c.note.ensures.len, c.note.ensures.capacity, r.room, c.room_for_finish.ensures.history.1)),
@@ -58,6 +58,6 @@ pub returns : goal.returns
 returns g c =
     let ke = c.key.ensures ∙ ap (λ (o : OutcomeValue). o.key) c.deref.ensures in
     let re = c.reads.ensures ∙ ap (λ (o : OutcomeValue). o.told) c.deref-2.ensures in (
-      finish_at (session_in c.self.inside.past) _ _ _ _ c.self.invariant.0 (arc_value c.args.outcome) c.args.w c.if-self.false (rw ke at c.in-Some.ensures.running) (rw re at c.in_default-first_stale.ensures) _ c.self.view_is,
+      finish_at (session_in c.self.inside.past) _ _ _ _ c.self.invariant.0 (arc_value c.args.outcome) c.args.w c.if-stopped.false (rw ke at c.in-Some.ensures.running) (rw re at c.in_default-first_stale.ensures) _ c.self.view_is,
       rw (← c.self.view_is, events_after g c) refl,
     )
