@@ -1,7 +1,7 @@
 //! What audits say of chains of one session and of two.
 
 use crate::files::Turned;
-use crate::said::{Said, said_of_none, said_of_one, said_of_second, said_of_two};
+use crate::said::{Said, is_accepted_with, said_of_none, said_of_one, said_of_second, said_of_two};
 use answer_samples::Asked;
 use audit_graph::AuditFault;
 use item_ids::Kind;
@@ -27,6 +27,48 @@ const NO_CLASSES: &str = "0c00000000000000000000000000000000";
 struct Row {
     turned: Turned,
     said: Said,
+}
+
+// Of sessions without the files of a project: no records, a source without bytes, and a source of no file.
+const STRAYS: &[Row] = &[
+    Row {
+        turned: Turned {
+            front: 0,
+            others: &[],
+        },
+        said: Said::Refused(AuditFault::NoFiles(0)),
+    },
+    Row {
+        turned: Turned {
+            front: 1,
+            others: &[Kept {
+                key: Asked(Kind::Source, "a", ""),
+                mark: Mark::Input,
+                edges: &[],
+                digits: "0100",
+            }],
+        },
+        said: Said::Refused(AuditFault::MissingSource(0, 0)),
+    },
+    Row {
+        turned: Turned {
+            front: 2,
+            others: &[Kept {
+                key: Asked(Kind::Source, "z", ""),
+                mark: Mark::Input,
+                edges: &[],
+                digits: "0100",
+            }],
+        },
+        said: Said::Refused(AuditFault::StraySource(0, 2)),
+    },
+];
+
+#[test]
+fn a_session_holds_the_files_of_a_project(rt: HostRuntime) {
+    for row in STRAYS {
+        assert!(rt; said_of_one(rt.alloc(), &row.turned) == row.said);
+    }
 }
 
 // The first session as it is; the check reads the header first; it reads the names alone; the answer reads the names; the
@@ -187,6 +229,29 @@ const UNCHANGED: &Turned = &Turned {
 #[test]
 fn an_unchanged_session_is_accepted_and_nothing_of_it_is_run(rt: HostRuntime) {
     assert!(rt; said_of_two(rt.alloc(), FIRST, UNCHANGED) == Said::Accepted(2, 3));
+}
+
+// The check is green, with other edges than in that session.
+const OTHER_EDGES: &Turned = &Turned {
+    front: 3,
+    others: &[Kept {
+        key: CHECK,
+        mark: Mark::Green,
+        edges: &[0],
+        digits: NO_FAULTS,
+    }],
+};
+
+#[test]
+fn a_green_record_has_the_edges_of_the_session_before(rt: HostRuntime) {
+    assert!(rt;
+        said_of_two(rt.alloc(), FIRST, OTHER_EDGES) == Said::Refused(AuditFault::OtherEdges(1, 3))
+    );
+}
+
+#[test]
+fn an_accepted_session_tells_its_answer_and_just_its_executed_records_are_run(rt: HostRuntime) {
+    assert!(rt; is_accepted_with(rt.alloc(), FIRST, NO_CLASSES, &[HEADER, CHECK, ANSWER]));
 }
 
 #[test]

@@ -11,3 +11,5 @@ mod chains;
 mod files;
 #[cfg(test)]
 mod said;
+#[cfg(test)]
+mod texts;

@@ -1,8 +1,10 @@
 //! What an audit says of files.
 
 use crate::files::{Turned, file_behind, file_of_first};
+use answer_samples::{Asked, is_key, sealed_of};
 use audit_graph::AuditFault;
 use audit_replay::{Audited, audit};
+use item_ids::{Key, Kind};
 use sample_runner::SampleRunner;
 use std::alloc::Global;
 
@@ -65,4 +67,49 @@ pub(crate) fn told(audited: Result<Audited, AuditFault>) -> Said {
 
 fn accepted(audited: Audited) -> Said {
     Said::Accepted(audited.sessions, audited.runs)
+}
+
+/// Whether the file of the first session of a chain is accepted with this answer, and just these keys were run.
+pub(crate) fn is_accepted_with(
+    alloc: Global,
+    first: &Turned,
+    digits: &str,
+    runs: &[Asked<'static>],
+) -> bool {
+    match file_of_first(alloc, first) {
+        Ok(file) => is_file_accepted(alloc, file.bytes(), digits, runs),
+        Err(_) => false,
+    }
+}
+
+fn is_file_accepted(alloc: Global, file: &[u8], digits: &str, runs: &[Asked<'static>]) -> bool {
+    let mut runner = SampleRunner::new(alloc);
+    let is_told = is_answer(alloc, audit(alloc, &mut runner, &[file]), digits);
+    is_told && are_keys(runner.log(), runs)
+}
+
+fn is_answer(alloc: Global, audited: Result<Audited, AuditFault>, digits: &str) -> bool {
+    match audited {
+        Ok(audited) => has_answer(alloc, &audited, digits),
+        Err(_) => false,
+    }
+}
+
+fn has_answer(alloc: Global, audited: &Audited, digits: &str) -> bool {
+    match sealed_of(alloc, Kind::Answer, digits) {
+        Ok(want) => audited.answer.same_result(&want),
+        Err(_) => false,
+    }
+}
+
+fn are_keys(keys: &[Key], want: &[Asked<'static>]) -> bool {
+    if keys.len() != want.len() {
+        return false;
+    }
+    for (i, key) in keys.iter().enumerate() {
+        if !is_key(key, want[i]) {
+            return false;
+        }
+    }
+    true
 }

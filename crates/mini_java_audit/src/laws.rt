@@ -5,19 +5,20 @@ ghost use Rattle.result_bytes.specs.declared.value.Value.{Value};
 ghost use Rattle.recorder.specs.Projects.{Project};
 ghost use Rattle.query_rules.specs.Meaning.{mean};
 ghost use Rattle.query_rules.specs.Reads.{reads};
-ghost use Rattle.audit_replay.specs.Audits.{IsAccepted, AreApart};
+ghost use Rattle.graph_rules.specs.Next.{AreSources};
+ghost use Rattle.audit_replay.specs.Audits.{IsAccepted, AreApart, last_entry};
 ghost use Rattle.mini_java_audit.specs.Headline.{IsOfTheRules};
 
 use mj_rules::answer_laws;
 
 /// Where files of sessions are accepted, and no two different results that they record have one print, the answer is the
-/// one that the static rules give the files of the last session's project, whoever wrote the sessions.
+/// one that the static rules give the last session's sources, whoever wrote the sessions.
 pub fn accepted_are_the_rules()
     ensures { (files : List (List ℕ)) (old new : List Key) (project : Project) (answer : Value)
         (count runs : ℕ)
         → (accepted : IsAccepted mean reads files old new project answer count runs)
         → AreApart accepted.sessions
-        → IsOfTheRules project answer }
+        → AreSources (last_entry accepted.sessions) project × IsOfTheRules project answer }
 {
     answer_laws();
 }
