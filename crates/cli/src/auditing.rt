@@ -27,7 +27,10 @@ pub(crate) fn audit<R: Files + AllocGlobal>(rt: &R, names: Vec<String>) -> Resul
 }
 
 // The bytes of the files, in their order.
-fn chain_bytes<'a>(alloc: Global, files: &'a [(String, Vec<u8>)]) -> Result<Vec<&'a [u8]>, AllocError>
+fn chain_bytes<'a>(
+    alloc: Global,
+    files: &'a [(String, Vec<u8>)],
+) -> Result<Vec<&'a [u8]>, AllocError>
     ensures { IfOk result (λ chain.
         map (λ bytes. bytes.now) chain.items ≡ map (λ file. file.1.items) files.now) }
 {
