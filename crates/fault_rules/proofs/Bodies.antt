@@ -1,22 +1,17 @@
 -- A check finds the mistakes of a body that the demands of its phrases give.
-use Rattle.std.proofs.Common.{◌≡◌, ℕ, ◌<◌, ◌^◌, List, [], ◌∷◌, ◌++◌, map, refl, sym, ap, ap₂, ◌∙◌, subst, inl, inr, arith}
+use Rattle.std.proofs.Common.{◌≡◌, List, [], ◌∷◌, ◌++◌, map, refl, sym, ap, ap₂, ◌∙◌, subst, inl, inr}
 use Rattle.std.specs.Prelude.{Contains, ◌↔◌}
 use Rattle.std.proofs.lemmas.List.{map-append}
-use Rattle.std.proofs.lemmas.List.Elements.{Contains-append_right}
 use Rattle.mj_tree.specs.Trees.{Name, Statement, Statements, Block, If, While, Print, Assign, Store, done, next, Method, Main}
-use Rattle.mj_tree.specs.declared.tree.Ty.{Ty}
-use Rattle.mj_tree.specs.declared.tree.Ty.TheVariants as ty
-use Rattle.mj_tree.specs.declared.tree.Variable.{Variable}
-use Rattle.mj_answer.specs.declared.code.Code.TheVariants.{E207}
 use Rattle.mj_typing.specs.declared.verdict.Mistake.{Mistake}
 use Rattle.mj_typing.specs.Inquiries.{World}
 use Rattle.mj_typing.specs.Phrases.{Phrase, FaultIn, FaultInSome}
 use Rattle.mj_typing.specs.Table.{Scope, method_scope, main_scope, own_phrase, statement_phrases, statements_phrases, method_phrases, main_phrases}
-use Rattle.mj_typing.specs.Bodies.{MethodFault, MainFault, UndeclaredReturn, UndeclaredVariable, RepeatedVariable, IllPhrase, variables_of, name_mark, method_faults, main_faults}
+use Rattle.mj_typing.specs.Bodies.{MethodFault, MainFault, UndeclaredReturn, UndeclaredVariable, RepeatedVariable, IllPhrase, NamesFit, method_faults, main_faults}
 use Rattle.mj_typing.proofs.Agree.{nowhere, first, later, first_or_later, each_exact}
 use Rattle.mj_typing.proofs.Mistakes.{method_listed, method_there}
 use Rattle.fault_rules.specs.Demands.{BodyPhrase, OfStatement, OfReturn}
-use Rattle.fault_rules.specs.Faults.{FaultWithin, statements_of, all_statements, phrases_in, phrases_in_main, name_token, FaultInMethod, InReturnType, InVariableType, InVariableName, InPhrase, FaultInMain, NamesFit}
+use Rattle.fault_rules.specs.Faults.{FaultWithin, statements_of, all_statements, phrases_in, phrases_in_main, FaultInMethod, InReturnType, InVariableType, InVariableName, InPhrase, FaultInMain}
 use Rattle.fault_rules.specs.Laws.{form_of}
 use Rattle.fault_rules.proofs.Phrases.{within, in_form}
 
@@ -72,28 +67,13 @@ module _ (w : World) (s : Scope) (x : Mistake) where
         | inr l ↦ let r = mapped_some qs p l f in (r.0, later (form_of s q) (map (form_of s) qs) r.0 r.1, r.2)
       ]
 
--- ---- the token of a name
-
-same_mark : (x : Name) (t : Ty) (mark : ℕ) → name_token (record { name = x; ty = t; mark = mark }) < 2 ^ 64 → name_mark (record { name = x; ty = t; mark = mark }) ≡ name_token (record { name = x; ty = t; mark = mark })
-same_mark x ty.Int mark h = omega (arith, h)
-same_mark x ty.Boolean mark h = omega (arith, h)
-same_mark x ty.IntArray mark h = omega (arith, h)
-same_mark x (ty.Class c) mark h = omega (arith, h)
-
-same_token : (v : Variable) → name_token v < 2 ^ 64 → name_mark v ≡ name_token v
-same_token v h = same_mark v.name v.ty v.mark h
-
-among : (before : List Variable) (v : Variable) (after all : List Variable) → all ≡ before ++ v ∷ after → Contains all v
-among before v after all e = subst (λ vs. Contains vs v) (sym e) (Contains-append_right before (v ∷ after) v (first v after))
-
 -- ---- methods and main
 
-module _ (w : World) (class : Name) (m : Method) (fit : NamesFit m) where
+module _ (w : World) (class : Name) (m : Method) where
   pub in_method : (x : Mistake) → MethodFault w class m x → FaultInMethod w class m x
   in_method x (UndeclaredReturn c e d) = InReturnType c e d
   in_method x (UndeclaredVariable v c h e d) = InVariableType v c h e d
-  in_method x (RepeatedVariable before u v after split h e) =
-      subst (λ n. FaultInMethod w class m (record { mark = n; code = E207 })) (sym (same_token v (fit v (among before v after (variables_of m) split)))) (InVariableName before u v after split h e)
+  in_method x (RepeatedVariable before u v after split h e) = InVariableName before u v after split h e
   in_method x (IllPhrase x' f) =
       let g = subst (λ (ps : List Phrase). FaultInSome w ps x) (method_forms class m) f in
       let r = some_mapped w (method_scope class m) x (phrases_in m) g.0 g.1 g.2 in
@@ -102,13 +82,12 @@ module _ (w : World) (class : Name) (m : Method) (fit : NamesFit m) where
   pub from_method : (x : Mistake) → FaultInMethod w class m x → MethodFault w class m x
   from_method x (InReturnType c e d) = UndeclaredReturn c e d
   from_method x (InVariableType v c h e d) = UndeclaredVariable v c h e d
-  from_method x (InVariableName before u v after split h e) =
-      subst (λ n. MethodFault w class m (record { mark = n; code = E207 })) (same_token v (fit v (among before v after (variables_of m) split))) (RepeatedVariable before u v after split h e)
+  from_method x (InVariableName before u v after split h e) = RepeatedVariable before u v after split h e
   from_method x (InPhrase p x' c f) =
       IllPhrase x (subst (λ (ps : List Phrase). FaultInSome w ps x) (sym (method_forms class m)) (mapped_some w (method_scope class m) x (phrases_in m) p c f))
 
-  pub method_law : (x : Mistake) → Contains (method_faults w class m) x ↔ FaultInMethod w class m x
-  method_law x = (λ h. in_method x (method_listed w class m x h), λ h. method_there w class m x (from_method x h))
+  pub method_law : NamesFit m → (x : Mistake) → Contains (method_faults w class m) x ↔ FaultInMethod w class m x
+  method_law fit x = (λ h. in_method x (method_listed w class m fit x h), λ h. method_there w class m fit x (from_method x h))
 
 pub in_main : (w : World) (m : Main) (x : Mistake) → MainFault w m x → FaultInMain w m x
 in_main w m x h =

@@ -13,7 +13,7 @@ use Rattle.mj_typing.specs.declared.verdict.Verdict.TheVariants.{Is, Fine, Wrong
 use Rattle.mj_typing.specs.Types.{is_int, is_boolean, is_int_array, class_in}
 use Rattle.mj_typing.specs.Inquiries.{World, Sig, Inquiry, Concludes, AsksMethod, conclusion}
 use Rattle.mj_typing.specs.Phrases.{demand, demand_asked, demand_some, is, fine}
-use Rattle.mj_typing.specs.Table.{Scope, local_of, is_accepted, are_accepted, literal, local_or_field, variable, parentheses, this, negation, binary, index, array_length, arguments, call, new_array, new_object, condition, print, assign, store, return_value, no_parts, one_part, two_parts, three_parts, some_parts}
+use Rattle.mj_typing.specs.Table.{Scope, most_value, local_of, is_accepted, are_accepted, literal, local_or_field, variable, parentheses, this, negation, binary, index, array_length, arguments, call, new_array, new_object, condition, print, assign, store, return_value, no_parts, one_part, two_parts, three_parts, some_parts}
 use Rattle.mj_typing.specs.Cases.{Accepted, operand_type}
 use Rattle.mj_typing.specs.Laws.{IsOfExpression, IsOfStatement}
 use Rattle.mj_typing.proofs.ByCases.{boolean_is, int_is, array_is, accepted_from, from_accepted, variable_from, from_variable}
@@ -235,7 +235,7 @@ module _ (w : World) (s : Scope) where
   unfolding literal this negation index array_length new_array new_object
   expression_told (Literal mark value) ts a =
       none_told IsOfExpression (demands w s (OfExpression (Literal mark value))) (literal value)
-      (demand_tells IsOfExpression w (nat_le value 2147483647) (value ≤ 2147483647) E315 (is ty.Int) [] (leb-true value 2147483647) (le-leb value 2147483647) (λ h. (tt, tt))) ts a
+      (demand_tells IsOfExpression w (nat_le value most_value) (value ≤ most_value) E315 (is ty.Int) [] (leb-true value most_value) (le-leb value most_value) (λ h. (tt, tt))) ts a
   expression_told (Boolean mark value) ts a = none_told IsOfExpression (demands w s (OfExpression (Boolean mark value))) (is ty.Boolean) (tt, tt) ts a
   expression_told (Named mark x) ts a =
       none_told IsOfExpression (demands w s (OfExpression (Named mark x))) (variable s x) (name_told x (conclusion w (variable s x)) refl (is_named x)) ts a

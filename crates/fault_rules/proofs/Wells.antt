@@ -9,7 +9,7 @@ use Rattle.mj_typing.specs.declared.verdict.Verdict.{Verdict}
 use Rattle.mj_typing.specs.Inquiries.{World, conclusion}
 use Rattle.mj_typing.specs.Phrases.{Phrase, HasType, Well}
 use Rattle.mj_typing.specs.Table.{Scope, own_phrase, return_phrase}
-use Rattle.mj_typing.specs.Cases.{Accepted, IsVariable, HasTypeByCases, WellByCases, AllWellByCases}
+use Rattle.mj_typing.specs.Cases.{Accepted, IsVariable, HasTypeByCases, IsWellThroughoutByCases, AreWellThroughoutByCases}
 use Rattle.mj_typing.specs.Laws.{IsOfExpression, IsOfStatement}
 use Rattle.mj_typing.proofs.ByCases.{by_cases, from_cases}
 use Rattle.mj_typing.proofs.Agree.{nowhere, first, later, first_or_later}
@@ -85,7 +85,7 @@ module _ (w : World) (s : Scope) where
   At b = IsWell w s (OfStatement b)
 
   mutual
-    well_within : (a : Statement) → WellByCases w s a → (b : Statement) → Contains (statements_of a) b → At b
+    well_within : (a : Statement) → IsWellThroughoutByCases w s a → (b : Statement) → Contains (statements_of a) b → At b
     well_within (Block mark ss) h b c =
         elim (first_or_later (Block mark ss) (all_statements ss) b c) [
           | inl is ↦ subst At is (record { types = []; have_types = tt; holds = tt })
@@ -117,7 +117,7 @@ module _ (w : World) (s : Scope) where
           | inr l ↦ absurd (nowhere b l)
         ]
 
-    all_within : (ss : Statements) → AllWellByCases w s ss → (b : Statement) → Contains (all_statements ss) b → At b
+    all_within : (ss : Statements) → AreWellThroughoutByCases w s ss → (b : Statement) → Contains (all_statements ss) b → At b
     all_within done h b c = absurd (nowhere b c)
     all_within (next a ss) h b c = elim (Contains-append_cases (statements_of a) (all_statements ss) b c) [ inl x ↦ well_within a h.0 b x | inr y ↦ all_within ss h.1 b y ]
 
@@ -136,13 +136,13 @@ module _ (w : World) (s : Scope) where
   print_by mark e (t ∷ []) h d = subst (HasTypeByCases w s e) d.0 h.0
   print_by mark e (t ∷ u ∷ ts) h d = absurd h.1
 
-  assign_by : (mark : ℕ) (x : Name) (x_mark : ℕ) (e : Expression) (ts : List Ty) → HaveTypes w s (more (Named x_mark x) (more e none)) ts → AllHold (demands w s (OfStatement (Assign mark x x_mark e)) ts) → WellByCases w s (Assign mark x x_mark e)
+  assign_by : (mark : ℕ) (x : Name) (x_mark : ℕ) (e : Expression) (ts : List Ty) → HaveTypes w s (more (Named x_mark x) (more e none)) ts → AllHold (demands w s (OfStatement (Assign mark x x_mark e)) ts) → IsWellThroughoutByCases w s (Assign mark x x_mark e)
   assign_by mark x x_mark e [] h d = absurd h
   assign_by mark x x_mark e (u ∷ []) h d = absurd h.1
   assign_by mark x x_mark e (u ∷ t ∷ []) h d = (t, u, h.0, h.1.0, d.0)
   assign_by mark x x_mark e (u ∷ t ∷ v ∷ ts) h d = absurd h.1.1
 
-  store_by : (mark : ℕ) (x : Name) (x_mark : ℕ) (i e : Expression) (ts : List Ty) → HaveTypes w s (more (Named x_mark x) (more i (more e none))) ts → AllHold (demands w s (OfStatement (Store mark x x_mark i e)) ts) → WellByCases w s (Store mark x x_mark i e)
+  store_by : (mark : ℕ) (x : Name) (x_mark : ℕ) (i e : Expression) (ts : List Ty) → HaveTypes w s (more (Named x_mark x) (more i (more e none))) ts → AllHold (demands w s (OfStatement (Store mark x x_mark i e)) ts) → IsWellThroughoutByCases w s (Store mark x x_mark i e)
   store_by mark x x_mark i e [] h d = absurd h
   store_by mark x x_mark i e (u ∷ []) h d = absurd h.1
   store_by mark x x_mark i e (u ∷ n ∷ []) h d = absurd h.1.1
@@ -150,7 +150,7 @@ module _ (w : World) (s : Scope) where
   store_by mark x x_mark i e (u ∷ n ∷ t ∷ v ∷ ts) h d = absurd h.1.1.1
 
   mutual
-    within_well : (a : Statement) → IsWellThroughout w s a → WellByCases w s a
+    within_well : (a : Statement) → IsWellThroughout w s a → IsWellThroughoutByCases w s a
     within_well (Block mark ss) h = within_all ss (λ b c. h b (later (Block mark ss) (all_statements ss) b c))
     within_well (If mark e a b) h =
         let own = h (If mark e a b) (first (If mark e a b) (statements_of a ++ statements_of b)) in (
@@ -167,12 +167,12 @@ module _ (w : World) (s : Scope) where
     within_well (Store mark x x_mark i e) h =
         let own = h (Store mark x x_mark i e) (first (Store mark x x_mark i e) []) in store_by mark x x_mark i e own.types own.have_types own.holds
 
-    within_all : (ss : Statements) → ((b : Statement) → Contains (all_statements ss) b → At b) → AllWellByCases w s ss
+    within_all : (ss : Statements) → ((b : Statement) → Contains (all_statements ss) b → At b) → AreWellThroughoutByCases w s ss
     within_all done h = tt
     within_all (next a ss) h =
         (within_well a (λ d c. h d (Contains-append_left (statements_of a) (all_statements ss) d c)), within_all ss (λ d c. h d (Contains-append_right (statements_of a) (all_statements ss) d c)))
 
-  pub throughout_law : (a : Statement) → WellByCases w s a ↔ IsWellThroughout w s a
+  pub throughout_law : (a : Statement) → IsWellThroughoutByCases w s a ↔ IsWellThroughout w s a
   throughout_law a = (well_within a, within_well a)
 
   -- ---- the return
@@ -193,10 +193,10 @@ module _ (w : World) (s : Scope) where
         ]
       ]
 
-  pub method_within : (m : Method) → AllWellByCases w s m.body × ((t : Ty) × HasTypeByCases w s m.returned t × Accepted w t m.returns) → (p : BodyPhrase) → Contains (phrases_in m) p → IsWell w s p
+  pub method_within : (m : Method) → AreWellThroughoutByCases w s m.body × ((t : Ty) × HasTypeByCases w s m.returned t × Accepted w t m.returns) → (p : BodyPhrase) → Contains (phrases_in m) p → IsWell w s p
   method_within m h = body_within (all_statements m.body) m.return_mark m.returns m.returned (all_within m.body h.0) h.1
 
-  pub within_method : (m : Method) → ((p : BodyPhrase) → Contains (phrases_in m) p → IsWell w s p) → AllWellByCases w s m.body × ((t : Ty) × HasTypeByCases w s m.returned t × Accepted w t m.returns)
+  pub within_method : (m : Method) → ((p : BodyPhrase) → Contains (phrases_in m) p → IsWell w s p) → AreWellThroughoutByCases w s m.body × ((t : Ty) × HasTypeByCases w s m.returned t × Accepted w t m.returns)
   within_method m h =
       let bs = all_statements m.body in
       let last = OfReturn m.return_mark m.returns m.returned in

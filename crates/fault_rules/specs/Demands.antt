@@ -9,7 +9,7 @@ use Rattle.mj_tree.specs.declared.tree.Ty.TheVariants as ty
 use Rattle.mj_answer.specs.declared.code.Code.{Code}
 use Rattle.mj_answer.specs.declared.code.Code.TheVariants.{E301, E302, E303, E304, E305, E306, E307, E308, E309, E310, E311, E312, E313, E314, E315, E316, E317, E318, E319}
 use Rattle.mj_typing.specs.Inquiries.{World, Sig}
-use Rattle.mj_typing.specs.Table.{Scope}
+use Rattle.mj_typing.specs.Table.{Scope, most_value}
 use Rattle.mj_typing.specs.Cases.{Accepted, IsVariable, operand_type}
 
 -- a phrase of a body: an expression, a statement, or the return of a method with the type that is
@@ -97,7 +97,7 @@ operand_code Times = E304
 
 -- what a phrase demands where its immediate expressions have these types
 abbrev pub demands : World → Scope → BodyPhrase → List Ty → Demands
-demands w s (OfExpression (Literal mark value)) [] = (value ≤ 2147483647, E315) ∷ []
+demands w s (OfExpression (Literal mark value)) [] = (value ≤ most_value, E315) ∷ []
 demands w s (OfExpression (Named mark x)) [] = (IsInScope w s x, E303) ∷ []
 demands w s (OfExpression (This mark)) [] = (IsInMethod s, E306) ∷ []
 demands w s (OfExpression (Not mark e)) (t ∷ []) = (t ≡ ty.Boolean, E301) ∷ []

@@ -1,5 +1,5 @@
 -- The faults of phrases, and those of bodies, by what the phrases demand.
-use Rattle.std.specs.Prelude.{◌≡◌, ℕ, ◌+◌, ◌<◌, ◌^◌, false, List, [], ◌∷◌, ◌++◌, map, ◌⊎◌, Contains}
+use Rattle.std.specs.Prelude.{◌≡◌, false, List, [], ◌∷◌, ◌++◌, map, ◌⊎◌, Contains}
 use Rattle.mj_tree.specs.Trees.{Name, Expression, Expressions, none, more, Statement, Statements, Block, If, While, Print, Assign, Store, done, next, Method, Main}
 use Rattle.mj_tree.specs.declared.tree.Ty.{Ty}
 use Rattle.mj_tree.specs.declared.tree.Ty.TheVariants as ty
@@ -10,7 +10,7 @@ use Rattle.mj_typing.specs.declared.verdict.Mistake.{Mistake}
 use Rattle.mj_typing.specs.Inquiries.{World}
 use Rattle.mj_typing.specs.Table.{Scope, method_scope, main_scope}
 use Rattle.mj_typing.specs.Cases.{HasTypeByCases}
-use Rattle.mj_typing.specs.Bodies.{variables_of, return_type_mark}
+use Rattle.mj_typing.specs.Bodies.{variables_of, return_type_mark, name_token}
 use Rattle.fault_rules.specs.Demands.{BodyPhrase, OfExpression, OfStatement, OfReturn, mark_of, parts_of, Demands, demands}
 
 -- ---- a phrase
@@ -78,16 +78,6 @@ phrases_in m =
 abbrev pub phrases_in_main : Main → List BodyPhrase
 phrases_in_main m = map OfStatement (statements_of m.statement)
 
--- the token of a variable's name: 3 behind the first of `int[]`, 1 behind any other type
-abbrev pub name_token : Variable → ℕ
-name_token v = v.mark + type_tokens v.ty
-  where
-    type_tokens : Ty → ℕ
-    type_tokens ty.IntArray = 3
-    type_tokens ty.Int = 1
-    type_tokens ty.Boolean = 1
-    type_tokens (ty.Class c) = 1
-
 -- each mistake in a method of the class
 pub data FaultInMethod (w : World) (class : Name) (m : Method) : Mistake → Type 0 where
   -- the return type is an undeclared class
@@ -114,7 +104,3 @@ FaultInMain w m x =
 abbrev pub IsWellThroughout : World → Scope → Statement → Type 0
 IsWellThroughout w s a =
     (b : Statement) → Contains (statements_of a) b → IsWell w s (OfStatement b)
-
--- the numbers of the names' tokens have 64 bits
-abbrev pub NamesFit : Method → Type 0
-NamesFit m = (v : Variable) → Contains (variables_of m) v → name_token v < 2 ^ 64

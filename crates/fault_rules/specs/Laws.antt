@@ -6,10 +6,10 @@ use Rattle.mj_typing.specs.declared.verdict.Mistake.{Mistake}
 use Rattle.mj_typing.specs.Inquiries.{World}
 use Rattle.mj_typing.specs.Phrases.{Phrase, PhraseFault, Well}
 use Rattle.mj_typing.specs.Table.{Scope, method_scope, phrase_of, own_phrase, return_phrase}
-use Rattle.mj_typing.specs.Cases.{HasTypeByCases, WellByCases, MethodIsWell}
-use Rattle.mj_typing.specs.Bodies.{method_faults, main_faults}
+use Rattle.mj_typing.specs.Cases.{HasTypeByCases, IsWellThroughoutByCases, MethodIsWell}
+use Rattle.mj_typing.specs.Bodies.{NamesFit, method_faults, main_faults}
 use Rattle.fault_rules.specs.Demands.{BodyPhrase, OfExpression, OfStatement, OfReturn}
-use Rattle.fault_rules.specs.Faults.{IsAtFault, IsWell, IsWellThroughout, phrases_in, NamesFit, FaultInMethod, FaultInMain}
+use Rattle.fault_rules.specs.Faults.{IsAtFault, IsWell, IsWellThroughout, phrases_in, FaultInMethod, FaultInMain}
 
 -- the phrase as a check of a body walks over it
 abbrev pub form_of : Scope → BodyPhrase → Phrase
@@ -35,7 +35,7 @@ pub record WellLaws : Type 0 where
   pub return_value : (w : World) (s : Scope) (mark : ℕ) (wanted : Ty) (e : Expression)
       → Well w (return_phrase s mark wanted e) ↔ IsWell w s (OfReturn mark wanted e)
   pub throughout : (w : World) (s : Scope) (a : Statement)
-      → WellByCases w s a ↔ IsWellThroughout w s a
+      → IsWellThroughoutByCases w s a ↔ IsWellThroughout w s a
   pub method : (w : World) (class : Name) (m : Method)
       → MethodIsWell w class m
       ↔ ((p : BodyPhrase) → Contains (phrases_in m) p → IsWell w (method_scope class m) p)

@@ -11,7 +11,7 @@ use Rattle.mj_classes.specs.Laws.{ChainLaws, MemberLaws}
 use Rattle.mj_project.specs.Projects.{SourceFile}
 use Rattle.mj_rules.specs.Sentences.{classes_in}
 use Rattle.mj_rules.specs.Rules.{IsAnswerFor, Rules}
-use Rattle.mj_rules.specs.FaultLists.{project_faults, class_faults, class_names}
+use Rattle.mj_rules.specs.FaultLists.{project_faults, NamesFitIn, class_faults, class_names}
 use Rattle.mj_rules.specs.Answering.{set_of, name_order, fault_order, class_answer, rules_of}
 use Rattle.mj_rules.specs.Laws.{SentenceLaw, BodyFaultLaws}
 use Rattle.mj_project.proofs.Listed.{place_of, at_map}
@@ -20,6 +20,7 @@ use Rattle.mj_rules.proofs.RowLemmas.{finds_one}
 use Rattle.mj_rules.proofs.Sets.{names_compare, faults_compare, set_ascends, from_set, to_set}
 use Rattle.mj_rules.proofs.Composing.{class_answer as answer_of_class, class_answers, project_answer}
 use Rattle.mj_rules.proofs.OneAnswer.{one_answer}
+use Rattle.mj_rules.proofs.Declared.{names_fit_in}
 use Rattle.std.proofs.lemmas.Slice.Eq.{bytes_eq-Decides}
 
 -- a name of one of the classes is declared
@@ -31,10 +32,10 @@ is_named cs n None e h =
     let k = at_map (λ (j : ClassDecl). j.name) cs p.0 n p.1 in
     absurd (finds_one _ cs p.0 k.0 k.1 ((bytes_eq-Decides k.0.name n).1 k.2) e)
 
-module _ (chains : ChainLaws) (members : MemberLaws) (bodies : BodyFaultLaws) (cs : List ClassDecl) where
+module _ (chains : ChainLaws) (members : MemberLaws) (bodies : BodyFaultLaws) (cs : List ClassDecl) (fit : NamesFitIn cs) where
   right_class : (n : Name) (k : ClassDecl) → decl cs n ≡ Some k → IsAnswerFor cs (class_answer cs k)
   right_class n k e =
-      answer_of_class chains members bodies cs k (class_answer cs k) (ap (decl cs) (decl-name cs n k e) ∙ e) refl refl
+      answer_of_class chains members bodies cs fit k (class_answer cs k) (ap (decl cs) (decl-name cs n k e) ∙ e) refl refl
       (set_ascends fault_order Before faults_compare (class_faults cs k)) (λ d. (from_set fault_order Before faults_compare (class_faults cs k) d, to_set fault_order Before faults_compare (class_faults cs k) d))
 
   abbrev answers_for : List Name → List ClassAnswerValue
@@ -73,8 +74,8 @@ module _ (chains : ChainLaws) (members : MemberLaws) (bodies : BodyFaultLaws) (s
       (class_answers (classes_in files) (rules_of files).classes sorted_names
       (set_ascends name_order NameBefore names_compare (class_names (classes_in files)))
       (λ n. (declared n, to_set name_order NameBefore names_compare (class_names (classes_in files)) n))
-      (all_named chains members bodies (classes_in files) sorted_names declared)
-      (all_right chains members bodies (classes_in files) sorted_names declared))
+      (all_named chains members bodies (classes_in files) (names_fit_in files) sorted_names declared)
+      (all_right chains members bodies (classes_in files) (names_fit_in files) sorted_names declared))
 
   pub answer_law : (a : AnswerValue) → Rules files a ↔ (a ≡ rules_of files)
   answer_law a = (λ r. one_answer files a (rules_of files) r rules_hold, λ e. subst (Rules files) (sym e) rules_hold)

@@ -1,5 +1,5 @@
 -- The list of a class's faults has just those of the rows.
-use Rattle.std.proofs.Common.{◌≡◌, ℕ, ◌<◌, Bool, true, false, not, List, [], take, slice_get, Option, Some, None, is_none, option_map, Contains, refl, sym, ap, subst, ◌∙◌, inl, inr, true≢false}
+use Rattle.std.proofs.Common.{◌≡◌, ℕ, ◌<◌, Bool, true, false, not, List, [], take, slice_get, Option, Some, None, is_none, option_map, Contains, refl, sym, ap, subst, ◌∙◌, inl, inr, true≢false, ◌↔◌}
 use Rattle.std.proofs.lemmas.List.Elements.{Contains-append_left, Contains-append_right, Contains-append_cases}
 use Rattle.mj_answer.proofs.Alike.{Contains-first}
 use Rattle.mj_tree.specs.Trees.{Name, Statement, Method}
@@ -16,17 +16,18 @@ use Rattle.mj_classes.specs.Chains.{EndOf, Top, Undeclared, Repeated, Chain, cha
 use Rattle.mj_classes.specs.Members.{nearest, own_method}
 use Rattle.mj_classes.specs.Laws.{ChainLaws}
 use Rattle.mj_typing.specs.declared.verdict.Mistake.{Mistake}
-use Rattle.mj_typing.specs.Bodies.{method_faults, main_faults}
+use Rattle.mj_typing.specs.Bodies.{NamesFit, method_faults, main_faults}
 use Rattle.mj_project.specs.Repeats.{is_in, repeats}
 use Rattle.mj_rules.specs.Worlds.{sig_of, world_of}
 use Rattle.mj_rules.specs.ClassFaults.{FaultOfClass, UndeclaredSuperclass, CyclicChain, RepeatedField, RepeatedMethod, OtherSignature, UndeclaredFieldType, InMethod, InMain, IsFirstMethod, main_word, main_of}
-use Rattle.mj_rules.specs.FaultLists.{fault, when_fault, each_numbered, superclass_faults, is_cycle, chain_faults, is_undeclared, field_faults, same_signature, override_faults, inside, rest_of, nearest_sig, method_faults_of, body_faults_of, main_method_faults, field_names, method_names, declaration_faults, body_faults, class_faults}
-use Rattle.mj_rules.specs.Laws.{BodyFaultLaws, ClassFaultLaw}
+use Rattle.mj_rules.specs.FaultLists.{fault, when_fault, each_numbered, superclass_faults, is_cycle, chain_faults, is_undeclared, field_faults, same_signature, override_faults, inside, rest_of, nearest_sig, method_faults_of, body_faults_of, main_method_faults, field_names, method_names, declaration_faults, NamesFitIn, body_faults, class_faults}
+use Rattle.mj_rules.specs.Laws.{BodyFaultLaws}
 use Rattle.mj_project.proofs.Listed.{place_before, contains_before, contains_at, at_map, map_at, place_of}
 use Rattle.mj_project.proofs.RepeatLemmas.{Contains-is_in, is_in-Contains, repeats-at, flag_at}
 use Rattle.mj_rules.proofs.Numbered.{nowhere, only, from_when, to_when, IsFlagged, from_all, to_all}
 use Rattle.mj_rules.proofs.Signatures.{signature_from, signature_to}
 use Rattle.mj_rules.proofs.Overriding.{overridden_from, overridden_to}
+use Rattle.mj_rules.proofs.OneAnswer.{decl_stands}
 
 none_when : {A : Type 0} (o : Option A) → is_none o ≡ true → o ≡ None
 none_when None e = refl
@@ -53,7 +54,7 @@ to_inside m mistakes x h =
     let p = place_of mistakes x h in
     contains_at (inside m mistakes) p.0 _ (map_at (λ (y : Mistake). fault (places.Inside m y.mark) y.code) mistakes p.0 x p.1)
 
-module _ (chains : ChainLaws) (bodies : BodyFaultLaws) (cs : List ClassDecl) (k : ClassDecl) (first : decl cs k.name ≡ Some k) where
+module _ (chains : ChainLaws) (bodies : BodyFaultLaws) (cs : List ClassDecl) (fit : NamesFitIn cs) (k : ClassDecl) (first : decl cs k.name ≡ Some k) where
   abbrev Row : Diagnostic → Type 0
   Row d = FaultOfClass cs k d.place d.code
 
@@ -127,11 +128,14 @@ module _ (chains : ChainLaws) (bodies : BodyFaultLaws) (cs : List ClassDecl) (k 
       subst Row (only _ d h) (RepeatedMethod p.0 n f.0 m p.1 f.1 e f.2)
   by_flag d n m false e s h = from_override d n m (nearest (own_method m.name) (rest_of cs k.name)) (first_method n m e (sym s)) refl h
 
+  method_fits : (n : ℕ) (m : Method) → slice_get k.methods n ≡ Some m → NamesFit m
+  method_fits n m e = fit k (decl_stands cs k.name k first) m (contains_at k.methods n m e)
+
   body_by_flag : (d : Diagnostic) (n : ℕ) (m : Method) (flag : Bool) → slice_get k.methods n ≡ Some m → flag ≡ is_in (take n (method_names k)) m.name → Contains (body_faults_of cs k.name n flag m) d → Row d
   body_by_flag d n m true e s h = absurd (nowhere d h)
   body_by_flag d n m false e s h =
       let x = from_inside m.name (method_faults (world_of cs) k.name m) d h in
-      subst Row x.2 (InMethod n m x.0 (first_method n m e (sym s)) ((bodies.method (world_of cs) k.name m x.0).1 x.1))
+      subst Row x.2 (InMethod n m x.0 (first_method n m e (sym s)) ((bodies.method (world_of cs) k.name m (method_fits n m e) x.0).1 x.1))
 
   method_flag : (i : ℕ) (flag : Bool) (m : Method) → slice_get k.methods i ≡ Some m → slice_get (repeats (method_names k)) i ≡ Some flag → flag ≡ is_in (take i (method_names k)) m.name
   method_flag i flag m e f = repeats-at (method_names k) i flag m.name (map_at (λ (g : Method). g.name) k.methods i m e) f
@@ -254,10 +258,11 @@ module _ (chains : ChainLaws) (bodies : BodyFaultLaws) (cs : List ClassDecl) (k 
       let is : is_undeclared cs f.ty ≡ true = ap (is_undeclared cs) et ∙ ap (λ (o : Option ClassDecl). is_none o) none in
       in_fields _ (to_all (field_faults cs) k.fields (repeats (field_names k)) _ n flag.0 f en flag.1
       (Contains-append_right (when_fault flag.0 (places.Field n) E203) _ _ (to_when _ _ _ is)))
-  to_class_faults (InMethod n m x is ill) = in_first_body n m _ is (to_inside m.name (method_faults (world_of cs) k.name m) x ((bodies.method (world_of cs) k.name m x).0 ill))
+  to_class_faults (InMethod n m x is ill) = in_first_body n m _ is (to_inside m.name (method_faults (world_of cs) k.name m) x ((bodies.method (world_of cs) k.name m (method_fits n m is.here) x).0 ill))
   to_class_faults (InMain s x e ill) =
       in_main _ (subst (λ o. Contains (main_method_faults cs k o) (fault (places.Inside main_word x.mark) x.code)) (sym e)
       (to_inside main_word (main_faults (world_of cs) (main_of k s)) x ((bodies.main (world_of cs) (main_of k s) x).0 ill)))
 
-pub class_fault_law : ChainLaws → BodyFaultLaws → ClassFaultLaw
-class_fault_law chains bodies = λ cs k first place code. (λ h. from_class_faults chains bodies cs k first (fault place code) h, λ r. to_class_faults chains bodies cs k first r)
+pub class_fault_law : ChainLaws → BodyFaultLaws → (cs : List ClassDecl) → NamesFitIn cs → (k : ClassDecl) → decl cs k.name ≡ Some k → (place : Place) (code : Code)
+    → Contains (class_faults cs k) (fault place code) ↔ FaultOfClass cs k place code
+class_fault_law chains bodies cs fit k first place code = (λ h. from_class_faults chains bodies cs fit k first (fault place code) h, λ r. to_class_faults chains bodies cs fit k first r)

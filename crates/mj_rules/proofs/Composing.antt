@@ -10,7 +10,7 @@ use Rattle.mj_project.specs.Projects.{SourceFile}
 use Rattle.mj_rules.specs.Sentences.{classes_in}
 use Rattle.mj_rules.specs.Tables.{table_of}
 use Rattle.mj_rules.specs.Rules.{IsTableOf, IsAnswerFor, AreClassAnswers, Rules}
-use Rattle.mj_rules.specs.FaultLists.{fault, project_faults, class_faults, class_names}
+use Rattle.mj_rules.specs.FaultLists.{fault, project_faults, NamesFitIn, class_faults, class_names}
 use Rattle.mj_rules.specs.Laws.{SentenceLaw, BodyFaultLaws}
 use Rattle.mj_project.proofs.Listed.{contains_at, place_of, map_at}
 use Rattle.mj_rules.proofs.ProjectFaultLaws.{project_fault_law}
@@ -21,17 +21,17 @@ use Rattle.mj_rules.proofs.TableLaws.{table_law, ascend_by_names}
 abbrev pub SameFaults : List Diagnostic → List Diagnostic → Type 0
 SameFaults ds es = (d : Diagnostic) → Contains ds d ↔ Contains es d
 
-pub class_answer : ChainLaws → MemberLaws → BodyFaultLaws → (cs : List ClassDecl) (k : ClassDecl) (answer : ClassAnswerValue) → decl cs k.name ≡ Some k
+pub class_answer : ChainLaws → MemberLaws → BodyFaultLaws → (cs : List ClassDecl) → NamesFitIn cs → (k : ClassDecl) (answer : ClassAnswerValue) → decl cs k.name ≡ Some k
     → answer.name ≡ k.name → answer.table ≡ table_of cs k.name → IsAscending answer.faults → SameFaults answer.faults (class_faults cs k) → IsAnswerFor cs answer
-class_answer chains members bodies cs k answer first name table ascending same = record {
+class_answer chains members bodies cs fit k answer first name table ascending same = record {
   class = k;
   first = ap (decl cs) name ∙ first;
   table = subst (λ (n : Name). IsTableOf cs n answer.table) (sym name) (subst (IsTableOf cs k.name) (sym table) (table_law members cs k.name));
   faults = record {
     ascending = ascending;
     exactly = λ place code. (
-      λ h. (class_fault_law chains bodies cs k first place code).0 ((same (fault place code)).0 h),
-      λ r. (same (fault place code)).1 ((class_fault_law chains bodies cs k first place code).1 r),
+      λ h. (class_fault_law chains bodies cs fit k first place code).0 ((same (fault place code)).0 h),
+      λ r. (same (fault place code)).1 ((class_fault_law chains bodies cs fit k first place code).1 r),
     );
   };
 }

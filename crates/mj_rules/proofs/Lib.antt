@@ -7,11 +7,13 @@ pub mod TableLaws
 pub mod Steps
 pub mod RowLemmas
 pub mod OneAnswer
+pub mod Declared
 pub mod Composing
 pub mod Sets
 pub mod Answering
 pub mod SentenceLaws
 pub mod LowerLaws
 pub mod LowerBodies
+pub mod Acceptance
 pub mod WorldLaws
 pub mod Declaring

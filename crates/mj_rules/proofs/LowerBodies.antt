@@ -6,6 +6,6 @@ use Rattle.mj_rules.specs.Laws.{BodyFaultLaws}
 
 pub body_laws : BodyFaultLaws
 body_laws = record {
-  method = λ w class m x. (λ h. method_there w class m x h, λ h. method_listed w class m x h);
+  method = λ w class m fit x. (λ h. method_there w class m fit x h, λ h. method_listed w class m fit x h);
   main = λ w m x. ((each_exact w (main_phrases m) x).1, (each_exact w (main_phrases m) x).0);
 }

@@ -1,5 +1,5 @@
 -- What the declarations say is what chains and members are.
-use Rattle.std.proofs.Common.{◌≡◌, true, List, Option, Some, None, option_map, is_some, Contains, refl, sym, ap, ◌∙◌, true≢false}
+use Rattle.std.proofs.Common.{◌≡◌, true, List, Option, Some, None, option_map, is_some, Contains, refl, sym, ap, ◌∙◌, true≢false, ◌↔◌}
 use Rattle.std.proofs.lemmas.Option.{none-some, same_Some}
 use Rattle.mj_tree.specs.Trees.{Name, Method}
 use Rattle.mj_tree.specs.declared.tree.Ty.{Ty}
@@ -8,10 +8,11 @@ use Rattle.mj_classes.specs.Declarations.{ClassDecl, decl}
 use Rattle.mj_classes.specs.Chains.{EndOf, Chain, IsChain, chain_of, chain_names, is_in}
 use Rattle.mj_classes.specs.Members.{FieldOf, MethodOf, field_of, method_of}
 use Rattle.mj_typing.specs.Inquiries.{Sig}
-use Rattle.mj_rules.specs.Worlds.{sig_of}
+use Rattle.mj_rules.specs.Worlds.{sig_of, world_of}
 use Rattle.mj_rules.specs.Laws.{WorldLaw}
 use Rattle.mj_project.proofs.RepeatLemmas.{Contains-is_in, is_in-Contains}
 use Rattle.mj_rules.proofs.LowerLaws.{chain_laws, member_laws}
+use Rattle.mj_rules.proofs.Acceptance.{acceptance}
 
 module _ (cs : List ClassDecl) where
   descends_from : (c d : Name) (o : Option Chain) → chain_of cs c ≡ o → is_in (chain_names o) d ≡ true → (chain : List Name) × (end : EndOf) × IsChain cs c chain end × Contains chain d
@@ -20,6 +21,9 @@ module _ (cs : List ClassDecl) where
 
   descends_to : (c d : Name) (chain : List Name) (end : EndOf) → IsChain cs c chain end → Contains chain d → is_in (chain_names (chain_of cs c)) d ≡ true
   descends_to c d chain end is h = ap (λ (o : Option Chain). is_in (chain_names o) d) ((chain_laws.given cs c chain end).0 is) ∙ is_in-Contains chain d h
+
+  descends_law : (c d : Name) → ((world_of cs).descends c d ≡ true) ↔ ((chain : List Name) × (end : EndOf) × IsChain cs c chain end × Contains chain d)
+  descends_law c d = (descends_from c d (chain_of cs c) refl, λ h. descends_to c d h.0 h.1 h.2 h.3)
 
   field_from : (c x : Name) (t : Ty) (o : Option (Name × Field)) → field_of cs c x ≡ o → option_map (λ (f : Name × Field). f.1.ty) o ≡ Some t → (owner : Name) × (f : Field) × FieldOf cs c x owner f × (f.ty ≡ t)
   field_from c x t None e h = absurd (none-some t h)
@@ -41,7 +45,8 @@ module _ (cs : List ClassDecl) where
 
 pub world_law : WorldLaw
 world_law = λ cs. record {
-  descends = λ c d. (descends_from cs c d (chain_of cs c) refl, λ h. descends_to cs c d h.0 h.1 h.2 h.3);
+  descends = descends_law cs;
+  accepted = acceptance cs (world_of cs) (descends_law cs);
   field = λ c x t. (field_from cs c x t (field_of cs c x) refl, λ h. field_to cs c x t h.0 h.1 h.2 h.3);
   method = λ c m sig. (method_from cs c m sig (method_of cs c m) refl, λ h. method_to cs c m sig h.0 h.1 h.2 h.3);
   is_declared = λ c. (declared_from cs c (decl cs c) refl, λ h. ap (λ (o : Option ClassDecl). is_some o) h.1);

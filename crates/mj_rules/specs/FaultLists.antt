@@ -1,5 +1,5 @@
 -- The same faults as lists, in the order in which a checker comes upon them.
-use Rattle.std.specs.Prelude.{ℕ, ◌+◌, Bool, true, false, ◌&&◌, ◌||◌, not, is_some, is_none, List, [], ◌∷◌, ◌++◌, map, drop, Option, Some, None, option_map, slice_get, if◌then◌else◌}
+use Rattle.std.specs.Prelude.{ℕ, ◌+◌, Bool, true, false, ◌&&◌, ◌||◌, not, is_some, is_none, List, [], ◌∷◌, ◌++◌, map, drop, Option, Some, None, option_map, Contains, slice_get, if◌then◌else◌}
 use Rattle.std.specs.Str.{bytes_eq}
 use Rattle.std.specs.List.{list_any}
 use Rattle.mj_tree.specs.Trees.{Name, Statement, Method, File}
@@ -17,7 +17,7 @@ use Rattle.mj_classes.specs.Chains.{EndOf, Top, Undeclared, Repeated, Chain, cha
 use Rattle.mj_classes.specs.Members.{nearest, own_method}
 use Rattle.mj_typing.specs.declared.verdict.Mistake.{Mistake}
 use Rattle.mj_typing.specs.Inquiries.{Sig}
-use Rattle.mj_typing.specs.Bodies.{method_faults, main_faults}
+use Rattle.mj_typing.specs.Bodies.{NamesFit, method_faults, main_faults}
 use Rattle.mj_project.specs.Projects.{SourceFile}
 use Rattle.mj_project.specs.Repeats.{repeats}
 use Rattle.mj_rules.specs.Sentences.{file_of, classes_in}
@@ -154,6 +154,10 @@ declaration_faults cs k =
     (repeats (method_names k))))
 
 -- ---- bodies
+
+-- the numbers of the names' tokens have 64 bits in each method of the classes
+abbrev pub NamesFitIn : List ClassDecl → Type 0
+NamesFitIn cs = (k : ClassDecl) → Contains cs k → (m : Method) → Contains k.methods m → NamesFit m
 
 -- mistakes in the body of a method
 abbrev pub inside : Name → List Mistake → List Diagnostic

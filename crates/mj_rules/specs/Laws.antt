@@ -7,9 +7,9 @@ use Rattle.mj_answer.specs.AnswerValues.{AnswerValue}
 use Rattle.mj_classes.specs.Declarations.{ClassDecl, decl}
 use Rattle.mj_typing.specs.declared.verdict.Mistake.{Mistake}
 use Rattle.mj_typing.specs.Inquiries.{World}
-use Rattle.mj_typing.specs.Bodies.{MethodFault, MainFault, method_faults, main_faults}
+use Rattle.mj_typing.specs.Bodies.{MethodFault, MainFault, NamesFit, method_faults, main_faults}
 use Rattle.mj_project.specs.Projects.{SourceFile}
-use Rattle.mj_rules.specs.Sentences.{IsSentence, file_of}
+use Rattle.mj_rules.specs.Sentences.{IsSentence, file_of, classes_in}
 use Rattle.mj_rules.specs.ProjectFaults.{FaultOfProject}
 use Rattle.mj_rules.specs.Worlds.{world_of, Says}
 use Rattle.mj_rules.specs.ClassFaults.{FaultOfClass}
@@ -29,10 +29,12 @@ ProjectFaultLaw =
 
 abbrev pub ClassFaultLaw : Type 0
 ClassFaultLaw =
-    (cs : List ClassDecl) (k : ClassDecl) → decl cs k.name ≡ Some k → (place : Place) (code : Code)
-    → Contains (class_faults cs k) (fault place code) ↔ FaultOfClass cs k place code
+    (files : List SourceFile) (k : ClassDecl) → decl (classes_in files) k.name ≡ Some k
+    → (place : Place) (code : Code)
+    → Contains (class_faults (classes_in files) k) (fault place code)
+    ↔ FaultOfClass (classes_in files) k place code
 
--- what the check of a body is told is what chains and members are
+-- what the check of a body is told is what chains, accepted types and members are
 abbrev pub WorldLaw : Type 0
 WorldLaw = (cs : List ClassDecl) → Says cs (world_of cs)
 
@@ -43,6 +45,6 @@ AnswerLaw =
     → Rules files answer ↔ (answer ≡ rules_of files)
 
 pub record BodyFaultLaws : Type 0 where
-  pub method : (w : World) (class : Name) (m : Method) (x : Mistake)
+  pub method : (w : World) (class : Name) (m : Method) → NamesFit m → (x : Mistake)
       → MethodFault w class m x ↔ Contains (method_faults w class m) x
   pub main : (w : World) (m : Main) (x : Mistake) → MainFault w m x ↔ Contains (main_faults w m) x

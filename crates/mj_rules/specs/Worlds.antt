@@ -4,9 +4,10 @@ use Rattle.mj_tree.specs.Trees.{Name, Method}
 use Rattle.mj_tree.specs.declared.tree.Ty.{Ty}
 use Rattle.mj_tree.specs.declared.tree.Field.{Field}
 use Rattle.mj_classes.specs.Declarations.{ClassDecl, decl}
-use Rattle.mj_classes.specs.Chains.{EndOf, IsChain, chain_of, chain_names, is_in}
+use Rattle.mj_classes.specs.Chains.{EndOf, IsChain, IsAcceptedBy, chain_of, chain_names, is_in}
 use Rattle.mj_classes.specs.Members.{FieldOf, MethodOf, field_of, method_of}
 use Rattle.mj_typing.specs.Inquiries.{World, Sig}
+use Rattle.mj_typing.specs.Cases.{Accepted}
 
 -- the types of a method
 abbrev pub sig_of : Method → Sig
@@ -20,11 +21,13 @@ world_of cs = record {
   is_declared = λ c. is_some (decl cs c);
 }
 
--- what a world says is what chains and members are
+-- what a world says is what chains, accepted types and members are
 pub record Says (cs : List ClassDecl) (w : World) : Type 0 where
   pub descends : (c d : Name)
       → (w.descends c d ≡ true)
       ↔ ((chain : List Name) × (end : EndOf) × IsChain cs c chain end × Contains chain d)
+  -- a type is accepted in the check of a body just where the chains say so
+  pub accepted : (t u : Ty) → Accepted w t u ↔ IsAcceptedBy cs t u
   pub field : (c x : Name) (t : Ty)
       → (w.field c x ≡ Some t)
       ↔ ((owner : Name) × (f : Field) × FieldOf cs c x owner f × (f.ty ≡ t))

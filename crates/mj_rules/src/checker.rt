@@ -4,7 +4,7 @@ ghost use Rattle.mj_answer.specs.Order.{NameBefore, IsAscendingBy};
 ghost use Rattle.mj_classes.specs.Declarations.{decl};
 ghost use Rattle.mj_classes.specs.Classes.{class_ref_view, files_view};
 ghost use Rattle.mj_classes.specs.Index.{declared_in};
-ghost use Rattle.mj_rules.specs.FaultLists.{class_names};
+ghost use Rattle.mj_rules.specs.FaultLists.{NamesFitIn, class_names};
 ghost use Rattle.mj_rules.specs.Sentences.{trees_of};
 ghost use Rattle.mj_rules.specs.Rules.{IsAnswerFor, AreClassAnswers, Rules};
 
@@ -26,8 +26,9 @@ fn class_answer(
     declarations: &Declarations,
     class: &ClassRef,
 ) -> Result<ClassAnswer, AllocError>
-    requires { decl (declared_in declarations.now) (class_ref_view class.now).name
+    requires first { decl (declared_in declarations.now) (class_ref_view class.now).name
         ≡ Some (class_ref_view class.now) }
+    requires fit { NamesFitIn (declared_in declarations.now) }
     ensures name { IfOk result (λ answer. answer.name ≡ (class_ref_view class.now).name) }
     ensures rules { IfOk result (IsAnswerFor (declared_in declarations.now)) }
 {
@@ -58,6 +59,7 @@ fn declared_names(alloc: Global, declarations: &Declarations) -> Result<Vec<Name
 
 /// The answers for the declared classes, ascending by name.
 fn class_answers(alloc: Global, declarations: &Declarations) -> Result<Vec<ClassAnswer>, AllocError>
+    requires { NamesFitIn (declared_in declarations.now) }
     ensures { IfOk result (λ answers.
         AreClassAnswers (declared_in declarations.now) answers.items) }
 {

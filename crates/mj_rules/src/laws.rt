@@ -16,7 +16,7 @@ pub fn class_fault_laws()
     ensures { ClassFaultLaw }
 {}
 
-/// What the check of a body is told about declarations is what chains and members are.
+/// What the check of a body is told about declarations is what chains, accepted types and members are.
 pub fn world_laws()
     ensures { WorldLaw }
 {}

@@ -12,7 +12,7 @@ use Rattle.mj_typing.specs.declared.verdict.Mistake.{Mistake}
 use Rattle.mj_typing.specs.Inquiries.{World, Inquiry, conclusion}
 use Rattle.mj_typing.specs.Phrases.{Phrase, Phrases, phrase, nothing, part, demand, fine, HasType, AllTyped, Well, FaultIn, FaultInAny, FaultInSome}
 use Rattle.mj_typing.specs.Table.{Scope, main_scope, method_scope, phrase_of, name_phrase, own_phrase, statement_phrases, statements_phrases, return_phrase, method_phrases, main_phrases, condition, print, assign, store, return_value, is_accepted, variable}
-use Rattle.mj_typing.specs.Cases.{Accepted, IsVariable, HasTypeByCases, WellByCases, AllWellByCases, MethodIsWell, MainIsWell}
+use Rattle.mj_typing.specs.Cases.{Accepted, IsVariable, HasTypeByCases, IsWellThroughoutByCases, AreWellThroughoutByCases, MethodIsWell, MainIsWell}
 use Rattle.mj_typing.specs.Laws.{count, IsOfExpression, IsOfStatement, Decides, DecideAll, DecidesStatement, AllDecide}
 use Rattle.mj_typing.proofs.Agree.{one_list, nowhere, first, later, first_or_later}
 use Rattle.mj_typing.proofs.NeverSilent.{method_decides, main_decides}
@@ -132,7 +132,7 @@ module _ (w : World) where
   mutual
     unfolding print assign store
 
-    well_from : (s : Scope) (a : Statement) → AllWell (statement_phrases s a) → WellByCases w s a
+    well_from : (s : Scope) (a : Statement) → AllWell (statement_phrases s a) → IsWellThroughoutByCases w s a
     well_from s (Block mark ss) h = all_well_from s ss h.1
     well_from s (If mark e a b) h = let r = well_front (statement_phrases s a) (statement_phrases s b) h.1 in (condition_from mark s e h.0, well_from s a r.0, well_from s b r.1)
     well_from s (While mark e a) h = (condition_from mark s e h.0, well_from s a h.1)
@@ -151,14 +151,14 @@ module _ (w : World) where
         let d = demand_holds w (is_int a.2) E318 fine Fine tt c.1 in
         (subst (IsVariable w s x) (array_is a.0 b.0) (name_typed s x_mark x a.0 a.3), subst (HasTypeByCases w s i) (int_is a.1 c.0) (by_cases w s i a.1 a.4), subst (HasTypeByCases w s e) (int_is a.2 d.0) (by_cases w s e a.2 a.5))
 
-    all_well_from : (s : Scope) (ss : Statements) → AllWell (statements_phrases s ss) → AllWellByCases w s ss
+    all_well_from : (s : Scope) (ss : Statements) → AllWell (statements_phrases s ss) → AreWellThroughoutByCases w s ss
     all_well_from s done h = tt
     all_well_from s (next a ss) h = let r = well_front (statement_phrases s a) (statements_phrases s ss) h in (well_from s a r.0, all_well_from s ss r.1)
 
   mutual
     unfolding print assign store
 
-    from_well : (s : Scope) (a : Statement) → WellByCases w s a → AllWell (statement_phrases s a)
+    from_well : (s : Scope) (a : Statement) → IsWellThroughoutByCases w s a → AllWell (statement_phrases s a)
     from_well s (Block mark ss) h = (([], tt, refl), from_all_well s ss h)
     from_well s (If mark e a b) h = (from_condition mark s e h.0, well_both (statement_phrases s a) (statement_phrases s b) (from_well s a h.1) (from_well s b h.2))
     from_well s (While mark e a) h = (from_condition mark s e h.0, from_well s a h.1)
@@ -168,7 +168,7 @@ module _ (w : World) where
     from_well s (Store mark x x_mark i e) h =
         ((ty.IntArray ∷ ty.Int ∷ ty.Int ∷ [], (typed_name s x_mark x ty.IntArray h.0, (from_cases w s i ty.Int h.1, (from_cases w s e ty.Int h.2, tt))), refl), tt)
 
-    from_all_well : (s : Scope) (ss : Statements) → AllWellByCases w s ss → AllWell (statements_phrases s ss)
+    from_all_well : (s : Scope) (ss : Statements) → AreWellThroughoutByCases w s ss → AllWell (statements_phrases s ss)
     from_all_well s done h = tt
     from_all_well s (next a ss) h = well_both (statement_phrases s a) (statements_phrases s ss) (from_well s a h.0) (from_all_well s ss h.1)
 

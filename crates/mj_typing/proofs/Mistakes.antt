@@ -1,5 +1,5 @@
 -- The list of a body's mistakes has each of them and no other.
-use Rattle.std.proofs.Common.{◌≡◌, ℕ, Bool, true, false, cond, List, [], ◌∷◌, ◌++◌, refl, sym, ap, ◌∙◌, subst, ◌⊎◌, inl, inr, append_assoc, append-nil}
+use Rattle.std.proofs.Common.{◌≡◌, ℕ, ◌<◌, ◌^◌, Bool, true, false, cond, List, [], ◌∷◌, ◌++◌, refl, sym, ap, ◌∙◌, subst, ◌⊎◌, inl, inr, append_assoc, append-nil, arith}
 use Rattle.std.specs.Prelude.{Contains}
 use Rattle.std.proofs.lemmas.List.Elements.{Contains-append_left, Contains-append_right, Contains-append_cases, Contains-push, Contains-push_cases}
 use Rattle.std.proofs.lemmas.Slice.Eq.{bytes_eq-Decides}
@@ -13,7 +13,7 @@ use Rattle.mj_typing.specs.declared.verdict.Mistake.{Mistake}
 use Rattle.mj_typing.specs.Types.{is_same}
 use Rattle.mj_typing.specs.Inquiries.{World}
 use Rattle.mj_typing.specs.Table.{method_phrases}
-use Rattle.mj_typing.specs.Bodies.{MethodFault, UndeclaredReturn, UndeclaredVariable, RepeatedVariable, IllPhrase, return_type_mark, name_mark, has_name, variables_of, add_undeclared, add_undeclared_each, add_repeated, add_repeated_each, method_faults}
+use Rattle.mj_typing.specs.Bodies.{MethodFault, UndeclaredReturn, UndeclaredVariable, RepeatedVariable, IllPhrase, return_type_mark, name_token, name_mark, NamesFit, has_name, variables_of, add_undeclared, add_undeclared_each, add_repeated, add_repeated_each, method_faults}
 use Rattle.mj_typing.proofs.Agree.{nowhere, first, later, first_or_later, each_listed, each_kept, each_there}
 
 abbrev mistake : ℕ → Code → Mistake
@@ -132,9 +132,26 @@ each_repeated_there [] v after before faults h =
 each_repeated_there (u ∷ us) v after before faults h =
     each_repeated_there us v after (before ++ u ∷ []) (add_repeated faults before u) (subst (λ l. has_name l v.name ≡ true) (sym (append_assoc before (u ∷ []) us)) h)
 
+-- ---- the token of a name
+
+same_mark : (x : Name) (t : Ty) (mark : ℕ) → name_token (record { name = x; ty = t; mark = mark }) < 2 ^ 64 → name_mark (record { name = x; ty = t; mark = mark }) ≡ name_token (record { name = x; ty = t; mark = mark })
+same_mark x ty.Int mark h = omega (arith, h)
+same_mark x ty.Boolean mark h = omega (arith, h)
+same_mark x ty.IntArray mark h = omega (arith, h)
+same_mark x (ty.Class c) mark h = omega (arith, h)
+
+same_token : (v : Variable) → name_token v < 2 ^ 64 → name_mark v ≡ name_token v
+same_token v h = same_mark v.name v.ty v.mark h
+
+stands_among : (before : List Variable) (v : Variable) (after all : List Variable) → all ≡ before ++ v ∷ after → Contains all v
+stands_among before v after all e = subst (λ vs. Contains vs v) (sym e) (Contains-append_right before (v ∷ after) v (first v after))
+
+token_fits : (m : Method) → NamesFit m → (before : List Variable) (v : Variable) (after : List Variable) → variables_of m ≡ before ++ v ∷ after → mistake (name_mark v) E207 ≡ mistake (name_token v) E207
+token_fits m fit before v after e = ap (λ (n : ℕ). mistake n E207) (same_token v (fit v (stands_among before v after (variables_of m) e)))
+
 -- ---- a method
 
-module _ (w : World) (class : Name) (m : Method) where
+module _ (w : World) (class : Name) (m : Method) (fit : NamesFit m) where
   pub method_listed : (x : Mistake) → Contains (method_faults w class m) x → MethodFault w class m x
   method_listed x h =
       let repeated = add_repeated_each [] [] (variables_of m) in
@@ -151,7 +168,7 @@ module _ (w : World) (class : Name) (m : Method) where
               | inr u ↦ subst (MethodFault w class m) u.3 (UndeclaredReturn u.0 u.1 u.2)
               | inl h ↦ elim (each_repeated_listed (variables_of m) [] [] x h) [
                 | inl n ↦ absurd (nowhere x n)
-                | inr r ↦ let u = named_among r.0 r.1.name r.4 in subst (MethodFault w class m) r.5 (RepeatedVariable r.0 u.0 r.1 r.2 r.3 u.1 u.2)
+                | inr r ↦ let u = named_among r.0 r.1.name r.4 in subst (MethodFault w class m) (sym (token_fits m fit r.0 r.1 r.2 r.3) ∙ r.5) (RepeatedVariable r.0 u.0 r.1 r.2 r.3 u.1 u.2)
               ]
             ]
           ]
@@ -183,8 +200,9 @@ module _ (w : World) (class : Name) (m : Method) where
       let b = add_undeclared_each w a m.formals in
       let c' = add_undeclared_each w b m.locals in
       let x = mistake (name_mark v) E207 in
-      each_kept w (method_phrases class m) c' x (each_undeclared_kept w m.locals b x (each_undeclared_kept w m.formals a x (own_kept w return_type_mark m.returns repeated x
-      (subst (λ vs. Contains (add_repeated_each [] [] vs) x) (sym split) (each_repeated_there before v after [] [] (among_named before v.name u h e))))))
+      subst (Contains (method_faults w class m)) (token_fits m fit before v after split)
+      (each_kept w (method_phrases class m) c' x (each_undeclared_kept w m.locals b x (each_undeclared_kept w m.formals a x (own_kept w return_type_mark m.returns repeated x
+      (subst (λ vs. Contains (add_repeated_each [] [] vs) x) (sym split) (each_repeated_there before v after [] [] (among_named before v.name u h e)))))))
   method_there x (IllPhrase x' f) =
       let repeated = add_repeated_each [] [] (variables_of m) in
       let a = add_undeclared w repeated return_type_mark m.returns in

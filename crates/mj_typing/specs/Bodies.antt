@@ -1,5 +1,5 @@
 -- The mistakes in a method, and in main.
-use Rattle.std.specs.Prelude.{◌≡◌, ℕ, ◌+◌, ◌-◌, ◌^◌, min, Bool, true, false, List, [], ◌∷◌, ◌++◌, Contains, if◌then◌else◌}
+use Rattle.std.specs.Prelude.{◌≡◌, ℕ, ◌+◌, ◌-◌, ◌<◌, ◌^◌, min, Bool, true, false, List, [], ◌∷◌, ◌++◌, Contains, if◌then◌else◌}
 use Rattle.mj_tree.specs.Trees.{Name, Expression, Statement, Statements, Block, If, While, Print, Assign, Store, done, Method, Main}
 use Rattle.mj_tree.specs.Trees as trees
 use Rattle.mj_tree.specs.declared.tree.Ty.{Ty}
@@ -21,16 +21,15 @@ variables_of m = m.formals ++ m.locals
 abbrev pub return_type_mark : ℕ
 return_type_mark = 1
 
--- a variable's name stands behind its type, of which `int[]` has three tokens; no number of a token
--- is above 2 ^ 64 - 1
-abbrev pub name_mark : Variable → ℕ
-name_mark v = min (v.mark + type_len v.ty) (2 ^ 64 - 1)
+-- the token of a variable's name: 3 behind the first of `int[]`, 1 behind any other type
+abbrev pub name_token : Variable → ℕ
+name_token v = v.mark + type_tokens v.ty
   where
-    type_len : Ty → ℕ
-    type_len ty.IntArray = 3
-    type_len ty.Int = 1
-    type_len ty.Boolean = 1
-    type_len (ty.Class c) = 1
+    type_tokens : Ty → ℕ
+    type_tokens ty.IntArray = 3
+    type_tokens ty.Int = 1
+    type_tokens ty.Boolean = 1
+    type_tokens (ty.Class c) = 1
 
 -- one of the variables has this name
 abbrev pub has_name : List Variable → Name → Bool
@@ -47,7 +46,7 @@ pub data MethodFault (w : World) (class : Name) (m : Method) : Mistake → Type 
       → w.is_declared c ≡ false → MethodFault w class m (record { mark = v.mark; code = E206 })
   RepeatedVariable : (before : List Variable) (u v : Variable) (after : List Variable)
       → variables_of m ≡ before ++ v ∷ after → Contains before u → u.name ≡ v.name
-      → MethodFault w class m (record { mark = name_mark v; code = E207 })
+      → MethodFault w class m (record { mark = name_token v; code = E207 })
   IllPhrase : (x : Mistake) → FaultInSome w (method_phrases class m) x → MethodFault w class m x
 
 -- each mistake in main
@@ -55,6 +54,14 @@ abbrev pub MainFault : World → Main → Mistake → Type 0
 MainFault w m x = FaultInSome w (main_phrases m) x
 
 -- ---- the same as functions
+
+-- the numbers of the names' tokens have 64 bits
+abbrev pub NamesFit : Method → Type 0
+NamesFit m = (v : Variable) → Contains (variables_of m) v → name_token v < 2 ^ 64
+
+-- the token of a variable's name, or the greatest number of 64 bits where its number has more
+abbrev pub name_mark : Variable → ℕ
+name_mark v = min (name_token v) (2 ^ 64 - 1)
 
 -- behind these mistakes, that a type at the mark is an undeclared class
 abbrev pub add_undeclared : World → List Mistake → ℕ → Ty → List Mistake

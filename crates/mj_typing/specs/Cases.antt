@@ -7,7 +7,7 @@ use Rattle.mj_tree.specs.declared.tree.Ty.{Ty}
 use Rattle.mj_tree.specs.declared.tree.Ty.TheVariants as ty
 use Rattle.mj_tree.specs.declared.tree.Variable.{Variable}
 use Rattle.mj_typing.specs.Inquiries.{World, Sig}
-use Rattle.mj_typing.specs.Table.{Scope, method_scope, main_scope}
+use Rattle.mj_typing.specs.Table.{Scope, most_value, method_scope, main_scope}
 
 -- the first type is accepted by the second: they are equal, or the second class stands in the chain
 -- of the first
@@ -47,7 +47,7 @@ result_type Times = ty.Int
 
 abbrev mutual
   pub HasTypeByCases : World → Scope → Expression → Ty → Type 0
-  HasTypeByCases w s (Literal mark value) t = (value ≤ 2147483647) × (t ≡ ty.Int)
+  HasTypeByCases w s (Literal mark value) t = (value ≤ most_value) × (t ≡ ty.Int)
   HasTypeByCases w s (Boolean mark value) t = t ≡ ty.Boolean
   HasTypeByCases w s (Named mark x) t = IsVariable w s x t
   HasTypeByCases w s (This mark) t = (c : Name) × (s.class ≡ Some c) × (t ≡ ty.Class c)
@@ -74,26 +74,29 @@ abbrev mutual
       ((t : Ty) × HasTypeByCases w s e t × Accepted w t u) × ArgumentsAccepted w s es us
 
 abbrev mutual
-  pub WellByCases : World → Scope → Statement → Type 0
-  WellByCases w s (Block mark ss) = AllWellByCases w s ss
-  WellByCases w s (If mark e a b) =
-      HasTypeByCases w s e ty.Boolean × WellByCases w s a × WellByCases w s b
-  WellByCases w s (While mark e a) = HasTypeByCases w s e ty.Boolean × WellByCases w s a
-  WellByCases w s (Print mark e) = HasTypeByCases w s e ty.Int
-  WellByCases w s (Assign mark x x_mark e) =
+  pub IsWellThroughoutByCases : World → Scope → Statement → Type 0
+  IsWellThroughoutByCases w s (Block mark ss) = AreWellThroughoutByCases w s ss
+  IsWellThroughoutByCases w s (If mark e a b) =
+      HasTypeByCases w s e ty.Boolean × IsWellThroughoutByCases w s a
+      × IsWellThroughoutByCases w s b
+  IsWellThroughoutByCases w s (While mark e a) =
+      HasTypeByCases w s e ty.Boolean × IsWellThroughoutByCases w s a
+  IsWellThroughoutByCases w s (Print mark e) = HasTypeByCases w s e ty.Int
+  IsWellThroughoutByCases w s (Assign mark x x_mark e) =
       (t u : Ty) × IsVariable w s x u × HasTypeByCases w s e t × Accepted w t u
-  WellByCases w s (Store mark x x_mark i e) =
+  IsWellThroughoutByCases w s (Store mark x x_mark i e) =
       IsVariable w s x ty.IntArray × HasTypeByCases w s i ty.Int × HasTypeByCases w s e ty.Int
 
-  pub AllWellByCases : World → Scope → Statements → Type 0
-  AllWellByCases w s done = Unit {0}
-  AllWellByCases w s (next a ss) = WellByCases w s a × AllWellByCases w s ss
+  pub AreWellThroughoutByCases : World → Scope → Statements → Type 0
+  AreWellThroughoutByCases w s done = Unit {0}
+  AreWellThroughoutByCases w s (next a ss) =
+      IsWellThroughoutByCases w s a × AreWellThroughoutByCases w s ss
 
 -- the statements of a method are well, and what is returned is accepted by its return type
 abbrev pub MethodIsWell : World → Name → Method → Type 0
 MethodIsWell w class m =
-    AllWellByCases w (method_scope class m) m.body
+    AreWellThroughoutByCases w (method_scope class m) m.body
     × ((t : Ty) × HasTypeByCases w (method_scope class m) m.returned t × Accepted w t m.returns)
 
 abbrev pub MainIsWell : World → Main → Type 0
-MainIsWell w m = WellByCases w main_scope m.statement
+MainIsWell w m = IsWellThroughoutByCases w main_scope m.statement

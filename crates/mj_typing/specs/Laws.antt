@@ -1,5 +1,5 @@
 -- What holds of the definitions.
-use Rattle.std.specs.Prelude.{◌≡◌, ◌↔◌, ℕ, suc, List, [], ◌∷◌, length, Some, Contains}
+use Rattle.std.specs.Prelude.{◌≡◌, ◌↔◌, ℕ, suc, true, List, [], ◌∷◌, length, Some, Contains}
 use Rattle.mj_tree.specs.Trees.{Name, Expression, Method, Main}
 use Rattle.mj_tree.specs.declared.tree.Ty.{Ty}
 use Rattle.mj_typing.specs.declared.verdict.Mistake.{Mistake}
@@ -7,9 +7,9 @@ use Rattle.mj_typing.specs.declared.verdict.Verdict.{Verdict}
 use Rattle.mj_typing.specs.declared.verdict.Verdict.TheVariants.{Is, Fine, Wrong, Silent}
 use Rattle.mj_typing.specs.Inquiries.{World, conclusion}
 use Rattle.mj_typing.specs.Phrases.{Phrase, Phrases, phrase, nothing, part, HasType, FaultInSome, type_of, add_each}
-use Rattle.mj_typing.specs.Table.{Scope, phrase_of, method_phrases, main_phrases}
-use Rattle.mj_typing.specs.Bodies.{MethodFault, MainFault, method_faults, main_faults, method_check, main_check}
-use Rattle.mj_typing.specs.Cases.{HasTypeByCases, MethodIsWell, MainIsWell}
+use Rattle.mj_typing.specs.Table.{Scope, is_accepted, phrase_of, method_phrases, main_phrases}
+use Rattle.mj_typing.specs.Bodies.{MethodFault, MainFault, NamesFit, method_faults, main_faults, method_check, main_check}
+use Rattle.mj_typing.specs.Cases.{Accepted, HasTypeByCases, MethodIsWell, MainIsWell}
 
 -- the functions compute the judgement, and a phrase has one type at most
 pub record TypingLaws : Type 0 where
@@ -20,7 +20,7 @@ pub record TypingLaws : Type 0 where
 
 -- the lists are the mistakes, and the checks that ask conclude with them
 pub record BodyLaws : Type 0 where
-  pub method : (w : World) (class : Name) (m : Method) (x : Mistake)
+  pub method : (w : World) (class : Name) (m : Method) → NamesFit m → (x : Mistake)
       → Contains (method_faults w class m) x ↔ MethodFault w class m x
   pub main : (w : World) (m : Main) (x : Mistake) → Contains (main_faults w m) x ↔ MainFault w m x
   pub method_checked : (w : World) (class : Name) (m : Method)
@@ -71,8 +71,10 @@ pub record RowLaws : Type 0 where
   pub method : (w : World) (class : Name) (m : Method) → AllDecide w (method_phrases class m)
   pub main : (w : World) (m : Main) → AllDecide w (main_phrases m)
 
--- the table is the judgement by cases, and a body without mistakes is one that is well
+-- what is accepted and the table are the judgement by cases, and a body without mistakes is one
+-- that is well
 pub record CaseLaws : Type 0 where
+  pub accepted : (w : World) (t u : Ty) → (conclusion w (is_accepted t u) ≡ true) ↔ Accepted w t u
   pub expression : (w : World) (s : Scope) (e : Expression) (t : Ty)
       → HasType w (phrase_of s e) t ↔ HasTypeByCases w s e t
   pub method : (w : World) (class : Name) (m : Method)

@@ -49,8 +49,12 @@ are_accepted (t ∷ ts) (u ∷ us) =
 
 -- ---- what an expression comes to, by the types of its immediate expressions
 
+-- the greatest value of `int`
+abbrev pub most_value : ℕ
+most_value = 2147483647
+
 unfoldable pub literal : ℕ → Inquiry Verdict
-literal value = demand (nat_le value 2147483647) E315 (is ty.Int)
+literal value = demand (nat_le value most_value) E315 (is ty.Int)
 
 abbrev pub local_or_field : Option Ty → Option Name → Name → Inquiry Verdict
 local_or_field (Some t) class x = is t

@@ -108,7 +108,7 @@ pub trait Asking {
         → halts s start OutOfMemory };
 }
 
-/// Environment that answer by themselves.
+/// Declarations that answer by themselves.
 pub trait Environment {
     type Method: Signature + Drop;
 

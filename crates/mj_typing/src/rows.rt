@@ -13,12 +13,15 @@ use mj_lexer::Name;
 use mj_tree::{Operator, Ty};
 use std::alloc::{AllocError, Global};
 
+/// The greatest value of `int`.
+const GREATEST_VALUE: u32 = 2147483647;
+
 /// The type of a literal that is small enough.
 #[tactic(auto, unfolding(crate::specs::Table::literal))]
 pub fn literal(value: u32) -> Verdict
     ensures { literal value ≡ Concludes result }
 {
-    if value <= 2147483647 {
+    if value <= GREATEST_VALUE {
         Verdict::Is(Ty::Int)
     } else {
         Verdict::Wrong(Code::E315)

@@ -1,7 +1,6 @@
 -- The faults in a method that the answer has are those of the method's phrases and declared types.
-use Rattle.std.proofs.Common.{◌≡◌, ℕ, List, [], Some, Contains, refl, sym, ap, ◌∙◌, subst, ◌⊎◌, inl, inr}
-use Rattle.std.specs.Prelude.{◌↔◌, slice_get}
-use Rattle.std.proofs.lemmas.Bool.{cases_order}
+use Rattle.std.proofs.Common.{◌≡◌, ℕ, List, Some, Contains, refl, sym, ◌∙◌, subst, ◌⊎◌, inl, inr}
+use Rattle.std.specs.Prelude.{◌↔◌}
 use Rattle.std.proofs.lemmas.Option.{same_Some}
 use Rattle.std.proofs.lemmas.List.Elements.{All-contains}
 use Rattle.mj_tree.specs.Trees.{Name, Statement, Method}
@@ -13,30 +12,17 @@ use Rattle.mj_classes.specs.Declarations.{ClassDecl, decl}
 use Rattle.mj_typing.specs.declared.verdict.Mistake.{Mistake}
 use Rattle.mj_typing.specs.Bodies.{MethodFault, MainFault}
 use Rattle.mj_project.specs.Projects.{SourceFile}
-use Rattle.mj_project.proofs.Listed.{contains_at}
-use Rattle.mj_typing.proofs.Agree.{nowhere}
 use Rattle.mj_rules.specs.Sentences.{classes_in}
 use Rattle.mj_rules.specs.Worlds.{world_of}
 use Rattle.mj_rules.specs.ClassFaults.{FaultOfClass, UndeclaredSuperclass, CyclicChain, RepeatedField, RepeatedMethod, OtherSignature, UndeclaredFieldType, InMethod, InMain, IsFirstMethod, main_word, main_of}
 use Rattle.mj_rules.specs.Rules.{IsAnswerFor, Rules}
 use Rattle.mj_rules.proofs.Overriding.{decl-name}
+use Rattle.mj_rules.proofs.Declared.{IsOrderly, orderly_class}
+use Rattle.fault_rules.specs.Faults.{FaultInMethod, FaultInMain}
 use Rattle.fault_rules.proofs.Bodies.{in_method, from_method, in_main, from_main}
-use Rattle.rule_laws.specs.Typing.{world_in, IsMethodIn, IsMainIn, IsFaultIn, IsFaultInMain}
+use Rattle.rule_laws.specs.Typing.{world_in, IsMethodIn, IsMainIn, IsFaultIn, FaultOfMethod, FaultOfMain}
 use Rattle.rule_laws.specs.Laws.{fault_inside}
-use Rattle.rule_laws.proofs.Declared.{IsOrderly, orderly_class}
-
--- the first method of a name is one
-one_first : (k : ClassDecl) (i j : ℕ) (a b : Method) → IsFirstMethod k i a → IsFirstMethod k j b → a.name ≡ b.name → a ≡ b
-one_first k i j a b f g same =
-    elim (cases_order i j) [
-      | inl e ↦ same_Some a b (sym f.here ∙ ap (λ n. slice_get k.methods n) e ∙ g.here)
-      | inr (inl l) ↦ absurd (g.first i a l f.here same)
-      | inr (inr l) ↦ absurd (f.first j b l g.here (sym same))
-    ]
-
--- no list of methods that is empty has one
-no_method : (k : ClassDecl) (n : ℕ) (m : Method) → k.methods ≡ [] → slice_get k.methods n ≡ Some m → ⊥
-no_method k n m e h = nowhere m (contains_at [] n m (subst (λ (ms : List Method). slice_get ms n ≡ Some m) e h))
+use Rattle.rule_laws.proofs.Scopes.{one_first, no_method}
 
 same_name : {a b : Name} {i j : ℕ} → place.Inside a i ≡ place.Inside b j → a ≡ b
 same_name e = cc
@@ -93,40 +79,47 @@ module _ (files : List SourceFile) (answer : AnswerValue) (rules : Rules files a
   inside_of k first p code name mark (InMethod n m x f h) at = inl (m, record { declaration = k; first_class = first; number = n; first_method = f }, same_name at)
   inside_of k first p code name mark (InMain statement x e h) at = inr (statement, record { declaration = k; first_class = first; main = e }, same_name at)
 
-  pub no_other_faults : (name : Name) (x : Mistake) → Contains class.faults (fault_inside name x)
+  no_other_faults : (name : Name) (x : Mistake) → Contains class.faults (fault_inside name x)
       → ((m : Method) × IsMethodIn files class.name m × (m.name ≡ name)) ⊎ ((statement : Statement) × IsMainIn files class.name statement × (main_word ≡ name))
   no_other_faults name x h = inside_of for_class.class for_class.first (place.Inside name x.mark) x.code name x.mark ((for_class.faults.exactly (place.Inside name x.mark) x.code).0 h) refl
 
-  method_to : (m : Method) (is : IsMethodIn files class.name m) (x : Mistake) → Contains class.faults (fault_inside m.name x) → IsFaultIn files class.name m x
+  method_to : (m : Method) (is : IsMethodIn files class.name m) (x : Mistake) → Contains class.faults (fault_inside m.name x) → FaultInMethod (world_in files) class.name m x
   method_to m is x h =
       let k = is.declaration in
       let o = orderly_class files class.name k is.first_class in
       let named = decl-name (classes_in files) class.name k is.first_class in
       let f = of_method (classes_in files) k o is.number m is.first_method x.mark (place.Inside m.name x.mark) x.code ((faults_are k is.first_class (place.Inside m.name x.mark) x.code).0 h) refl in
-      in_method (world_in files) class.name m (o.names_fit m (contains_at k.methods is.number m is.first_method.here)) x (subst (λ (c : Name). MethodFault (world_in files) c m x) named f)
+      in_method (world_in files) class.name m x (subst (λ (c : Name). MethodFault (world_in files) c m x) named f)
 
-  to_method : (m : Method) (is : IsMethodIn files class.name m) (x : Mistake) → IsFaultIn files class.name m x → Contains class.faults (fault_inside m.name x)
+  to_method : (m : Method) (is : IsMethodIn files class.name m) (x : Mistake) → FaultInMethod (world_in files) class.name m x → Contains class.faults (fault_inside m.name x)
   to_method m is x f =
       let k = is.declaration in
-      let o = orderly_class files class.name k is.first_class in
       let named = decl-name (classes_in files) class.name k is.first_class in
-      let g = from_method (world_in files) class.name m (o.names_fit m (contains_at k.methods is.number m is.first_method.here)) x f in
+      let g = from_method (world_in files) class.name m x f in
       (faults_are k is.first_class (place.Inside m.name x.mark) x.code).1 (InMethod is.number m x is.first_method (subst (λ (c : Name). MethodFault (world_in files) c m x) (sym named) g))
 
-  main_to : (statement : Statement) (is : IsMainIn files class.name statement) (x : Mistake) → Contains class.faults (fault_inside main_word x) → IsFaultInMain files class.name statement x
+  main_to : (statement : Statement) (is : IsMainIn files class.name statement) (x : Mistake) → Contains class.faults (fault_inside main_word x) → FaultInMain (world_in files) (record { name = class.name; statement = statement }) x
   main_to statement is x h =
       let k = is.declaration in
       let o = orderly_class files class.name k is.first_class in
       let f = of_main (classes_in files) k o statement is.main x.mark (place.Inside main_word x.mark) x.code ((faults_are k is.first_class (place.Inside main_word x.mark) x.code).0 h) refl in
       in_main (world_in files) (record { name = class.name; statement = statement }) x f
 
-  to_main : (statement : Statement) (is : IsMainIn files class.name statement) (x : Mistake) → IsFaultInMain files class.name statement x → Contains class.faults (fault_inside main_word x)
+  to_main : (statement : Statement) (is : IsMainIn files class.name statement) (x : Mistake) → FaultInMain (world_in files) (record { name = class.name; statement = statement }) x → Contains class.faults (fault_inside main_word x)
   to_main statement is x f =
       let k = is.declaration in
       (faults_are k is.first_class (place.Inside main_word x.mark) x.code).1 (InMain statement x is.main (from_main (world_in files) (record { name = class.name; statement = statement }) x f))
 
-  pub method_faults_are : (m : Method) → IsMethodIn files class.name m → (x : Mistake) → Contains class.faults (fault_inside m.name x) ↔ IsFaultIn files class.name m x
-  method_faults_are m is x = (method_to m is x, to_method m is x)
+  from_answer : (m : Name) (x : Mistake) → Contains class.faults (fault_inside m x) → IsFaultIn files class.name m x
+  from_answer m x h =
+      elim (no_other_faults m x h) [
+        | inl r ↦ FaultOfMethod r.0 r.1 r.2 (method_to r.0 r.1 x (subst (λ (n : Name). Contains class.faults (fault_inside n x)) (sym r.2) h))
+        | inr r ↦ FaultOfMain r.0 r.1 r.2 (main_to r.0 r.1 x (subst (λ (n : Name). Contains class.faults (fault_inside n x)) (sym r.2) h))
+      ]
 
-  pub main_faults_are : (statement : Statement) → IsMainIn files class.name statement → (x : Mistake) → Contains class.faults (fault_inside main_word x) ↔ IsFaultInMain files class.name statement x
-  main_faults_are statement is x = (main_to statement is x, to_main statement is x)
+  to_answer : (m : Name) (x : Mistake) → IsFaultIn files class.name m x → Contains class.faults (fault_inside m x)
+  to_answer m x (FaultOfMethod method is e f) = subst (λ (n : Name). Contains class.faults (fault_inside n x)) e (to_method method is x f)
+  to_answer m x (FaultOfMain statement is e f) = subst (λ (n : Name). Contains class.faults (fault_inside n x)) e (to_main statement is x f)
+
+  pub faults_inside : (m : Name) (x : Mistake) → Contains class.faults (fault_inside m x) ↔ IsFaultIn files class.name m x
+  faults_inside m x = (from_answer m x, to_answer m x)

@@ -1,3 +1,2 @@
-pub mod Acceptance
-pub mod Declared
+pub mod Scopes
 pub mod Answers

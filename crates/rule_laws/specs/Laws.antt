@@ -1,54 +1,54 @@
 -- What is computed of a project is what the rules say of it.
-use Rattle.std.specs.Prelude.{◌≡◌, ◌↔◌, List, Some, ◌⊎◌, Contains}
+use Rattle.std.specs.Prelude.{◌≡◌, ◌↔◌, ℕ, List, Some, Contains}
 use Rattle.mj_tree.specs.Trees.{Name, Expression, Statement, Method}
 use Rattle.mj_tree.specs.declared.tree.Ty.{Ty}
 use Rattle.mj_tree.specs.declared.place.Place.TheVariants.{Inside}
 use Rattle.mj_answer.specs.AnswerValues.{ClassAnswerValue, AnswerValue}
 use Rattle.mj_answer.specs.declared.diagnostic.Diagnostic.{Diagnostic}
-use Rattle.mj_classes.specs.Declarations.{ClassDecl}
-use Rattle.mj_classes.specs.Chains.{IsAcceptedBy}
 use Rattle.mj_typing.specs.declared.verdict.Mistake.{Mistake}
-use Rattle.mj_typing.specs.Phrases.{type_of}
-use Rattle.mj_typing.specs.Table.{method_scope, main_scope, phrase_of}
-use Rattle.mj_typing.specs.Cases.{Accepted}
+use Rattle.mj_typing.specs.Phrases.{type_of, Well}
+use Rattle.mj_typing.specs.Table.{Scope, phrase_of, own_phrase, return_phrase}
+use Rattle.fault_rules.specs.Demands.{OfExpression, OfStatement, OfReturn}
 use Rattle.mj_project.specs.Projects.{SourceFile}
-use Rattle.mj_rules.specs.ClassFaults.{main_word}
-use Rattle.mj_rules.specs.Worlds.{world_of}
 use Rattle.mj_rules.specs.Rules.{Rules}
-use Rattle.rule_laws.specs.Typing.{world_in, IsMethodIn, IsMainIn, HasTypeIn, HasTypeInMain, IsFaultIn, IsFaultInMain}
+use Rattle.rule_laws.specs.Typing.{world_in, IsMethodIn, IsMainIn, IsScopeIn, HasTypeIn, IsWellIn, IsFaultIn}
 
--- a type is accepted in the check of a body exactly where the chains of the classes say so
-abbrev pub AcceptanceLaw : Type 0
-AcceptanceLaw =
-    (cs : List ClassDecl) (t u : Ty) → Accepted (world_of cs) t u ↔ IsAcceptedBy cs t u
+-- a class has one method of a name at most, or one main and no method; so a name has one scope
+pub record ScopeLaws : Type 0 where
+  pub method : (files : List SourceFile) (c : Name) (a b : Method)
+      → IsMethodIn files c a → IsMethodIn files c b → a.name ≡ b.name → a ≡ b
+  pub main : (files : List SourceFile) (c : Name) (a b : Statement)
+      → IsMainIn files c a → IsMainIn files c b → a ≡ b
+  pub apart : (files : List SourceFile) (c : Name) (a : Method) (b : Statement)
+      → IsMethodIn files c a → IsMainIn files c b → ⊥
+  pub scope : (files : List SourceFile) (c m : Name) (s r : Scope)
+      → IsScopeIn files c m s → IsScopeIn files c m r → s ≡ r
 
--- the type that a check computes is the one that an expression has
+-- the type that a check computes is the one that an expression has, an expression that has one is
+-- well, and so is a statement or a return in which the check finds nothing
 pub record TypeLaws : Type 0 where
-  pub method : (files : List SourceFile) (class : Name) (m : Method) (e : Expression) (t : Ty)
-      → (type_of (world_in files) (phrase_of (method_scope class m) e) ≡ Some t)
-      ↔ HasTypeIn files class m e t
-  pub main : (files : List SourceFile) (e : Expression) (t : Ty)
-      → (type_of (world_in files) (phrase_of main_scope e) ≡ Some t) ↔ HasTypeInMain files e t
-  pub unique : (files : List SourceFile) (class : Name) (m : Method) (e : Expression) (t u : Ty)
-      → HasTypeIn files class m e t → HasTypeIn files class m e u → t ≡ u
+  pub computed : (files : List SourceFile) (c m : Name) (s : Scope) → IsScopeIn files c m s
+      → (e : Expression) (t : Ty)
+      → (type_of (world_in files) (phrase_of s e) ≡ Some t) ↔ HasTypeIn files c m e t
+  pub unique : (files : List SourceFile) (c m : Name) (e : Expression) (t u : Ty)
+      → HasTypeIn files c m e t → HasTypeIn files c m e u → t ≡ u
+  pub expression : (files : List SourceFile) (c m : Name) (e : Expression)
+      → ((t : Ty) × HasTypeIn files c m e t) ↔ IsWellIn files c m (OfExpression e)
+  pub statement : (files : List SourceFile) (c m : Name) (s : Scope) → IsScopeIn files c m s
+      → (a : Statement)
+      → Well (world_in files) (own_phrase s a) ↔ IsWellIn files c m (OfStatement a)
+  pub return_value : (files : List SourceFile) (c m : Name) (s : Scope) → IsScopeIn files c m s
+      → (mark : ℕ) (wanted : Ty) (e : Expression)
+      → Well (world_in files) (return_phrase s mark wanted e)
+      ↔ IsWellIn files c m (OfReturn mark wanted e)
 
 -- the fault at a token of a method
 abbrev pub fault_inside : Name → Mistake → Diagnostic
 fault_inside m x = record { place = Inside m x.mark; code = x.code }
 
--- the answer of the rules has the faults of each method, and those of main, and no others there
-pub record MethodFaultLaws : Type 0 where
-  pub method : (files : List SourceFile) (answer : AnswerValue) → Rules files answer
-      → (class : ClassAnswerValue) → Contains answer.classes class
-      → (m : Method) → IsMethodIn files class.name m → (x : Mistake)
-      → Contains class.faults (fault_inside m.name x) ↔ IsFaultIn files class.name m x
-  pub main : (files : List SourceFile) (answer : AnswerValue) → Rules files answer
-      → (class : ClassAnswerValue) → Contains answer.classes class
-      → (statement : Statement) → IsMainIn files class.name statement → (x : Mistake)
-      → Contains class.faults (fault_inside main_word x)
-      ↔ IsFaultInMain files class.name statement x
-  pub no_other : (files : List SourceFile) (answer : AnswerValue) → Rules files answer
-      → (class : ClassAnswerValue) → Contains answer.classes class
-      → (name : Name) (x : Mistake) → Contains class.faults (fault_inside name x)
-      → ((m : Method) × IsMethodIn files class.name m × (m.name ≡ name))
-      ⊎ ((statement : Statement) × IsMainIn files class.name statement × (main_word ≡ name))
+-- the answer of the rules has just the faults of each method, and those of main
+abbrev pub MethodFaultLaw : Type 0
+MethodFaultLaw =
+    (files : List SourceFile) (answer : AnswerValue) → Rules files answer
+    → (class : ClassAnswerValue) → Contains answer.classes class → (m : Name) (x : Mistake)
+    → Contains class.faults (fault_inside m x) ↔ IsFaultIn files class.name m x

@@ -1,17 +1,18 @@
--- What has a type in a project, and what is at fault.
+-- What has a type in a project, what is well in it, and what is at fault.
 use Rattle.std.specs.Prelude.{◌≡◌, ℕ, List, Some}
 use Rattle.mj_tree.specs.Trees.{Name, Expression, Statement, Method}
 use Rattle.mj_tree.specs.declared.tree.Ty.{Ty}
 use Rattle.mj_classes.specs.Declarations.{ClassDecl, decl}
 use Rattle.mj_typing.specs.declared.verdict.Mistake.{Mistake}
 use Rattle.mj_typing.specs.Inquiries.{World}
-use Rattle.mj_typing.specs.Table.{method_scope, main_scope}
+use Rattle.mj_typing.specs.Table.{Scope, method_scope, main_scope}
 use Rattle.mj_typing.specs.Cases.{HasTypeByCases}
-use Rattle.fault_rules.specs.Faults.{FaultInMethod, FaultInMain}
+use Rattle.fault_rules.specs.Demands.{BodyPhrase}
+use Rattle.fault_rules.specs.Faults.{IsWell, FaultInMethod, FaultInMain}
 use Rattle.mj_project.specs.Projects.{SourceFile}
 use Rattle.mj_rules.specs.Sentences.{classes_in}
 use Rattle.mj_rules.specs.Worlds.{world_of}
-use Rattle.mj_rules.specs.ClassFaults.{IsFirstMethod}
+use Rattle.mj_rules.specs.ClassFaults.{IsFirstMethod, main_word}
 
 -- what the declarations of a project say
 abbrev pub world_in : List SourceFile → World
@@ -30,17 +31,26 @@ pub record IsMainIn (files : List SourceFile) (class : Name) (statement : Statem
   pub first_class : decl (classes_in files) class ≡ Some declaration
   pub main : declaration.main ≡ Some statement
 
--- the expression has this type in the method of the class, or in main
-abbrev pub HasTypeIn : List SourceFile → Name → Method → Expression → Ty → Type 0
-HasTypeIn files class m e t = HasTypeByCases (world_in files) (method_scope class m) e t
+-- the phrases of the method of the class stand in this scope, or those of its main
+pub data IsScopeIn (files : List SourceFile) (c m : Name) : Scope → Type 0 where
+  OfMethod : (method : Method) → IsMethodIn files c method → method.name ≡ m
+      → IsScopeIn files c m (method_scope c method)
+  OfMain : (statement : Statement) → IsMainIn files c statement → main_word ≡ m
+      → IsScopeIn files c m main_scope
 
-abbrev pub HasTypeInMain : List SourceFile → Expression → Ty → Type 0
-HasTypeInMain files e t = HasTypeByCases (world_in files) main_scope e t
+-- the expression has this type in the method of the class
+abbrev pub HasTypeIn : List SourceFile → Name → Name → Expression → Ty → Type 0
+HasTypeIn files c m e t =
+    (s : Scope) × IsScopeIn files c m s × HasTypeByCases (world_in files) s e t
 
--- the method of the class has this fault, or main has it
-abbrev pub IsFaultIn : List SourceFile → Name → Method → Mistake → Type 0
-IsFaultIn files class m x = FaultInMethod (world_in files) class m x
+-- the phrase is well in the method of the class
+abbrev pub IsWellIn : List SourceFile → Name → Name → BodyPhrase → Type 0
+IsWellIn files c m p = (s : Scope) × IsScopeIn files c m s × IsWell (world_in files) s p
 
-abbrev pub IsFaultInMain : List SourceFile → Name → Statement → Mistake → Type 0
-IsFaultInMain files class statement x =
-    FaultInMain (world_in files) (record { name = class; statement = statement }) x
+-- the method of the class has this fault, or its main has it
+pub data IsFaultIn (files : List SourceFile) (c m : Name) (x : Mistake) : Type 0 where
+  FaultOfMethod : (method : Method) → IsMethodIn files c method → method.name ≡ m
+      → FaultInMethod (world_in files) c method x → IsFaultIn files c m x
+  FaultOfMain : (statement : Statement) → IsMainIn files c statement → main_word ≡ m
+      → FaultInMain (world_in files) (record { name = c; statement = statement }) x
+      → IsFaultIn files c m x

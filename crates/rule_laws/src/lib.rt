@@ -1,19 +1,19 @@
-//! What the rules say of a project: which type is accepted by which, the types in its methods, and their faults.
+//! What the rules say of a project: the types in its methods, and their faults.
 #![tactic(auto)]
 
-ghost use Rattle.rule_laws.specs.Laws.{AcceptanceLaw, TypeLaws, MethodFaultLaws};
+ghost use Rattle.rule_laws.specs.Laws.{ScopeLaws, TypeLaws, MethodFaultLaw};
 
-/// What the check of a body takes for accepted is what the chains of the declared classes say.
-pub fn acceptance_law()
-    ensures { AcceptanceLaw }
+/// A name in a class stands for one method at most, or for main, and so for one scope.
+pub fn scope_laws()
+    ensures { ScopeLaws }
 {}
 
-/// An expression of a method has one type at most, the one that a check computes.
+/// An expression of a method has one type at most, the one that a check computes, and a phrase is well where a check finds so.
 pub fn type_laws()
     ensures { TypeLaws }
 {}
 
 /// The answer that the rules give has just the faults in a method that the demands of its phrases give.
 pub fn method_fault_laws()
-    ensures { MethodFaultLaws }
+    ensures { MethodFaultLaw }
 {}

@@ -5,11 +5,18 @@ use Rattle.mj_answer.specs.Order.{IsAscending}
 use Rattle.mj_classes.specs.Declarations.{ClassDecl, declarations}
 use Rattle.mj_classes.specs.Index.{declared_in}
 use Rattle.mj_rules.specs.Sentences.{classes_in}
-use Rattle.mj_rules.specs.FaultLists.{project_faults}
+use Rattle.mj_rules.specs.FaultLists.{NamesFitIn, project_faults}
 use Rattle.mj_rules.specs.Rules.{AreClassAnswers}
 use Rattle.mj_rules.proofs.Composing.{SameFaults, project_answer}
 use Rattle.mj_rules.proofs.LowerLaws.{sentence_law}
+use Rattle.mj_rules.proofs.Declared.{names_fit_in}
 use Rattle.mj_rules.proofs.checker.answer_for.Goals as goal
+
+pub class_answers-requires : goal.class_answers-requires
+class_answers-requires c =
+    let files = c.args.project.now in
+    let declared : declared_in c.in_ok-declarations.declarations ≡ classes_in files = c.in_ok-declarations.ensures ∙ ap declarations c.requires in
+    subst NamesFitIn (sym declared) (names_fit_in files)
 
 pub returns : goal.returns
 returns c =

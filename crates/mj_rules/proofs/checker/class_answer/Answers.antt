@@ -25,5 +25,5 @@ returns-clause-rules c =
     let table : c.new.result.table ≡ table_of cs k.name = ap (λ (a : ClassAnswerValue). a.table) c.new.ensures ∙ (c.in_ok-table.ensures ∙ along) in
     let faults : c.new.result.faults ≡ c.fault_set.result.items = ap (λ (a : ClassAnswerValue). a.faults) c.new.ensures in
     let same : SameFaults c.fault_set.result.items (class_faults cs k) = subst (λ (ds : List Diagnostic). SameFaults c.fault_set.result.items ds) listed c.fault_set.ensures.same in
-    class_answer chain_laws member_laws body_laws cs k c.new.result c.requires name table (subst IsAscending (sym faults) c.fault_set.ensures.ascending)
+    class_answer chain_laws member_laws body_laws cs c.requires.fit k c.new.result c.requires.first name table (subst IsAscending (sym faults) c.fault_set.ensures.ascending)
     (subst (λ (ds : List Diagnostic). SameFaults ds (class_faults cs k)) (sym faults) same)

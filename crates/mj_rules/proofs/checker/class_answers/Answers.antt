@@ -24,8 +24,8 @@ unreachable-requires c =
     let k = is_named cs c.name-item.result (decl cs c.name-item.result) refl named in
     none-some k.0 (c.in_default.ensures ∙ k.1)
 
-pub class_answer-requires : goal.class_answer-requires
-class_answer-requires c =
+pub class_answer-requires-clause-first : goal.class_answer-requires-clause-first
+class_answer-requires-clause-first c =
     let cs = declared_in c.args.declarations.now in
     let here : decl cs c.name-item.result ≡ Some (class_ref_view c.in-Some.class) = sym c.in-Some.ensures in
     ap (decl cs) (decl-name cs c.name-item.result (class_ref_view c.in-Some.class) here) ∙ here

@@ -6,7 +6,7 @@ use Rattle.mj_typing.proofs.laws.body_laws.Goals as goal
 
 pub returns : goal.returns
 returns c = record {
-  method = λ w class m x. (λ h. method_listed w class m x h, λ h. method_there w class m x h);
+  method = λ w class m fit x. (λ h. method_listed w class m fit x h, λ h. method_there w class m fit x h);
   main = λ w m x. each_exact w (main_phrases m) x;
   method_checked = method_concludes;
   main_checked = main_concludes;

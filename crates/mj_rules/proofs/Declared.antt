@@ -1,5 +1,5 @@
 -- In a declared class a main stands alone, and the tokens of names have small numbers.
-use Rattle.std.proofs.Common.{◌≡◌, ℕ, suc, ◌<◌, ◌≤◌, ◌^◌, List, [], ◌∷◌, length, Option, Some, None, option_and_then, Contains, bytes_eq, refl, subst, arith, inl, inr}
+use Rattle.std.proofs.Common.{◌≡◌, ℕ, suc, ◌<◌, ◌≤◌, ◌^◌, List, [], ◌∷◌, length, Option, Some, None, option_and_then, Contains, refl, subst, arith, inl, inr}
 use Rattle.std.proofs.lemmas.List.{length-drop}
 use Rattle.std.proofs.lemmas.List.Elements.{All-contains, Contains-append_cases}
 use Rattle.std.proofs.lemmas.Option.{none-some}
@@ -20,10 +20,11 @@ use Rattle.mj_parser.proofs.FileFound.{file_found}
 use Rattle.mj_parser.proofs.Bounds.{marks_below}
 use Rattle.mj_classes.specs.Declarations.{ClassDecl, number_classes, main_first, main_decl, class_decl, classes_of, declared_from, decl}
 use Rattle.mj_project.specs.Projects.{SourceFile}
+use Rattle.mj_typing.specs.Bodies.{name_token, NamesFit}
 use Rattle.mj_typing.proofs.Agree.{nowhere, first, later, first_or_later}
 use Rattle.mj_rules.specs.Sentences.{file_of, trees_of, classes_in}
-use Rattle.mj_rules.proofs.RowLemmas.{found_stands}
-use Rattle.fault_rules.specs.Faults.{name_token, NamesFit}
+use Rattle.mj_rules.specs.FaultLists.{NamesFitIn}
+use Rattle.mj_rules.proofs.OneAnswer.{decl_stands}
 
 -- ---- a text has no more tokens than bytes
 
@@ -106,5 +107,7 @@ orderly_from file (f ∷ files) k e = by_tree (file_of f.bytes) refl (λ d. orde
         ]
 
 pub orderly_class : (files : List SourceFile) (c : Name) (k : ClassDecl) → decl (classes_in files) c ≡ Some k → IsOrderly k
-unfolding decl
-orderly_class files c k e = orderly_from 0 files k (found_stands (λ (d : ClassDecl). bytes_eq d.name c) (classes_in files) k e).0
+orderly_class files c k e = orderly_from 0 files k (decl_stands (classes_in files) c k e)
+
+pub names_fit_in : (files : List SourceFile) → NamesFitIn (classes_in files)
+names_fit_in files k listed = (orderly_from 0 files k listed).names_fit
