@@ -12,10 +12,11 @@ use Rattle.byte_readers.specs.Laws.{IsBytes-drop, Takes-then, lawful_two, lawful
 use Rattle.byte_readers.specs.Spelling.{two, four, eight}
 use Rattle.byte_readers.specs.Reading.{two_at, four_at, eight_at}
 use Rattle.sessions.specs.Sessions.{RecordValue, SessionValue, AreRecords, IsSession}
-use Rattle.sessions.specs.Spelling.{start, record_bytes, head_bytes, body_bytes, file_of}
+use Rattle.sessions.specs.Spelling.{start, record_bytes, head_bytes, body_bytes, file_of, digest_of}
 use Rattle.session_file.specs.declared.fault.FileFault.TheVariants.{BadMagic, Version, Number, BadDigest}
 use Rattle.session_file.specs.Reading.{whole, bytes_at, demand, HeadValue, magic, magic_at, head_at, end_at, records_from, file_at}
 use Rattle.session_file.proofs.ReadLaws.{done, ok_is, bind_ok, bind_is, guard_ok, guard_so, tested_ok, tested_is, number_takes, number_again, bytes_takes, bytes_again}
+use Rattle.session_file.proofs.PartLaws.{digest_is}
 use Rattle.session_file.proofs.RecordsReadLaws.{records_take, records_again}
 
 magic_takes : (bytes rest : List ℕ) → IsBytes bytes → magic_at bytes ≡ Ok rest → Takes bytes magic rest
@@ -127,23 +128,41 @@ file_parts s body rest eb er = ap (λ (xs : List ℕ). body ++ xs) er ∙ ap (λ
 pub no_records : AreRecords []
 no_records i r lt = absurd (omega (arith, lt))
 
+-- what is read in front of the end
+pub record FrontIs (bytes rest : List ℕ) (s : SessionValue) : Type 0 where
+  pub session : IsSession s
+  pub takes : Takes bytes (body_bytes s) rest
+  pub front : take (length bytes - length rest) bytes ≡ body_bytes s
+
+pub front_taken : (bytes : List ℕ) (h : HeadValue) (middle : List ℕ) (records : List RecordValue) (rest : List ℕ) → IsBytes bytes → head_at bytes ≡ Ok (h, middle) → records_from [] h.count middle ≡ Ok (records, rest) → FrontIs bytes rest (record { number = h.number; link = h.link; records = records })
+front_taken bytes h middle records rest fits eh er =
+    let th = head_takes bytes h middle fits eh in
+    let tr = records_take h.count [] middle records rest no_records th.0.rest_fits er in
+    let count : h.count ≡ length records = sym tr.count_is ∙ ap (λ (xs : List RecordValue). length xs) tr.whole_is in
+    let items : Takes middle (flat_map record_bytes records) rest = subst (λ (xs : List RecordValue). Takes middle (flat_map record_bytes xs) rest) tr.whole_is tr.takes in
+    let made : SessionValue = record { number = h.number; link = h.link; records = records } in
+    let all : Takes bytes (body_bytes made) rest = subst (λ (xs : List ℕ). Takes bytes xs rest) (body_parts h records count) (Takes-then bytes (head_of h) middle (flat_map record_bytes records) rest th.0 items) in
+    record {
+      session = record { number = th.1.number; link = th.1.link; few = omega (arith, count, th.1.count); records = tr.are };
+      takes = all;
+      front = front_is bytes (body_bytes made) rest all.parts;
+    }
+
+pub digest_taken : (bytes rest : List ℕ) (s : SessionValue) (body digest : List ℕ) → FrontIs bytes rest s → body ≡ take (length bytes - length rest) bytes → digest ≡ sha256 (body ++ sha256 body) → digest ≡ digest_of s
+digest_taken bytes rest s body digest front is e =
+    e ∙ ap (λ (xs : List ℕ). sha256 (xs ++ sha256 xs)) (is ∙ front.front) ∙ digest_is s
+
 pub file_takes : (bytes : List ℕ) (s : SessionValue) → IsBytes bytes → file_at bytes ≡ Ok s → IsSession s × (bytes ≡ file_of s)
 unfolding file_at
 file_takes bytes s fits e =
     let a = bind_ok (head_at bytes) _ s e in
     let b = bind_ok (records_from [] a.0.0.count a.0.1) _ s a.2 in
     let d = bind_ok (end_at (take (length bytes - length b.0.1) bytes) b.0.1) _ s b.2 in
-    let ta = head_takes bytes a.0.0 a.0.1 fits a.1 in
-    let tb = records_take a.0.0.count [] a.0.1 b.0.0 b.0.1 no_records ta.0.rest_fits b.1 in
-    let td = end_takes (take (length bytes - length b.0.1) bytes) b.0.1 d.0 tb.takes.rest_fits d.1 in
-    let count : a.0.0.count ≡ length b.0.0 = sym tb.count_is ∙ ap (λ (xs : List RecordValue). length xs) tb.whole_is in
-    let records : Takes a.0.1 (flat_map record_bytes b.0.0) b.0.1 = subst (λ (xs : List RecordValue). Takes a.0.1 (flat_map record_bytes xs) b.0.1) tb.whole_is tb.takes in
-    let body = head_of a.0.0 ++ flat_map record_bytes b.0.0 in
-    let all : Takes bytes body b.0.1 = Takes-then bytes (head_of a.0.0) a.0.1 (flat_map record_bytes b.0.0) b.0.1 ta.0 records in
-    let front : take (length bytes - length b.0.1) bytes ≡ body = front_is bytes body b.0.1 all.parts in
     let made : SessionValue = record { number = a.0.0.number; link = a.0.0.link; records = b.0.0 } in
+    let front = front_taken bytes a.0.0 a.0.1 b.0.0 b.0.1 fits a.1 b.1 in
+    let end = end_takes (take (length bytes - length b.0.1) bytes) b.0.1 d.0 front.takes.rest_fits d.1 in
     subst (λ (x : SessionValue). IsSession x × (bytes ≡ file_of x)) (ok_is made s d.2)
-    (record { number = ta.1.number; link = ta.1.link; few = omega (arith, count, ta.1.count); records = tb.are }, all.parts ∙ file_parts made body b.0.1 (body_parts a.0.0 b.0.0 count) (td ∙ ap sha256 front))
+    (front.session, front.takes.parts ∙ file_parts made (body_bytes made) b.0.1 refl (end ∙ ap sha256 front.front))
 
 pub file_again : (s : SessionValue) → IsSession s → file_at (file_of s) ≡ Ok s
 unfolding file_at file_of

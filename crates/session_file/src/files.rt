@@ -1,15 +1,16 @@
 //! Sessions from files.
-ghost use Rattle.std.specs.Prelude.{◌≡◌, ◌≤◌, List, ℕ, Ok, IfOk};
+ghost use Rattle.std.specs.Prelude.{◌≡◌, ◌≤◌, ◌++◌, List, ℕ, Ok, IfOk};
+ghost use Rattle.sha2.specs.Sha256.{sha256};
 ghost use Rattle.sessions.specs.Sessions.{SessionValue, IsSession};
 ghost use Rattle.sessions.specs.Spelling.{file_of};
 ghost use Rattle.session_file.specs.Reading.{ReadsAs, IsUnlessMemory, end_at, file_at, head_at, magic_at};
 
 use crate::fault::FileFault;
+use crate::hashing::digests;
 use crate::parts::{bytes, demand, eight, four, two};
 use crate::records::read_records;
 use crate::results::as_digest;
 use crate::stop::Stop;
-use fingerprint::Print;
 use sessions::Session;
 use std::alloc::Global;
 
@@ -41,7 +42,7 @@ pub fn read(alloc: Global, bytes: &[u8]) -> Result<Session, FileFault>
     }
 }
 
-/// Reads the file.
+/// Reads the file. The session keeps its SHA-256.
 #[tactic(auto, unfolding(crate::specs::Reading::file_at))]
 fn read_file(alloc: Global, source: &[u8]) -> Result<Session, Stop>
     ensures { ReadsAs (λ s. s) result (file_at source.now) }
@@ -50,7 +51,7 @@ fn read_file(alloc: Global, source: &[u8]) -> Result<Session, Stop>
     let (records, rest) = read_records(alloc, head.count, rest)?;
     let body = source.len().saturating_sub(rest.len());
     match check_end(&source[..body], rest) {
-        Ok(()) => Ok(Session::of(head.number, head.link, records)),
+        Ok(digest) => Ok(Session::of(head.number, head.link, records).with_digest(digest)),
         Err(stop) => Err(stop),
     }
 }
@@ -94,13 +95,15 @@ fn read_magic(source: &[u8]) -> Result<&[u8], Stop>
     Ok(rest)
 }
 
-/// The bytes are the digest of the body, and nothing behind it.
+/// The bytes are the digest of the body, and nothing behind it. Answers the SHA-256 of the body and its digest.
 #[tactic(auto, unfolding(crate::specs::Reading::end_at))]
-fn check_end(body: &[u8], source: &[u8]) -> Result<(), Stop>
-    ensures { ReadsAs (λ x. x) result (end_at body.now source.now) }
+fn check_end(body: &[u8], source: &[u8]) -> Result<[u8; 32], Stop>
+    ensures value { ReadsAs (λ _. tt) result (end_at body.now source.now) }
+    ensures digest { IfOk result (λ digest. digest ≡ sha256 (body.now ++ sha256 body.now)) }
 {
     let (digest, rest) = bytes(32, source)?;
-    let print = Print::of(body);
-    demand(digest == print.0.as_slice(), FileFault::BadDigest)?;
-    demand(rest.is_empty(), FileFault::Trailing)
+    let (end, whole) = digests(body);
+    demand(digest == end.as_slice(), FileFault::BadDigest)?;
+    demand(rest.is_empty(), FileFault::Trailing)?;
+    Ok(whole)
 }

@@ -22,15 +22,26 @@ impl HashingSink {
         }
     }
 
-    /// Appends the SHA-256 of the bytes that it holds.
-    pub(crate) fn close(&mut self)
-        ensures { (bytes : List ℕ) → Holds256 self.old.hasher bytes
+    /// A sink that holds these bytes.
+    pub(crate) fn of(bytes: &[u8]) -> Self
+        ensures { Holds256 result.hasher bytes.now }
+    {
+        HashingSink {
+            hasher: Sha256::new_with_prefix(bytes),
+        }
+    }
+
+    /// Appends the SHA-256 of the bytes that it holds, and answers it.
+    pub(crate) fn close(&mut self) -> [u8; 32]
+        ensures holds { (bytes : List ℕ) → Holds256 self.old.hasher bytes
             → Holds256 self.new.hasher (bytes ++ sha256 bytes) }
+        ensures end { (bytes : List ℕ) → Holds256 self.old.hasher bytes → result ≡ sha256 bytes }
     {
         match self.hasher.clone() {
             Ok(copy) => {
                 let end = copy.finalize();
                 self.hasher.update(end.as_slice());
+                end
             }
             Err(_) => unreachable!(),
         }
@@ -42,6 +53,16 @@ impl HashingSink {
     {
         self.hasher.finalize()
     }
+}
+
+/// The SHA-256 of a body, and that of the body with its SHA-256 at its end. The body is walked once.
+pub(crate) fn digests(body: &[u8]) -> ([u8; 32], [u8; 32])
+    ensures body { result.0 ≡ sha256 body.now }
+    ensures file { result.1 ≡ sha256 (body.now ++ sha256 body.now) }
+{
+    let mut hash = HashingSink::of(body);
+    let end = hash.close();
+    (end, hash.digest())
 }
 
 impl Sink for HashingSink {

@@ -54,6 +54,14 @@ pub fn is_read_again(alloc: Global, bytes: &[u8]) -> bool {
     }
 }
 
+/// The SHA-256 of its file that a session tells which was read from these bytes.
+pub fn digest_of_read(alloc: Global, bytes: &[u8]) -> Option<[u8; 32]> {
+    match read(alloc, bytes) {
+        Ok(session) => Some(digest(&session)),
+        Err(_) => None,
+    }
+}
+
 fn is_file(alloc: Global, session: &Session, bytes: &[u8]) -> bool {
     match file_of_session(alloc, session) {
         Ok(sink) => sink.bytes() == bytes,

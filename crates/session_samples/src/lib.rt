@@ -5,6 +5,6 @@ mod files;
 mod first;
 mod records;
 
-pub use files::{digest_of, fault_of, file_of, is_read_again, write_to};
+pub use files::{digest_of, digest_of_read, fault_of, file_of, is_read_again, write_to};
 pub use first::FIRST;
 pub use records::{Kept, session_of};

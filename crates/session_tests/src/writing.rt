@@ -4,7 +4,7 @@ use crate::first::file_of_first;
 use answer_samples::is_print;
 use fingerprint::Print;
 use session_file::FileFault;
-use session_samples::{FIRST, digest_of};
+use session_samples::{FIRST, digest_of, digest_of_read};
 use std::alloc::Global;
 use std::test::*;
 
@@ -62,6 +62,23 @@ fn has_digest(alloc: Global, row: &Written) -> bool {
 fn sessions_have_digests(rt: HostRuntime) {
     for row in WRITTEN {
         assert!(rt; has_digest(rt.alloc(), row));
+    }
+}
+
+fn keeps_digest(alloc: Global, row: &Written) -> bool {
+    let Ok(file) = file_of_first(alloc, row.records) else {
+        return false;
+    };
+    match digest_of_read(alloc, file.bytes()) {
+        Some(digest) => has_print(alloc, Print(digest), row),
+        None => false,
+    }
+}
+
+#[test]
+fn sessions_that_are_read_keep_their_digests(rt: HostRuntime) {
+    for row in WRITTEN {
+        assert!(rt; keeps_digest(rt.alloc(), row));
     }
 }
 

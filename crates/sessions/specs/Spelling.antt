@@ -1,5 +1,5 @@
 -- The bytes of a session's file. Numbers are big endian.
-use Rattle.std.specs.Prelude.{ℕ, List, [], ◌∷◌, ◌++◌, length, flat_map}
+use Rattle.std.specs.Prelude.{◌≡◌, ℕ, List, [], ◌∷◌, ◌++◌, length, flat_map, Option, IfSome}
 use Rattle.sha2.specs.Sha256.{sha256}
 use Rattle.item_ids.specs.declared.key.Key.{Key}
 use Rattle.item_ids.specs.Kinds.{number_of}
@@ -9,7 +9,7 @@ use Rattle.result_bytes.specs.declared.value.Value.{Value}
 use Rattle.result_bytes.specs.Values.{canon}
 use Rattle.fingerprint.specs.Prints.{print_of}
 use Rattle.sessions.specs.Marks.{mark_number}
-use Rattle.sessions.specs.Sessions.{RecordValue, SessionValue}
+use Rattle.sessions.specs.Sessions.{RecordValue, SessionValue, IsSession}
 
 -- `MJRG`, and version 1
 abbrev pub start : List ℕ
@@ -42,3 +42,8 @@ file_of s = body_bytes s ++ sha256 (body_bytes s)
 -- the SHA-256 of the file, which is the link of the session behind it
 unfoldable pub digest_of : SessionValue → List ℕ
 digest_of s = sha256 (file_of s)
+
+-- what a session keeps by its type: it is one, and a digest that is kept is that of its file
+pub record Keeps (s : SessionValue) (digest : Option (List ℕ)) : Type 0 where
+  pub session : IsSession s
+  pub digest_is : IfSome digest (λ d. d ≡ digest_of s)

@@ -2,6 +2,7 @@
 ghost use Rattle.std.specs.Prelude.{◌≡◌, ◌≢◌, ◌≤◌, ◌<◌, Some, None, IfOk, IfErr, IfSome, IfNone, MatchOption, All, HoldsAt, length};
 ghost use Rattle.sessions.specs.Sessions.{most_number, AreRecords, AreInside, IsSession, entry_at, entry_of};
 ghost use Rattle.sessions.specs.Refusals.{IsRefused};
+ghost use Rattle.sessions.specs.Spelling.{digest_of};
 
 use crate::checks::check_records;
 use crate::fault::SessionFault;
@@ -11,16 +12,17 @@ use std::alloc::Global;
 use std::marker::Model;
 
 /// A session: its number in its chain, the SHA-256 of the file of the session before it (zeros where there is none),
-/// and its records.
+/// and its records. Where the SHA-256 of its own file is known, it keeps that too; contracts don't see it.
 #[derive(Drop)]
 pub struct Session {
     number: u32,
     link: [u8; 32],
     records: Vec<Record>,
+    digest: Option<[u8; 32]>,
 }
 
 impl Model for Session {
-    ghost use Rattle.sessions.specs.Sessions.{SessionValue, IsSession};
+    ghost use Rattle.sessions.specs.Sessions.{SessionValue};
     ghost use Rattle.result_bytes.specs.contracts.value.Value as value_contracts;
     ghost use Rattle.std.specs.Coded.{codes};
 
@@ -30,8 +32,10 @@ impl Model for Session {
 
     ghost view = { λ s. record { number = s.number; link = s.link; records = s.records.items } };
 
-    ghost invariant = { λ s. IsSession
-        (record { number = s.number; link = s.link; records = s.records.items }) };
+    ghost use Rattle.sessions.specs.Spelling.{Keeps};
+
+    ghost invariant = { λ s. Keeps
+        (record { number = s.number; link = s.link; records = s.records.items }) s.digest };
 }
 
 impl Session {
@@ -72,7 +76,24 @@ impl Session {
             number,
             link,
             records,
+            digest: None,
         }
+    }
+
+    /// The session, which keeps the SHA-256 of its file from now on.
+    pub fn with_digest(mut self, digest: [u8; 32]) -> Session
+        requires { digest ≡ digest_of self }
+        ensures { result ≡ self }
+    {
+        self.digest = Some(digest);
+        self
+    }
+
+    /// The SHA-256 of the session's file, where it is kept.
+    pub fn known_digest(&self) -> Option<[u8; 32]>
+        ensures { IfSome result (λ digest. digest ≡ digest_of self.now) }
+    {
+        self.digest
     }
 
     /// The number in its chain, from 0.
