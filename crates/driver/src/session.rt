@@ -46,7 +46,7 @@ fn is_crew(workers: usize) -> bool
 }
 
 /// Does all jobs at a table, and closes it.
-#[tactic(auto, using(crate::proofs::SessionRules::session_of, crate::proofs::FreeRules::all_done))]
+#[tactic(auto, using(crate::proofs::FreeRules::all_done))]
 fn drive_table<R: Runner>(
     alloc: Global,
     runner: &mut R,

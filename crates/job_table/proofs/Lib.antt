@@ -1,4 +1,5 @@
 pub mod NodeRules
+pub mod PendingRules
 pub mod StepRules
 pub mod EventRules
 pub mod WalkRules

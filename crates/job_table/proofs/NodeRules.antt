@@ -1,7 +1,6 @@
 -- How keys stand in lists of nodes.
-use Rattle.std.proofs.Common.{◌≡◌, ℕ, suc, zero, ◌+◌, ◌<◌, List, [], ◌∷◌, ◌++◌, drop, set, length, get_or, refl, ap, ◌∙◌, subst, true, false, None, arith}
+use Rattle.std.proofs.Common.{◌≡◌, ℕ, suc, zero, ◌<◌, List, [], ◌∷◌, ◌++◌, set, length, get_or, refl, ap, ◌∙◌, subst, true, false, Option, Some, None, is_some, arith}
 use Rattle.std.specs.Prelude.{if◌then◌else◌}
-use Rattle.std.proofs.Math.Seq.{drop-cons}
 use Rattle.item_ids.specs.declared.key.Key.{Key}
 use Rattle.recorder.specs.Projects.{Project}
 use Rattle.recorder.specs.Backed.{rank}
@@ -9,22 +8,42 @@ use Rattle.graph_rules.specs.Keys.{same_key, input_of}
 use Rattle.graph_rules.proofs.KeyRules.{same_refl, same_is, same_sym}
 use Rattle.graph_rules.specs.Steps.{Status, Unknown, IsHeldBy}
 use Rattle.job_table.specs.Nodes.{status_of, status_in, status_at, unless_input, has_key, KeysStandOnce, IsFirst, AllAbove}
+use Rattle.std.specs.List.{HoldsAt}
+use Rattle.item_ids.specs.Places.{IsMissing, IsPlace, ArePlaces}
 use Rattle.job_table.specs.declared.nodes.Node.{Node}
 use Rattle.job_table.specs.declared.nodes.Standing.{Standing}
 use Rattle.job_table.specs.declared.nodes.Standing.TheVariants as standing
 
-pub status_drop : (ns : List Node) (q : Key) (i : ℕ) (n : Node) → i < length ns → n ≡ get_or ns i n → same_key n.key q ≡ false
-    → status_in (drop i ns) q ≡ status_in (drop (suc i) ns) q
-status_drop ns q i n lt is isnt = rw (drop-cons ns i n, ← is, isnt) refl
+-- the place of a key is its first one, since no key stands twice
+has_at : (ns : List Node) (k : Key) (i : ℕ) → i < length ns → HoldsAt (λ n. n.key ≡ k) ns i → has_key k ns ≡ true
+has_at [] k i lt h = absurd (omega (arith, lt))
+has_at (m ∷ ns) k zero lt h = rw (h m, same_refl k) refl
+has_at (m ∷ ns) k (suc i) lt h =
+    (elim (same_key m.key k) as (λ b. (if b then true else has_key k ns) ≡ true) [
+      | true ↦ refl
+      | false ↦ has_at ns k i (omega (arith, lt)) h
+    ])
 
--- a place is first in the whole where it is first in the rest, and no earlier node has the key
-pub first_more : (ns : List Node) (q : Key) (i : ℕ) (n : Node) → i < length ns → n ≡ get_or ns i n → same_key n.key q ≡ false
-    → ((j : ℕ) → IsFirst (drop i ns) q j → IsFirst ns q (i + j))
-    → (j : ℕ) → IsFirst (drop (suc i) ns) q j → IsFirst ns q (suc i + j)
-first_more ns q i n lt is isnt h j f =
-    let step : IsFirst (drop i ns) q (suc j) = rw (drop-cons ns i n, ← is) (isnt, f) in
-    let e : i + suc j ≡ suc i + j = omega arith in
-    subst (λ k. IsFirst ns q k) e (h (suc j) step)
+pub first_at : (ns : List Node) (k : Key) (i : ℕ) → KeysStandOnce ns → i < length ns → HoldsAt (λ n. n.key ≡ k) ns i → IsFirst ns k i
+first_at [] k i once lt h = absurd (omega (arith, lt))
+first_at (m ∷ ns) k zero once lt h = rw (h m) (same_refl k)
+first_at (m ∷ ns) k (suc i) once lt h =
+    let inside : i < length ns = omega (arith, lt) in
+    let apart : same_key m.key k ≡ false =
+    (elim (same_key m.key k) as (λ b. same_key m.key k ≡ b → b ≡ false) [
+      | true ↦ λ is. absurd (let e = subst (λ (x : Key). has_key x ns ≡ false) (same_is m.key k is) once.0 in let t = has_at ns k i inside h in cc)
+      | false ↦ λ is. refl
+    ]) refl in
+    (apart, first_at ns k i once.1 inside h)
+
+-- a key that no node has is unknown
+pub missing_unknown : (ns : List Node) (k : Key) → IsMissing (λ n. n.key) ns k → status_in ns k ≡ Unknown
+missing_unknown [] k none = refl
+missing_unknown (m ∷ ns) k none =
+    (elim (same_key m.key k) as (λ b. same_key m.key k ≡ b → (if b then status_of m.standing else status_in ns k) ≡ Unknown) [
+      | true ↦ λ is. absurd (none.0 (same_is m.key k is))
+      | false ↦ λ is. missing_unknown ns k none.1
+    ]) refl
 
 put_here : (m q k : Key) (x y z : Status) (n : Key) → n ≡ m → m ≡ q
     → (if same_key n k then x else z) ≡ (if same_key q k then x else (if same_key m k then y else z))
@@ -146,8 +165,44 @@ status_last (m ∷ ns) n q k x here is absent =
     let h = absent_head ns m q absent in
     put_later m.key q k x (status_of m.standing) (status_in ns k) _ h.0 (status_last ns n q k x here is h.1)
 
+-- writing how a node stands moves no key
+missing_put : (at : ℕ) (n : Node) (s : Standing) (ns : List Node) (k : Key) → n ≡ get_or ns at n → at < length ns
+    → IsMissing (λ x. x.key) ns k → IsMissing (λ x. x.key) (set ns at (record { key = n.key; standing = s })) k
+missing_put at n s [] k is lt none = absurd (omega (arith, lt))
+missing_put zero n s (m ∷ ns) k is lt none = rw is none
+missing_put (suc at) n s (m ∷ ns) k is lt none = (none.0, missing_put at n s ns k is (omega (arith, lt)) none.1)
+
+holds_put : (at : ℕ) (n : Node) (s : Standing) (ns : List Node) (k : Key) (i : ℕ) → n ≡ get_or ns at n → at < length ns
+    → HoldsAt (λ x. x.key ≡ k) ns i → HoldsAt (λ x. x.key ≡ k) (set ns at (record { key = n.key; standing = s })) i
+holds_put at n s [] k i is lt h = absurd (omega (arith, lt))
+holds_put zero n s (m ∷ ns) k zero is lt h = λ d. (ap (λ (x : Node). x.key) is ∙ h m)
+holds_put zero n s (m ∷ ns) k (suc i) is lt h = h
+holds_put (suc at) n s (m ∷ ns) k zero is lt h = h
+holds_put (suc at) n s (m ∷ ns) k (suc i) is lt h = holds_put at n s ns k i is (omega (arith, lt)) h
+
+length_put : (at : ℕ) (x : Node) (ns : List Node) → length (set ns at x) ≡ length ns
+length_put at x [] = refl
+length_put zero x (m ∷ ns) = refl
+length_put (suc at) x (m ∷ ns) = ap suc (length_put at x ns)
+
+pub places_put : (at : ℕ) (n : Node) (s : Standing) (ns : List Node) (place : Key → Option ℕ) → n ≡ get_or ns at n → at < length ns
+    → ArePlaces (λ x. x.key) ns place → ArePlaces (λ x. x.key) (set ns at (record { key = n.key; standing = s })) place
+places_put at n s ns place is lt are k = go (place k) (are k)
+  where
+    go : (o : Option ℕ) → IsPlace (λ x. x.key) ns k o → IsPlace (λ x. x.key) (set ns at (record { key = n.key; standing = s })) k o
+    go None none = missing_put at n s ns k is lt none
+    go (Some i) found = (omega (arith, found.0, length_put at (record { key = n.key; standing = s }) ns), holds_put at n s ns k i is lt found.1)
+
 pub apart_put : (ns : List Node) (at : ℕ) (n : Node) (s : Standing) → n ≡ get_or ns at n → at < length ns
     → KeysStandOnce ns → KeysStandOnce (set ns at (record { key = n.key; standing = s }))
 apart_put [] at n s is lt a = absurd (omega arith)
 apart_put (m ∷ ns) zero n s is lt a = rw is a
 apart_put (m ∷ ns) (suc at) n s is lt a = (key_put ns m.key at n s is (omega arith) ∙ a.0, apart_put ns at n s is (omega arith) a.1)
+
+-- a key that is unknown has no place
+pub no_place : (ns : List Node) (place : Key → Option ℕ) (k : Key) → ArePlaces (λ n. n.key) ns place → KeysStandOnce ns → status_in ns k ≡ Unknown → is_some (place k) ≡ false
+no_place ns place k are once unknown = go (place k) (are k)
+  where
+    go : (o : Option ℕ) → IsPlace (λ n. n.key) ns k o → is_some o ≡ false
+    go None none = refl
+    go (Some i) found = absurd (first_known ns k i (first_at ns k i once found.0 found.1) unknown)

@@ -15,9 +15,9 @@ use Rattle.graph_rules.specs.Sound.{IsBacked, AreBacked}
 use Rattle.graph_rules.proofs.KeyRules.{same_refl, same_is}
 use Rattle.graph_rules.proofs.Orders.{after_all_append, steps_append}
 use Rattle.job_table.specs.declared.nodes.Node.{Node}
-use Rattle.job_table.specs.Nodes.{status_of, status_in, status_at, unless_input, state_of_nodes, has_key, KeysStandOnce, IsFirst, AllAbove}
+use Rattle.job_table.specs.Nodes.{status_in, status_at, unless_input, state_of_nodes, KeysStandOnce, IsFirst, AllAbove}
 use Rattle.job_table.specs.Kept.{IsKept}
-use Rattle.job_table.proofs.NodeRules.{above_held, held_above, first_known, unknown_absent, apart_last, status_last}
+use Rattle.job_table.proofs.NodeRules.{above_held, held_above, first_known}
 
 -- ---- opening
 
@@ -159,15 +159,13 @@ module _ (past : Past) (p : Project) (ns : List Node) (b : Bool) (h : List Event
   is_known q i nd first unknown = first_known ns q i first (sym (not_done_at (input_of p q) (status_in ns q) nd) ∙ (kept.status q ∙ unknown))
 
   -- a claim
-  pub kept_claim : (w : ℕ) (q : Key) (n : Node) → n.key ≡ q → status_of n.standing ≡ Claimed w → b ≡ false → IsNotDone (status_at p ns q) → status_in ns q ≡ Unknown → AllAbove w (rank q) ns
-      → IsKept past p (ns ++ n ∷ []) b (h ++ Claim w q ∷ [])
-  kept_claim w q n here stands nf nd u all =
+  pub kept_claim : (ms : List Node) (w : ℕ) (q : Key) → b ≡ false → IsNotDone (status_at p ns q) → status_in ns q ≡ Unknown → AllAbove w (rank q) ns
+      → KeysStandOnce ms → ((k : Key) → status_in ms k ≡ (if same_key q k then Claimed w else status_in ns k)) → IsKept past p ms b (h ++ Claim w q ∷ [])
+  kept_claim ms w q nf nd u all apart put =
       let at : (state_after past p h).at q ≡ Unknown = is_unknown q nd u in
-      let absent : has_key q ns ≡ false = unknown_absent ns q u in
-      kept_step past p ns (ns ++ n ∷ []) b h (Claim w q) q (Claimed w) kept (sym kept.failed_is ∙ nf, at, is_below w q all) (λ s. refl)
+      kept_step past p ns ms b h (Claim w q) q (Claimed w) kept (sym kept.failed_is ∙ nf, at, is_below w q all) (λ s. refl)
       (unknown_none (input_of p q) (status_in ns q) (kept.status q ∙ at))
-      (apart_last ns n kept.apart (subst (λ (k : Key). has_key k ns ≡ false) (sym here) absent))
-      (λ k. status_last ns n q k (Claimed w) here stands absent)
+      apart put
 
   pub is_standing : (q : Key) (x : Status) → status_in ns q ≡ x → (x ≡ Unknown → ⊥) → (input_of p q ≡ None) × ((state_after past p h).at q ≡ x)
   is_standing q x is known =

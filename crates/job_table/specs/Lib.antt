@@ -1,5 +1,6 @@
 pub mod Tables
 pub mod Nodes
+pub mod PendingNodes
 pub mod Kept
 pub mod Walks
 pub mod Calls

@@ -14,7 +14,8 @@ ghost use Rattle.job_table.specs.Nodes.{status_at, state_of_nodes};
 ghost use Rattle.job_table.specs.Closes.{next_number, next_link, IsClosing};
 ghost use Rattle.job_table.specs.Reached.{Ascend, key_in, AreRoots, AreReached, HasEdges, AreAmong, Adds, IsRecordOf, AreRecordsOf};
 
-use crate::nodes::{Entry, Node, entry_of};
+use crate::node_list::NodeList;
+use crate::nodes::entry_of;
 use item_ids::{Key, ranks_in_order};
 use mj_answer::ascending;
 use project_inputs::Inputs;
@@ -29,13 +30,13 @@ pub fn session_of(
     alloc: Global,
     past: &Option<Arc<Session>>,
     inputs: &Inputs,
-    nodes: &Vec<Node>,
+    nodes: &NodeList,
 ) -> Result<Session, AllocError>
     requires room { ¬ IsFull (session_in past.now) }
-    requires order { IsInOrder (state_of_nodes inputs.now nodes.now.items false) }
-    requires answer { IsDone (status_at inputs.now nodes.now.items Answer) }
+    requires order { IsInOrder (state_of_nodes inputs.now nodes.now false) }
+    requires answer { IsDone (status_at inputs.now nodes.now Answer) }
     ensures { IfOk result (IsClosing (session_in past.now) inputs.now
-        (state_of_nodes inputs.now nodes.now.items false)) }
+        (state_of_nodes inputs.now nodes.now false)) }
 {
     let found = reach(alloc, inputs, nodes)?;
     let keys = ascending(found);
@@ -45,11 +46,11 @@ pub fn session_of(
 }
 
 /// Just the keys that the inputs and Answer lead to.
-fn reach(alloc: Global, inputs: &Inputs, nodes: &Vec<Node>) -> Result<Vec<Key>, AllocError>
-    requires order { IsInOrder (state_of_nodes inputs.now nodes.now.items false) }
-    requires answer { IsDone (status_at inputs.now nodes.now.items Answer) }
+fn reach(alloc: Global, inputs: &Inputs, nodes: &NodeList) -> Result<Vec<Key>, AllocError>
+    requires order { IsInOrder (state_of_nodes inputs.now nodes.now false) }
+    requires answer { IsDone (status_at inputs.now nodes.now Answer) }
     ensures { IfOk result (λ v. AreReached inputs.now
-        (state_of_nodes inputs.now nodes.now.items false) v.items) }
+        (state_of_nodes inputs.now nodes.now false) v.items) }
 {
     let first = roots(alloc, inputs)?;
     let mut found = Vec::new(alloc);
@@ -114,15 +115,15 @@ fn add_key(
 fn records_of(
     alloc: Global,
     inputs: &Inputs,
-    nodes: &Vec<Node>,
+    nodes: &NodeList,
     keys: &[Key],
 ) -> Result<Vec<Record>, AllocError>
     requires ascend { Ascend keys.now }
     requires done { (q : KeyValue) → Contains keys.now q
-        → IsDone (status_at inputs.now nodes.now.items q) }
+        → IsDone (status_at inputs.now nodes.now q) }
     requires edges { (q : KeyValue) → Contains keys.now q
-        → HasEdges (state_of_nodes inputs.now nodes.now.items false) keys.now q }
-    ensures { IfOk result (λ v. AreRecordsOf (state_of_nodes inputs.now nodes.now.items false)
+        → HasEdges (state_of_nodes inputs.now nodes.now false) keys.now q }
+    ensures { IfOk result (λ v. AreRecordsOf (state_of_nodes inputs.now nodes.now false)
         keys.now v.items) }
 {
     let mut records = Vec::new(alloc);
@@ -136,15 +137,15 @@ fn records_of(
 fn record_of(
     alloc: Global,
     inputs: &Inputs,
-    nodes: &Vec<Node>,
+    nodes: &NodeList,
     keys: &[Key],
     key: &Key,
 ) -> Result<Record, AllocError>
     requires ascend { Ascend keys.now }
-    requires done { IsDone (status_at inputs.now nodes.now.items key.now) }
-    requires edges { HasEdges (state_of_nodes inputs.now nodes.now.items false) keys.now key.now }
+    requires done { IsDone (status_at inputs.now nodes.now key.now) }
+    requires edges { HasEdges (state_of_nodes inputs.now nodes.now false) keys.now key.now }
     ensures key { IfOk result (λ r. r.key ≡ key.now) }
-    ensures entry { IfOk result (IsRecordOf (state_of_nodes inputs.now nodes.now.items false)
+    ensures entry { IfOk result (IsRecordOf (state_of_nodes inputs.now nodes.now false)
         keys.now) }
 {
     let entry = entry_of(inputs, nodes, key);

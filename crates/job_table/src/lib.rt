@@ -4,6 +4,7 @@
 mod closing;
 mod event;
 mod fault;
+mod node_list;
 mod nodes;
 mod reads;
 mod replay;

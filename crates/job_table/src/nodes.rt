@@ -1,16 +1,14 @@
-//! How each key stands that was asked for, as a plain list.
-ghost use Rattle.std.specs.Prelude.{◌≡◌, ◌↔◌, ◌<◌, IsTrue, IfSome, IfNone, vec_len, if◌then◌else◌};
+//! How each key stands that was asked for.
+ghost use Rattle.std.specs.Prelude.{◌≡◌, ◌↔◌, ◌<◌, length, IsTrue, IfSome, IfNone};
 ghost use Rattle.std.specs.Arc.{arc_value};
-ghost use Rattle.recorder.specs.Backed.{rank};
-ghost use Rattle.graph_rules.specs.Keys.{same_key};
-ghost use Rattle.item_ids.specs.declared.key.Key.{Key};
-ghost use Rattle.graph_rules.specs.Steps.{Unknown, Claimed, Running, Done, IsHeldBy, IsDone, IsDoneWith, IsNotDone};
-ghost use Rattle.job_table.specs.Nodes.{status_of, status_in, status_at, KeysStandOnce, IsFirst, AllAbove};
+ghost use Rattle.graph_rules.specs.Steps.{Claimed, Running, Done, IsHeldBy, IsDone, IsDoneWith, IsNotDone};
+ghost use Rattle.job_table.specs.Nodes.{status_of, status_in, status_at, IsFirst};
 ghost use Rattle.job_table.specs.Closes.{IsQuiet};
 ghost use Rattle.job_table.specs.Reached.{AllQuiet};
 
+use crate::node_list::NodeList;
 use fingerprint::Sealed;
-use item_ids::{Key, rank};
+use item_ids::Key;
 use project_inputs::Inputs;
 use sessions::Mark;
 use std::sync::Arc;
@@ -30,41 +28,8 @@ pub struct Node {
     pub standing: Standing,
 }
 
-#[tactic(auto, unfolding(graph_rules::specs::Keys::same_key))]
-fn is_same(a: &Key, b: &Key) -> bool
-    ensures { result ≡ same_key a.now b.now }
-{
-    *a == *b
-}
-
-/// Where the key stands.
-pub fn find(nodes: &Vec<Node>, key: &Key) -> Option<usize>
-    ensures none { IfNone result (status_in nodes.now.items key.now ≡ Unknown) }
-    ensures some { IfSome result (λ i. IsFirst nodes.now.items key.now i) }
-    ensures within { IfSome result (λ i. i < vec_len nodes.now) }
-{
-    for (i, node) in nodes.iter().enumerate() {
-        if is_same(&node.key, key) {
-            return Some(i);
-        }
-    }
-    None
-}
-
-/// Whether the key's rank is below the ranks of all that the worker has claimed or runs.
-pub fn is_below(nodes: &Vec<Node>, w: u32, key: &Key) -> bool
-    ensures { IsTrue result ↔ AllAbove w (rank key.now) nodes.now.items }
-{
-    let wanted = rank(key.kind());
-    for node in nodes.iter() {
-        if is_held_by(node, w) && rank(node.key.kind()) <= wanted {
-            return false;
-        }
-    }
-    true
-}
-
-fn is_held_by(node: &Node, w: u32) -> bool
+/// Whether the worker has claimed the key or runs it.
+pub fn is_held_by(node: &Node, w: u32) -> bool
     ensures { IsTrue result ↔ IsHeldBy w (status_of node.now.standing) }
 {
     match &node.standing {
@@ -75,16 +40,16 @@ fn is_held_by(node: &Node, w: u32) -> bool
 }
 
 /// The result of a key that is done.
-pub fn result_of<'a>(inputs: &'a Inputs, nodes: &'a Vec<Node>, key: &Key) -> Option<&'a Arc<Sealed>>
-    ensures none { IfNone result (IsNotDone (status_at inputs.now nodes.now.items key.now)) }
+pub fn result_of<'a>(inputs: &'a Inputs, nodes: &'a NodeList, key: &Key) -> Option<&'a Arc<Sealed>>
+    ensures none { IfNone result (IsNotDone (status_at inputs.now nodes.now key.now)) }
     ensures some { IfSome result (λ a. IsDoneWith (arc_value a.now)
-        (status_at inputs.now nodes.now.items key.now)) }
+        (status_at inputs.now nodes.now key.now)) }
 {
     if let Some(sealed) = inputs.get(key) {
         return Some(sealed);
     }
-    let at = find(nodes, key)?;
-    match &nodes[at].standing {
+    let at = nodes.find(key)?;
+    match &nodes.as_slice()[at].standing {
         Standing::Done(sealed, _, _) => Some(sealed),
         Standing::Claimed(_) => None,
         Standing::Running(_) => None,
@@ -100,9 +65,9 @@ pub struct Entry<'a> {
 }
 
 /// How a key is done.
-pub fn entry_of<'a>(inputs: &'a Inputs, nodes: &'a Vec<Node>, key: &Key) -> Entry<'a>
-    requires { IsDone (status_at inputs.now nodes.now.items key.now) }
-    ensures { status_at inputs.now nodes.now.items key.now
+pub fn entry_of<'a>(inputs: &'a Inputs, nodes: &'a NodeList, key: &Key) -> Entry<'a>
+    requires { IsDone (status_at inputs.now nodes.now key.now) }
+    ensures { status_at inputs.now nodes.now key.now
         ≡ Done (arc_value result.sealed.now) result.edges.now result.mark }
 {
     if let Some(sealed) = inputs.get(key) {
@@ -112,10 +77,10 @@ pub fn entry_of<'a>(inputs: &'a Inputs, nodes: &'a Vec<Node>, key: &Key) -> Entr
             mark: Mark::Input,
         };
     }
-    let Some(at) = find(nodes, key) else {
+    let Some(at) = nodes.find(key) else {
         unreachable!();
     };
-    match &nodes[at].standing {
+    match &nodes.as_slice()[at].standing {
         Standing::Done(sealed, edges, mark) => Entry {
             sealed,
             edges: edges.as_slice(),
@@ -127,16 +92,17 @@ pub fn entry_of<'a>(inputs: &'a Inputs, nodes: &'a Vec<Node>, key: &Key) -> Entr
 }
 
 /// Whether no node is claimed or running.
-pub fn are_quiet(nodes: &Vec<Node>) -> bool
-    ensures { IsTrue result ↔ AllQuiet nodes.now.items }
+pub fn are_quiet(nodes: &NodeList) -> bool
+    ensures { IsTrue result ↔ AllQuiet nodes.now }
 {
-    nodes.iter().all(|node| is_quiet(node))
+    nodes.as_slice().iter().all(|node| is_quiet(&node.standing))
 }
 
-fn is_quiet(node: &Node) -> bool
-    ensures { IsTrue result ↔ IsQuiet (status_of node.now.standing) }
+/// Whether a key that stands so is neither claimed nor running.
+pub fn is_quiet(standing: &Standing) -> bool
+    ensures { IsTrue result ↔ IsQuiet (status_of standing.now) }
 {
-    match &node.standing {
+    match standing {
         Standing::Done(_, _, _) => true,
         Standing::Claimed(_) => false,
         Standing::Running(_) => false,
@@ -144,14 +110,14 @@ fn is_quiet(node: &Node) -> bool
 }
 
 /// Where a key is that the worker has claimed.
-pub fn find_claimed(nodes: &Vec<Node>, w: u32, key: &Key) -> Option<usize>
-    ensures none { IfNone result (status_in nodes.now.items key.now ≡ Claimed w → ⊥) }
-    ensures some { IfSome result (λ i. IsFirst nodes.now.items key.now i
-        × (i < vec_len nodes.now)) }
-    ensures claimed { IfSome result (λ _. status_in nodes.now.items key.now ≡ Claimed w) }
+pub fn find_claimed(nodes: &NodeList, w: u32, key: &Key) -> Option<usize>
+    ensures none { IfNone result (status_in nodes.now key.now ≡ Claimed w → ⊥) }
+    ensures some { IfSome result (λ i. IsFirst nodes.now key.now i
+        × (i < length nodes.now)) }
+    ensures claimed { IfSome result (λ _. status_in nodes.now key.now ≡ Claimed w) }
 {
-    let at = find(nodes, key)?;
-    if is_claimed(&nodes[at], w) {
+    let at = nodes.find(key)?;
+    if is_claimed(&nodes.as_slice()[at], w) {
         Some(at)
     } else {
         None
@@ -169,14 +135,14 @@ fn is_claimed(node: &Node, w: u32) -> bool
 }
 
 /// Where a key is that the worker runs.
-pub fn find_running(nodes: &Vec<Node>, w: u32, key: &Key) -> Option<usize>
-    ensures none { IfNone result (status_in nodes.now.items key.now ≡ Running w → ⊥) }
-    ensures some { IfSome result (λ i. IsFirst nodes.now.items key.now i
-        × (i < vec_len nodes.now)) }
-    ensures running { IfSome result (λ _. status_in nodes.now.items key.now ≡ Running w) }
+pub fn find_running(nodes: &NodeList, w: u32, key: &Key) -> Option<usize>
+    ensures none { IfNone result (status_in nodes.now key.now ≡ Running w → ⊥) }
+    ensures some { IfSome result (λ i. IsFirst nodes.now key.now i
+        × (i < length nodes.now)) }
+    ensures running { IfSome result (λ _. status_in nodes.now key.now ≡ Running w) }
 {
-    let at = find(nodes, key)?;
-    if is_running(&nodes[at], w) {
+    let at = nodes.find(key)?;
+    if is_running(&nodes.as_slice()[at], w) {
         Some(at)
     } else {
         None
@@ -191,15 +157,4 @@ fn is_running(node: &Node, w: u32) -> bool
         Standing::Running(by) => *by == w,
         Standing::Done(_, _, _) => false,
     }
-}
-
-/// Writes how the key at a place stands.
-pub fn put(nodes: &mut Vec<Node>, at: usize, standing: Standing)
-    requires { at < vec_len nodes.old }
-    ensures written { (q k : Key) → IsFirst nodes.old.items q at → status_in nodes.new.items k
-        ≡ (if same_key q k then status_of standing else status_in nodes.old.items k) }
-    ensures apart { KeysStandOnce nodes.old.items → KeysStandOnce nodes.new.items }
-{
-    let node = &mut nodes[at];
-    node.standing = standing;
 }

@@ -4,15 +4,16 @@ ghost use Rattle.graph_rules.specs.Steps.{IsDoneWith, AreHeld};
 ghost use Rattle.job_table.specs.Nodes.{status_at, state_of_nodes};
 ghost use Rattle.job_table.specs.Calls.{IsFirstStale};
 
-use crate::nodes::{Node, result_of};
+use crate::node_list::NodeList;
+use crate::nodes::result_of;
 use project_inputs::Inputs;
 use recorder::Read;
 
 /// The place of the first read whose key isn't done with the result that was read.
-pub fn first_stale(inputs: &Inputs, nodes: &Vec<Node>, reads: &[Read]) -> Option<usize>
+pub fn first_stale(inputs: &Inputs, nodes: &NodeList, reads: &[Read]) -> Option<usize>
     ensures { MatchOption result
-        (AreHeld (state_of_nodes inputs.now nodes.now.items false) reads.now)
-        (IsFirstStale (state_of_nodes inputs.now nodes.now.items false) reads.now) }
+        (AreHeld (state_of_nodes inputs.now nodes.now false) reads.now)
+        (IsFirstStale (state_of_nodes inputs.now nodes.now false) reads.now) }
 {
     for (i, read) in reads.iter().enumerate() {
         if !is_held(inputs, nodes, read) {
@@ -23,9 +24,9 @@ pub fn first_stale(inputs: &Inputs, nodes: &Vec<Node>, reads: &[Read]) -> Option
 }
 
 /// Whether the key of a read is done with the result that was read.
-fn is_held(inputs: &Inputs, nodes: &Vec<Node>, read: &Read) -> bool
+fn is_held(inputs: &Inputs, nodes: &NodeList, read: &Read) -> bool
     ensures { IsTrue result ↔ IsDoneWith read.now.value
-        (status_at inputs.now nodes.now.items read.now.key) }
+        (status_at inputs.now nodes.now read.now.key) }
 {
     match result_of(inputs, nodes, read.key()) {
         Some(now) => now.same_result(read.answer()),

@@ -8,7 +8,6 @@ ghost use Rattle.sessions.specs.Sessions.{AreInside, key_at};
 ghost use Rattle.job_table.specs.Kept.{event_of};
 
 use crate::event::Event;
-use crate::nodes::Node;
 use fingerprint::Sealed;
 use item_ids::Key;
 use mj_project::Project;
@@ -17,28 +16,6 @@ use recorder::{Outcome, Read, Runner};
 use sessions::{Record, Session};
 use std::alloc::{AllocError, Global};
 use std::sync::Arc;
-
-/// Room for one more node and two more events, and two copies of the key.
-pub fn room_for_claim<R: Runner>(
-    alloc: Global,
-    nodes: &mut Vec<Node>,
-    history: &mut Vec<Event<R>>,
-    key: &Key,
-) -> Option<(Key, Key)>
-    ensures nodes { (nodes.new.items ≡ nodes.old.items) × (vec_len nodes.new ≡ vec_len nodes.old) }
-    ensures history { (history.new.items ≡ history.old.items)
-        × (vec_len history.new ≡ vec_len history.old)
-        × (vec_capacity history.old ≤ vec_capacity history.new) }
-    ensures keys { IfSome result (λ k. (k.0 ≡ key.now) × (k.1 ≡ key.now)) }
-    ensures room { IfSome result (λ _. (vec_len nodes.new < vec_capacity nodes.new)
-        × (vec_len history.new + 1 < vec_capacity history.new)) }
-{
-    let own = key.copy(alloc).ok()?;
-    let noted = key.copy(alloc).ok()?;
-    history.reserve(2).ok()?;
-    nodes.reserve(1).ok()?;
-    Some((own, noted))
-}
 
 /// Adds an event, for which there is room.
 pub fn note<R: Runner>(history: &mut Vec<Event<R>>, event: Event<R>)
@@ -67,7 +44,7 @@ pub fn room_for_opening<R: Runner>(
 }
 
 /// Room for two more events, and a copy of the key.
-pub fn room_for_begin<R: Runner>(
+pub fn room_for_event<R: Runner>(
     alloc: Global,
     history: &mut Vec<Event<R>>,
     key: &Key,

@@ -7,13 +7,11 @@ ghost use Rattle.job_table.specs.Kept.{event_of};
 use crate::closing::{check_past, session_of};
 use crate::event::Event;
 use crate::fault::{Asked, CloseFault, OpenFault, TableFault};
-use crate::nodes::{
-    Node, Standing, are_quiet, find, find_claimed, find_running, is_below, put, result_of,
-};
+use crate::node_list::NodeList;
+use crate::nodes::{Standing, are_quiet, find_claimed, find_running, result_of};
 use crate::reads::first_stale;
 use crate::room::{
-    FinishParts, MarkParts, note, room_for_begin, room_for_claim, room_for_finish, room_for_mark,
-    room_for_opening,
+    FinishParts, MarkParts, note, room_for_event, room_for_finish, room_for_mark, room_for_opening,
 };
 use crate::walks::{WalkEnd, walk_edges, why_not};
 use fingerprint::Sealed;
@@ -33,7 +31,7 @@ pub struct Table<R: Runner> {
     alloc: Global,
     past: Option<Arc<Session>>,
     inputs: Inputs,
-    nodes: Vec<Node>,
+    nodes: NodeList,
     history: Vec<Event<R>>,
     failed: bool,
 }
@@ -58,7 +56,7 @@ impl<R: Runner> Model for Table<R> {
           event_of t.history.items;
     } };
 
-    ghost invariant = { λ t. IsKept (past_entry (session_in t.past)) t.inputs t.nodes.items
+    ghost invariant = { λ t. IsKept (past_entry (session_in t.past)) t.inputs t.nodes
         t.failed (map event_of t.history.items)
         × AreBacked R.mean R.reads (map event_of t.history.items)
         × (t.failed ≡ false → vec_len t.history < vec_capacity t.history)
@@ -91,7 +89,7 @@ impl<R: Runner> Table<R> {
             alloc,
             past,
             inputs,
-            nodes: Vec::new(alloc),
+            nodes: NodeList::new(alloc),
             history,
             failed: false,
         })
@@ -110,20 +108,19 @@ impl<R: Runner> Table<R> {
                 Err(_) => Err(TableFault::OutOfMemory),
             };
         }
-        if !is_below(&self.nodes, w, key) {
+        if !self.nodes.is_below(w, key) {
             return Err(TableFault::OutOfRank);
         }
-        if let Some(_) = find(&self.nodes, key) {
+        if let Some(_) = self.nodes.find(key) {
             return Ok(Asked::Busy);
         }
-        let Some((own, noted)) = room_for_claim(self.alloc, &mut self.nodes, &mut self.history, key)
-        else {
+        let Some(noted) = room_for_event(self.alloc, &mut self.history, key) else {
             return Err(TableFault::OutOfMemory);
         };
-        self.nodes.push_reserved(Node {
-            key: own,
-            standing: Standing::Claimed(w),
-        });
+        match self.nodes.add(self.alloc, key, Standing::Claimed(w)) {
+            Ok(()) => {}
+            Err(_) => return Err(TableFault::OutOfMemory),
+        }
         note(&mut self.history, Event::Claim(w, noted));
         Ok(Asked::Yours)
     }
@@ -160,11 +157,8 @@ impl<R: Runner> Table<R> {
         else {
             return Err(TableFault::OutOfMemory);
         };
-        put(
-            &mut self.nodes,
-            at,
-            Standing::Done(sealed, edges, Mark::Green),
-        );
+        self.nodes
+            .put(at, Standing::Done(sealed, edges, Mark::Green));
         note(&mut self.history, Event::Mark(w, noted));
         Ok(answer)
     }
@@ -182,10 +176,10 @@ impl<R: Runner> Table<R> {
         if let Some(fault) = why_not(&self.inputs, &self.nodes, &self.past, key) {
             return Err(fault);
         }
-        let Some(noted) = room_for_begin(self.alloc, &mut self.history, key) else {
+        let Some(noted) = room_for_event(self.alloc, &mut self.history, key) else {
             return Err(TableFault::OutOfMemory);
         };
-        put(&mut self.nodes, at, Standing::Running(w));
+        self.nodes.put(at, Standing::Running(w));
         note(&mut self.history, Event::Begin(w, noted));
         Ok(())
     }
@@ -211,11 +205,8 @@ impl<R: Runner> Table<R> {
         ) else {
             return Err(TableFault::OutOfMemory);
         };
-        put(
-            &mut self.nodes,
-            at,
-            Standing::Done(sealed, edges, Mark::Executed),
-        );
+        self.nodes
+            .put(at, Standing::Done(sealed, edges, Mark::Executed));
         note(&mut self.history, Event::Finish(w, outcome));
         Ok(())
     }

@@ -8,7 +8,8 @@ ghost use Rattle.job_table.specs.Nodes.{status_at, state_of_nodes};
 ghost use Rattle.job_table.specs.Walks.{edge_of, walk_of, IsWhyNot};
 
 use crate::fault::TableFault;
-use crate::nodes::{Node, result_of};
+use crate::node_list::NodeList;
+use crate::nodes::result_of;
 use item_ids::Key;
 use project_inputs::Inputs;
 use sessions::Session;
@@ -31,11 +32,11 @@ pub enum WalkEnd {
 }
 
 /// How the past edge stands that leads to a record.
-fn past_edge(inputs: &Inputs, nodes: &Vec<Node>, past: &Session, at: usize) -> Edge
+fn past_edge(inputs: &Inputs, nodes: &NodeList, past: &Session, at: usize) -> Edge
     requires { at < length past.now.records }
     ensures { edge_of result ≡ edge_at
         (print_in (past_entry (Some past.now)) (key_at past.now.records at))
-        (status_at inputs.now nodes.now.items (key_at past.now.records at)) }
+        (status_at inputs.now nodes.now (key_at past.now.records at)) }
 {
     let record = &past.records()[at];
     let Some(sealed) = result_of(inputs, nodes, record.key()) else {
@@ -49,10 +50,10 @@ fn past_edge(inputs: &Inputs, nodes: &Vec<Node>, past: &Session, at: usize) -> E
 }
 
 /// How the walk over past edges ends.
-pub fn walk_edges(inputs: &Inputs, nodes: &Vec<Node>, past: &Session, edges: &[usize]) -> WalkEnd
+pub fn walk_edges(inputs: &Inputs, nodes: &NodeList, past: &Session, edges: &[usize]) -> WalkEnd
     requires { AreInside past.now.records edges.now }
     ensures { walk_of result ≡ walk (past_entry (Some past.now))
-        (state_of_nodes inputs.now nodes.now.items false)
+        (state_of_nodes inputs.now nodes.now false)
         (map (key_at past.now.records) edges.now) }
 {
     for (i, at) in edges.iter().enumerate() {
@@ -68,13 +69,13 @@ pub fn walk_edges(inputs: &Inputs, nodes: &Vec<Node>, past: &Session, edges: &[u
 /// How the walk over a key's past edges ends, where the past has the key.
 fn walk_past(
     inputs: &Inputs,
-    nodes: &Vec<Node>,
+    nodes: &NodeList,
     past: &Option<Arc<Session>>,
     key: &Key,
 ) -> Option<WalkEnd>
     ensures { option_map walk_of result
         ≡ past_walk (past_entry (session_in past.now))
-        (state_of_nodes inputs.now nodes.now.items false) key.now }
+        (state_of_nodes inputs.now nodes.now false) key.now }
 {
     let Some(past) = past else {
         return None;
@@ -88,12 +89,12 @@ fn walk_past(
 /// Why a key that the worker has claimed may not run.
 pub fn why_not(
     inputs: &Inputs,
-    nodes: &Vec<Node>,
+    nodes: &NodeList,
     past: &Option<Arc<Session>>,
     key: &Key,
 ) -> Option<TableFault>
     ensures { IsWhyNot (past_walk (past_entry (session_in past.now))
-        (state_of_nodes inputs.now nodes.now.items false) key.now) result }
+        (state_of_nodes inputs.now nodes.now false) key.now) result }
 {
     match walk_past(inputs, nodes, past, key) {
         Some(WalkEnd::Open(i)) => Some(TableFault::EdgeOpen(i)),

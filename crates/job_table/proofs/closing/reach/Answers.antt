@@ -17,7 +17,7 @@ pub entry_of-entry-requires : goal.entry_of-entry-requires
 entry_of-entry-requires c =
     let lt : c.loop-i.i < length c.loop-i.found.items = omega arith in
     let q = c.index.result.now in
-    reached_done c.args.inputs.now (state_of_nodes c.args.inputs.now c.args.nodes.now.items false) c.requires.order (roots_done c.args.inputs.now c.args.nodes.now.items c.requires.answer) q (c.loop-i.invariant.spread.only q (c.loop-i.i, lt, sym c.index.ensures))
+    reached_done c.args.inputs.now (state_of_nodes c.args.inputs.now c.args.nodes.now false) c.requires.order (roots_done c.args.inputs.now c.args.nodes.now c.requires.answer) q (c.loop-i.invariant.spread.only q (c.loop-i.i, lt, sym c.index.ensures))
 
 pub loop-i-preserved : goal.loop-i-preserved
 loop-i-preserved c =
@@ -26,7 +26,7 @@ loop-i-preserved c =
     let here : key_in c.loop-i.found.items c.loop-i.i ≡ q = get_or_default c.loop-i.found.items c.loop-i.i Files q lt ∙ sym c.index.ensures in
     record {
       seen = c.in_ok-add-2.ensures.seen;
-      spread = spreads_more c.args.inputs.now (state_of_nodes c.args.inputs.now c.args.nodes.now.items false) _ _ c.loop-i.i _ _ _ c.loop-i.invariant.spread lt (ap (status_at c.args.inputs.now c.args.nodes.now.items) here ∙ c.entry_of-entry.ensures) c.in_ok-add-2.ensures.added;
+      spread = spreads_more c.args.inputs.now (state_of_nodes c.args.inputs.now c.args.nodes.now false) _ _ c.loop-i.i _ _ _ c.loop-i.invariant.spread lt (ap (status_at c.args.inputs.now c.args.nodes.now) here ∙ c.entry_of-entry.ensures) c.in_ok-add-2.ensures.added;
     }
 
 pub returns-then-i-len : goal.returns-then-i-len

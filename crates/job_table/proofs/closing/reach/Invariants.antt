@@ -8,5 +8,5 @@ use Rattle.job_table.proofs.closing.reach.Given as goal
 abbrev pub invariant-loop-i : goal.invariant-loop-i
 invariant-loop-i l = record {
   seen : AreAmong (contains key_cmp l.seen) l.found.items;
-  spread : Spreads l.inputs (state_of_nodes l.inputs l.nodes.items false) l.found.items l.i;
+  spread : Spreads l.inputs (state_of_nodes l.inputs l.nodes false) l.found.items l.i;
 }

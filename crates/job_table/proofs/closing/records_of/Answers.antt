@@ -18,5 +18,5 @@ loop-key-preserved c =
     let lt : c.loop-key.key-index < length c.args.keys.now = omega arith in
     rw c.in_ok-push.ensures.items (record {
       keys = keys_more c.args.keys.now c.loop-key.records.items c.loop-key.key-index c.key-item.result _ lt c.key-item.is c.loop-key.invariant.keys c.in_ok-record_of.ensures.key;
-      each = each_more (state_of_nodes c.args.inputs.now c.args.nodes.now.items false) c.args.keys.now c.loop-key.records.items _ c.loop-key.invariant.each c.in_ok-record_of.ensures.entry;
+      each = each_more (state_of_nodes c.args.inputs.now c.args.nodes.now false) c.args.keys.now c.loop-key.records.items _ c.loop-key.invariant.each c.in_ok-record_of.ensures.entry;
     })

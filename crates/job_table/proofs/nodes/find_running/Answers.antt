@@ -7,8 +7,8 @@ not_both b t f = cc
 
 pub returns-then-is_running-clause-running : goal.returns-then-is_running-clause-running
 returns-then-is_running-clause-running c =
-    first_status c.args.nodes.now.items c.args.key.now c.in_ok-at.at c.index.result.now c.in_ok-at.ensures.some c.index.ensures ∙ c.is_running.ensures.0 c.if-is_running.true
+    first_status c.args.nodes.now c.args.key.now c.in_ok-at.at c.index-as_slice-at.result c.in_ok-at.ensures.some (rw c.as_slice.ensures at c.index-as_slice-at.is) ∙ c.is_running.ensures.0 c.if-is_running.true
 
 pub returns-else-is_running-clause-none : goal.returns-else-is_running-clause-none
 returns-else-is_running-clause-none c = λ e.
-    not_both _ (c.is_running.ensures.1 (sym (first_status c.args.nodes.now.items c.args.key.now c.in_ok-at.at c.index.result.now c.in_ok-at.ensures.some c.index.ensures) ∙ e)) c.if-is_running.false
+    not_both _ (c.is_running.ensures.1 (sym (first_status c.args.nodes.now c.args.key.now c.in_ok-at.at c.index-as_slice-at.result c.in_ok-at.ensures.some (rw c.as_slice.ensures at c.index-as_slice-at.is)) ∙ e)) c.if-is_running.false

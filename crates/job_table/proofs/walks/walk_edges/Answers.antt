@@ -11,14 +11,14 @@ loop-i-init c = sym (behind_none _)
 pub returns-in-Open : goal.returns-in-Open
 returns-in-Open c =
     let lt : c.loop-i.i < length c.args.edges.now = omega arith in
-    sym (walk_opens (past_entry (Some c.args.past.now)) (state_of_nodes c.args.inputs.now c.args.nodes.now.items false) (key_at c.args.past.now.records) c.args.edges.now c.loop-i.i lt c.loop-i.invariant (sym c.in-Open.ensures))
+    sym (walk_opens (past_entry (Some c.args.past.now)) (state_of_nodes c.args.inputs.now c.args.nodes.now false) (key_at c.args.past.now.records) c.args.edges.now c.loop-i.i lt c.loop-i.invariant (sym c.in-Open.ensures))
 
 pub returns-in-Changed : goal.returns-in-Changed
 returns-in-Changed c =
     let lt : c.loop-i.i < length c.args.edges.now = omega arith in
-    sym (walk_changes (past_entry (Some c.args.past.now)) (state_of_nodes c.args.inputs.now c.args.nodes.now.items false) (key_at c.args.past.now.records) c.args.edges.now c.loop-i.i lt c.loop-i.invariant (sym c.in-Changed.ensures))
+    sym (walk_changes (past_entry (Some c.args.past.now)) (state_of_nodes c.args.inputs.now c.args.nodes.now false) (key_at c.args.past.now.records) c.args.edges.now c.loop-i.i lt c.loop-i.invariant (sym c.in-Changed.ensures))
 
 pub loop-i-preserved : goal.loop-i-preserved
 loop-i-preserved c =
     let lt : c.loop-i.i < length c.args.edges.now = omega arith in
-    walk_goes_on (past_entry (Some c.args.past.now)) (state_of_nodes c.args.inputs.now c.args.nodes.now.items false) (key_at c.args.past.now.records) c.args.edges.now c.loop-i.i lt c.loop-i.invariant (sym c.in-Unchanged.ensures)
+    walk_goes_on (past_entry (Some c.args.past.now)) (state_of_nodes c.args.inputs.now c.args.nodes.now false) (key_at c.args.past.now.records) c.args.edges.now c.loop-i.i lt c.loop-i.invariant (sym c.in-Unchanged.ensures)

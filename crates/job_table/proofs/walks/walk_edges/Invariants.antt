@@ -8,5 +8,5 @@ use Rattle.job_table.proofs.walks.walk_edges.Given as goal
 
 abbrev pub invariant-loop-i : goal.invariant-loop-i
 invariant-loop-i l =
-    walk (past_entry (Some l.past)) (state_of_nodes l.inputs l.nodes.items false) (map (key_at l.past.records) l.edges)
-    ≡ behind l.i (walk (past_entry (Some l.past)) (state_of_nodes l.inputs l.nodes.items false) (map (key_at l.past.records) (drop l.i l.edges)))
+    walk (past_entry (Some l.past)) (state_of_nodes l.inputs l.nodes false) (map (key_at l.past.records) l.edges)
+    ≡ behind l.i (walk (past_entry (Some l.past)) (state_of_nodes l.inputs l.nodes false) (map (key_at l.past.records) (drop l.i l.edges)))

@@ -28,8 +28,8 @@ returns-in-Some-find g c =
       refl,
     )
 
-pub returns-in_default-room_for_claim : goal.returns-in_default-room_for_claim
-returns-in_default-room_for_claim g c =
+pub returns-in_default-room_for_event : goal.returns-in_default-room_for_event
+returns-in_default-room_for_event g c =
     let kept = c.self.invariant.0 in
     let nd = c.in_default.ensures.none in
     let u = c.in_default-find.ensures.none in
@@ -40,14 +40,27 @@ returns-in_default-room_for_claim g c =
         is_unknown _ _ _ _ _ kept c.args.key.now nd u,
         is_below _ _ _ _ _ kept c.args.w c.args.key.now (c.if-not-is_below.ensures.0 refl),
       )),
-      rw c.room_for_claim.ensures.history.0 refl,
+      rw c.room_for_event.ensures.history.0 refl,
+    )
+
+pub returns-in-Err-add : goal.returns-in-Err-add
+returns-in-Err-add g c =
+    let kept = c.self.invariant.0 in
+    let nd = c.in_default.ensures.none in
+    let u = c.in_default-find.ensures.none in
+    rw (← c.self.view_is) (
+      sym kept.failed_is ∙ c.if-self.false,
+      (λ _. (
+        sym kept.failed_is ∙ c.if-self.false,
+        is_unknown _ _ _ _ _ kept c.args.key.now nd u,
+        is_below _ _ _ _ _ kept c.args.w c.args.key.now (c.if-not-is_below.ensures.0 refl),
+      )),
+      rw c.room_for_event.ensures.history.0 refl,
     )
 
 -- the history after the claim
 events_after : (g : Over) (c : goal.After-note g) → map event_of c.note.new.history.items ≡ map event_of c.self.inside.history.items ++ Claim c.args.w c.args.key.now ∷ []
-events_after g c =
-    let k = c.in-Some-room_for_claim.ensures.keys in
-    rw (c.note.ensures.events, c.room_for_claim.ensures.history.0, k.1) refl
+events_after g c = rw (c.note.ensures.events, c.room_for_event.ensures.history.0, c.in-Some-room_for_event.ensures.key) refl
 
 pub invariant_of-self-2 : goal.invariant_of-self-2
 invariant_of-self-2 g c =
@@ -55,13 +68,10 @@ invariant_of-self-2 g c =
     let kept = c.self.invariant.0 in
     let nd = c.in_default.ensures.none in
     let u = c.in_default-find.ensures.none in
-    let r = c.in-Some-room_for_claim.ensures in
-    let items = rw c.room_for_claim.ensures.nodes.0 at c.push_reserved.ensures.items in
-    let note = c.note.ensures in
-    rw (items, events_after g c) (
-      kept_claim _ _ _ _ _ kept c.args.w c.args.key.now _ r.keys.0 refl c.if-self.false nd u (c.if-not-is_below.ensures.0 refl),
+    rw (events_after g c) (
+      kept_claim _ _ _ _ _ kept _ c.args.w c.args.key.now c.if-self.false nd u (c.if-not-is_below.ensures.0 refl) c.add.ensures.apart c.in-Ok-add.ensures.ok,
       backed_last g.R.Runner.mean g.R.Runner.reads (map event_of i.history.items) (Claim c.args.w c.args.key.now) c.self.invariant.1 tt,
-      (λ _. omega (arith, note.len, note.capacity, r.room.1, c.room_for_claim.ensures.history.1)),
+      (λ _. omega (arith, c.note.ensures.len, c.note.ensures.capacity, c.in-Some-room_for_event.ensures.room, c.room_for_event.ensures.history.1)),
       c.self.invariant.3,
     )
 

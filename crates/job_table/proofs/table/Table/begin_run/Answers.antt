@@ -4,6 +4,7 @@ use Rattle.job_table.specs.Kept.{event_of}
 use Rattle.job_table.specs.Tables.{session_in}
 use Rattle.job_table.proofs.StepRules.{backed_last}
 use Rattle.job_table.proofs.CallRules.{not_standing, begin_at, begin_kept, begin_refused}
+use Rattle.job_table.proofs.PendingRules.{first_pending}
 use Rattle.job_table.proofs.table.Table.begin_run.Given.{Over}
 use Rattle.job_table.proofs.table.Table.begin_run.Goals as goal
 
@@ -20,15 +21,18 @@ pub returns-in-Some-why_not : goal.returns-in-Some-why_not
 returns-in-Some-why_not g c =
     begin_refused (session_in c.self.inside.past) _ _ _ _ c.self.invariant.0 c.args.key.now c.args.w c.in-Some-why_not.fault c.if-self.false c.in-Some.ensures.claimed c.in-Some-why_not.ensures _ c.self.view_is
 
-pub returns-in_default-room_for_begin : goal.returns-in_default-room_for_begin
-returns-in_default-room_for_begin g c = (
+pub returns-in_default-room_for_event : goal.returns-in_default-room_for_event
+returns-in_default-room_for_event g c = (
   begin_at (session_in c.self.inside.past) _ _ _ _ c.self.invariant.0 c.args.key.now c.args.w c.if-self.false c.in-Some.ensures.claimed c.in_default-why_not.ensures _ c.self.view_is,
-  rw (← c.self.view_is, c.room_for_begin.ensures.history.0) refl,
+  rw (← c.self.view_is, c.room_for_event.ensures.history.0) refl,
 )
+
+pub put-requires-clause-pending : goal.put-requires-clause-pending
+put-requires-clause-pending g c = λ _. first_pending c.self.inside.nodes c.args.key.now c.in-Some.at c.in-Some.ensures.some.0 (λ quiet. let no = rw c.in-Some.ensures.claimed at quiet in no)
 
 -- the history after the event
 events_after : (g : Over) (c : goal.After-note g) → map event_of c.note.new.history.items ≡ map event_of c.self.inside.history.items ++ Begin c.args.w c.args.key.now ∷ []
-events_after g c = rw (c.note.ensures.events, c.room_for_begin.ensures.history.0, c.in-Some-room_for_begin.ensures.key) refl
+events_after g c = rw (c.note.ensures.events, c.room_for_event.ensures.history.0, c.in-Some-room_for_event.ensures.key) refl
 
 pub invariant_of-self-2 : goal.invariant_of-self-2
 invariant_of-self-2 g c =
@@ -37,7 +41,7 @@ invariant_of-self-2 g c =
       begin_kept _ _ _ _ _ _ c.self.invariant.0 c.args.key.now c.args.w c.if-self.false c.in-Some.ensures.claimed c.in_default-why_not.ensures c.put.ensures.apart
           (λ k. c.put.ensures.written c.args.key.now k c.in-Some.ensures.some.0),
       backed_last g.R.Runner.mean g.R.Runner.reads (map event_of i.history.items) (Begin c.args.w c.args.key.now) c.self.invariant.1 tt,
-      (λ _. omega (arith, c.note.ensures.len, c.note.ensures.capacity, c.in-Some-room_for_begin.ensures.room, c.room_for_begin.ensures.history.1)),
+      (λ _. omega (arith, c.note.ensures.len, c.note.ensures.capacity, c.in-Some-room_for_event.ensures.room, c.room_for_event.ensures.history.1)),
       c.self.invariant.3,
     )
 

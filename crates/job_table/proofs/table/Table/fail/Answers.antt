@@ -10,10 +10,10 @@ pub invariant_of-self : goal.invariant_of-self
 invariant_of-self g c =
     let i = c.self.inside in
     let kept = c.self.invariant.0 in
-    let no_fail : IsKept (past_entry (session_in i.past)) _ i.nodes.items false (map event_of i.history.items) = rw c.if-self.false at kept in
+    let no_fail : IsKept (past_entry (session_in i.past)) _ i.nodes false (map event_of i.history.items) = rw c.if-self.false at kept in
     let h = c.note.ensures.events in
     rw h (
-      kept_fail (past_entry (session_in i.past)) _ i.nodes.items (map event_of i.history.items) c.args.w no_fail,
+      kept_fail (past_entry (session_in i.past)) _ i.nodes (map event_of i.history.items) c.args.w no_fail,
       backed_last g.R.Runner.mean g.R.Runner.reads (map event_of i.history.items) (Fail c.args.w) c.self.invariant.1 tt,
       (λ e. absurd (cc)),
       c.self.invariant.3,

@@ -30,7 +30,7 @@ entry_before g c = entry_of (arc_value c.in-Some-past.past).records c.in-Some-fi
 past_has_entry : (g : Over) (c : After-note g) → entry_at (arc_value c.in-Some-past.past) c.args.key.now ≡ Some (entry_before g c)
 past_has_entry g c = let e = c.in-Some-find.ensures.found in rw c.deref.ensures at e
 
-walk_is_unchanged : (g : Over) (c : After-note g) → AllUnchanged ≡ walk (entry_at (arc_value c.in-Some-past.past)) (state_of_nodes c.self.inside.inputs c.self.inside.nodes.items false) (entry_before g c).reads
+walk_is_unchanged : (g : Over) (c : After-note g) → AllUnchanged ≡ walk (entry_at (arc_value c.in-Some-past.past)) (state_of_nodes c.self.inside.inputs c.self.inside.nodes false) (entry_before g c).reads
 walk_is_unchanged g c = let e = c.in-AllUnchanged.ensures in rw (c.deref-2.ensures, c.edges.ensures) at e
 
 edges_same : (g : Over) (c : After-note g) → c.in-Some-room_for_mark.field-0.edges.items ≡ (entry_before g c).reads

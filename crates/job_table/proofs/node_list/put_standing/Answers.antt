@@ -1,0 +1,27 @@
+use Rattle.std.proofs.Common.{false, refl}
+use Rattle.std.specs.Prelude.{IsTrue}
+use Rattle.job_table.specs.declared.nodes.Node.{Node}
+use Rattle.job_table.proofs.PendingRules.{pending_done, pending_still}
+use Rattle.job_table.proofs.NodeRules.{status_put, apart_put, places_put}
+use Rattle.job_table.proofs.node_list.put_standing.Goals as goal
+use Rattle.job_table.proofs.node_list.put_standing.Goals.{then-is_quiet, else-is_quiet}
+
+pub returns-clause-written : goal.returns-clause-written
+returns-clause-written c = λ q k f. status_put c.args.nodes.now.items q k c.args.at c.index_mut-node.result.now c.args.standing f c.index_mut-node.ensures.value c.requires.place
+
+pub returns-clause-apart : goal.returns-clause-apart
+returns-clause-apart c = λ a. apart_put c.args.nodes.now.items c.args.at c.index_mut-node.result.now c.args.standing c.index_mut-node.ensures.value c.requires.place a
+
+pub returns-clause-places : goal.returns-clause-places
+returns-clause-places c = λ place are. places_put c.args.at c.index_mut-node.result.now c.args.standing c.args.nodes.now.items place c.index_mut-node.ensures.value c.requires.place are
+
+not_true : IsTrue false → ⊥
+not_true e = cc
+
+pub returns-clause-pending : goal.returns-clause-pending
+returns-clause-pending c =
+    let x : Node = record { key = c.index_mut-node.result.now.key; standing = c.args.standing } in
+    elim c.if-is_quiet.branch [
+      | then-is_quiet w ↦ rw (w.pending-is, w.without.ensures) (pending_done c.args.nodes.now.items c.args.pending.now.items c.args.at x c.requires.pending (w.if-is_quiet.ensures.0 refl))
+      | else-is_quiet w ↦ rw w.pending-is (pending_still c.args.nodes.now.items c.args.pending.now.items c.args.at x c.requires.pending (c.requires.kept (λ quiet. not_true (w.if-is_quiet.ensures.1 quiet))))
+    ]
