@@ -1,3 +1,5 @@
+mod ToldRows
+mod CheckWalk
 pub mod Faults
 pub mod Options
 pub mod FileWords

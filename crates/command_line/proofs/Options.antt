@@ -33,16 +33,20 @@ not_short (b ∷ x ∷ rest) other =
 abbrev pub help : Rule
 help = filled help_rule
 
+-- a short name names `help`, or nothing
+abbrev pub HasShortHelp : Shape → Type 0
+HasShortHelp s = (x : ℕ) → (t : Bool) × (arg_by_short s.rules x ≡ cond t (Some help) None)
+
 -- a long name and a short one name `help`, or nothing
 pub record HasHelpAlone (s : Shape) : Type 0 where
   pub long : (name : Text) → (t : Bool) × (arg_by_long s.rules name ≡ cond t (Some help) None)
-  pub short : (x : ℕ) → (t : Bool) × (arg_by_short s.rules x ≡ cond t (Some help) None)
+  pub short : HasShortHelp s
 
 react_is_fault : (rules : List Rule) (again : Bool) (h : Held) → IsFault (react_fault rules again help [] h)
 react_is_fault rules again h =
     next_fault (settle_fault rules again h) (use_fault again help [] (settled rules h).rows) (is_fault _ _)
 
-long_is_fault : (rules : List Rule) (again t : Bool) (text : Option Text) (h : Held) → IsFault (long_fault rules again (cond t (Some help) None) text h)
+pub long_is_fault : (rules : List Rule) (again t : Bool) (text : Option Text) (h : Held) → IsFault (long_fault rules again (cond t (Some help) None) text h)
 long_is_fault rules again false text h = is_fault _ _
 long_is_fault rules again true (Some x) h = is_fault _ _
 long_is_fault rules again true None h = react_is_fault rules again h
@@ -67,12 +71,12 @@ unless t kinds = if t then [] else kinds
 -- a word that names no command and isn't `--`, where no option waits for it
 module _ (s : Shape) (names : Names) (waiting : Waiting) (position : ℕ) (word : Text) (rows : List Row) (pending : Option (Text × List Text))
     (no_command : subcommand_met names waiting word ≡ None) (no_dashes : bytes_eq word dashes ≡ false) where
-  flag_met : word_met s.rules names false waiting position word (quiet rows pending) ≡ long_or_other s.rules waiting word (long_of word) (quiet rows pending)
+  pub flag_met : word_met s.rules names false waiting position word (quiet rows pending) ≡ long_or_other s.rules waiting word (long_of word) (quiet rows pending)
   flag_met =
       ap (λ m. subcommand_or_other s.rules m waiting position word (quiet rows pending)) no_command
       ∙ ap (λ t. trailing_if t (quiet rows pending) position (long_or_other s.rules waiting word (long_of word) (quiet rows pending))) no_dashes
 
-  flag_fault : word_fault s names false waiting word (quiet rows pending) ≡ flag_word_fault s.rules s.args_override_self (long_of word) word (quiet rows pending)
+  pub flag_fault : word_fault s names false waiting word (quiet rows pending) ≡ flag_word_fault s.rules s.args_override_self (long_of word) word (quiet rows pending)
   flag_fault =
       ap (λ m. other_fault s m word (quiet rows pending)) no_command
       ∙ ap (λ t. unless t (flag_word_fault s.rules s.args_override_self (long_of word) word (quiet rows pending))) no_dashes
@@ -107,7 +111,7 @@ module _ (s : Shape) (names : Names) (waiting : Waiting) (position : ℕ) (word 
       ∙ (ap (λ o. short_or_plain s.rules waiting word o (quiet rows pending)) short
       ∙ ap (λ (m : Held × Outcome). after_flag s.rules waiting word m.0 m.1) none))
 
-  bundle_read : HasHelpAlone s → (flags : Text) (first : Option ℕ) → slice_get (chars flags) 0 ≡ first → long_of word ≡ None → short_of word ≡ Some flags → IsReadPlain
+  bundle_read : HasShortHelp s → (flags : Text) (first : Option ℕ) → slice_get (chars flags) 0 ≡ first → long_of word ≡ None → short_of word ≡ Some flags → IsReadPlain
   unfolding bundle_met flags_fault
   bundle_read only [] first is long short = no_bundle [] refl long short
   bundle_read only (x ∷ rest) None is long short =
@@ -115,19 +119,19 @@ module _ (s : Shape) (names : Names) (waiting : Waiting) (position : ℕ) (word 
   bundle_read only (x ∷ rest) (Some c) is long short = inl (λ none.
       let left = drop (length (encode_utf8 c)) (x ∷ rest) in
       let more = flags_fault s.rules s.args_override_self (length rest) left 0 in
-      short_is_fault s.rules s.args_override_self (only.short c).0 left (quiet rows pending) more
-      (sym (ap (λ a. short_fault s.rules s.args_override_self a left (quiet rows pending) more) (only.short c).1)
+      short_is_fault s.rules s.args_override_self (only c).0 left (quiet rows pending) more
+      (sym (ap (λ a. short_fault s.rules s.args_override_self a left (quiet rows pending) more) (only c).1)
       ∙ (sym (short_fault_is long
       ∙ (ap (λ o. option_map_or (λ flags. bundle_fault s.rules s.args_override_self flags (quiet rows pending)) o []) short
       ∙ ap (λ o. bundle_step_fault s.rules s.args_override_self o (x ∷ rest) 0 (quiet rows pending) (flags_fault s.rules s.args_override_self (length rest))) is)) ∙ none)))
 
-  short_read : HasHelpAlone s → (flags : Option Text) → short_of word ≡ flags → long_of word ≡ None → IsReadPlain
+  pub short_read : HasShortHelp s → (flags : Option Text) → short_of word ≡ flags → long_of word ≡ None → IsReadPlain
   short_read only None short long = inr (short_met long ∙ ap (λ o. short_or_plain s.rules waiting word o (quiet rows pending)) short)
   short_read only (Some flags) short long = bundle_read only flags (slice_get (chars flags) 0) refl long short
 
   read_by : HasHelpAlone s → (l : Option (Text × Option Text)) → long_of word ≡ l → IsReadPlain
   read_by only (Some p) long = long_read only p long
-  read_by only None long = short_read only (short_of word) refl long
+  read_by only None long = short_read only.short (short_of word) refl long
 
   pub read_plain : HasHelpAlone s → IsReadPlain
   read_plain only = read_by only (long_of word) refl

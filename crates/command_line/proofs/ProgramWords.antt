@@ -1,7 +1,7 @@
 -- How the words after the program's name are read.
 use Rattle.std.proofs.Common.{◌≡◌, ◌∙◌, ◌⊎◌, ◌≤◌, ◌<◌, ◌&&◌, ◌||◌, ◌==◌, ◌++◌, inl, inr, Bool, true, false, List, [], ◌∷◌, Option, Some, None, cond, codes, refl, sym, ap, ap₂, length, arith, append-nil, append_assoc, not, option_map, is_some, subst, true≢false}
 use Rattle.std.proofs.lemmas.Bool.{not-true}
-use Rattle.std.specs.Prelude.{fold, if◌then◌else◌, option_and_then, unwrap_or}
+use Rattle.std.specs.Prelude.{drop, fold, if◌then◌else◌, option_and_then, unwrap_or}
 use Rattle.std.specs.Str.{bytes_eq}
 use Rattle.std.proofs.lemmas.Slice.Eq.{bytes_eq-Decides}
 use Rattle.clap.specs.Faults.{check_fault, defaults_fault, entered_fault, fault_of, other_fault, settle_fault, step_fault, turn_fault, walk_fault, word_fault}
@@ -9,7 +9,7 @@ use Rattle.clap.specs.Kinds.{or_else}
 use Rattle.clap.specs.Lexer.{long_of, usize_max}
 use Rattle.clap.specs.Simple.{Shape, built, entered, names_of}
 use Rattle.clap.specs.Walk.{Held, Names, Row, Step, Walk, after_step, finished, idle, long_or_other, nothing_held, rows_after, settled, subcommand_met, subcommand_or_other, trailing, value, walk_from, walked, word_met}
-use Rattle.clap.specs.Words.{App, HasKind, HasMatchesOf, Kinds, Text, all_of, is_simple, is_simple_and_free, kind_of, subcommand_name_of, subcommand_of, subcommand_rows_of}
+use Rattle.clap.specs.Words.{App, HasKind, HasMatchesOf, Kinds, Text, all_of, first_of, is_simple, is_simple_and_free, kind_of, subcommand_name_of, subcommand_of, subcommand_rows_of}
 use Rattle.clap.specs.declared.Error.{Error}
 use Rattle.clap.specs.declared.error.ErrorKind.TheVariants.{OutOfMemory}
 use Rattle.clap.specs.Simple.{subcommand_rows}
@@ -19,15 +19,19 @@ use Rattle.clap.specs.declared.parser.matches.SubCommand.{SubCommand}
 use Rattle.std.specs.Box.{box_value}
 use Rattle.std.specs.Prelude.{Box}
 use Rattle.command_line.specs.CommandLine.{Asks, AsksCheck, AsksFor, asks_plainly, dashes, files_for, files_of, has_option, taken_by, words_behind}
-use Rattle.command_line.specs.Matches.{AreMet, files_in}
+use Rattle.command_line.specs.Given.{GivesCheck, IsGivenBy, decimal}
+use Rattle.command_line.specs.Matches.{AreMet, HasOptions, files_in}
 use Rattle.command_line.specs.Runnable.{files_of_words, subcommand_of_words}
+use Rattle.command_line.specs.declared.asked.CheckWords.{CheckWords}
 use Rattle.command_line.specs.declared.asked.Words.{Words}
+use Rattle.command_line.specs.declared.asked.Words.TheVariants as asked_words
 use Rattle.command_line.specs.Program.{program_app}
 use Rattle.command_line.specs.Subcommands.{command_name, name_of, takes}
 use Rattle.command_line.specs.declared.asked.Subcommand.{Subcommand}
 use Rattle.command_line.specs.declared.asked.Subcommand.TheVariants.{Scratch, Audit, Show}
 use Rattle.command_line.proofs.Faults.{IsFault, first_fault, is_fault, next_fault}
 use Rattle.command_line.proofs.Options.{HasHelpAlone, read_plain}
+use Rattle.command_line.proofs.CheckWalk.{check_given, check_level, check_rows}
 use Rattle.command_line.proofs.FileWords.{check_shape, file_row, files_within, level_found, level_of, level_taken, rules, shape}
 
 -- ---- the program
@@ -146,10 +150,6 @@ module _ (c : Subcommand) (rest : List Text) where
 
 -- ---- `check`
 
--- the matches of `check` with these words after it
-unfoldable check_rows : List Text → List Row
-check_rows rest = rows_after check_shape.rules [] rest
-
 check_walked : walked top.rules commands start (codes "check") ≡ stopped_at (codes "check") []
 unfolding walked
 check_walked = refl
@@ -163,6 +163,26 @@ check_is_entered name rest =
     ap (λ (w : Walk). entered program w.stopped)
     (ap (λ (w : Walk). fold (walked top.rules commands) w rest) check_walked ∙ stopped_walk (codes "check") [] rest)
     ∙ check_entered rest
+
+check_turn : turn_fault top commands start (codes "check") ≡ []
+check_turn = refl
+
+check_kinds : (rest : List Text) → kinds_of (codes "check" ∷ rest) ≡ []
+unfolding walk_fault
+check_kinds rest =
+    ap (λ k. or_else k (walk_fault top commands (walked top.rules commands start (codes "check")) rest)) check_turn
+    ∙ (ap (λ (w : Walk). walk_fault top commands w rest) check_walked ∙ stopped_passes (codes "check") [] rest)
+
+check_level_is : (rest : List Text) → end_fault (stopped_at (codes "check") rest) [] ≡ or_else (check_level rest) []
+unfolding check_shape defaults_fault
+check_level_is rest = refl
+
+-- the faults are those of `check`
+check_fault_is : (name : Text) (rest : List Text) → fault_of program_app (name ∷ codes "check" ∷ rest) ≡ or_else (check_level rest) []
+check_fault_is name rest =
+    let walk_at : walk_of (codes "check" ∷ rest) ≡ stopped_at (codes "check") rest =
+    ap (λ (w : Walk). fold (walked top.rules commands) w rest) check_walked ∙ stopped_walk (codes "check") [] rest in
+    ap₂ end_fault walk_at (check_kinds rest) ∙ check_level_is rest
 
 or_none : (kinds : Kinds) → or_else kinds [] ≡ kinds
 or_none [] = refl
@@ -257,8 +277,8 @@ record IsRead (words : List Text) : Type 0 where
 -- or it is of `check`
 record IsReadAsCheck (words : List Text) : Type 0 where
   asked : AsksCheck words
-  rows : List Row
-  entered_is : subcommand_of program_app words ≡ Some (codes "check", rows)
+  passes : check_level (drop 2 words) ≡ []
+  entered_is : subcommand_of program_app words ≡ Some (codes "check", check_rows (drop 2 words))
 
 abbrev rest_if : Bool → List Text → Option (List Text)
 rest_if t rest = if t then Some rest else None
@@ -280,12 +300,15 @@ found_at c name command rest is none =
       entered_is = entry ∙ ap (λ rows. Some (name_of c, rows)) level.1;
     }
 
-check_found : (name command : Text) (rest : List Text) → bytes_eq (codes "check") command ≡ true → IsReadAsCheck (name ∷ command ∷ rest)
-check_found name command rest is =
+check_found : (name command : Text) (rest : List Text) → bytes_eq (codes "check") command ≡ true → fault_of program_app (name ∷ command ∷ rest) ≡ []
+    → IsReadAsCheck (name ∷ command ∷ rest)
+check_found name command rest is none =
     let same : codes "check" ≡ command = (bytes_eq-Decides (codes "check") command).0 is in
+    let faults : fault_of program_app (name ∷ command ∷ rest) ≡ or_else (check_level rest) [] =
+    ap (λ w. fault_of program_app (name ∷ w ∷ rest)) (sym same) ∙ check_fault_is name rest in
     record {
       asked = ap (λ w. Some w) (sym same);
-      rows = check_rows rest;
+      passes = sym (or_none (check_level rest)) ∙ (sym faults ∙ none);
       entered_is = ap (λ w. subcommand_of program_app (name ∷ w ∷ rest)) (sym same) ∙ check_is_entered name rest;
     }
 
@@ -296,7 +319,7 @@ found_by : (name command : Text) (rest : List Text) (s k a w : Bool)
     → bytes_eq (codes "scratch") command ≡ s → bytes_eq (codes "check") command ≡ k → bytes_eq (codes "audit") command ≡ a → bytes_eq (codes "show") command ≡ w
     → fault_of program_app (name ∷ command ∷ rest) ≡ [] → IsFound (name ∷ command ∷ rest)
 found_by name command rest true k a w is_scratch is_check is_audit is_show none = inl (found_at Scratch name command rest is_scratch none)
-found_by name command rest false true a w is_scratch is_check is_audit is_show none = inr (check_found name command rest is_check)
+found_by name command rest false true a w is_scratch is_check is_audit is_show none = inr (check_found name command rest is_check none)
 found_by name command rest false false true w is_scratch is_check is_audit is_show none = inl (found_at Audit name command rest is_audit none)
 found_by name command rest false false false true is_scratch is_check is_audit is_show none = inl (found_at Show name command rest is_show none)
 found_by name command rest false false false false is_scratch is_check is_audit is_show none =
@@ -364,10 +387,12 @@ pub record HasRead (words : List Text) (m : ArgMatches) : Type 0 where
   pub name : subcommand_name_of m ≡ Some (name_of subcommand)
   pub files : files_in m ≡ Some given
 
--- the words ask for `check`, which was met
+-- the words ask for `check`, which was met, and the matches have what is behind it
 pub record HasReadCheck (words : List Text) (m : ArgMatches) : Type 0 where
   pub asked : AsksCheck words
   pub name : subcommand_name_of m ≡ Some (codes "check")
+  pub passes : check_level (drop 2 words) ≡ []
+  pub rows : subcommand_rows_of m ≡ Some (codes "check", check_rows (drop 2 words))
 
 abbrev pub HasReadWords : List Text → ArgMatches → Type 0
 HasReadWords words m = HasRead words m ⊎ HasReadCheck words m
@@ -390,6 +415,8 @@ module _ (words : List Text) (m : ArgMatches) where
   check_read matches is = record {
     asked = is.asked;
     name = name-subcommand_rows (out-ArgMatches m).subcommand ∙ ap (option_map (λ (p : Text × List Row). p.0)) (matches ∙ is.entered_is);
+    passes = is.passes;
+    rows = matches ∙ is.entered_is;
   }
 
   read_by : subcommand_rows_of m ≡ subcommand_of program_app words → IsFound words → HasReadWords words m
@@ -437,6 +464,23 @@ asked_for words m None files (inr check) name is = check.asked
 -- the words that were met are those that were asked for
 pub asked_are_met : (words : List Text) (m : ArgMatches) (w : Words) → HasReadWords words m → AreMet m w → Asks words w
 asked_are_met words m w read met = asked_for words m (subcommand_of_words w) (files_of_words w) read met.name met.files
+
+options_given : (words : List Text) (m : ArgMatches) (w : CheckWords) → HasReadWords words m → AreMet m (asked_words.Check w) → HasOptions m (asked_words.Check w)
+    → IsGivenBy (drop 2 words) w
+options_given words m w (inl read) met options = absurd (not_check read.subcommand (some_same _ _ (sym read.name ∙ met.name)))
+options_given words m w (inr check) met options =
+    let rows = check_rows (drop 2 words) in
+    check_given (drop 2 words) w check.passes
+    (sym (ap (option_and_then (λ (p : Text × List Row). all_of (codes "FILE") p.1)) check.rows) ∙ met.files)
+    (sym (ap (option_and_then (λ (p : Text × List Row). first_of (codes "cache") p.1)) check.rows) ∙ options.0)
+    (sym (ap (λ o. option_map decimal (option_and_then (λ (p : Text × List Row). first_of (codes "jobs") p.1) o)) check.rows) ∙ options.1)
+
+-- what was met behind `check` is what the words give
+pub given_are_met : (words : List Text) (m : ArgMatches) (w : Words) → HasReadWords words m → AreMet m w → HasOptions m w → GivesCheck words w
+given_are_met words m (asked_words.Scratch files) read met options = tt
+given_are_met words m (asked_words.Check w) read met options = options_given words m w read met options
+given_are_met words m (asked_words.Audit files) read met options = tt
+given_are_met words m (asked_words.Show file) read met options = tt
 
 -- words that ask plainly don't ask for `check`
 no_check : (c : Subcommand) (words : List Text) → asks_plainly c words ≡ true → AsksCheck words → ⊥

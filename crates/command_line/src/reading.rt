@@ -1,10 +1,11 @@
 //! The command line as `clap` reads it.
 ghost use Rattle.std.specs.Prelude.{◌≡◌, ◌∷◌, Some, IfOk, IfSome, IsOkUnless, IsSome};
 ghost use Rattle.std.specs.Prelude.{IsTrue, List, None, codes, map, string_bytes, unwrap_or, []};
-ghost use Rattle.std.specs.Prelude.{◌≤◌};
-ghost use Rattle.clap.specs.Words.{all_of, found_of, kind_of, rows_of, subcommand_name_of};
+ghost use Rattle.std.specs.Prelude.{◌≤◌, option_map};
+ghost use Rattle.clap.specs.Words.{all_of, first_of, found_of, kind_of, rows_of, subcommand_name_of};
 ghost use Rattle.command_line.specs.CommandLine.{Asks, asks_plainly};
-ghost use Rattle.command_line.specs.Matches.{AreMet, IsCacheIn, files_in};
+ghost use Rattle.command_line.specs.Given.{GivesCheck, decimal};
+ghost use Rattle.command_line.specs.Matches.{AreMet, AreOptionsIn, HasOptions, files_in};
 ghost use Rattle.command_line.specs.Runnable.{IsRunnable, files_of_words, most_jobs, subcommand_of_words};
 ghost use Rattle.command_line.specs.Subcommands.{Text, command_name, is_just_one, name_of, takes};
 
@@ -15,10 +16,13 @@ use clap::{ArgMatches, Error};
 use std::alloc::{AllocError, Global};
 
 /// Reads a command line, whose first word is the program's name. An empty list is read as the name
-/// alone. Which other words are refused, and which ask for help, is `clap`'s to say.
+/// alone. Of `check` the folder of the cache is the value of `--cache`, the number of workers that of
+/// `--jobs`, or 1, and the files are all other words. Which other words are refused, and which ask for
+/// help, is `clap`'s to say.
 pub fn words(alloc: Global, list: Vec<String>) -> Result<Words, WordsFault>
     ensures runnable { IfOk result IsRunnable }
     ensures asked { IfOk result (Asks (map string_bytes list.items)) }
+    ensures check { IfOk result (GivesCheck (map string_bytes list.items)) }
     ensures taken { (subcommand : Subcommand)
         → IsTrue (asks_plainly subcommand (map string_bytes list.items))
         → IsOkUnless result WordsFault.OutOfMemory }
@@ -33,6 +37,7 @@ pub fn words(alloc: Global, list: Vec<String>) -> Result<Words, WordsFault>
 fn read(alloc: Global, list: &[String]) -> Result<Words, WordsFault>
     ensures runnable { IfOk result IsRunnable }
     ensures asked { IfOk result (Asks (map string_bytes list.now)) }
+    ensures check { IfOk result (GivesCheck (map string_bytes list.now)) }
     ensures taken { (subcommand : Subcommand)
         → IsTrue (asks_plainly subcommand (map string_bytes list.now))
         → IsOkUnless result WordsFault.OutOfMemory }
@@ -48,6 +53,7 @@ fn read(alloc: Global, list: &[String]) -> Result<Words, WordsFault>
 fn choose(alloc: Global, matches: &ArgMatches<'_>) -> Result<Words, WordsFault>
     ensures runnable { IfOk result IsRunnable }
     ensures met { IfOk result (AreMet matches.now) }
+    ensures options { IfOk result (HasOptions matches.now) }
     ensures taken { (subcommand : Subcommand)
         → subcommand_name_of matches.now ≡ Some (name_of subcommand)
         → (files : List Text) → files_in matches.now ≡ Some files
@@ -73,12 +79,12 @@ fn check_words(alloc: Global, name: &str, given: &ArgMatches<'_>) -> Result<Word
         Some name.now ≡ Some (command_name (subcommand_of_words words))) }
     ensures files { IfOk result (λ words.
         all_of (codes "FILE") (rows_of (found_of given.now)) ≡ Some (files_of_words words)) }
-    ensures cache { IfOk result (IsCacheIn given.now) }
+    ensures options { IfOk result (AreOptionsIn (rows_of (found_of given.now))) }
 {
     if name != CHECK {
         return Err(unreadable(alloc));
     }
-    let (Some(cache), Some(jobs)) = (given.get_str(CACHE), jobs(given)) else {
+    let (Some(cache), Some(jobs)) = (first(given, CACHE), jobs(given)) else {
         return Err(unreadable(alloc));
     };
     let cache = String::from_str(alloc, cache)?;
@@ -93,12 +99,22 @@ fn check_words(alloc: Global, name: &str, given: &ArgMatches<'_>) -> Result<Word
     }))
 }
 
+// The first value of an argument, as it was given.
+fn first<'a>(given: &ArgMatches<'a>, id: &str) -> Option<&'a str>
+    ensures { option_map (λ text. text.now) result
+        ≡ first_of id.now (rows_of (found_of given.now)) }
+{
+    given.get_str(id)
+}
+
 // How many workers `check` has.
 fn jobs(given: &ArgMatches<'_>) -> Option<usize>
     ensures some { IfSome result (λ jobs. 1 ≤ jobs) }
     ensures most { IfSome result (λ jobs. jobs ≤ most_jobs) }
+    ensures given { IfSome result (λ jobs.
+        option_map decimal (first_of (codes "jobs") (rows_of (found_of given.now))) ≡ Some jobs) }
 {
-    let jobs = given.get_one::<u8>(JOBS)?;
+    let jobs: u8 = first(given, JOBS)?.parse().ok()?;
     if jobs == 0 || jobs > MOST_JOBS {
         return None;
     }

@@ -1,13 +1,21 @@
 use Rattle.std.proofs.Common.{◌<◌, ◌^◌, arith, length, map, rules, string_bytes}
 use Rattle.std.proofs.lemmas.List.{length-map}
 use Rattle.std.proofs.lemmas.Result.{IfOk-weaker}
-use Rattle.command_line.proofs.ProgramWords.{asked_are_met, has_read, only_memory, plainly_read}
+use Rattle.clap.proofs.WalkLemmas.{IfOk-both}
+use Rattle.command_line.specs.Matches.{AreMet, HasOptions}
+use Rattle.command_line.proofs.ProgramWords.{asked_are_met, given_are_met, has_read, only_memory, plainly_read}
 use Rattle.command_line.proofs.reading.read.Goals as goal
 
 pub returns-in-Ok-clause-asked : goal.returns-in-Ok-clause-asked
 returns-in-Ok-clause-asked c =
     let read = has_read _ (map string_bytes c.args.list.now) c.in-Ok.matches c.in_ok-program.ensures c.in-Ok.ensures.kinds c.in-Ok.ensures.matches in
     IfOk-weaker c.choose.result _ _ (λ words met. asked_are_met _ _ words read met) c.choose.ensures.met
+
+pub returns-in-Ok-clause-check : goal.returns-in-Ok-clause-check
+returns-in-Ok-clause-check c =
+    let read = has_read _ (map string_bytes c.args.list.now) c.in-Ok.matches c.in_ok-program.ensures c.in-Ok.ensures.kinds c.in-Ok.ensures.matches in
+    IfOk-weaker c.choose.result _ _ (λ words both. given_are_met _ _ words read both.0 both.1)
+    (IfOk-both c.choose.result (AreMet c.in-Ok.matches) (HasOptions c.in-Ok.matches) c.choose.ensures.met c.choose.ensures.options)
 
 pub returns-in-Ok-clause-taken : goal.returns-in-Ok-clause-taken
 returns-in-Ok-clause-taken c subcommand plain =

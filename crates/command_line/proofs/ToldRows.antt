@@ -1,0 +1,72 @@
+-- What the rows of a parse have of an argument.
+use Rattle.std.proofs.Common.{◌≡◌, ◌∙◌, ◌⊎◌, ◌||◌, ◌&&◌, ◌==◌, ◌++◌, inl, inr, ℕ, Bool, true, false, List, [], ◌∷◌, Option, Some, None, cond, codes, refl, sym, ap, ap₂, subst, map, append-nil, append_assoc, true≢false}
+use Rattle.std.proofs.lemmas.Slice.Eq.{bytes_eq-Decides}
+use Rattle.std.proofs.lemmas.Option.{none-some, same_Some}
+use Rattle.std.specs.Prelude.{find, fold, if◌then◌else◌, option_and_then, option_map, slice_get, string_bytes, unwrap_or}
+use Rattle.std.specs.Str.{bytes_eq}
+use Rattle.clap.specs.Faults.{check_fault, defaults_fault, flag_word_fault, level_fault, long_fault, settle_fault, step_fault, turn_fault, use_fault, walk_fault, word_fault}
+use Rattle.clap.specs.Kinds.{or_else}
+use Rattle.clap.specs.Lexer.{long_of, short_of}
+use Rattle.clap.specs.Simple.{filled, with_index}
+use Rattle.clap.specs.Walk.{Held, Row, Step, Waiting, Walk, after_flag, after_step, arg_by_long, finished, first_of, has_row, idle, long_met, long_or_other, more_values, next, nothing_held, rows_after, subcommand_or_other, trailing, option, plain_word, positional, reading_by, settled, settled_rows, subcommand_met, used, value, walked, with_values, without, word_met}
+use Rattle.clap.specs.Words.{Kinds, Rule, Text, all_of}
+use Rattle.clap.specs.declared.builder.value_parser.Reading.{Reading}
+use Rattle.clap.specs.declared.error.ErrorKind.TheVariants.{ArgumentConflict}
+use Rattle.clap.specs.declared.parser.ValueSource.{ValueSource}
+use Rattle.clap.specs.declared.parser.ValueSource.TheVariants.{CommandLine, DefaultValue}
+
+-- ---- what the rows have of an argument
+
+-- the values of an argument
+abbrev pub told : Text → List Row → List Text
+told id rows = unwrap_or (all_of id rows) []
+
+abbrev pub values_in : Option Row → List Text
+values_in o = unwrap_or (option_map (λ (r : Row). r.values) o) []
+
+abbrev pub told_if : Bool → Row → Text → List Row → List Text
+told_if t r id rest = values_in (cond t (Some r) (find (λ (x : Row). bytes_eq x.id id) rest))
+
+module _ (id : Text) (how : Reading) (s : ValueSource) (vs : List Text) (itself : bytes_eq id id ≡ true) where
+  more_told : (r : Row) (rest : List Row) (t : Bool) → bytes_eq r.id id ≡ t → told id (with_values id how s vs rest) ≡ told id rest ++ vs
+      → told id (if t then more_values s vs r ++ rest else r ∷ with_values id how s vs rest) ≡ told id (r ∷ rest) ++ vs
+  more_told r rest true is later = rw is refl
+  more_told r rest false is later = rw is later
+
+  pub values_told : (rows : List Row) → told id (with_values id how s vs rows) ≡ told id rows ++ vs
+  values_told [] = rw itself refl
+  values_told (r ∷ rest) = more_told r rest (bytes_eq r.id id) refl (values_told rest)
+
+module _ (id other : Text) (how : Reading) (s : ValueSource) (vs : List Text) (apart : bytes_eq id other ≡ false) where
+  others_behind : (r : Row) (t : Bool) (rest : List Row) → told other (with_values id how s vs rest) ≡ told other rest
+      → told_if t r other (with_values id how s vs rest) ≡ told_if t r other rest
+  others_behind r true rest later = refl
+  others_behind r false rest later = later
+
+  others_by : (r : Row) (rest : List Row) (t : Bool) → bytes_eq r.id id ≡ t → told other (with_values id how s vs rest) ≡ told other rest
+      → told other (if t then more_values s vs r ++ rest else r ∷ with_values id how s vs rest) ≡ told other (r ∷ rest)
+  others_by r rest true is later =
+      let no : bytes_eq r.id other ≡ false = ap (λ x. bytes_eq x other) ((bytes_eq-Decides r.id id).0 is) ∙ apart in
+      rw no refl
+  others_by r rest false is later = others_behind r (bytes_eq r.id other) rest later
+
+  pub others_told : (rows : List Row) → told other (with_values id how s vs rows) ≡ told other rows
+  others_told [] = rw apart refl
+  others_told (r ∷ rest) = others_by r rest (bytes_eq r.id id) refl (others_told rest)
+
+neither : (a b : Bool) → (a || b) ≡ false → (a ≡ false) × (b ≡ false)
+neither false b none = (refl, none)
+neither true b none = absurd (true≢false none)
+
+-- where there is no row of an argument
+pub without_none : (id : Text) (rows : List Row) → has_row id rows ≡ false → without id rows ≡ rows
+without_none id [] none = refl
+without_none id (r ∷ rest) none =
+    let parts = neither (bytes_eq r.id id) (has_row id rest) none in
+    rw parts.0 (ap (λ rs. r ∷ rs) (without_none id rest parts.1))
+
+pub told_none : (id : Text) (rows : List Row) → has_row id rows ≡ false → told id rows ≡ []
+told_none id [] none = refl
+told_none id (r ∷ rest) none =
+    let parts = neither (bytes_eq r.id id) (has_row id rest) none in
+    rw parts.0 (told_none id rest parts.1)

@@ -1,0 +1,67 @@
+-- What the words behind `check` give, told from the words alone.
+use Rattle.std.specs.Prelude.{◌≡◌, ℕ, Bool, true, false, List, [], ◌∷◌, Option, Some, None}
+use Rattle.std.specs.Prelude.{codes, drop, if◌then◌else◌, map, string_bytes}
+use Rattle.std.specs.Str.{bytes_eq}
+use Rattle.std.specs.Str.Parse.{digits_value, without_leading_plus}
+use Rattle.clap.specs.Lexer.{long_of}
+use Rattle.command_line.specs.CommandLine.{dashes}
+use Rattle.command_line.specs.Subcommands.{Text}
+use Rattle.command_line.specs.declared.asked.CheckWords.{CheckWords}
+use Rattle.command_line.specs.declared.asked.Words.{Words}
+use Rattle.command_line.specs.declared.asked.Words.TheVariants as words
+
+-- a value behind the name of its option; a FILE has none
+abbrev pub Given : Type 0
+Given = Option Text × Text
+
+-- `--NAME=VALUE` gives its VALUE, `--NAME` the next word
+abbrev pub given_to : Text → Option Text → List Given → (Text → List Given) → List Given
+given_to name (Some value) rest behind = (Some name, value) ∷ rest
+given_to name None rest behind = behind name
+
+-- any other word is a FILE
+abbrev pub given_by : Text → Option (Text × Option Text) → List Given → (Text → List Given)
+    → List Given
+given_by word None rest behind = (None, word) ∷ rest
+given_by word (Some p) rest behind = given_to p.0 p.1 rest behind
+
+-- the values in their order, where the first word is that of the option that waits for one; behind
+-- the first `--` every word is a FILE
+abbrev pub given_in : Option Text → List Text → List Given
+given_in waiting [] = []
+given_in (Some name) (word ∷ rest) = (Some name, word) ∷ given_in None rest
+given_in None (word ∷ rest) = if bytes_eq word dashes then map (λ file. (None, file)) rest
+    else given_by word (long_of word) (given_in None rest) (λ name. given_in (Some name) rest)
+
+abbrev pub is_of : Option Text → Option Text → Bool
+is_of None None = true
+is_of (Some name) (Some other) = bytes_eq name other
+is_of _ _ = false
+
+-- the values of an option, or the FILEs
+abbrev pub values_of : Option Text → List Given → List Text
+values_of name [] = []
+values_of name (given ∷ rest) =
+    if is_of name given.0 then given.1 ∷ values_of name rest else values_of name rest
+
+-- the number that the digits of a text write
+abbrev pub decimal : Text → ℕ
+decimal text = digits_value 10 (without_leading_plus text)
+
+-- the one number that was given, and 1 where none was
+abbrev pub IsNumberOf : List Text → ℕ → Type 0
+IsNumberOf [] n = n ≡ 1
+IsNumberOf (text ∷ []) n = n ≡ decimal text
+IsNumberOf _ n = ⊥
+
+-- the folder of the cache is the one value of `--cache`, the number of workers that of `--jobs`, and
+-- the FILEs are all other words
+pub record IsGivenBy (rest : List Text) (w : CheckWords) : Type 0 where
+  pub cache : values_of (Some (codes "cache")) (given_in None rest) ≡ string_bytes w.cache ∷ []
+  pub jobs : IsNumberOf (values_of (Some (codes "jobs")) (given_in None rest)) w.jobs
+  pub files : values_of None (given_in None rest) ≡ map string_bytes w.files.items
+
+-- where `check` was read, the words behind it give what was read
+abbrev pub GivesCheck : List Text → Words → Type 0
+GivesCheck given (words.Check w) = IsGivenBy (drop 2 given) w
+GivesCheck given _ = Unit {0}
