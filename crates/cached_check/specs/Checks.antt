@@ -1,5 +1,5 @@
 -- The session that comes next, and the answer that a session records.
-use Rattle.std.specs.Prelude.{◌≡◌, ℕ, List, Option, Some, String, string_bytes}
+use Rattle.std.specs.Prelude.{◌≡◌, ℕ, List, Option, Some, None, String, string_bytes}
 use Rattle.std.specs.declared.alloc.Global.{Global}
 use Rattle.item_ids.specs.declared.key.Key.TheVariants.{Answer}
 use Rattle.mj_answer.specs.AnswerValues.{AnswerValue}
@@ -10,7 +10,8 @@ use Rattle.query_rules.specs.Reads.{reads}
 use Rattle.sessions.specs.Sessions.{Entry, SessionValue, entry_at}
 use Rattle.graph_rules.specs.Steps.{Event}
 use Rattle.driver.specs.Sessions.{AreEventsOf}
-use Rattle.session_cache.specs.Starts.{IsStart, path_of, session_in}
+use Rattle.session_cache.specs.Starts.{IsStart, IsStartless, path_of, session_in}
+use Rattle.session_cache.specs.declared.fault.CacheFault.TheVariants as cache
 use Rattle.session_cache.specs.declared.place.Place.{Place}
 use Rattle.session_cache.specs.declared.start.Start.{Start}
 use Rattle.cached_check.specs.Lines.{AreNotes}
@@ -25,6 +26,26 @@ pub record IsBeginning (dir : List ℕ) (b : Beginning) : Type 0 where
   pub past : start.past ≡ b.past
   pub place : start.place ≡ Some b.place
   pub notes : AreNotes dir start.note (string_bytes b.notes)
+
+-- there is no beginning past the last chain
+pub record HasNoChain (dir : List ℕ) (told : String Global) : Type 0 where
+  pub start : Start
+  pub begins : IsStart start
+  pub place : start.place ≡ None
+  pub notes : AreNotes dir start.note (string_bytes told)
+
+-- why a session doesn't begin: the folder of the cache or the last file in it can't be read, or there
+-- is no chain for it, or memory ran out
+abbrev pub IsUnbegun : List ℕ → CheckFault → Type 0
+IsUnbegun dir (fault.CannotRead path) = IsStartless dir (cache.CannotRead path)
+IsUnbegun dir (fault.CannotWrite told path) = (string_bytes path ≡ dir) × HasNoChain dir told
+IsUnbegun dir fault.OutOfMemory = Unit {0}
+
+-- this path can't be read, or memory ran out
+abbrev pub IsUnreadAt : List ℕ → CheckFault → Type 0
+IsUnreadAt dir (fault.CannotRead path) = string_bytes path ≡ dir
+IsUnreadAt dir (fault.CannotWrite told path) = ⊥
+IsUnreadAt dir fault.OutOfMemory = Unit {0}
 
 -- why a session isn't kept: behind the notes, the file of the place can't be written, or memory ran
 -- out

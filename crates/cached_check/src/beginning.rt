@@ -1,8 +1,8 @@
 //! Where the next session begins, and where it is kept.
-ghost use Rattle.std.specs.Prelude.{IfOk, IfErr, IfSome, string_bytes};
+ghost use Rattle.std.specs.Prelude.{◌≡◌, [], IfOk, IfErr, IfSome, IsErrAnd, string_bytes};
 ghost use Rattle.session_cache.specs.Starts.{IsPlace, IsStart};
 ghost use Rattle.cached_check.specs.Lines.{AreNotes};
-ghost use Rattle.cached_check.specs.Checks.{IsBeginning, IsUnkept};
+ghost use Rattle.cached_check.specs.Checks.{IsBeginning, IsUnbegun, IsUnkept, IsUnreadAt};
 
 use crate::fault::CheckFault;
 use crate::words::note_text;
@@ -24,17 +24,17 @@ pub struct Beginning {
 }
 
 /// Where the next session begins in the cache of this folder: behind the last session of the last chain, or in a new chain
-/// where that one can't be followed.
+/// where that one can't be followed. An empty word names no folder, and can't be read.
 pub fn begin<R: Files + AllocGlobal>(rt: &R, cache: &str) -> Result<Beginning, CheckFault>
-    ensures { IfOk result (IsBeginning cache.now) }
+    ensures begins { IfOk result (IsBeginning cache.now) }
+    ensures failed { IfErr result (IsUnbegun cache.now) }
+    ensures unnamed { cache.now ≡ [] → IsErrAnd result (IsUnreadAt []) }
 {
     let alloc = rt.alloc();
     match find_start(rt, cache) {
         Ok(start) => begin_at(alloc, cache, start),
         Err(CacheFault::CannotRead(path)) => Err(CheckFault::CannotRead(path)),
-        Err(CacheFault::CannotWrite(path)) => {
-            Err(CheckFault::CannotWrite(String::new(alloc), path))
-        }
+        Err(CacheFault::CannotWrite(_)) => unreachable!(),
         Err(CacheFault::OutOfMemory) => Err(CheckFault::OutOfMemory),
     }
 }
@@ -42,7 +42,8 @@ pub fn begin<R: Files + AllocGlobal>(rt: &R, cache: &str) -> Result<Beginning, C
 /// The beginning at this start. Past the last chain there is none.
 fn begin_at(alloc: Global, cache: &str, start: Start) -> Result<Beginning, CheckFault>
     requires { IsStart start }
-    ensures { IfOk result (IsBeginning cache.now) }
+    ensures begins { IfOk result (IsBeginning cache.now) }
+    ensures failed { IfErr result (IsUnbegun cache.now) }
 {
     let Start { past, place, note } = start;
     let notes = notes_of(alloc, cache, note)?;

@@ -8,7 +8,7 @@ use Rattle.command_line.specs.CommandLine.{Asks, AsksFor, files_for}
 use Rattle.command_line.specs.Runnable.{files_of_words, subcommand_of_words}
 use Rattle.command_line.proofs.OneSubcommand.{no_files_for_check, one_subcommand}
 use Rattle.std.proofs.lemmas.Option.{same_Some}
-use Rattle.cli.specs.Runs.{Reports, IsWritten, Prints, status_number}
+use Rattle.cli.specs.Runs.{Reports, ReportsCheck, TellsHelp, IsWritten, Prints, PrintsCheck, status_number}
 use Rattle.cli.specs.Statuses.{IsStatus}
 use Rattle.cli.specs.declared.report.Report.{Report}
 use Rattle.cli.specs.declared.report.Status.{Status}
@@ -25,24 +25,42 @@ is_status status.Refused = (2, omega arith, refl)
 is_status status.ChainRefused = (3, omega arith, refl)
 is_status status.OutOfMemory = (4, omega arith, refl)
 
--- a delivered report that ends clean or with diagnostics
+-- a delivered report that ends clean or with diagnostics says what such a report says
+delivered : (Says : Report → Type 0) (report : Report) (s : Status) (out_old out_new err_old err_new : Option (List ℕ))
+    → ((report.status ≡ status.Clean) ⊎ (report.status ≡ status.Diagnostics) → Says report)
+    → (s ≡ status.Refused) ⊎ ((s ≡ report.status) × IsWritten report out_old out_new err_old err_new)
+    → (status_number s ≡ 0) ⊎ (status_number s ≡ 1)
+    → Says report × IsWritten report out_old out_new err_old err_new × (status_number s ≡ status_number report.status)
+delivered Says report s a b c d says (inl refused) (inl ends) = absurd cc
+delivered Says report s a b c d says (inl refused) (inr ends) = absurd cc
+delivered Says report status.Clean a b c d says (inr written) ends = (says (inl (sym written.0)), written.1, ap status_number written.0)
+delivered Says report status.Diagnostics a b c d says (inr written) ends = (says (inr (sym written.0)), written.1, ap status_number written.0)
+delivered Says report status.Refused a b c d says (inr written) (inl ends) = absurd cc
+delivered Says report status.Refused a b c d says (inr written) (inr ends) = absurd cc
+delivered Says report status.ChainRefused a b c d says (inr written) (inl ends) = absurd cc
+delivered Says report status.ChainRefused a b c d says (inr written) (inr ends) = absurd cc
+delivered Says report status.OutOfMemory a b c d says (inr written) (inl ends) = absurd cc
+delivered Says report status.OutOfMemory a b c d says (inr written) (inr ends) = absurd cc
+
+-- the report of a subcommand that has FILEs alone
 pub prints : (subcommand : Subcommand) (names : List (List ℕ)) (report : Report) (s : Status) (out_old out_new err_old err_new : Option (List ℕ))
     → ((report.status ≡ status.Clean) ⊎ (report.status ≡ status.Diagnostics) → Reports subcommand names report)
     → (s ≡ status.Refused) ⊎ ((s ≡ report.status) × IsWritten report out_old out_new err_old err_new)
     → (status_number s ≡ 0) ⊎ (status_number s ≡ 1)
     → Prints subcommand names (status_number s) out_old out_new err_old err_new
-prints subcommand names report s a b c d reports (inl refused) (inl ends) = absurd cc
-prints subcommand names report s a b c d reports (inl refused) (inr ends) = absurd cc
-prints subcommand names report status.Clean a b c d reports (inr written) ends =
-    record { report = report; reports = reports (inl (sym written.0)); written = written.1; ends = ap status_number written.0 }
-prints subcommand names report status.Diagnostics a b c d reports (inr written) ends =
-    record { report = report; reports = reports (inr (sym written.0)); written = written.1; ends = ap status_number written.0 }
-prints subcommand names report status.Refused a b c d reports (inr written) (inl ends) = absurd cc
-prints subcommand names report status.Refused a b c d reports (inr written) (inr ends) = absurd cc
-prints subcommand names report status.ChainRefused a b c d reports (inr written) (inl ends) = absurd cc
-prints subcommand names report status.ChainRefused a b c d reports (inr written) (inr ends) = absurd cc
-prints subcommand names report status.OutOfMemory a b c d reports (inr written) (inl ends) = absurd cc
-prints subcommand names report status.OutOfMemory a b c d reports (inr written) (inr ends) = absurd cc
+prints subcommand names report s a b c d reports ends number =
+    let all = delivered (Reports subcommand names) report s a b c d reports ends number in
+    record { report = report; reports = all.0; written = all.1; ends = all.2 }
+
+-- the report of a check, or help
+pub prints_check : (given : List (List ℕ)) (report : Report) (s : Status) (out_old out_new err_old err_new : Option (List ℕ))
+    → ((report.status ≡ status.Clean) ⊎ (report.status ≡ status.Diagnostics) → ReportsCheck given report ⊎ TellsHelp report)
+    → (s ≡ status.Refused) ⊎ ((s ≡ report.status) × IsWritten report out_old out_new err_old err_new)
+    → (status_number s ≡ 0) ⊎ (status_number s ≡ 1)
+    → PrintsCheck given (status_number s) out_old out_new err_old err_new
+prints_check given report s a b c d reports ends number =
+    let all = delivered (λ r. ReportsCheck given r ⊎ TellsHelp r) report s a b c d reports ends number in
+    record { report = report; reports = all.0; written = all.1; ends = all.2 }
 
 -- want of memory ends neither so nor so
 pub silent : (s : Status) (Said : Type 0) → (s ≡ status.Refused) ⊎ ((s ≡ status.OutOfMemory) × Said) → (status_number s ≡ 0) ⊎ (status_number s ≡ 1) → ⊥

@@ -1,5 +1,8 @@
 -- How a run ends.
 use Rattle.std.specs.Prelude.{Bool, true, false}
+use Rattle.audit_graph.specs.declared.fault.AuditFault.TheVariants as chain
+use Rattle.mj_project.specs.declared.project.ProjectFault.TheVariants as project
+use Rattle.session_file.specs.declared.fault.FileFault.TheVariants as file
 use Rattle.cli.specs.declared.failure.Failure.{Failure}
 use Rattle.cli.specs.declared.failure.Failure.TheVariants as failure
 use Rattle.cli.specs.declared.report.Status.{Status}
@@ -18,8 +21,11 @@ status_of_failure (failure.Words (words.Help text)) = status.Clean
 status_of_failure (failure.Words (words.Refused text)) = status.Refused
 status_of_failure (failure.Words words.OutOfMemory) = status.OutOfMemory
 status_of_failure (failure.CannotRead name) = status.Refused
+status_of_failure (failure.Project project.OutOfMemory) = status.OutOfMemory
 status_of_failure (failure.Project fault) = status.Refused
+status_of_failure (failure.Chain chain.OutOfMemory) = status.OutOfMemory
 status_of_failure (failure.Chain fault) = status.ChainRefused
+status_of_failure (failure.SessionFile file.OutOfMemory) = status.OutOfMemory
 status_of_failure (failure.SessionFile fault) = status.Refused
 status_of_failure (failure.Cache (cache.CannotRead path)) = status.Refused
 status_of_failure (failure.Cache (cache.CannotWrite notes path)) = status.Refused

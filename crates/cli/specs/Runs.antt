@@ -1,12 +1,15 @@
 -- What a run writes.
-use Rattle.std.specs.Prelude.{◌≡◌, ℕ, List, Option, string_bytes}
+use Rattle.std.specs.Prelude.{◌≡◌, ◌⊎◌, ℕ, List, [], Option, drop, map, string_bytes}
 use Rattle.std.specs.Io.KnownBytes.{Appends}
 use Rattle.mj_project.specs.Projects.{SourceFile, names_of}
 use Rattle.mj_rules.specs.AnswerWords.{AnswerValue, text_of}
 use Rattle.mj_rules.specs.Rules.{Rules}
+use Rattle.command_line.specs.Given.{IsGivenBy}
+use Rattle.command_line.specs.declared.asked.CheckWords.{CheckWords}
 use Rattle.command_line.specs.declared.asked.Subcommand.{Subcommand}
 use Rattle.command_line.specs.declared.asked.Subcommand.TheVariants.{Scratch, Audit, Show}
 use Rattle.cli.specs.Audits.{AuditsTo, ShowsFile}
+use Rattle.cli.specs.Checks.{ChecksTo}
 use Rattle.cli.specs.Endings.{status_of_answer}
 use Rattle.cli.specs.Lines.{is_clean, IsFaultText}
 use Rattle.cli.specs.declared.report.Report.{Report}
@@ -49,5 +52,24 @@ pub record Prints (subcommand : Subcommand) (names : List (List ℕ)) (status : 
     (out_old out_new err_old err_new : Option (List ℕ)) : Type 0 where
   pub report : Report
   pub reports : Reports subcommand names report
+  pub written : IsWritten report out_old out_new err_old err_new
+  pub ends : status ≡ status_number report.status
+
+-- The report of a check over the cache and on the files that the words give.
+pub record ReportsCheck (given : List (List ℕ)) (report : Report) : Type 0 where
+  pub asked : CheckWords
+  pub gives : IsGivenBy (drop 2 given) asked
+  pub checks : ChecksTo (string_bytes asked.cache) (map string_bytes asked.files.items) report
+
+-- Help: nothing stands on standard error, where a check has a line on its session.
+pub record TellsHelp (report : Report) : Type 0 where
+  pub notes : string_bytes report.notes ≡ []
+  pub ends : report.status ≡ status.Clean
+
+-- The report of a check, or help, is written, and the run ends with its status.
+pub record PrintsCheck (given : List (List ℕ)) (status : ℕ)
+    (out_old out_new err_old err_new : Option (List ℕ)) : Type 0 where
+  pub report : Report
+  pub reports : ReportsCheck given report ⊎ TellsHelp report
   pub written : IsWritten report out_old out_new err_old err_new
   pub ends : status ≡ status_number report.status

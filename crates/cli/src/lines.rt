@@ -1,7 +1,10 @@
 //! The lines of standard error: one for each fault, with its place in its file.
 ghost use Rattle.std.specs.Prelude.{◌≡◌, ◌==◌, ◌++◌, IfOk, OnOk, flat_map, length, string_bytes};
 ghost use Rattle.std.specs.List.{list_all};
+ghost use Rattle.cli.specs.Endings.{status_of_failure};
 ghost use Rattle.cli.specs.Lines.{is_clean, line_text, IsFaultText, refusal_words};
+ghost use Rattle.cli.specs.declared.failure.Failure.TheVariants as failure;
+ghost use Rattle.cli.specs.declared.report.Status.TheVariants as status;
 
 use fault_lines::{FaultLine, ReadProject, fault_lines};
 use mj_rules::{Answer, ClassAnswer, Project, ProjectFault};
@@ -75,7 +78,9 @@ fn write_line(text: &mut String, line: &FaultLine<'_>) -> Result<(), AllocError>
 
 /// A refusal of the files, with its number, its name and its argument. Want of memory has no text.
 pub(crate) fn refusal_text(alloc: Global, fault: ProjectFault) -> Result<String, AllocError>
-    ensures { IfOk result (λ text. string_bytes text ≡ refusal_words fault) }
+    ensures text { IfOk result (λ text. string_bytes text ≡ refusal_words fault) }
+    ensures refused { IfOk result (λ _.
+        status_of_failure (failure.Project fault) ≡ status.Refused) }
 {
     match fault {
         ProjectFault::RepeatedFile(file) => {

@@ -1,11 +1,11 @@
 //! One run of the program.
 ghost use Rattle.std.specs.Prelude.{◌≡◌, ◌≢◌, ◌⊎◌, ℕ, List, map, Some, [], IfOk, IfErr, IsTrue, string_bytes};
-ghost use Rattle.command_line.specs.CommandLine.{files_for, asks_plainly};
+ghost use Rattle.command_line.specs.CommandLine.{AsksCheck, files_for, asks_plainly};
 ghost use Rattle.command_line.specs.declared.asked.Subcommand.{Subcommand};
 ghost use Rattle.mj_rules.specs.AnswerWords.{text_of};
 ghost use Rattle.cli.specs.Endings.{status_of_answer, status_of_failure};
 ghost use Rattle.cli.specs.Lines.{is_clean, IsFaultText};
-ghost use Rattle.cli.specs.Runs.{ReportsOn, Prints, Reports};
+ghost use Rattle.cli.specs.Runs.{ReportsOn, Prints, PrintsCheck, Reports, ReportsCheck, TellsHelp};
 ghost use Rattle.cli.specs.Statuses.{IsStatus};
 
 use crate::auditing::audit;
@@ -40,6 +40,10 @@ pub fn run<R: Files + AllocGlobal, W: Write, E: Write>(
         → (result ≡ 0) ⊎ (result ≡ 1)
         → Prints subcommand names result (W.contents out.old) (W.contents out.new)
         (E.contents err.old) (E.contents err.new) }
+    ensures check { AsksCheck (map string_bytes list.items)
+        → (result ≡ 0) ⊎ (result ≡ 1)
+        → PrintsCheck (map string_bytes list.items) result (W.contents out.old)
+        (W.contents out.new) (E.contents err.old) (E.contents err.new) }
 {
     let status = match report_of(rt, list) {
         Ok(report) => deliver(&report, out, err),
@@ -50,12 +54,15 @@ pub fn run<R: Files + AllocGlobal, W: Write, E: Write>(
 
 // The texts of a run, whose words are these, and its end.
 fn report_of<R: Files + AllocGlobal>(rt: &R, list: Vec<String>) -> Result<Report, AllocError>
-    ensures { (subcommand : Subcommand) (names : List (List ℕ))
+    ensures answer { (subcommand : Subcommand) (names : List (List ℕ))
         → files_for subcommand (map string_bytes list.items) ≡ Some names
         → IsTrue (asks_plainly subcommand (map string_bytes list.items))
         → IfOk result (λ report.
         (report.status ≡ Status.Clean) ⊎ (report.status ≡ Status.Diagnostics)
         → Reports subcommand names report) }
+    ensures check { AsksCheck (map string_bytes list.items) → IfOk result (λ report.
+        (report.status ≡ Status.Clean) ⊎ (report.status ≡ Status.Diagnostics)
+        → ReportsCheck (map string_bytes list.items) report ⊎ TellsHelp report) }
 {
     match perform(rt, list) {
         Ok(report) => Ok(report),
@@ -68,6 +75,8 @@ fn perform<R: Files + AllocGlobal>(rt: &R, list: Vec<String>) -> Result<Report, 
     ensures reports { (subcommand : Subcommand) (names : List (List ℕ))
         → files_for subcommand (map string_bytes list.items) ≡ Some names
         → IfOk result (Reports subcommand names) }
+    ensures check { AsksCheck (map string_bytes list.items)
+        → IfOk result (ReportsCheck (map string_bytes list.items)) }
     ensures plain { (subcommand : Subcommand)
         → IsTrue (asks_plainly subcommand (map string_bytes list.items))
         → IfErr result (λ failure. status_of_failure failure ≢ Status.Clean) }
@@ -116,6 +125,9 @@ fn failure_report(alloc: Global, failure: Failure) -> Result<Report, AllocError>
     ensures status { IfOk result (λ report. report.status ≡ status_of_failure failure) }
     ensures no_answer { IfOk result (λ report.
         report.status ≢ Status.Clean → string_bytes report.answer ≡ []) }
+    ensures help { IfOk result (λ report.
+        (report.status ≡ Status.Clean) ⊎ (report.status ≡ Status.Diagnostics)
+        → TellsHelp report) }
 {
     match failure {
         Failure::Words(WordsFault::Help(text)) => Ok(Report::help(alloc, text)),
@@ -146,7 +158,10 @@ fn cache_refusal(alloc: Global, fault: CheckFault) -> Result<String, AllocError>
 }
 
 // Why a chain is refused. Want of memory has no text.
-fn chain_refusal(alloc: Global, fault: AuditFault) -> Result<String, AllocError> {
+fn chain_refusal(alloc: Global, fault: AuditFault) -> Result<String, AllocError>
+    ensures { IfOk result (λ _.
+        status_of_failure (Failure.Chain fault) ≡ Status.ChainRefused) }
+{
     match fault {
         AuditFault::OutOfMemory => Err(AllocError),
         fault => format!(in alloc; "refused: {fault}\n"),
@@ -154,7 +169,10 @@ fn chain_refusal(alloc: Global, fault: AuditFault) -> Result<String, AllocError>
 }
 
 // Why a file is that of no session. Want of memory has no text.
-fn file_refusal(alloc: Global, fault: FileFault) -> Result<String, AllocError> {
+fn file_refusal(alloc: Global, fault: FileFault) -> Result<String, AllocError>
+    ensures { IfOk result (λ _.
+        status_of_failure (Failure.SessionFile fault) ≡ Status.Refused) }
+{
     match fault {
         FileFault::OutOfMemory => Err(AllocError),
         fault => format!(in alloc; "refused: {fault}\n"),

@@ -80,6 +80,75 @@ fn reads_the_files(rt: HostRuntime) -> Result<(), Fail> {
     Ok(())
 }
 
+/// Command lines of `check`, the folder of the cache, how many workers they give, and the files.
+const CHECKS: &[(&[&str], &str, usize, &[&str])] = &[
+    (
+        &["mjrg", "check", "--cache", "c", "M.java"],
+        "c",
+        1,
+        &["M.java"],
+    ),
+    (
+        &["mjrg", "check", "b", "--jobs", "64", "a", "--cache=", "b"],
+        "",
+        64,
+        &["b", "a", "b"],
+    ),
+    (
+        &["mjrg", "check", "--jobs=+07", "--cache=--jobs=8=", "-"],
+        "--jobs=8=",
+        7,
+        &["-"],
+    ),
+    (
+        &["mjrg", "check", "--cache", "-", "a", "--", "--jobs", "--"],
+        "-",
+        1,
+        &["a", "--jobs", "--"],
+    ),
+    (
+        &["mjrg", "check", "--cache", "check", "--jobs", "2", "check"],
+        "check",
+        2,
+        &["check"],
+    ),
+];
+
+/// Whether these words ask for a check with this cache, so many workers and these files.
+fn is_check(words: &Words, cache: &str, jobs: usize, want: &[&str]) -> bool {
+    match words {
+        Words::Check(asked) => {
+            asked.cache.as_str() == cache
+                && asked.jobs == jobs
+                && are_texts(asked.files.as_slice(), want)
+        }
+        _ => false,
+    }
+}
+
+/// Whether this command line asks for such a check.
+fn name_check(
+    alloc: Global,
+    given: &[&str],
+    cache: &str,
+    jobs: usize,
+    want: &[&str],
+) -> Result<bool, Fail> {
+    let words = words(alloc, list(alloc, given)?)?;
+    Ok(is_check(&words, cache, jobs, want))
+}
+
+#[test]
+fn reads_the_options_of_a_check(rt: HostRuntime) -> Result<(), Fail> {
+    for (given, cache, jobs, want) in CHECKS {
+        assert!(rt;
+            name_check(rt.alloc(), given, cache, *jobs, want)?,
+            "{given:?}"
+        );
+    }
+    Ok(())
+}
+
 /// Command lines and how the text begins that is told in place of their files, and whether it is help.
 const TOLD: &[(&[&str], bool, &str)] = &[
     (
