@@ -1,24 +1,11 @@
 -- The marks of mistakes in a project have four bytes.
-use Rattle.std.proofs.Common.{◌≡◌, ℕ, suc, ◌<◌, ◌≤◌, ◌^◌, Bool, true, false, List, [], ◌∷◌, length, Option, Some, None, option_map, option_and_then, Contains, bytes_eq, refl, subst, arith, if◌then◌else◌}
+use Rattle.std.proofs.Common.{◌≡◌, ℕ, suc, ◌<◌, ◌≤◌, ◌^◌, Bool, true, false, List, [], ◌∷◌, Option, Some, None, option_map, option_and_then, Contains, bytes_eq, refl, arith, if◌then◌else◌}
 use Rattle.std.specs.Prelude.{IfSome}
 use Rattle.std.specs.List.{AllByRecursion}
-use Rattle.std.proofs.lemmas.List.{length-drop}
-use Rattle.std.proofs.lemmas.List.Elements.{All-contains}
-use Rattle.std.proofs.lemmas.Option.{none-some}
-use Rattle.std.proofs.lemmas.List.Elements.{at_from_Contains}
-use Rattle.mj_lexer.specs.declared.token.Token.{Token}
-use Rattle.mj_lexer.specs.declared.front.Front.TheVariants.{Word}
-use Rattle.mj_lexer.specs.Fronts.{IsWithin}
-use Rattle.mj_lexer.specs.Lexes.{limit, Cuts, here, blank, word}
-use Rattle.mj_lexer.specs.Lexing.{tokens_of}
-use Rattle.mj_lexer.proofs.Only.{front_is}
-use Rattle.mj_lexer.proofs.Within.{front_within}
-use Rattle.mj_lexer.proofs.Lexings.{Lexes-tokens_of}
+use Rattle.std.proofs.lemmas.List.Elements.{All-contains, at_from_Contains}
+use Rattle.mj_lexer.specs.Lexes.{limit}
 use Rattle.mj_tree.specs.Trees.{Name, Statement, Method, Main, Class, File}
-use Rattle.mj_parser.specs.FileReading.{tree_of}
 use Rattle.mj_parser.specs.MarkBounds.{StmtMarksBelow, MethodMarksBelow, ClassMarksBelow, MainMarksBelow, FileMarksBelow}
-use Rattle.mj_parser.proofs.FileFound.{file_found}
-use Rattle.mj_parser.proofs.Bounds.{marks_below}
 use Rattle.mj_classes.specs.Declarations.{ClassDecl, number_classes, main_first, classes_of, declared_from, decl}
 use Rattle.mj_classes.specs.Members.{own_method}
 use Rattle.mj_answer.proofs.Alike.{Contains-first, Contains-later}
@@ -27,6 +14,7 @@ use Rattle.mj_typing.specs.Inquiries.{World}
 use Rattle.mj_project.specs.Projects.{SourceFile}
 use Rattle.mj_rules.specs.Sentences.{file_of, trees_of, classes_in}
 use Rattle.mj_rules.specs.ClassFaults.{main_word}
+use Rattle.mj_rules.proofs.Declared.{marks_fit}
 use Rattle.mj_rules.proofs.RowLemmas.{found_stands}
 use Rattle.tree_bytes.specs.Bodies.{OfMain, OfMethod}
 use Rattle.recorder.specs.Projects.{Project}
@@ -38,30 +26,7 @@ use Rattle.body_query.proofs.Marks.{method_small, main_small}
 nowhere : (x : Method) → Contains [] x → ⊥
 nowhere x e = let a = at_from_Contains [] x e in absurd (omega (arith, a.1))
 
--- ---- a text has no more tokens than bytes
-
-few_cut : {at : ℕ} {text : List ℕ} {tokens : List Token} {till : ℕ} {rest : List ℕ} → Cuts at text tokens till rest → length tokens ≤ length text
-few_cut here = omega arith
-few_cut {text = text} (blank n stands c) = omega (arith, few_cut c, length-drop n text)
-few_cut {text = text} (word kind n stands c) =
-    let w = subst (IsWithin (length text)) (front_is text (Word kind n) stands) (front_within text) in
-    omega (arith, few_cut c, length-drop n text, w.0, w.1)
-
-few_tokens : (text : List ℕ) (tokens : List Token) → tokens_of text ≡ Some tokens → length tokens ≤ limit
-few_tokens text tokens e = let l = (Lexes-tokens_of text tokens).1 e in omega (arith, few_cut l.cut, l.short)
-
 -- ---- the marks of a project's trees
-
-abbrev pub FileFits : File → Type 0
-FileFits f = (n : ℕ) × (n ≤ limit) × FileMarksBelow n f
-
-by_tokens : (bytes : List ℕ) (f : File) (o : Option (List Token)) → tokens_of bytes ≡ o → option_and_then tree_of o ≡ Some f → FileFits f
-by_tokens bytes f None t e = absurd (none-some f e)
-by_tokens bytes f (Some tokens) t e = (length tokens, few_tokens bytes tokens t, marks_below tokens f (file_found tokens f e))
-
-pub file_fits : (bytes : List ℕ) (f : File) → file_of bytes ≡ Some f → FileFits f
-unfolding file_of
-file_fits bytes f e = by_tokens bytes f (tokens_of bytes) refl e
 
 pub record DeclBelow (n : ℕ) (k : ClassDecl) : Type 0 where
   pub main : IfSome k.main (λ statement. StmtMarksBelow n statement)
@@ -91,7 +56,7 @@ declared_fit file (f ∷ files) = by_tree (file_of f.bytes) refl (declared_fit (
   where
     by_tree : (o : Option File) → file_of f.bytes ≡ o → AllByRecursion DeclFits (declared_from (suc file) (trees_of files)) → AllByRecursion DeclFits (declared_from file (o ∷ trees_of files))
     by_tree None e h = h
-    by_tree (Some tree) e h = let w = file_fits f.bytes tree e in all_append DeclFits (classes_of file tree) (declared_from (suc file) (trees_of files)) (classes_fit w.0 w.1 file tree w.2) h
+    by_tree (Some tree) e h = let w = marks_fit f.bytes tree e in all_append DeclFits (classes_of file tree) (declared_from (suc file) (trees_of files)) (classes_fit w.0 w.1 file tree w.2) h
 
 pub class_fits : (p : Project) (c : Name) (k : ClassDecl) → class_at p c ≡ Some k → DeclFits k
 unfolding decl

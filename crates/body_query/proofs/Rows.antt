@@ -13,7 +13,7 @@ use Rattle.mj_typing.specs.declared.verdict.Verdict.{Verdict}
 use Rattle.mj_typing.specs.Types.{is_same, is_int, is_boolean, is_int_array}
 use Rattle.mj_typing.specs.Inquiries.{World, Sig, Inquiry, Concludes, AsksDescent, conclusion}
 use Rattle.mj_typing.specs.Phrases.{demand, demand_asked, demand_some, is, fine}
-use Rattle.mj_typing.specs.Table.{Scope, local_of, is_accepted, are_accepted, literal, local_or_field, variable, this, negation, binary, index, array_length, arguments, call, new_array, new_object, condition, print, assign, store, return_value}
+use Rattle.mj_typing.specs.Table.{Scope, local_of, is_accepted, are_accepted, most_value, literal, local_or_field, variable, this, negation, binary, index, array_length, arguments, call, new_array, new_object, condition, print, assign, store, return_value}
 use Rattle.query_rules.specs.BodyReads.{field_reads, accept_reads, arguments_reads, called_reads, call_reads}
 use Rattle.body_query.proofs.Asked.{asked_in, asked-and_then}
 
@@ -117,7 +117,7 @@ module _ (w : World) where
   -- the others ask nothing
   pub literal_asked : (value : ℕ) → asked_in w (literal value) ≡ []
   unfolding literal
-  literal_asked value = demand_none (nat_le value 2147483647) E315 (is types.Int) refl
+  literal_asked value = demand_none (nat_le value most_value) E315 (is types.Int) refl
 
   pub negation_asked : (a : Ty) → asked_in w (negation a) ≡ []
   unfolding negation

@@ -1,13 +1,8 @@
 -- What a run writes and ends with.
-use Rattle.std.proofs.Common.{◌≡◌, ◌∙◌, ◌⊎◌, inl, inr, ℕ, List, [], ◌∷◌, Option, Some, None, map, string_bytes, String, Vec, refl, sym, ap, subst, arith}
+use Rattle.std.proofs.Common.{◌≡◌, ◌⊎◌, inl, inr, ℕ, List, [], ◌∷◌, Option, map, string_bytes, String, Vec, refl, sym, ap, arith}
 use Rattle.std.specs.declared.alloc.Global.{Global}
 use Rattle.mj_project.specs.Projects.{names_of, sources_view}
 use Rattle.command_line.specs.declared.asked.Subcommand.{Subcommand}
-use Rattle.command_line.specs.declared.asked.Words.{Words}
-use Rattle.command_line.specs.CommandLine.{Asks, AsksFor, files_for}
-use Rattle.command_line.specs.Runnable.{files_of_words, subcommand_of_words}
-use Rattle.command_line.proofs.OneSubcommand.{no_files_for_check, one_subcommand}
-use Rattle.std.proofs.lemmas.Option.{same_Some}
 use Rattle.cli.specs.Runs.{Reports, ReportsCheck, TellsHelp, IsWritten, Prints, PrintsCheck, status_number}
 use Rattle.cli.specs.Statuses.{IsStatus}
 use Rattle.cli.specs.declared.report.Report.{Report}
@@ -68,21 +63,3 @@ silent s Said (inl refused) (inl ends) = absurd cc
 silent s Said (inl refused) (inr ends) = absurd cc
 silent s Said (inr said) (inl ends) = let out : s ≡ status.OutOfMemory = said.0 in absurd cc
 silent s Said (inr said) (inr ends) = let out : s ≡ status.OutOfMemory = said.0 in absurd cc
-
--- the report of a subcommand that has FILEs alone, on them
-abbrev pub ReportsIf : Option Subcommand → List (List ℕ) → Report → Type 0
-ReportsIf (Some subcommand) names report = Reports subcommand names report
-ReportsIf None names report = Unit {0}
-
-reported_by : (given : List (List ℕ)) (o : Option Subcommand) (files : List (List ℕ)) → AsksFor given o files → (c : Subcommand) (names : List (List ℕ))
-    → files_for c given ≡ Some names → (report : Report) → ReportsIf o files report → Reports c names report
-reported_by given None files asks c names asked report holds = absurd (no_files_for_check c given names asked asks)
-reported_by given (Some d) files asks c names asked report holds =
-    let same = one_subcommand c d given names files asked asks in
-    let is : files ≡ names = same_Some _ _ (sym asks ∙ (ap (λ e. files_for e given) (sym same) ∙ asked)) in
-    subst (λ e. Reports e names report) (sym same) (subst (λ ns. Reports d ns report) is holds)
-
--- what a subcommand reports on its FILEs is the report on the FILEs that were asked for
-pub reported : (given : List (List ℕ)) (w : Words) → Asks given w → (c : Subcommand) (names : List (List ℕ)) → files_for c given ≡ Some names
-    → (report : Report) → ReportsIf (subcommand_of_words w) (files_of_words w) report → Reports c names report
-reported given w = reported_by given (subcommand_of_words w) (files_of_words w)

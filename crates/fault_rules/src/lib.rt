@@ -1,5 +1,5 @@
-//! What the phrases of a body demand, each demand with its code, and the faults that follow.
-//! it is the fault which a check of the body finds.
+//! What the phrases of a body demand, each demand with its code, and the faults that follow: those that a check of the body
+//! finds.
 #![tactic(auto)]
 
 ghost use Rattle.fault_rules.specs.Laws.{FaultLaws, WellLaws};

@@ -159,12 +159,16 @@ module _ (past : Past) (p : Project) (ns : List Node) (b : Bool) (h : List Event
   is_known q i nd first unknown = first_known ns q i first (sym (not_done_at (input_of p q) (status_in ns q) nd) ∙ (kept.status q ∙ unknown))
 
   -- a claim
+  pub may_claim : (w : ℕ) (q : Key) → b ≡ false → IsNotDone (status_at p ns q) → status_in ns q ≡ Unknown → AllAbove w (rank q) ns
+      → ((state_after past p h).failed ≡ false) × ((state_after past p h).at q ≡ Unknown) × IsBelow (state_after past p h) w q
+  may_claim w q nf nd u all = (sym kept.failed_is ∙ nf, is_unknown q nd u, is_below w q all)
+
   pub kept_claim : (ms : List Node) (w : ℕ) (q : Key) → b ≡ false → IsNotDone (status_at p ns q) → status_in ns q ≡ Unknown → AllAbove w (rank q) ns
       → KeysStandOnce ms → ((k : Key) → status_in ms k ≡ (if same_key q k then Claimed w else status_in ns k)) → IsKept past p ms b (h ++ Claim w q ∷ [])
   kept_claim ms w q nf nd u all apart put =
-      let at : (state_after past p h).at q ≡ Unknown = is_unknown q nd u in
-      kept_step past p ns ms b h (Claim w q) q (Claimed w) kept (sym kept.failed_is ∙ nf, at, is_below w q all) (λ s. refl)
-      (unknown_none (input_of p q) (status_in ns q) (kept.status q ∙ at))
+      let may = may_claim w q nf nd u all in
+      kept_step past p ns ms b h (Claim w q) q (Claimed w) kept may (λ s. refl)
+      (unknown_none (input_of p q) (status_in ns q) (kept.status q ∙ may.1))
       apart put
 
   pub is_standing : (q : Key) (x : Status) → status_in ns q ≡ x → (x ≡ Unknown → ⊥) → (input_of p q ≡ None) × ((state_after past p h).at q ≡ x)

@@ -39,14 +39,14 @@ few_tokens : (text : List ℕ) (tokens : List Token) → tokens_of text ≡ Some
 few_tokens text tokens e = let l = (Lexes-tokens_of text tokens).1 e in omega (arith, few_cut l.cut, l.short)
 
 -- the marks of a file's tree are below a number that isn't above the greatest length of a text
-abbrev MarksFit : File → Type 0
+abbrev pub MarksFit : File → Type 0
 MarksFit f = (n : ℕ) × (n ≤ limit) × FileMarksBelow n f
 
 by_tokens : (bytes : List ℕ) (f : File) (o : Option (List Token)) → tokens_of bytes ≡ o → option_and_then tree_of o ≡ Some f → MarksFit f
 by_tokens bytes f None t e = absurd (none-some f e)
 by_tokens bytes f (Some tokens) t e = (length tokens, few_tokens bytes tokens t, marks_below tokens f (file_found tokens f e))
 
-marks_fit : (bytes : List ℕ) (f : File) → file_of bytes ≡ Some f → MarksFit f
+pub marks_fit : (bytes : List ℕ) (f : File) → file_of bytes ≡ Some f → MarksFit f
 unfolding file_of
 marks_fit bytes f e = by_tokens bytes f (tokens_of bytes) refl e
 

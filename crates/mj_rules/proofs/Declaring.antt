@@ -1,5 +1,5 @@
 -- Of the classes of a chain those count that declare members.
-use Rattle.std.proofs.Common.{◌≡◌, ℕ, Bool, true, false, not, cond, ◌&&◌, List, [], ◌∷◌, ◌++◌, length, map, filter, filter_map, find, drop, Option, Some, None, option_map, Contains, refl, sym, ap, ◌∙◌, subst, bytes_eq, ◌==◌, true≢false, append-nil, if◌then◌else◌}
+use Rattle.std.proofs.Common.{◌≡◌, Bool, true, false, not, cond, ◌&&◌, List, [], ◌∷◌, ◌++◌, length, map, filter, filter_map, find, Option, Some, None, option_map, Contains, refl, sym, ap, ◌∙◌, subst, bytes_eq, ◌==◌, true≢false, append-nil, if◌then◌else◌}
 use Rattle.std.specs.List.{cons_option}
 use Rattle.std.proofs.lemmas.Bool.Decides.{Decides-eqb}
 use Rattle.std.proofs.lemmas.List.{nil_from_length}
@@ -16,7 +16,7 @@ use Rattle.mj_answer.specs.declared.code.Code.TheVariants.{E202, E204}
 use Rattle.mj_answer.specs.declared.diagnostic.Diagnostic.{Diagnostic}
 use Rattle.mj_answer.proofs.Alike.{Contains-first}
 use Rattle.mj_classes.specs.Declarations.{ClassDecl, has_members, decl}
-use Rattle.mj_classes.specs.Chains.{EndOf, IsChain, Chain, AreDistinct, chain_of, ancestry}
+use Rattle.mj_classes.specs.Chains.{EndOf, IsChain, Chain, chain_of, ancestry}
 use Rattle.mj_classes.specs.Members.{nearest, or_farther, own_method}
 use Rattle.mj_classes.specs.Tables.{own_rows, all_along, firsts, fields_along, methods_along}
 use Rattle.mj_classes.proofs.Climb.{decl_name, is_chain_of, links_declared}

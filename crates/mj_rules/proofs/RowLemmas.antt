@@ -17,7 +17,7 @@ use Rattle.mj_answer.specs.Order.{NameBefore, IsAscendingByName}
 use Rattle.mj_answer.proofs.Compared.{ascends}
 use Rattle.std.specs.Ordering.{nat_cmp}
 use Rattle.std.specs.Cmp.Lexicographic.{slice_cmp}
-use Rattle.mj_classes.specs.Classes.{classes_view, class_ref_view}
+use Rattle.mj_classes.specs.Classes.{classes_view}
 use Rattle.mj_classes.specs.declared.class.ClassRef.{ClassRef}
 use Rattle.mj_rules.specs.Worlds.{sig_of}
 use Rattle.mj_rules.specs.Tables.{method_row, row_sig, sig_in}

@@ -8,7 +8,6 @@ use Rattle.mj_lexer.proofs.Lexings.{Lexes-tokens_of}
 use Rattle.mj_tree.specs.Trees.{File}
 use Rattle.mj_tree.specs.Views.{file_view}
 use Rattle.mj_tree.specs.declared.tree.FileTree.{FileTree}
-use Rattle.mj_parser.specs.Declarations.{Derives}
 use Rattle.mj_parser.specs.FileReading.{tree_of}
 use Rattle.mj_parser.specs.Laws.{GrammarLaws}
 use Rattle.file_index.specs.declared.reading.ReadFile.{ReadFile}

@@ -1,10 +1,7 @@
 //! Tests: numbers of codes, and orders worked by hand. How answers are printed is compared row by row with the program's
 //! output.
 use crate::made::name;
-use mj_answer::{
-    Code, ascending, code_numbers, find_by_name, name_set, one_list, position_by_name,
-    strict_total_orders,
-};
+use mj_answer::{Code, ascending, find_by_name, name_set, position_by_name};
 use mj_lexer::Name;
 use std::alloc::{AllocError, Global};
 
@@ -24,8 +21,6 @@ fn are_ascending(alloc: Global) -> Result<bool, AllocError> {
 
 #[test]
 fn numbers_ascend(rt: HostRuntime) {
-    strict_total_orders();
-    one_list();
     assert!(rt; are_ascending(rt.alloc()) == Ok(true));
 }
 
@@ -39,7 +34,6 @@ const CODES: &[(Code, u16)] = &[
 
 #[test]
 fn codes_have_numbers(rt: HostRuntime) {
-    code_numbers();
     for (code, number) in CODES {
         let is_both_ways = code.number() == *number && Code::from_number(*number) == Some(*code);
         assert!(rt; is_both_ways);

@@ -2,7 +2,7 @@ use Rattle.std.proofs.Common.{◌≡◌, [], ◌∷◌, ◌++◌, map, false, ar
 use Rattle.std.specs.Prelude.{IsTrue}
 use Rattle.graph_rules.specs.Steps.{Claim}
 use Rattle.job_table.specs.Kept.{event_of}
-use Rattle.job_table.proofs.StepRules.{kept_claim, is_not_done, is_below, is_not_below, is_unknown, is_known, backed_last}
+use Rattle.job_table.proofs.StepRules.{may_claim, kept_claim, is_not_done, is_below, is_not_below, is_known, backed_last}
 use Rattle.job_table.proofs.table.Table.ask.Given.{Over}
 use Rattle.job_table.proofs.table.Table.ask.Goals as goal
 
@@ -30,33 +30,13 @@ returns-in-Some-find g c =
 
 pub returns-in_default-room_for_event : goal.returns-in_default-room_for_event
 returns-in_default-room_for_event g c =
-    let kept = c.self.invariant.0 in
-    let nd = c.in_default.ensures.none in
-    let u = c.in_default-find.ensures.none in
-    rw (← c.self.view_is) (
-      sym kept.failed_is ∙ c.if-self.false,
-      (λ _. (
-        sym kept.failed_is ∙ c.if-self.false,
-        is_unknown _ _ _ _ _ kept c.args.key.now nd u,
-        is_below _ _ _ _ _ kept c.args.w c.args.key.now (c.if-not-is_below.ensures.0 refl),
-      )),
-      rw c.room_for_event.ensures.history.0 refl,
-    )
+    let may = may_claim _ _ _ _ _ c.self.invariant.0 c.args.w c.args.key.now c.if-self.false c.in_default.ensures.none c.in_default-find.ensures.none (c.if-not-is_below.ensures.0 refl) in
+    rw (← c.self.view_is) (may.0, (λ _. may), rw c.room_for_event.ensures.history.0 refl)
 
 pub returns-in-Err-add : goal.returns-in-Err-add
 returns-in-Err-add g c =
-    let kept = c.self.invariant.0 in
-    let nd = c.in_default.ensures.none in
-    let u = c.in_default-find.ensures.none in
-    rw (← c.self.view_is) (
-      sym kept.failed_is ∙ c.if-self.false,
-      (λ _. (
-        sym kept.failed_is ∙ c.if-self.false,
-        is_unknown _ _ _ _ _ kept c.args.key.now nd u,
-        is_below _ _ _ _ _ kept c.args.w c.args.key.now (c.if-not-is_below.ensures.0 refl),
-      )),
-      rw c.room_for_event.ensures.history.0 refl,
-    )
+    let may = may_claim _ _ _ _ _ c.self.invariant.0 c.args.w c.args.key.now c.if-self.false c.in_default.ensures.none c.in_default-find.ensures.none (c.if-not-is_below.ensures.0 refl) in
+    rw (← c.self.view_is) (may.0, (λ _. may), rw c.room_for_event.ensures.history.0 refl)
 
 -- the history after the claim
 events_after : (g : Over) (c : goal.After-note g) → map event_of c.note.new.history.items ≡ map event_of c.self.inside.history.items ++ Claim c.args.w c.args.key.now ∷ []
@@ -77,14 +57,5 @@ invariant_of-self-2 g c =
 
 pub returns : goal.returns
 returns g c =
-    let kept = c.self.invariant.0 in
-    let nd = c.in_default.ensures.none in
-    let u = c.in_default-find.ensures.none in
-    rw (← c.self.view_is) (
-      (
-        sym kept.failed_is ∙ c.if-self.false,
-        is_unknown _ _ _ _ _ kept c.args.key.now nd u,
-        is_below _ _ _ _ _ kept c.args.w c.args.key.now (c.if-not-is_below.ensures.0 refl),
-      ),
-      rw (events_after g c) refl,
-    )
+    let may = may_claim _ _ _ _ _ c.self.invariant.0 c.args.w c.args.key.now c.if-self.false c.in_default.ensures.none c.in_default-find.ensures.none (c.if-not-is_below.ensures.0 refl) in
+    rw (← c.self.view_is) (may, rw (events_after g c) refl)
