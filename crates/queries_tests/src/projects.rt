@@ -131,7 +131,7 @@ const ANSWER: Given<'static> = Given(
 );
 
 // Each kind, with the answers that it reads.
-const TABLE: &[Row] = &[
+static TABLE: [Row; 33] = [
     Row {
         query: TREE,
         reads: &[SOURCE],
@@ -288,7 +288,7 @@ const MAIN_OF_ONE: Given<'static> = Given(
 const NO_METHOD: Given<'static> = Given(Asked(Kind::Method, "M", "f"), "0500");
 
 // Queries of its project, in which there is no other class.
-const OF_ONE_LITERAL: &[Row] = &[
+static OF_ONE_LITERAL: [Row; 14] = [
     Row {
         query: TREE_OF_ONE,
         reads: &[Given(
@@ -387,7 +387,7 @@ fn is_right(rt: HostRuntime, row: &Row) -> Result<bool, Unfit> {
 
 #[test]
 fn runs_of_the_runner(rt: HostRuntime) -> Result<(), Fail> {
-    for row in TABLE.iter().chain(OF_ONE_LITERAL) {
+    for row in TABLE.iter().chain(&OF_ONE_LITERAL) {
         assert!(rt; is_right(rt, row)?);
     }
     Ok(())
@@ -446,7 +446,7 @@ fn is_refused_each(rt: HostRuntime, row: &Row) -> Result<bool, Unfit> {
 #[test]
 fn reads_that_are_refused(rt: HostRuntime) -> Result<(), Fail> {
     assert!(rt; is_lacking(rt, BODY_MAIN.0, LACKING_MEMBERS)?);
-    for row in TABLE.iter().chain(OF_ONE_LITERAL) {
+    for row in TABLE.iter().chain(&OF_ONE_LITERAL) {
         assert!(rt; is_refused_each(rt, row)?);
     }
     Ok(())
@@ -481,8 +481,8 @@ fn brings_each(alloc: Global, text: &str, rows: &[Row]) -> Result<bool, Unfit> {
 
 #[test]
 fn results_of_the_driver(rt: HostRuntime) -> Result<(), Fail> {
-    assert!(rt; brings_each(rt.alloc(), TEXT, TABLE)?);
-    assert!(rt; brings_each(rt.alloc(), ONE_LITERAL, OF_ONE_LITERAL)?);
+    assert!(rt; brings_each(rt.alloc(), TEXT, &TABLE)?);
+    assert!(rt; brings_each(rt.alloc(), ONE_LITERAL, &OF_ONE_LITERAL)?);
     Ok(())
 }
 
