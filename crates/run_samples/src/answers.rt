@@ -1,36 +1,53 @@
 //! Lists of answers.
+ghost use Rattle.std.specs.Prelude.{◌≡◌, ◌↔◌, List, [], ◌∷◌, ◌++◌, IsTrue, IfOk, OnOk};
+ghost use Rattle.fingerprint.specs.Prints.{print_of};
+ghost use Rattle.answer_samples.specs.Telling.{IsTold};
+ghost use Rattle.run_samples.specs.declared.reads.Given.{Given as SpecGiven};
+ghost use Rattle.run_samples.specs.Reading.{AreReadsOf, AreSame, AreApart};
 
 use crate::reads::{Given, is_read};
 use answer_samples::{Unfit, key_of, sealed_of};
-use fingerprint::Sealed;
-use item_ids::is_key;
 use recorder::AnswerList;
 use std::alloc::Global;
-use std::sync::Arc;
 
 /// Adds one more answer.
-fn add(alloc: Global, list: &mut AnswerList, given: Given) -> Result<(), Unfit> {
+fn add(alloc: Global, list: &mut AnswerList, given: Given) -> Result<(), Unfit>
+    ensures { (before : List SpecGiven) → AreReadsOf before list.old
+        → OnOk result (AreReadsOf (before ++ given.entry ∷ []) list.new) }
+{
     let Given(asked, digits) = given;
-    let answer = sealed_of(alloc, asked.0, digits)?;
-    match key_of(alloc, asked) {
-        Ok(key) => Ok(list.add(key, answer)?),
+    let key = key_of(alloc, asked)?;
+    match sealed_of(alloc, asked.0, digits) {
+        Ok(answer) => Ok(list.add(key, answer)?),
         Err(fault) => Err(fault),
     }
 }
 
-/// The list of these answers.
-pub fn list_of(alloc: Global, given: &[Given]) -> Result<AnswerList, Unfit> {
-    let mut list = AnswerList::new(alloc);
+/// Adds these answers to an empty list.
+fn add_all(alloc: Global, list: &mut AnswerList, given: &[Given]) -> Result<(), Unfit>
+    requires { list.old ≡ [] }
+    ensures { OnOk result (AreReadsOf given.now list.new) }
+{
     for one in given {
-        add(alloc, &mut list, *one)?;
+        add(alloc, list, *one)?;
     }
-    Ok(list)
+    Ok(())
+}
+
+/// The list of these answers.
+pub fn list_of(alloc: Global, given: &[Given]) -> Result<AnswerList, Unfit>
+    ensures { IfOk result (AreReadsOf given.now) }
+{
+    let mut list = AnswerList::new(alloc);
+    match add_all(alloc, &mut list, given) {
+        Ok(()) => Ok(list),
+        Err(fault) => Err(fault),
+    }
 }
 
 /// Whether the list has this answer for its key.
 fn has(alloc: Global, list: &AnswerList, given: Given) -> Result<bool, Unfit> {
     let key = key_of(alloc, given.0)?;
-    is_key(&key);
     match list.find(&key) {
         Some(read) => is_read(alloc, read, given),
         None => Ok(false),
@@ -43,25 +60,20 @@ pub fn holds(alloc: Global, answers: &[Given], given: Given) -> Result<bool, Unf
     has(alloc, &list, given)
 }
 
-/// Whether the results and the prints of two answers are the same, each told by itself.
-fn sameness(alloc: Global, one: Given, other: Given) -> Result<(bool, bool), Unfit> {
-    let one = sealed_of(alloc, one.0.0, one.1)?;
-    sameness_with(alloc, &one, other)
-}
-
-fn sameness_with(alloc: Global, one: &Arc<Sealed>, other: Given) -> Result<(bool, bool), Unfit> {
-    let other = sealed_of(alloc, other.0.0, other.1)?;
-    Ok((one.same_result(&other), one.same_print(&other)))
-}
-
 /// Whether two answers are one result with one print.
-pub fn are_same(alloc: Global, one: Given, other: Given) -> Result<bool, Unfit> {
-    let (same_result, same_print) = sameness(alloc, one, other)?;
-    Ok(same_result && same_print)
+pub fn are_same(alloc: Global, one: Given, other: Given) -> Result<bool, Unfit>
+    ensures { IfOk result (AreSame one.entry other.entry) }
+{
+    let one = sealed_of(alloc, one.0.0, one.1)?;
+    let other = sealed_of(alloc, other.0.0, other.1)?;
+    Ok(one.same_result(&other) && one.same_print(&other))
 }
 
 /// Whether neither the results nor the prints of two answers are the same.
-pub fn are_apart(alloc: Global, one: Given, other: Given) -> Result<bool, Unfit> {
-    let (same_result, same_print) = sameness(alloc, one, other)?;
-    Ok(!same_result && !same_print)
+pub fn are_apart(alloc: Global, one: Given, other: Given) -> Result<bool, Unfit>
+    ensures { IfOk result (AreApart one.entry other.entry) }
+{
+    let one = sealed_of(alloc, one.0.0, one.1)?;
+    let other = sealed_of(alloc, other.0.0, other.1)?;
+    Ok(!one.same_result(&other) && !one.same_print(&other))
 }

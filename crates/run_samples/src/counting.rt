@@ -90,20 +90,29 @@ fn step_fault(recorder: &mut Recorder<Counting>, key: &Key) -> Option<RunFault> 
     }
 }
 
-/// Whether this becomes of the key.
-fn becomes(alloc: Global, recorder: &mut Recorder<Counting>, ask: Ask) -> Result<bool, Unfit> {
+/// The key that is asked for.
+fn asked_by(ask: Ask) -> Asked {
     match ask {
-        Ask::Again(asked) => Ok(is_answered_twice(recorder, &key_of(alloc, asked)?)),
-        Ask::Answered(asked) => Ok(read_fault(recorder, &key_of(alloc, asked)?).is_none()),
-        Ask::NotHeld(asked) => {
-            let fault = read_fault(recorder, &key_of(alloc, asked)?);
-            Ok(fault == Some(ReadFault::NotHeld))
-        }
-        Ask::GivesUp(asked) => {
-            let fault = step_fault(recorder, &key_of(alloc, asked)?);
-            Ok(fault == Some(RunFault::Read(ReadFault::NotHeld)))
+        Ask::Again(asked) | Ask::Answered(asked) | Ask::NotHeld(asked) | Ask::GivesUp(asked) => {
+            asked
         }
     }
+}
+
+/// Whether this becomes of the key.
+fn becomes_of(recorder: &mut Recorder<Counting>, key: &Key, ask: Ask) -> bool {
+    match ask {
+        Ask::Again(_) => is_answered_twice(recorder, key),
+        Ask::Answered(_) => read_fault(recorder, key).is_none(),
+        Ask::NotHeld(_) => read_fault(recorder, key) == Some(ReadFault::NotHeld),
+        Ask::GivesUp(_) => { step_fault(recorder, key) == Some(RunFault::Read(ReadFault::NotHeld)) }
+    }
+}
+
+/// Whether this becomes of the key that is told.
+fn becomes(alloc: Global, recorder: &mut Recorder<Counting>, ask: Ask) -> Result<bool, Unfit> {
+    let key = key_of(alloc, asked_by(ask))?;
+    Ok(becomes_of(recorder, &key, ask))
 }
 
 /// Whether this becomes of the keys, one after the other.
@@ -129,8 +138,10 @@ fn recorder_of(alloc: Global, answers: &[Given]) -> Result<Recorder<Counting>, U
 /// The reader of a recorder behind what becomes of these keys.
 fn reader_after(alloc: Global, answers: &[Given], asks: &[Ask]) -> Result<Counting, Unfit> {
     let mut recorder = recorder_of(alloc, answers)?;
-    match all_become(alloc, &mut recorder, asks) {
-        Ok(true) => Ok(recorder.into_reader()),
+    let is_right = all_become(alloc, &mut recorder, asks);
+    let reader = recorder.into_reader();
+    match is_right {
+        Ok(true) => Ok(reader),
         _ => Err(Unfit),
     }
 }
@@ -143,7 +154,10 @@ pub fn keeps_after(
     kept: Kept,
 ) -> Result<bool, Unfit> {
     let mut recorder = recorder_of(alloc, answers)?;
-    Ok(all_become(alloc, &mut recorder, asks)? && keeps(alloc, &recorder, kept)?)
+    match all_become(alloc, &mut recorder, asks) {
+        Ok(true) => keeps(alloc, &recorder, kept),
+        other => other,
+    }
 }
 
 /// How often the reader of such a recorder was asked.

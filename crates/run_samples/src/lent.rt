@@ -1,16 +1,12 @@
 //! A reader that is lent to a run.
-ghost use Rattle.std.specs.Prelude.{◌<◌, IfOk};
+ghost use Rattle.std.specs.Prelude.{◌≡◌, ◌<◌, IfOk};
 ghost use Rattle.recorder.specs.Backed.{rank as rank_of};
 ghost use Rattle.recorder.specs.Runs.{IsOutcome};
 
-use crate::answers::list_of;
-use crate::reads::Given;
-use crate::runs::{is_outcome, query_of};
 use answer_samples::Unfit;
 use fingerprint::Sealed;
 use item_ids::Key;
-use recorder::{AnswerList, Outcome, ReadFault, Reader, Recorder, RunFault, Runner, record};
-use sample_runner::SampleRunner;
+use recorder::{Outcome, ReadFault, Reader, Recorder, RunFault, Runner, record};
 use std::alloc::Global;
 use std::sync::Arc;
 
@@ -43,63 +39,35 @@ impl<'a, S: Reader> Reader for Lent<'a, S> {
     }
 }
 
-/// The outcome of a run over a reader that is lent, which its lender has back.
-fn record_over<R: Runner, S: Reader>(
+/// The outcome, where there is one and no read was refused.
+fn outcome_if<R: Runner>(
+    outcome: Result<Outcome<R>, RunFault>,
+    is_unrefused: bool,
+) -> Result<Outcome<R>, Unfit>
+    ensures { IfOk result (λ o. outcome ≡ Ok o) }
+{
+    match outcome {
+        Ok(outcome) if is_unrefused => Ok(outcome),
+        _ => Err(Unfit),
+    }
+}
+
+/// The outcome of a run over a reader that is lent, which its lender has back. The run has one and refuses no read.
+pub(crate) fn record_over<R: Runner, S: Reader>(
     alloc: Global,
     runner: &mut R,
     key: &Key,
     store: &mut S,
-) -> Result<Outcome<R>, RunFault>
+) -> Result<Outcome<R>, Unfit>
     requires no_input { 0 < rank_of key.now }
+    ensures key { IfOk result (λ o. o.key ≡ key.now) }
     ensures outcome { IfOk result (λ o. IsOutcome R.mean R.reads o) }
     ensures follows { S.follows store.old store.new }
 {
     let mut recorder = Recorder::new(alloc, Lent { store });
     let outcome = record(alloc, runner, key, &mut recorder);
+    let is_unrefused = recorder.fault().is_none() && recorder.refused_key().is_none();
     let back = recorder.into_reader();
     let Lent { store: _store } = back;
-    outcome
-}
-
-/// The outcome of a run of the key over the list, which is lent.
-fn outcome_over(
-    alloc: Global,
-    key: &Key,
-    list: &mut AnswerList,
-) -> Result<Outcome<SampleRunner>, Unfit>
-    requires { 0 < rank_of key.now }
-{
-    let mut runner = SampleRunner::new(alloc);
-    match record_over(alloc, &mut runner, key, list) {
-        Ok(outcome) => Ok(outcome),
-        Err(_) => Err(Unfit),
-    }
-}
-
-/// The outcome of a run of the query over the list, which is lent.
-fn outcome_of(
-    alloc: Global,
-    run: Given,
-    list: &mut AnswerList,
-) -> Result<Outcome<SampleRunner>, Unfit> {
-    let key = query_of(alloc, run.0)?;
-    outcome_over(alloc, &key, list)
-}
-
-/// Whether a run over the list, which is lent, reads just these answers and has this result.
-fn gives_by(
-    alloc: Global,
-    run: Given,
-    reads: &[Given],
-    list: &mut AnswerList,
-) -> Result<bool, Unfit> {
-    let outcome = outcome_of(alloc, run, list)?;
-    is_outcome(alloc, &outcome, run, reads)
-}
-
-/// Whether two runs, one after the other, over one list of these answers, which is lent to both, read just them and
-/// have this result.
-pub fn gives_over_lent(alloc: Global, run: Given, reads: &[Given]) -> Result<bool, Unfit> {
-    let mut list = list_of(alloc, reads)?;
-    Ok(gives_by(alloc, run, reads, &mut list)? && gives_by(alloc, run, reads, &mut list)?)
+    outcome_if(outcome, is_unrefused)
 }

@@ -1,6 +1,10 @@
 //! Keys that were read, with their answers.
+ghost use Rattle.std.specs.Prelude.{◌≡◌, ◌↔◌, IsTrue, IfOk};
+ghost use Rattle.answer_samples.specs.Telling.{IsKeyOf, AreAlike};
+ghost use Rattle.run_samples.specs.Reading.{IsReadOf, AreReadsOf};
 
 use answer_samples::{Asked, Unfit, is_key, is_spelled, key_of, sealed_of};
+use item_ids::keys_in_order;
 use recorder::Read;
 use std::alloc::Global;
 
@@ -9,18 +13,22 @@ use std::alloc::Global;
 pub struct Given<'a>(pub Asked<'a>, pub &'a str);
 
 /// Whether just this key was read, and so answered.
-pub fn is_read(alloc: Global, read: &Read, given: Given) -> Result<bool, Unfit> {
+pub fn is_read(alloc: Global, read: &Read, given: Given) -> Result<bool, Unfit>
+    ensures { IfOk result (λ b. IsTrue b ↔ IsReadOf given.entry read.now) }
+{
     let Given(asked, digits) = given;
     Ok(is_key(read.key(), asked) && is_spelled(alloc, read.answer(), digits)?)
 }
 
 /// Whether just these keys were read, in this order, and so answered.
-pub fn are_reads(alloc: Global, reads: &[Read], given: &[Given]) -> Result<bool, Unfit> {
+pub fn are_reads(alloc: Global, reads: &[Read], given: &[Given]) -> Result<bool, Unfit>
+    ensures { IfOk result (λ b. IsTrue b ↔ AreReadsOf given.now reads.now) }
+{
     if reads.len() != given.len() {
         return Ok(false);
     }
-    for (read, one) in reads.iter().zip(given) {
-        if !is_read(alloc, read, *one)? {
+    for (at, one) in given.iter().enumerate() {
+        if !is_read(alloc, &reads[at], *one)? {
             return Ok(false);
         }
     }
@@ -28,7 +36,9 @@ pub fn are_reads(alloc: Global, reads: &[Read], given: &[Given]) -> Result<bool,
 }
 
 /// The read of the key.
-fn read_of(alloc: Global, given: Given) -> Result<Read, Unfit> {
+fn read_of(alloc: Global, given: Given) -> Result<Read, Unfit>
+    ensures { IfOk result (IsReadOf given.entry) }
+{
     let Given(asked, digits) = given;
     let key = key_of(alloc, asked)?;
     match sealed_of(alloc, asked.0, digits) {
@@ -38,25 +48,34 @@ fn read_of(alloc: Global, given: Given) -> Result<Read, Unfit> {
 }
 
 /// A copy of the read of the key.
-fn copy_of(alloc: Global, given: Given) -> Result<Read, Unfit> {
+fn copy_of(alloc: Global, given: Given) -> Result<Read, Unfit>
+    ensures { IfOk result (IsReadOf given.entry) }
+{
     let read = read_of(alloc, given)?;
     Ok(read.copy(alloc)?)
 }
 
 /// Whether the read is of the key.
-fn is_of(alloc: Global, read: &Read, asked: Asked) -> Result<bool, Unfit> {
+fn is_of(alloc: Global, read: &Read, asked: Asked) -> Result<bool, Unfit>
+    ensures { IfOk result (λ b. IsTrue b ↔ IsKeyOf asked.entry read.now.key) }
+{
+    keys_in_order();
     let key = key_of(alloc, asked)?;
     Ok(read.is_of(&key))
 }
 
 /// Whether a copy of the read is of this key.
-pub fn is_copy_of(alloc: Global, given: Given, asked: Asked) -> Result<bool, Unfit> {
+pub fn is_copy_of(alloc: Global, given: Given, asked: Asked) -> Result<bool, Unfit>
+    ensures { IfOk result (λ b. IsTrue b ↔ AreAlike given.entry.0 asked.entry) }
+{
     let copy = copy_of(alloc, given)?;
     is_of(alloc, &copy, asked)
 }
 
 /// Whether a copy of the read has its key and its answer.
-pub fn has_read_copy(alloc: Global, given: Given) -> Result<bool, Unfit> {
+pub fn has_read_copy(alloc: Global, given: Given) -> Result<bool, Unfit>
+    ensures { IfOk result (λ b. IsTrue b) }
+{
     let copy = copy_of(alloc, given)?;
     is_read(alloc, &copy, given)
 }

@@ -1,13 +1,14 @@
 //! What is left of runs whose reads are refused.
-ghost use Rattle.std.specs.Prelude.{◌≡◌, ◌<◌, [], None};
+ghost use Rattle.std.specs.Prelude.{◌≡◌, ◌↔◌, ◌<◌, [], None, IsTrue, IfOk, option_copied};
 ghost use Rattle.recorder.specs.Backed.{rank as rank_of};
+ghost use Rattle.run_samples.specs.Reading.{IsRefused, IsKept};
 
 use crate::answers::list_of;
 use crate::reads::{Given, are_reads};
 use crate::runs::query_of;
 use answer_samples::{Asked, Unfit, is_key};
 use item_ids::Key;
-use recorder::{AnswerList, ReadFault, Reader, Recorder, RunFault, Runner, record};
+use recorder::{ReadFault, Reader, Recorder, RunFault, record};
 use sample_runner::{Refusing, SampleRunner};
 use std::alloc::Global;
 
@@ -20,7 +21,9 @@ pub struct Kept<'a> {
 }
 
 /// Whether this is the key, or both are missing.
-fn is_refused(key: Option<&Key>, refused: Option<Asked>) -> bool {
+fn is_refused(key: Option<&Key>, refused: Option<Asked>) -> bool
+    ensures { IsTrue result ↔ IsRefused refused.entry (option_copied key.entry) }
+{
     match (key, refused) {
         (Some(key), Some(asked)) => is_key(key, asked),
         (None, None) => true,
@@ -29,45 +32,14 @@ fn is_refused(key: Option<&Key>, refused: Option<Asked>) -> bool {
 }
 
 /// Whether the recorder keeps just this.
-pub fn keeps<D: Reader>(alloc: Global, recorder: &Recorder<D>, kept: Kept) -> Result<bool, Unfit> {
+pub fn keeps<D: Reader>(alloc: Global, recorder: &Recorder<D>, kept: Kept) -> Result<bool, Unfit>
+    ensures { IfOk result (λ b. IsTrue b ↔ IsKept kept.entry recorder.now) }
+{
     Ok(
         recorder.fault() == kept.fault
             && is_refused(recorder.refused_key(), kept.refused)
             && are_reads(alloc, recorder.reads(), kept.reads)?,
     )
-}
-
-/// Whether the runner's run wants an answer that isn't held.
-fn wants(
-    alloc: Global,
-    runner: &mut SampleRunner,
-    key: &Key,
-    recorder: &mut Recorder<AnswerList>,
-) -> bool
-    requires no_input { 0 < rank_of key.now }
-    requires unread { recorder.old.told ≡ [] }
-    requires unrefused { recorder.old.refused ≡ None }
-{
-    runner.run(alloc, key, recorder).err() == Some(RunFault::Read(ReadFault::NotHeld))
-}
-
-/// Whether the key's run over the list wants an answer that isn't held, and the recorder keeps just this.
-fn leaves_over(alloc: Global, key: &Key, list: AnswerList, kept: Kept) -> Result<bool, Unfit>
-    requires { 0 < rank_of key.now }
-{
-    let mut recorder = Recorder::new(alloc, list);
-    let mut runner = SampleRunner::new(alloc);
-    let is_wanting = wants(alloc, &mut runner, key, &mut recorder);
-    Ok(is_wanting && keeps(alloc, &recorder, kept)?)
-}
-
-/// Whether a run over the answers that are kept wants an answer that isn't held, and the recorder keeps just this.
-pub fn leaves(alloc: Global, asked: Asked, kept: Kept) -> Result<bool, Unfit> {
-    let key = query_of(alloc, asked)?;
-    match list_of(alloc, kept.reads) {
-        Ok(list) => leaves_over(alloc, &key, list, kept),
-        Err(fault) => Err(fault),
-    }
 }
 
 /// Whether just this one key is logged.
@@ -78,37 +50,50 @@ fn is_logged(log: &[Key], asked: Asked) -> bool {
     }
 }
 
-/// Whether the key's run over the list wants an answer that isn't held, and is logged.
-fn logs_over(alloc: Global, key: &Key, list: AnswerList, asked: Asked) -> bool
-    requires { 0 < rank_of key.now }
-{
-    let mut recorder = Recorder::new(alloc, list);
-    let mut runner = SampleRunner::new(alloc);
-    wants(alloc, &mut runner, key, &mut recorder) && is_logged(runner.log(), asked)
-}
-
-/// Whether a run over these answers wants an answer that isn't held, and is logged.
-pub fn logs(alloc: Global, asked: Asked, answers: &[Given]) -> Result<bool, Unfit> {
-    let key = query_of(alloc, asked)?;
-    match list_of(alloc, answers) {
-        Ok(list) => Ok(logs_over(alloc, &key, list, asked)),
-        Err(fault) => Err(fault),
-    }
-}
-
-/// Whether the recorded run ends with the refused read.
-fn is_ended(
+/// Whether the recorded run ends with the refused read, and is logged.
+fn is_ended<D: Reader>(
     alloc: Global,
-    runner: &mut SampleRunner,
     key: &Key,
-    recorder: &mut Recorder<Refusing>,
+    recorder: &mut Recorder<D>,
+    asked: Asked,
     fault: ReadFault,
 ) -> bool
     requires no_input { 0 < rank_of key.now }
     requires unread { recorder.old.told ≡ [] }
     requires unrefused { recorder.old.refused ≡ None }
 {
-    record(alloc, runner, key, recorder).err() == Some(RunFault::Read(fault))
+    let mut runner = SampleRunner::new(alloc);
+    let end = record(alloc, &mut runner, key, recorder).err();
+    end == Some(RunFault::Read(fault)) && is_logged(runner.log(), asked)
+}
+
+/// Whether the key's run over the reader ends with the refused read and is logged, and the recorder keeps just this.
+fn leaves_over<D: Reader + Drop>(
+    alloc: Global,
+    key: &Key,
+    reader: D,
+    asked: Asked,
+    fault: ReadFault,
+    kept: Kept,
+) -> Result<bool, Unfit>
+    requires { 0 < rank_of key.now }
+{
+    let mut recorder = Recorder::new(alloc, reader);
+    if is_ended(alloc, key, &mut recorder, asked, fault) {
+        keeps(alloc, &recorder, kept)
+    } else {
+        Ok(false)
+    }
+}
+
+/// Whether a run over the answers that are kept wants an answer that isn't held and is logged, and the recorder keeps
+/// just this.
+pub fn leaves(alloc: Global, asked: Asked, kept: Kept) -> Result<bool, Unfit> {
+    let key = query_of(alloc, asked)?;
+    match list_of(alloc, kept.reads) {
+        Ok(list) => leaves_over(alloc, &key, list, asked, ReadFault::NotHeld, kept),
+        Err(fault) => Err(fault),
+    }
 }
 
 /// Whether a run whose reads are refused with this fault ends so and is logged, and the recorder keeps no read, this
@@ -120,25 +105,10 @@ pub fn leaves_refused(
     refused: Option<Asked>,
 ) -> Result<bool, Unfit> {
     let key = query_of(alloc, asked)?;
-    Ok(leaves_none(alloc, &key, asked, fault, refused)?)
-}
-
-fn leaves_none(
-    alloc: Global,
-    key: &Key,
-    asked: Asked,
-    fault: ReadFault,
-    refused: Option<Asked>,
-) -> Result<bool, Unfit>
-    requires { 0 < rank_of key.now }
-{
-    let mut recorder = Recorder::new(alloc, Refusing(fault));
-    let mut runner = SampleRunner::new(alloc);
-    let is_ended = is_ended(alloc, &mut runner, key, &mut recorder, fault);
     let kept = Kept {
         reads: &[],
         fault: Some(fault),
         refused,
     };
-    Ok(is_ended && is_logged(runner.log(), asked) && keeps(alloc, &recorder, kept)?)
+    leaves_over(alloc, &key, Refusing(fault), asked, fault, kept)
 }

@@ -1,18 +1,25 @@
 //! Runs of the sample runner.
-ghost use Rattle.std.specs.Prelude.{◌≡◌, ◌<◌, [], None, IfOk};
+ghost use Rattle.std.specs.Prelude.{◌≡◌, ◌↔◌, ◌<◌, IsTrue, IfOk};
 ghost use Rattle.recorder.specs.Backed.{rank as rank_of};
+ghost use Rattle.recorder.specs.Runs.{IsOutcome};
+ghost use Rattle.sample_runner.specs.Meaning.{sample_mean};
+ghost use Rattle.sample_runner.specs.Programs.{sample_reads};
+ghost use Rattle.answer_samples.specs.Telling.{IsKeyOf};
+ghost use Rattle.run_samples.specs.Reading.{IsOutcomeOf, IsGiven};
 
 use crate::answers::list_of;
+use crate::lent::record_over;
 use crate::reads::{Given, are_reads};
 use answer_samples::{Asked, Unfit, is_key, is_spelled, key_of};
 use item_ids::{Key, rank};
-use recorder::{AnswerList, Outcome, Recorder, record};
+use recorder::{AnswerList, Outcome};
 use sample_runner::SampleRunner;
 use std::alloc::Global;
 
 /// The key of a query that is no input.
 pub(crate) fn query_of(alloc: Global, asked: Asked) -> Result<Key, Unfit>
-    ensures { IfOk result (λ key. 0 < rank_of key) }
+    ensures no_input { IfOk result (λ key. 0 < rank_of key) }
+    ensures told { IfOk result (IsKeyOf asked.entry) }
 {
     if rank(asked.0) == 0 {
         return Err(Unfit);
@@ -20,54 +27,55 @@ pub(crate) fn query_of(alloc: Global, asked: Asked) -> Result<Key, Unfit>
     key_of(alloc, asked)
 }
 
-/// The outcome of a run over this list, which needs no other answer.
-fn outcome_over(alloc: Global, key: &Key, list: AnswerList) -> Result<Outcome<SampleRunner>, Unfit>
+/// The outcome of a run of the key over the list, which is lent.
+fn outcome_over(
+    alloc: Global,
+    key: &Key,
+    list: &mut AnswerList,
+) -> Result<Outcome<SampleRunner>, Unfit>
     requires { 0 < rank_of key.now }
+    ensures key { IfOk result (λ o. o.key ≡ key.now) }
+    ensures outcome { IfOk result (λ o. IsOutcome sample_mean sample_reads o) }
 {
     let mut runner = SampleRunner::new(alloc);
-    let mut recorder = Recorder::new(alloc, list);
-    outcome_by(alloc, &mut runner, key, &mut recorder)
+    record_over(alloc, &mut runner, key, list)
 }
 
-/// The outcome of the run, which has one and refuses no read.
+/// The outcome of a run of the query over the list, which is lent.
 fn outcome_by(
     alloc: Global,
-    runner: &mut SampleRunner,
-    key: &Key,
-    recorder: &mut Recorder<AnswerList>,
+    asked: Asked,
+    list: &mut AnswerList,
 ) -> Result<Outcome<SampleRunner>, Unfit>
-    requires no_input { 0 < rank_of key.now }
-    requires unread { recorder.old.told ≡ [] }
-    requires unrefused { recorder.old.refused ≡ None }
+    ensures key { IfOk result (λ o. IsKeyOf asked.entry o.key) }
+    ensures outcome { IfOk result (λ o. IsOutcome sample_mean sample_reads o) }
 {
-    match record(alloc, runner, key, recorder) {
-        Ok(outcome) if recorder.fault().is_none() && recorder.refused_key().is_none() => Ok(
-            outcome,
-        ),
-        _ => Err(Unfit),
-    }
+    let key = query_of(alloc, asked)?;
+    outcome_over(alloc, &key, list)
 }
 
-/// The outcome of a run of the key over these answers, where no read is refused.
+/// The outcome of a run of the query over these answers, where no read is refused.
 pub fn outcome_of(
     alloc: Global,
     asked: Asked,
     given: &[Given],
-) -> Result<Outcome<SampleRunner>, Unfit> {
-    let key = query_of(alloc, asked)?;
-    match list_of(alloc, given) {
-        Ok(list) => outcome_over(alloc, &key, list),
-        Err(fault) => Err(fault),
-    }
+) -> Result<Outcome<SampleRunner>, Unfit>
+    ensures key { IfOk result (λ o. IsKeyOf asked.entry o.key) }
+    ensures outcome { IfOk result (λ o. IsOutcome sample_mean sample_reads o) }
+{
+    let mut list = list_of(alloc, given)?;
+    outcome_by(alloc, asked, &mut list)
 }
 
 /// Whether the outcome is of this key, has this result, and read just these answers in this order.
-pub(crate) fn is_outcome(
+fn is_outcome(
     alloc: Global,
     outcome: &Outcome<SampleRunner>,
     run: Given,
     reads: &[Given],
-) -> Result<bool, Unfit> {
+) -> Result<bool, Unfit>
+    ensures { IfOk result (λ b. IsTrue b ↔ IsOutcomeOf run.entry reads.now outcome.now) }
+{
     let Given(asked, digits) = run;
     Ok(
         is_key(outcome.key(), asked)
@@ -77,13 +85,42 @@ pub(crate) fn is_outcome(
 }
 
 /// Whether a run of the key over these answers reads just them, in this order, and has this result.
-pub fn gives(alloc: Global, run: Given, reads: &[Given]) -> Result<bool, Unfit> {
+pub fn gives(alloc: Global, run: Given, reads: &[Given]) -> Result<bool, Unfit>
+    ensures { IfOk result (IsGiven run.entry reads.now) }
+{
     let outcome = outcome_of(alloc, run.0, reads)?;
     is_outcome(alloc, &outcome, run, reads)
 }
 
+/// Whether a run over the list, which is lent, reads just these answers and has this result.
+fn gives_by(
+    alloc: Global,
+    run: Given,
+    reads: &[Given],
+    list: &mut AnswerList,
+) -> Result<bool, Unfit>
+    ensures { IfOk result (IsGiven run.entry reads.now) }
+{
+    let outcome = outcome_by(alloc, run.0, list)?;
+    is_outcome(alloc, &outcome, run, reads)
+}
+
+/// Whether two runs, one after the other, over one list of these answers, which is lent to both, read just them and
+/// have this result.
+pub fn gives_over_lent(alloc: Global, run: Given, reads: &[Given]) -> Result<bool, Unfit>
+    ensures { IfOk result (IsGiven run.entry reads.now) }
+{
+    let mut list = list_of(alloc, reads)?;
+    match gives_by(alloc, run, reads, &mut list) {
+        Ok(true) => gives_by(alloc, run, reads, &mut list),
+        other => other,
+    }
+}
+
 /// Whether a new runner has logged nothing.
-pub fn is_log_empty(alloc: Global) -> bool {
+pub fn is_log_empty(alloc: Global) -> bool
+    ensures { IsTrue result }
+{
     let runner = SampleRunner::new(alloc);
     runner.log().is_empty()
 }

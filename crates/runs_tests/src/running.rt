@@ -1,7 +1,7 @@
 use answer_samples::Asked;
 use item_ids::Kind;
 use recorder::ReadFault;
-use run_samples::{Given, Kept, gives, is_log_empty, leaves, leaves_refused, logs};
+use run_samples::{Given, Kept, gives, is_log_empty, leaves, leaves_refused};
 use std::test::*;
 
 /// A run: its key and its result, and the answers that it reads, in their order.
@@ -160,16 +160,10 @@ const HALF: Kept = Kept {
     refused: Some(Asked(Kind::Header, "b", "")),
 };
 
+// The call is logged.
 #[test]
 fn key_that_is_not_held(rt: HostRuntime) -> Result<(), Fail> {
     assert!(rt; leaves(rt.alloc(), SIG_A_B.0, HALF)?);
-    Ok(())
-}
-
-// The call is logged.
-#[test]
-fn log_of_a_run_without_result(rt: HostRuntime) -> Result<(), Fail> {
-    assert!(rt; logs(rt.alloc(), SIG_A_B.0, HALF.reads)?);
     Ok(())
 }
 

@@ -1,0 +1,92 @@
+-- Reads, runs and their outcomes, as short texts tell them.
+use Rattle.std.specs.Prelude.{◌≡◌, ◌≢◌, ◌↔◌, ℕ, Bool, List, Option, Some, None, Result, Ok, Err, IsTrue}
+use Rattle.std.specs.List.{AllZip}
+use Rattle.item_ids.specs.declared.key.Key.{Key}
+use Rattle.result_bytes.specs.declared.value.Value.{Value}
+use Rattle.result_bytes.specs.Values.{canon}
+use Rattle.fingerprint.specs.Prints.{print_of}
+use Rattle.recorder.specs.Backed.{ReadValue}
+use Rattle.recorder.specs.Recording.{Recording, fault_of, key_of}
+use Rattle.recorder.specs.Runs.{OutcomeValue, IsOutcome}
+use Rattle.recorder.specs.declared.reader.ReadFault.TheVariants.{NotHeld}
+use Rattle.recorder.specs.declared.runner.RunFault.{RunFault}
+use Rattle.recorder.specs.declared.runner.RunFault.TheVariants.{Read}
+use Rattle.sample_runner.specs.Meaning.{sample_mean}
+use Rattle.sample_runner.specs.Programs.{sample_reads}
+use Rattle.answer_samples.specs.declared.keys.Asked.{Asked}
+use Rattle.answer_samples.specs.Telling.{Tell, IsKeyOf, IsTold}
+use Rattle.run_samples.specs.declared.reads.Given.{Given}
+use Rattle.run_samples.specs.declared.refusals.Kept.{Kept}
+
+-- ---- reads
+
+-- the read is of the key that is told, and the digits tell what spells its answer
+pub record IsReadOf (given : Given) (read : ReadValue) : Type 0 where
+  pub key : IsKeyOf given.0 read.key
+  pub answer : Tell given.1.now (canon read.value)
+
+-- the reads are those that are told, in their order
+abbrev pub AreReadsOf : List Given → List ReadValue → Type 0
+AreReadsOf given reads = AllZip IsReadOf given reads
+
+-- the key is the one that is told, or both are missing
+abbrev pub IsRefused : Option Asked → Option Key → Type 0
+IsRefused (Some asked) (Some key) = IsKeyOf asked key
+IsRefused None None = Unit {0}
+IsRefused _ _ = ⊥
+
+-- of reads just these are kept, and of a refused one this fault and this key
+pub record IsKept (kept : Kept) {D : Type 0} (r : Recording D) : Type 0 where
+  pub fault : fault_of r ≡ kept.fault
+  pub refused : IsRefused kept.refused (key_of r)
+  pub reads : AreReadsOf kept.reads.now r.told
+
+-- ---- results
+
+-- the answer to whether the results that are told, and their prints, are the same
+pub record AreSame (one other : Given) (answer : Bool) : Type 0 where
+  pub first : Value
+  pub second : Value
+  pub of_one : IsTold one.0.0 one.1.now first
+  pub of_other : IsTold other.0.0 other.1.now second
+  pub told : IsTrue answer ↔ ((first ≡ second) × (print_of first ≡ print_of second))
+
+-- the answer to whether neither the results that are told nor their prints are the same
+pub record AreApart (one other : Given) (answer : Bool) : Type 0 where
+  pub first : Value
+  pub second : Value
+  pub of_one : IsTold one.0.0 one.1.now first
+  pub of_other : IsTold other.0.0 other.1.now second
+  pub told : IsTrue answer ↔ ((first ≢ second) × (print_of first ≢ print_of second))
+
+-- a program ended with the value that the digits tell
+abbrev pub EndsWith : List ℕ → Result Value RunFault → Type 0
+EndsWith digits (Ok v) = Tell digits (canon v)
+EndsWith digits (Err e) = ⊥
+
+-- a program ended with the value that the digits tell, after the reads that are told
+pub record ComesTo (digits : List ℕ) (given : List Given) (ending : Result Value RunFault)
+    (told : List ReadValue) : Type 0 where
+  pub value : EndsWith digits ending
+  pub reads : AreReadsOf given told
+
+-- a program gave up as an answer isn't held, and just this is kept
+pub record Wants (kept : Kept) (ending : Result Value RunFault) {D : Type 0} (r : Recording D)
+    : Type 0 where
+  pub fault : ending ≡ Err (Read NotHeld)
+  pub keeps : IsKept kept r
+
+-- ---- runs
+
+-- the outcome is of the run that is told, with its result, after the reads that are told
+pub record IsOutcomeOf (run : Given) (given : List Given) (o : OutcomeValue) : Type 0 where
+  pub key : IsKeyOf run.0 o.key
+  pub value : Tell run.1.now (canon o.value)
+  pub reads : AreReadsOf given o.told
+
+-- the answer to whether an outcome of the sample runner is the one that is told
+pub record IsGiven (run : Given) (given : List Given) (answer : Bool) : Type 0 where
+  pub outcome : OutcomeValue
+  pub of_runner : IsOutcome sample_mean sample_reads outcome
+  pub of_key : IsKeyOf run.0 outcome.key
+  pub told : IsTrue answer ↔ IsOutcomeOf run given outcome
