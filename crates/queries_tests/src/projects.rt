@@ -1,33 +1,22 @@
 //! The queries of whole projects, by the runner of MiniJava and by a driver: each kind for classes and methods that are
 //! there, for a class that isn't declared, and for a method that is missing.
-ghost use Rattle.std.specs.Prelude.{◌<◌, IfOk};
-ghost use Rattle.recorder.specs.Backed.{rank as rank_of};
 
-use answer_samples::{Asked, Unfit, is_key, is_spelled, key_of, project_of};
-use item_ids::{Key, Kind, rank};
-use project_inputs::Inputs;
-use providers::MiniJava;
-use query_driver::Driver;
-use recorder::{AnswerList, ReadFault, Recorder, Runner};
-use run_samples::{Given, Kept, comes_to, list_of, wants};
+use crate::answers::{
+    ANSWER_OF_ONE, BODY_F, BODY_H, BODY_MAIN, CLASS_M, CLASS_Z, DIAGS_M, DIAGS_Z, FILES, HEADER_A,
+    HEADER_M, HEADER_Z, INDEX_OF_ONE, MAIN_OF_ONE, MEMBERS_A, MEMBERS_M, MEMBERS_Z, METHOD_MAIN,
+    SIG_F, SIG_MAIN, SUPERS_M, SUPERS_Z, TREE_OF_ONE,
+};
+use answer_samples::{Asked, Unfit};
+use item_ids::Kind;
+use query_samples::{Row, brings_each, is_answer, is_lacking, is_right};
+use recorder::ReadFault;
+use run_samples::{Given, Kept};
 use std::alloc::Global;
 use std::test::*;
-
-/// A query with its value's canonical bytes, and the answers that are there, which are its reads in order.
-#[derive(Clone, Copy, Debug)]
-struct Row<'a> {
-    query: Given<'a>,
-    reads: &'a [Given<'a>],
-}
 
 // A main class that prints what a method of a second class returns, which has two methods.
 const TEXT: &str =
     "class M { public static void main(String[] a) { System.out.println(new A().f()); } } class A { public int f() { return 1; } public int g() { return 2; } }";
-
-const FILES: Given<'static> = Given(
-    Asked(Kind::Files, "", ""),
-    "000000000000000001064d2e6a617661",
-);
 
 const SOURCE: Given<'static> = Given(
     Asked(Kind::Source, "M.java", ""),
@@ -44,18 +33,6 @@ const INDEX: Given<'static> = Given(
     "0300000000000000020141064d2e6a617661014d064d2e6a617661",
 );
 
-const HEADER_A: Given<'static> = Given(
-    Asked(Kind::Header, "A", ""),
-    "040100000000000000000000000000000000000201660167",
-);
-
-const HEADER_M: Given<'static> = Given(
-    Asked(Kind::Header, "M", ""),
-    "0401010000000000000000000000000000000000",
-);
-
-const HEADER_Z: Given<'static> = Given(Asked(Kind::Header, "Z", ""), "0400");
-
 const METHOD_F: Given<'static> = Given(
     Asked(Kind::Method, "A", "f"),
     "05010101660000000000000000000000000000000000000000000000000008000000070000000100000006",
@@ -68,62 +45,23 @@ const METHOD_G: Given<'static> = Given(
 
 const METHOD_H: Given<'static> = Given(Asked(Kind::Method, "A", "h"), "0500");
 
-const METHOD_MAIN: Given<'static> = Given(
-    Asked(Kind::Method, "M", "main"),
-    "050100030000000b07000000160e00000011014101660000000000000000",
-);
-
 const METHOD_Z: Given<'static> = Given(Asked(Kind::Method, "Z", "f"), "0500");
-
-const SIG_F: Given<'static> = Given(Asked(Kind::Sig, "A", "f"), "0601000000000000000000");
 
 const SIG_G: Given<'static> = Given(Asked(Kind::Sig, "A", "g"), "0601000000000000000000");
 
 const SIG_H: Given<'static> = Given(Asked(Kind::Sig, "A", "h"), "0600");
 
-const SIG_MAIN: Given<'static> = Given(Asked(Kind::Sig, "M", "main"), "0600");
-
 const SIG_Z: Given<'static> = Given(Asked(Kind::Sig, "Z", "f"), "0600");
 
 const SUPERS_A: Given<'static> = Given(Asked(Kind::Supers, "A", ""), "07010000000000000001014100");
 
-const SUPERS_M: Given<'static> = Given(Asked(Kind::Supers, "M", ""), "07010000000000000001014d00");
-
-const SUPERS_Z: Given<'static> = Given(Asked(Kind::Supers, "Z", ""), "0700");
-
-const MEMBERS_A: Given<'static> = Given(
-    Asked(Kind::Members, "A", ""),
-    "0801000000000000000000000000000000020166014100000000000000000001670141000000000000000000",
-);
-
-const MEMBERS_M: Given<'static> = Given(
-    Asked(Kind::Members, "M", ""),
-    "080100000000000000000000000000000000",
-);
-
-const MEMBERS_Z: Given<'static> = Given(Asked(Kind::Members, "Z", ""), "0800");
-
 const CLASS_A: Given<'static> = Given(Asked(Kind::CheckClass, "A", ""), "090000000000000000");
 
-const CLASS_M: Given<'static> = Given(Asked(Kind::CheckClass, "M", ""), "090000000000000000");
-
-const CLASS_Z: Given<'static> = Given(Asked(Kind::CheckClass, "Z", ""), "090000000000000000");
-
-const BODY_F: Given<'static> = Given(Asked(Kind::CheckBody, "A", "f"), "0a0000000000000000");
-
 const BODY_G: Given<'static> = Given(Asked(Kind::CheckBody, "A", "g"), "0a0000000000000000");
-
-const BODY_H: Given<'static> = Given(Asked(Kind::CheckBody, "A", "h"), "0a0000000000000000");
-
-const BODY_MAIN: Given<'static> = Given(Asked(Kind::CheckBody, "M", "main"), "0a0000000000000000");
 
 const BODY_Z: Given<'static> = Given(Asked(Kind::CheckBody, "Z", "f"), "0a0000000000000000");
 
 const DIAGS_A: Given<'static> = Given(Asked(Kind::Diags, "A", ""), "0b0000000000000000");
-
-const DIAGS_M: Given<'static> = Given(Asked(Kind::Diags, "M", ""), "0b0000000000000000");
-
-const DIAGS_Z: Given<'static> = Given(Asked(Kind::Diags, "Z", ""), "0b0000000000000000");
 
 const ANSWER: Given<'static> = Given(
     Asked(Kind::Answer, "", ""),
@@ -270,21 +208,6 @@ static TABLE: [Row; 33] = [
 const ONE_LITERAL: &str =
     "class M { public static void main(String[] a) { System.out.println(1); } }";
 
-const TREE_OF_ONE: Given<'static> = Given(
-    Asked(Kind::Tree, "M.java", ""),
-    "020101014d030000000b0800000011000000010000000000000000",
-);
-
-const INDEX_OF_ONE: Given<'static> = Given(
-    Asked(Kind::Index, "", ""),
-    "030000000000000001014d064d2e6a617661",
-);
-
-const MAIN_OF_ONE: Given<'static> = Given(
-    Asked(Kind::Method, "M", "main"),
-    "050100030000000b080000001100000001",
-);
-
 const NO_METHOD: Given<'static> = Given(Asked(Kind::Method, "M", "f"), "0500");
 
 // Queries of its project, in which there is no other class.
@@ -345,50 +268,15 @@ static OF_ONE_LITERAL: [Row; 14] = [
         reads: &[HEADER_M, CLASS_M, BODY_MAIN],
     },
     Row {
-        query: Given(
-            Asked(Kind::Answer, "", ""),
-            "0c00000000000000000000000000000001014d000000000000000000000000000000000000000000000000",
-        ),
+        query: ANSWER_OF_ONE,
         reads: &[FILES, TREE_OF_ONE, INDEX_OF_ONE, MEMBERS_M, DIAGS_M],
     },
 ];
 
-/// The key of a query that is no input.
-fn query_of(alloc: Global, asked: Asked) -> Result<Key, Unfit>
-    ensures { IfOk result (λ key. 0 < rank_of key) }
-{
-    if rank(asked.0) == 0 {
-        return Err(Unfit);
-    }
-    key_of(alloc, asked)
-}
-
-/// Whether the run over the list reads just the row's answers, in their order, comes to the value, and is logged.
-fn is_run(rt: HostRuntime, key: &Key, list: AnswerList, row: &Row) -> Result<bool, Unfit>
-    requires { 0 < rank_of key.now }
-{
-    let mut runner = MiniJava::new(rt.alloc());
-    let mut recorder = Recorder::new(rt.alloc(), list);
-    let result = runner.run(rt.alloc(), key, &mut recorder);
-    Ok(
-        comes_to(rt.alloc(), result, recorder, row.query.1, row.reads)?
-            && matches!(runner.log(), [one] if is_key(one, row.query.0)),
-    )
-}
-
-/// Whether the row is right.
-fn is_right(rt: HostRuntime, row: &Row) -> Result<bool, Unfit> {
-    let key = query_of(rt.alloc(), row.query.0)?;
-    match list_of(rt.alloc(), row.reads) {
-        Ok(list) => is_run(rt, &key, list, row),
-        Err(unfit) => Err(unfit),
-    }
-}
-
 #[test]
 fn runs_of_the_runner(rt: HostRuntime) -> Result<(), Fail> {
     for row in TABLE.iter().chain(&OF_ONE_LITERAL) {
-        assert!(rt; is_right(rt, row)?);
+        assert!(rt; is_right(rt.alloc(), *row)?);
     }
     Ok(())
 }
@@ -400,43 +288,15 @@ const LACKING_MEMBERS: Kept = Kept {
     refused: Some(Asked(Kind::Members, "A", "")),
 };
 
-/// Whether the run over the list is refused an answer that isn't there, of which this is kept, and is logged.
-fn is_refused(
-    rt: HostRuntime,
-    key: &Key,
-    list: AnswerList,
-    query: Asked,
-    kept: Kept,
-) -> Result<bool, Unfit>
-    requires { 0 < rank_of key.now }
-{
-    let mut runner = MiniJava::new(rt.alloc());
-    let mut recorder = Recorder::new(rt.alloc(), list);
-    let result = runner.run(rt.alloc(), key, &mut recorder);
-    Ok(
-        wants(rt.alloc(), result, recorder, kept)?
-            && matches!(runner.log(), [one] if is_key(one, query)),
-    )
-}
-
-/// Whether the run of the query over the answers that are kept is refused another one.
-fn is_lacking(rt: HostRuntime, query: Asked, kept: Kept) -> Result<bool, Unfit> {
-    let key = query_of(rt.alloc(), query)?;
-    match list_of(rt.alloc(), kept.reads) {
-        Ok(list) => is_refused(rt, &key, list, query, kept),
-        Err(unfit) => Err(unfit),
-    }
-}
-
 /// Whether the row's run, over each beginning of its reads, is refused the read that comes next.
-fn is_refused_each(rt: HostRuntime, row: &Row) -> Result<bool, Unfit> {
+fn is_refused_each(alloc: Global, row: &Row) -> Result<bool, Unfit> {
     for (count, next) in row.reads.iter().enumerate() {
         let kept = Kept {
             reads: &row.reads[..count],
             fault: Some(ReadFault::NotHeld),
             refused: Some(next.0),
         };
-        if !is_lacking(rt, row.query.0, kept)? {
+        if !is_lacking(alloc, row.query.0, kept)? {
             return Ok(false);
         }
     }
@@ -445,38 +305,11 @@ fn is_refused_each(rt: HostRuntime, row: &Row) -> Result<bool, Unfit> {
 
 #[test]
 fn reads_that_are_refused(rt: HostRuntime) -> Result<(), Fail> {
-    assert!(rt; is_lacking(rt, BODY_MAIN.0, LACKING_MEMBERS)?);
+    assert!(rt; is_lacking(rt.alloc(), BODY_MAIN.0, LACKING_MEMBERS)?);
     for row in TABLE.iter().chain(&OF_ONE_LITERAL) {
-        assert!(rt; is_refused_each(rt, row)?);
+        assert!(rt; is_refused_each(rt.alloc(), row)?);
     }
     Ok(())
-}
-
-/// A driver of the queries of the project of one file.
-fn driver_of(alloc: Global, text: &str) -> Result<Driver<MiniJava>, Unfit> {
-    let project = project_of(alloc, text)?;
-    let inputs = Inputs::new(alloc, &project)?;
-    Ok(Driver::new(alloc, inputs, MiniJava::new(alloc)))
-}
-
-/// Whether the driver brings the key's result, which these digits spell.
-fn brings(alloc: Global, driver: &mut Driver<MiniJava>, wanted: Given) -> Result<bool, Unfit> {
-    let key = key_of(alloc, wanted.0)?;
-    match driver.result(&key) {
-        Ok(sealed) => is_spelled(alloc, &sealed, wanted.1),
-        Err(_) => Err(Unfit),
-    }
-}
-
-/// Whether the driver of the project brings the result of each row.
-fn brings_each(alloc: Global, text: &str, rows: &[Row]) -> Result<bool, Unfit> {
-    let mut driver = driver_of(alloc, text)?;
-    for row in rows {
-        if !brings(alloc, &mut driver, row.query)? {
-            return Ok(false);
-        }
-    }
-    Ok(true)
 }
 
 #[test]
@@ -484,15 +317,6 @@ fn results_of_the_driver(rt: HostRuntime) -> Result<(), Fail> {
     assert!(rt; brings_each(rt.alloc(), TEXT, &TABLE)?);
     assert!(rt; brings_each(rt.alloc(), ONE_LITERAL, &OF_ONE_LITERAL)?);
     Ok(())
-}
-
-/// Whether the driver brings the answer of the project, which these digits spell.
-fn is_answer(alloc: Global, text: &str, digits: &str) -> Result<bool, Unfit> {
-    let mut driver = driver_of(alloc, text)?;
-    match driver.answer() {
-        Ok(sealed) => is_spelled(alloc, &sealed, digits),
-        Err(_) => Err(Unfit),
-    }
 }
 
 #[test]

@@ -1,1 +1,2 @@
 pub mod Zips
+pub mod Asked

@@ -1,13 +1,14 @@
 -- Reads, runs and their outcomes, as short texts tell them.
-use Rattle.std.specs.Prelude.{◌≡◌, ◌≢◌, ◌↔◌, ℕ, Bool, List, Option, Some, None, Result, Ok, Err, IsTrue}
+use Rattle.std.specs.Prelude.{◌≡◌, ◌≢◌, ◌↔◌, ◌⊎◌, ℕ, Bool, false, List, [], ◌∷◌, Option, Some, None, Result, Ok, Err, IsTrue, Contains}
 use Rattle.std.specs.List.{AllZip}
 use Rattle.item_ids.specs.declared.key.Key.{Key}
 use Rattle.result_bytes.specs.declared.value.Value.{Value}
 use Rattle.result_bytes.specs.Values.{canon}
 use Rattle.fingerprint.specs.Prints.{print_of}
-use Rattle.recorder.specs.Backed.{ReadValue}
-use Rattle.recorder.specs.Recording.{Recording, fault_of, key_of}
-use Rattle.recorder.specs.Runs.{OutcomeValue, IsOutcome}
+use Rattle.recorder.specs.Backed.{ReadValue, Asked as AsksInOrder}
+use Rattle.recorder.specs.Recording.{Recording, IsUnread, fault_of, key_of}
+use Rattle.recorder.specs.Runs.{OutcomeValue, IsOutcome, IsNextRefused}
+use Rattle.recorder.specs.declared.reader.ReadFault.{ReadFault}
 use Rattle.recorder.specs.declared.reader.ReadFault.TheVariants.{NotHeld}
 use Rattle.recorder.specs.declared.runner.RunFault.{RunFault}
 use Rattle.recorder.specs.declared.runner.RunFault.TheVariants.{Read}
@@ -28,6 +29,25 @@ pub record IsReadOf (given : Given) (read : ReadValue) : Type 0 where
 -- the reads are those that are told, in their order
 abbrev pub AreReadsOf : List Given → List ReadValue → Type 0
 AreReadsOf given reads = AllZip IsReadOf given reads
+
+-- the list has the read that is told
+abbrev pub IsFound : Given → List ReadValue → Type 0
+IsFound given list = (read : ReadValue) × Contains list read × IsReadOf given read
+
+-- the list has no read of the key
+abbrev pub LacksKey : Given → List ReadValue → Type 0
+LacksKey given list = (key : Key) × IsKeyOf given.0 key × IsUnread key list
+
+-- the list has a read of the key, with another answer
+abbrev pub AnswersOtherwise : Given → List ReadValue → Type 0
+AnswersOtherwise given list =
+    (read : ReadValue) × Contains list read × IsKeyOf given.0 read.key
+    × ¬ Tell given.1.now (canon read.value)
+
+-- the answer to whether the list has the answer that is told for its key
+pub record Holds (given : Given) (list : List ReadValue) (answer : Bool) : Type 0 where
+  pub found : IsTrue answer → IsFound given list
+  pub missing : answer ≡ false → LacksKey given list ⊎ AnswersOtherwise given list
 
 -- the key is the one that is told, or both are missing
 abbrev pub IsRefused : Option Asked → Option Key → Type 0
@@ -90,3 +110,32 @@ pub record IsGiven (run : Given) (given : List Given) (answer : Bool) : Type 0 w
   pub of_runner : IsOutcome sample_mean sample_reads outcome
   pub of_key : IsKeyOf run.0 outcome.key
   pub told : IsTrue answer ↔ IsOutcomeOf run given outcome
+
+-- ---- runs whose reads are refused
+
+-- just the key that is told is logged
+abbrev pub IsLoggedAs : List Key → Asked → Type 0
+IsLoggedAs (key ∷ []) asked = IsKeyOf asked key
+IsLoggedAs _ asked = ⊥
+
+-- a run of the key that is told read so far, each key where the sample runner reads it
+pub record IsHalted (asked : Asked) {D : Type 0} (r : Recording D) : Type 0 where
+  pub key : Key
+  pub of_key : IsKeyOf asked key
+  pub in_order : AsksInOrder sample_mean sample_reads key r.told
+  pub next : IsNextRefused sample_mean sample_reads key r
+
+-- a run of the key that is told is refused with this fault, and its recorder keeps just this
+pub record IsLeft (asked : Asked) (fault : ReadFault) (kept : Kept) {D : Type 0} (r : Recording D)
+    : Type 0 where
+  pub halted : IsHalted asked r
+  pub fault_told : fault_of r ≡ Some fault
+  pub keeps : IsKept kept r
+
+-- its first read is refused with this fault, and its recorder keeps that and this key
+pub record IsLeftUnread (asked : Asked) (fault : ReadFault) (refused : Option Asked) {D : Type 0}
+    (r : Recording D) : Type 0 where
+  pub halted : IsHalted asked r
+  pub fault_told : fault_of r ≡ Some fault
+  pub refused_told : IsRefused refused (key_of r)
+  pub unread : r.told ≡ []

@@ -3,7 +3,8 @@ ghost use Rattle.std.specs.Prelude.{◌≡◌, ◌↔◌, List, [], ◌∷◌, �
 ghost use Rattle.fingerprint.specs.Prints.{print_of};
 ghost use Rattle.answer_samples.specs.Telling.{IsTold};
 ghost use Rattle.run_samples.specs.declared.reads.Given.{Given as SpecGiven};
-ghost use Rattle.run_samples.specs.Reading.{AreReadsOf, AreSame, AreApart};
+ghost use Rattle.recorder.specs.Backed.{ReadValue};
+ghost use Rattle.run_samples.specs.Reading.{AreReadsOf, Holds, AreSame, AreApart};
 
 use crate::reads::{Given, is_read};
 use answer_samples::{Unfit, key_of, sealed_of};
@@ -46,7 +47,9 @@ pub fn list_of(alloc: Global, given: &[Given]) -> Result<AnswerList, Unfit>
 }
 
 /// Whether the list has this answer for its key.
-fn has(alloc: Global, list: &AnswerList, given: Given) -> Result<bool, Unfit> {
+fn has(alloc: Global, list: &AnswerList, given: Given) -> Result<bool, Unfit>
+    ensures { IfOk result (Holds given.entry list.now) }
+{
     let key = key_of(alloc, given.0)?;
     match list.find(&key) {
         Some(read) => is_read(alloc, read, given),
@@ -55,7 +58,10 @@ fn has(alloc: Global, list: &AnswerList, given: Given) -> Result<bool, Unfit> {
 }
 
 /// Whether the list of these answers has this answer for its key.
-pub fn holds(alloc: Global, answers: &[Given], given: Given) -> Result<bool, Unfit> {
+pub fn holds(alloc: Global, answers: &[Given], given: Given) -> Result<bool, Unfit>
+    ensures { IfOk result (λ b. (list : List ReadValue) × AreReadsOf answers.now list
+        × Holds given.entry list b) }
+{
     let list = list_of(alloc, answers)?;
     has(alloc, &list, given)
 }

@@ -1,4 +1,14 @@
 //! A recorder over a reader that counts what it is asked.
+ghost use Rattle.std.specs.Prelude.{◌≡◌, ◌↔◌, List, [], ◌∷◌, ◌++◌, Some, None, IsTrue, IfOk, IfSome, MatchOption, Contains};
+ghost use Rattle.std.specs.Arc.{arc_value};
+ghost use Rattle.result_bytes.specs.declared.value.Value.{Value as SpecValue};
+ghost use Rattle.result_bytes.specs.Values.{canon};
+ghost use Rattle.recorder.specs.Recording.{Answers, Refuses, fault_of};
+ghost use Rattle.recorder.specs.Programs.{Goes, GivesUp as StepGivesUp, Ask as AskStep};
+ghost use Rattle.recorder.specs.Backed.{ReadValue};
+ghost use Rattle.recorder.specs.Runs.{IsReadFault};
+ghost use Rattle.run_samples.specs.Reading.{AreReadsOf, IsKept};
+ghost use Rattle.run_samples.specs.Asking.{Counted, MayRefuse, IsAnswered, IsAnsweredTwice, BecomesOf, Becomes, AllBecome, IsAfter, HasAnswer, fresh, asked_by};
 
 use crate::answers::list_of;
 use crate::reads::Given;
@@ -57,7 +67,11 @@ pub enum Ask<'a> {
 }
 
 /// Whether a step that asks the key is given this answer.
-fn is_given_again(recorder: &mut Recorder<Counting>, key: &Key, answer: &Arc<Sealed>) -> bool {
+fn is_given_again(recorder: &mut Recorder<Counting>, key: &Key, answer: &Arc<Sealed>) -> bool
+    ensures { IsTrue result → (again : SpecValue)
+        × Goes (AskStep key.now) recorder.old again recorder.new
+        × (canon again ≡ canon (arc_value answer.now)) }
+{
     match ask_key(recorder, key) {
         Ok(again) => again.bytes() == answer.bytes(),
         Err(_) => false,
@@ -65,7 +79,9 @@ fn is_given_again(recorder: &mut Recorder<Counting>, key: &Key, answer: &Arc<Sea
 }
 
 /// Whether the key has an answer, a source, which is given again.
-fn is_answered_twice(recorder: &mut Recorder<Counting>, key: &Key) -> bool {
+fn is_answered_twice(recorder: &mut Recorder<Counting>, key: &Key) -> bool
+    ensures { IsTrue result → IsAnsweredTwice key.now recorder.old recorder.new }
+{
     match recorder.read(key) {
         Ok(answer) => {
             answer.value().kind() == Kind::Source && is_given_again(recorder, key, &answer)
@@ -75,15 +91,23 @@ fn is_answered_twice(recorder: &mut Recorder<Counting>, key: &Key) -> bool {
 }
 
 /// Why the key has no answer.
-fn read_fault<R: Reader>(reader: &mut R, key: &Key) -> Option<ReadFault> {
-    match reader.read(key) {
+fn read_fault(recorder: &mut Recorder<Counting>, key: &Key) -> Option<ReadFault>
+    ensures { MatchOption result (IsAnswered key.now recorder.old recorder.new)
+        (λ fault. Refuses (MayRefuse recorder.new.inner.list) recorder.old key.now fault
+        recorder.new) }
+{
+    match recorder.read(key) {
         Ok(_) => None,
         Err(fault) => Some(fault),
     }
 }
 
 /// Why a step that asks the key gives up.
-fn step_fault(recorder: &mut Recorder<Counting>, key: &Key) -> Option<RunFault> {
+fn step_fault(recorder: &mut Recorder<Counting>, key: &Key) -> Option<RunFault>
+    ensures { IfSome result (λ fault.
+        StepGivesUp (AskStep key.now) recorder.old fault recorder.new
+        × IsReadFault recorder.new fault) }
+{
     match ask_key(recorder, key) {
         Ok(_) => None,
         Err(fault) => Some(fault),
@@ -91,7 +115,9 @@ fn step_fault(recorder: &mut Recorder<Counting>, key: &Key) -> Option<RunFault> 
 }
 
 /// The key that is asked for.
-fn asked_by(ask: Ask) -> Asked {
+fn asked_by(ask: Ask) -> Asked
+    ensures { result ≡ asked_by ask.entry }
+{
     match ask {
         Ask::Again(asked) | Ask::Answered(asked) | Ask::NotHeld(asked) | Ask::GivesUp(asked) => {
             asked
@@ -100,7 +126,9 @@ fn asked_by(ask: Ask) -> Asked {
 }
 
 /// Whether this becomes of the key.
-fn becomes_of(recorder: &mut Recorder<Counting>, key: &Key, ask: Ask) -> bool {
+fn becomes_of(recorder: &mut Recorder<Counting>, key: &Key, ask: Ask) -> bool
+    ensures { IsTrue result → BecomesOf ask.entry key.now recorder.old recorder.new }
+{
     match ask {
         Ask::Again(_) => is_answered_twice(recorder, key),
         Ask::Answered(_) => read_fault(recorder, key).is_none(),
@@ -110,17 +138,17 @@ fn becomes_of(recorder: &mut Recorder<Counting>, key: &Key, ask: Ask) -> bool {
 }
 
 /// Whether this becomes of the key that is told.
-fn becomes(alloc: Global, recorder: &mut Recorder<Counting>, ask: Ask) -> Result<bool, Unfit> {
+fn becomes(alloc: Global, recorder: &mut Recorder<Counting>, ask: Ask) -> Result<bool, Unfit>
+    ensures { IfOk result (λ b. IsTrue b → Becomes ask.entry recorder.old recorder.new) }
+{
     let key = key_of(alloc, asked_by(ask))?;
     Ok(becomes_of(recorder, &key, ask))
 }
 
 /// Whether this becomes of the keys, one after the other.
-fn all_become(
-    alloc: Global,
-    recorder: &mut Recorder<Counting>,
-    asks: &[Ask],
-) -> Result<bool, Unfit> {
+fn all_become(alloc: Global, recorder: &mut Recorder<Counting>, asks: &[Ask]) -> Result<bool, Unfit>
+    ensures { IfOk result (λ b. IsTrue b → AllBecome asks.now recorder.old recorder.new) }
+{
     for ask in asks {
         if !becomes(alloc, recorder, *ask)? {
             return Ok(false);
@@ -130,13 +158,19 @@ fn all_become(
 }
 
 /// A recorder over the list of these answers.
-fn recorder_of(alloc: Global, answers: &[Given]) -> Result<Recorder<Counting>, Unfit> {
+fn recorder_of(alloc: Global, answers: &[Given]) -> Result<Recorder<Counting>, Unfit>
+    ensures { IfOk result (λ r. (list : List ReadValue) × AreReadsOf answers.now list
+        × (r ≡ fresh list)) }
+{
     let list = list_of(alloc, answers)?;
     Ok(Recorder::new(alloc, Counting { list, count: 0 }))
 }
 
 /// The reader of a recorder behind what becomes of these keys.
-fn reader_after(alloc: Global, answers: &[Given], asks: &[Ask]) -> Result<Counting, Unfit> {
+fn reader_after(alloc: Global, answers: &[Given], asks: &[Ask]) -> Result<Counting, Unfit>
+    ensures { IfOk result (λ reader. (end : Counted) × IsAfter answers.now asks.now end
+        × (reader ≡ end.inner)) }
+{
     let mut recorder = recorder_of(alloc, answers)?;
     let is_right = all_become(alloc, &mut recorder, asks);
     let reader = recorder.into_reader();
@@ -152,7 +186,10 @@ pub fn keeps_after(
     answers: &[Given],
     asks: &[Ask],
     kept: Kept,
-) -> Result<bool, Unfit> {
+) -> Result<bool, Unfit>
+    ensures { IfOk result (λ b. IsTrue b → (end : Counted) × IsAfter answers.now asks.now end
+        × IsKept kept.entry end) }
+{
     let mut recorder = recorder_of(alloc, answers)?;
     match all_become(alloc, &mut recorder, asks) {
         Ok(true) => keeps(alloc, &recorder, kept),
@@ -161,7 +198,10 @@ pub fn keeps_after(
 }
 
 /// How often the reader of such a recorder was asked.
-pub fn count_after(alloc: Global, answers: &[Given], asks: &[Ask]) -> Result<u64, Unfit> {
+pub fn count_after(alloc: Global, answers: &[Given], asks: &[Ask]) -> Result<u64, Unfit>
+    ensures { IfOk result (λ count. (end : Counted) × IsAfter answers.now asks.now end
+        × (count ≡ end.inner.count)) }
+{
     Ok(reader_after(alloc, answers, asks)?.count)
 }
 
@@ -171,12 +211,21 @@ pub fn answers_after(
     answers: &[Given],
     asks: &[Ask],
     asked: Asked,
-) -> Result<bool, Unfit> {
+) -> Result<bool, Unfit>
+    ensures { IfOk result (λ b. IsTrue b → (end : Counted) × IsAfter answers.now asks.now end
+        × HasAnswer end.inner.list asked.entry) }
+{
     let mut reader = reader_after(alloc, answers, asks)?;
     is_answered(alloc, &mut reader, asked)
 }
 
-fn is_answered(alloc: Global, reader: &mut Counting, asked: Asked) -> Result<bool, Unfit> {
+/// Whether the reader has an answer for the key.
+fn is_answered(alloc: Global, reader: &mut Counting, asked: Asked) -> Result<bool, Unfit>
+    ensures { IfOk result (λ b. IsTrue b → HasAnswer reader.old.list asked.entry) }
+{
     let key = key_of(alloc, asked)?;
-    Ok(read_fault(reader, &key).is_none())
+    match reader.read(&key) {
+        Ok(_) => Ok(true),
+        Err(_) => Ok(false),
+    }
 }

@@ -1,7 +1,11 @@
 //! What is left of runs whose reads are refused.
-ghost use Rattle.std.specs.Prelude.{◌≡◌, ◌↔◌, ◌<◌, [], None, IsTrue, IfOk, option_copied};
-ghost use Rattle.recorder.specs.Backed.{rank as rank_of};
-ghost use Rattle.run_samples.specs.Reading.{IsRefused, IsKept};
+ghost use Rattle.std.specs.Prelude.{◌≡◌, ◌↔◌, ◌<◌, List, [], Some, None, IsTrue, IfOk, option_copied};
+ghost use Rattle.recorder.specs.Backed.{rank as rank_of, ReadValue};
+ghost use Rattle.recorder.specs.Recording.{Recording, fault_of};
+ghost use Rattle.recorder.specs.declared.reader.ReadFault.TheVariants.{NotHeld};
+ghost use Rattle.sample_runner.specs.declared.refusing.Refusing.{Refusing as SpecRefusing};
+ghost use Rattle.answer_samples.specs.Telling.{IsKeyOf};
+ghost use Rattle.run_samples.specs.Reading.{AreReadsOf, IsRefused, IsKept, IsLoggedAs, IsHalted, IsLeft, IsLeftUnread};
 
 use crate::answers::list_of;
 use crate::reads::{Given, are_reads};
@@ -43,7 +47,9 @@ pub fn keeps<D: Reader>(alloc: Global, recorder: &Recorder<D>, kept: Kept) -> Re
 }
 
 /// Whether just this one key is logged.
-fn is_logged(log: &[Key], asked: Asked) -> bool {
+fn is_logged(log: &[Key], asked: Asked) -> bool
+    ensures { IsTrue result ↔ IsLoggedAs log.now asked.entry }
+{
     match log {
         [key] => is_key(key, asked),
         _ => false,
@@ -61,6 +67,10 @@ fn is_ended<D: Reader>(
     requires no_input { 0 < rank_of key.now }
     requires unread { recorder.old.told ≡ [] }
     requires unrefused { recorder.old.refused ≡ None }
+    requires told { IsKeyOf asked key.now }
+    ensures fault { IsTrue result → fault_of recorder.new ≡ Some fault }
+    ensures halted { IsHalted asked.entry recorder.new }
+    ensures follows { D.follows recorder.old.inner recorder.new.inner }
 {
     let mut runner = SampleRunner::new(alloc);
     let end = record(alloc, &mut runner, key, recorder).err();
@@ -76,7 +86,10 @@ fn leaves_over<D: Reader + Drop>(
     fault: ReadFault,
     kept: Kept,
 ) -> Result<bool, Unfit>
-    requires { 0 < rank_of key.now }
+    requires no_input { 0 < rank_of key.now }
+    requires told { IsKeyOf asked key.now }
+    ensures { IfOk result (λ b. IsTrue b → (r : Recording D) × D.follows reader r.inner
+        × IsLeft asked.entry fault kept.entry r) }
 {
     let mut recorder = Recorder::new(alloc, reader);
     if is_ended(alloc, key, &mut recorder, asked, fault) {
@@ -88,7 +101,11 @@ fn leaves_over<D: Reader + Drop>(
 
 /// Whether a run over the answers that are kept wants an answer that isn't held and is logged, and the recorder keeps
 /// just this.
-pub fn leaves(alloc: Global, asked: Asked, kept: Kept) -> Result<bool, Unfit> {
+pub fn leaves(alloc: Global, asked: Asked, kept: Kept) -> Result<bool, Unfit>
+    ensures { IfOk result (λ b. IsTrue b → (r : Recording (List ReadValue))
+        × AreReadsOf kept.entry.reads.now r.inner
+        × IsLeft asked.entry NotHeld kept.entry r) }
+{
     let key = query_of(alloc, asked)?;
     match list_of(alloc, kept.reads) {
         Ok(list) => leaves_over(alloc, &key, list, asked, ReadFault::NotHeld, kept),
@@ -103,7 +120,11 @@ pub fn leaves_refused(
     asked: Asked,
     fault: ReadFault,
     refused: Option<Asked>,
-) -> Result<bool, Unfit> {
+) -> Result<bool, Unfit>
+    ensures { IfOk result (λ b. IsTrue b → (r : Recording SpecRefusing)
+        × (r.inner ≡ record { 0 = fault })
+        × IsLeftUnread asked.entry fault refused.entry r) }
+{
     let key = query_of(alloc, asked)?;
     let kept = Kept {
         reads: &[],
