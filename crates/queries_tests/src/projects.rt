@@ -273,9 +273,19 @@ static OF_ONE_LITERAL: [Row; 14] = [
     },
 ];
 
+/// The rows of the project of two classes.
+fn rows_of_two() -> &'static [Row<'static>] {
+    &TABLE
+}
+
+/// The rows of the project of one class.
+fn rows_of_one() -> &'static [Row<'static>] {
+    &OF_ONE_LITERAL
+}
+
 #[test]
 fn runs_of_the_runner(rt: HostRuntime) -> Result<(), Fail> {
-    for row in TABLE.iter().chain(&OF_ONE_LITERAL) {
+    for row in rows_of_two().iter().chain(rows_of_one()) {
         assert!(rt; is_right(rt.alloc(), *row)?);
     }
     Ok(())
@@ -306,7 +316,7 @@ fn is_refused_each(alloc: Global, row: &Row) -> Result<bool, Unfit> {
 #[test]
 fn reads_that_are_refused(rt: HostRuntime) -> Result<(), Fail> {
     assert!(rt; is_lacking(rt.alloc(), BODY_MAIN.0, LACKING_MEMBERS)?);
-    for row in TABLE.iter().chain(&OF_ONE_LITERAL) {
+    for row in rows_of_two().iter().chain(rows_of_one()) {
         assert!(rt; is_refused_each(rt.alloc(), row)?);
     }
     Ok(())
@@ -314,8 +324,8 @@ fn reads_that_are_refused(rt: HostRuntime) -> Result<(), Fail> {
 
 #[test]
 fn results_of_the_driver(rt: HostRuntime) -> Result<(), Fail> {
-    assert!(rt; brings_each(rt.alloc(), TEXT, &TABLE)?);
-    assert!(rt; brings_each(rt.alloc(), ONE_LITERAL, &OF_ONE_LITERAL)?);
+    assert!(rt; brings_each(rt.alloc(), TEXT, rows_of_two())?);
+    assert!(rt; brings_each(rt.alloc(), ONE_LITERAL, rows_of_one())?);
     Ok(())
 }
 

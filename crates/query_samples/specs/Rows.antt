@@ -1,5 +1,5 @@
 -- Runs of the queries of MiniJava, as rows of short texts tell them.
-use Rattle.std.specs.Prelude.{◌≡◌, ℕ, List}
+use Rattle.std.specs.Prelude.{ℕ, List}
 use Rattle.item_ids.specs.declared.key.Key.{Key}
 use Rattle.item_ids.specs.declared.key.Key.TheVariants as keys
 use Rattle.result_bytes.specs.declared.value.Value.{Value}
