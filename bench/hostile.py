@@ -8,6 +8,7 @@ longer than the limit is given up.
 import argparse
 import subprocess
 import tempfile
+import threading
 import time
 from pathlib import Path
 
@@ -71,18 +72,28 @@ KINDS = {
 }
 
 
+def timed(words, limit):
+    """Seconds and status of one run; None where it takes longer than the limit. A wait with a timeout of its own would only
+    look every 50 ms."""
+    started = time.perf_counter()
+    ran = subprocess.Popen(words, stdout=subprocess.DEVNULL, stderr=subprocess.DEVNULL)
+    watch = threading.Timer(limit, ran.kill)
+    watch.start()
+    status = ran.wait()
+    taken = time.perf_counter() - started
+    watch.cancel()
+    return (taken, status) if taken < limit else None
+
+
 def least_time(program, path, runs, limit):
     best = None
     for _ in range(runs):
-        started = time.perf_counter()
-        try:
-            done = subprocess.run([program, "scratch", path], stdout=subprocess.DEVNULL, stderr=subprocess.DEVNULL,
-                                  timeout=limit)
-        except subprocess.TimeoutExpired:
+        ran = timed([program, "scratch", path], limit)
+        if ran is None:
             return None
-        if done.returncode not in (0, 1):
-            raise SystemExit(f"{path}: status {done.returncode}")
-        taken = time.perf_counter() - started
+        taken, status = ran
+        if status not in (0, 1):
+            raise SystemExit(f"{path}: status {status}")
         best = taken if best is None else min(best, taken)
     return best
 
