@@ -1,4 +1,6 @@
 //! Sessions by what changed.
+ghost use Rattle.std.specs.Prelude.{◌≡◌, IfOk};
+ghost use Rattle.std.specs.Arc.{arc_value};
 
 use answer_samples::Unfit;
 use session_samples::{Kept, digest_of, session_of};
@@ -96,7 +98,9 @@ pub(crate) fn digest_behind(
 }
 
 /// The session, to be shared.
-pub(crate) fn share(alloc: Global, session: Session) -> Result<Arc<Session>, AllocError> {
+pub(crate) fn share(alloc: Global, session: Session) -> Result<Arc<Session>, AllocError>
+    ensures { IfOk result (λ s. arc_value s ≡ session) }
+{
     Ok(Arc::new(alloc, session)?)
 }
 

@@ -1,4 +1,10 @@
 //! Sessions that are run, and what is reported of them.
+ghost use Rattle.std.specs.Prelude.{◌≡◌, [], replicate, None, Some, IsTrue, IfOk, IfSome};
+ghost use Rattle.std.specs.Arc.{arc_value};
+ghost use Rattle.answer_samples.specs.Telling.{one_file};
+ghost use Rattle.session_samples.specs.Telling.{IsSessionOf};
+ghost use Rattle.job_table.specs.Tables.{session_in};
+ghost use Rattle.table_samples.specs.Reported.{HasCounts, IsReported, AreReported, IsPastOf, IsFaultOver, IsFaultOf};
 
 use crate::changes::share;
 use answer_samples::{Unfit, project_of};
@@ -25,7 +31,9 @@ pub struct Unmade {
 }
 
 /// Whether the reports tell so.
-fn tells(reports: &Reports, counts: &Counts) -> bool {
+fn tells(reports: &Reports, counts: &Counts) -> bool
+    ensures { IsTrue result → HasCounts counts.now reports.now }
+{
     reports.history == counts.history && reports.events.as_slice() == counts.events
 }
 
@@ -35,7 +43,10 @@ fn session_over(
     past: Option<Arc<Session>>,
     project: &Project,
     counts: &Counts,
-) -> Result<Option<Arc<Session>>, Unfit> {
+) -> Result<Option<Arc<Session>>, Unfit>
+    ensures { IfOk result (λ made. IfSome made (λ s.
+        IsReported (session_in past) project.now counts.now (arc_value s))) }
+{
     match run_session(alloc, past, project, counts.workers, &Open) {
         Ok((session, reports)) => session_if(alloc, session, tells(&reports, counts)),
         Err(_) => Err(Unfit),
@@ -43,7 +54,10 @@ fn session_over(
 }
 
 /// The session, to be shared, where this holds.
-fn session_if(alloc: Global, session: Session, holds: bool) -> Result<Option<Arc<Session>>, Unfit> {
+fn session_if(alloc: Global, session: Session, holds: bool) -> Result<Option<Arc<Session>>, Unfit>
+    ensures same { IfOk result (λ made. IfSome made (λ s. arc_value s ≡ session)) }
+    ensures holds { IfOk result (λ made. IfSome made (λ _. IsTrue holds)) }
+{
     if holds {
         Ok(Some(share(alloc, session)?))
     } else {
@@ -57,9 +71,14 @@ fn are_reported_of(
     project: &Project,
     first: &Counts,
     again: &Counts,
-) -> Result<bool, Unfit> {
-    match session_over(alloc, None, project, first)? {
-        Some(past) => Ok(session_over(alloc, Some(past), project, again)?.is_some()),
+) -> Result<bool, Unfit>
+    ensures { IfOk result (λ b. IsTrue b → AreReported project.now first.now again.now) }
+{
+    let Some(past) = session_over(alloc, None, project, first)? else {
+        return Ok(false);
+    };
+    match session_over(alloc, Some(past), project, again)? {
+        Some(_) => Ok(true),
         None => Ok(false),
     }
 }
@@ -70,19 +89,26 @@ pub fn are_reported(
     text: &str,
     first: &Counts,
     again: &Counts,
-) -> Result<bool, Unfit> {
+) -> Result<bool, Unfit>
+    ensures { IfOk result (λ b. IsTrue b
+        → AreReported (one_file text.now) first.now again.now) }
+{
     let project = project_of(alloc, text)?;
     are_reported_of(alloc, &project, first, again)
 }
 
 /// The session of this number without records.
-fn empty_session(alloc: Global, number: u32) -> Result<Arc<Session>, Unfit> {
+fn empty_session(alloc: Global, number: u32) -> Result<Arc<Session>, Unfit>
+    ensures { IfOk result (λ s. IsSessionOf number (replicate 32 0) [] (arc_value s)) }
+{
     let session = session_of(alloc, number, [0; 32], &[])?;
     Ok(share(alloc, session)?)
 }
 
 /// The session of this number without records, where there is a number.
-fn past_numbered(alloc: Global, number: Option<u32>) -> Result<Option<Arc<Session>>, Unfit> {
+fn past_numbered(alloc: Global, number: Option<u32>) -> Result<Option<Arc<Session>>, Unfit>
+    ensures { IfOk result (λ past. IsPastOf number (session_in past)) }
+{
     match number {
         Some(number) => Ok(Some(empty_session(alloc, number)?)),
         None => Ok(None),
@@ -94,17 +120,32 @@ fn fault_over(
     alloc: Global,
     project: &Project,
     unmade: &Unmade,
-) -> Result<Option<DriveFault>, Unfit> {
+) -> Result<Option<DriveFault>, Unfit>
+    ensures { IfOk result (IsFaultOf unmade.now.past project.now unmade.now.workers) }
+{
     let past = past_numbered(alloc, unmade.past)?;
-    Ok(run_session(alloc, past, project, unmade.workers, &Open).err())
+    Ok(fault_behind(alloc, past, project, unmade.workers))
+}
+
+/// Why there is no session over this past, or `None` where there is one.
+fn fault_behind(
+    alloc: Global,
+    past: Option<Arc<Session>>,
+    project: &Project,
+    workers: usize,
+) -> Option<DriveFault>
+    ensures { IsFaultOver (session_in past) project.now workers result }
+{
+    match run_session(alloc, past, project, workers, &Open) {
+        Ok(_) => None,
+        Err(fault) => Some(fault),
+    }
 }
 
 /// Why there is no such session of a project of this text, or `None` where there is one.
-pub fn drive_fault(
-    alloc: Global,
-    text: &str,
-    unmade: &Unmade,
-) -> Result<Option<DriveFault>, Unfit> {
+pub fn drive_fault(alloc: Global, text: &str, unmade: &Unmade) -> Result<Option<DriveFault>, Unfit>
+    ensures { IfOk result (IsFaultOf unmade.now.past (one_file text.now) unmade.now.workers) }
+{
     let project = project_of(alloc, text)?;
     fault_over(alloc, &project, unmade)
 }
