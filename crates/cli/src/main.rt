@@ -1,18 +1,7 @@
 //! The program `mjrg`.
 #![tactic(auto)]
 
-mod auditing;
-mod checking;
-mod failure;
-mod files;
-mod lines;
-mod report;
-mod running;
-mod showing;
-#[cfg(test)]
-mod tests;
-
-pub use running::run;
+use program_run::{no_words, run};
 use std::process::ExitCode;
 use std::rt::Env;
 use std::{env, io};
@@ -22,7 +11,7 @@ fn main(rt: HostRuntime) -> ExitCode {
     let mut err = rt.stderr();
     let status = match command_words(&rt) {
         Ok(list) => run(&rt, list, &mut out, &mut err),
-        Err(error) => report::no_words(&error, &mut err).number(),
+        Err(error) => no_words(&error, &mut err).number(),
     };
     ExitCode::from(status)
 }

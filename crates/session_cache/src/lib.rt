@@ -6,8 +6,6 @@ mod folders;
 mod names;
 mod place;
 mod start;
-#[cfg(test)]
-mod tests;
 
 pub use fault::CacheFault;
 pub use folders::{file_bytes, find_start, write_file};

@@ -1,0 +1,65 @@
+-- What a run writes and ends with.
+use Rattle.std.proofs.Common.{◌≡◌, ◌⊎◌, inl, inr, ℕ, List, [], ◌∷◌, Option, map, string_bytes, String, Vec, refl, sym, ap, arith}
+use Rattle.std.specs.declared.alloc.Global.{Global}
+use Rattle.mj_project.specs.Projects.{names_of, sources_view}
+use Rattle.command_line.specs.declared.asked.Subcommand.{Subcommand}
+use Rattle.program_run.specs.Runs.{Reports, ReportsCheck, TellsHelp, IsWritten, Prints, PrintsCheck, status_number}
+use Rattle.program_run.specs.Statuses.{IsStatus}
+use Rattle.program_run.specs.declared.report.Report.{Report}
+use Rattle.program_run.specs.declared.report.Status.{Status}
+use Rattle.program_run.specs.declared.report.Status.TheVariants as status
+
+pub names_of_sources : (files : List (String Global × Vec ℕ Global)) → names_of (sources_view files) ≡ map (λ file. string_bytes file.0) files
+names_of_sources [] = refl
+names_of_sources (file ∷ files) = ap (λ names. string_bytes file.0 ∷ names) (names_of_sources files)
+
+pub is_status : (s : Status) → IsStatus (status_number s)
+is_status status.Clean = (0, omega arith, refl)
+is_status status.Diagnostics = (1, omega arith, refl)
+is_status status.Refused = (2, omega arith, refl)
+is_status status.ChainRefused = (3, omega arith, refl)
+is_status status.OutOfMemory = (4, omega arith, refl)
+
+-- a delivered report that ends clean or with diagnostics says what such a report says
+delivered : (Says : Report → Type 0) (report : Report) (s : Status) (out_old out_new err_old err_new : Option (List ℕ))
+    → ((report.status ≡ status.Clean) ⊎ (report.status ≡ status.Diagnostics) → Says report)
+    → (s ≡ status.Refused) ⊎ ((s ≡ report.status) × IsWritten report out_old out_new err_old err_new)
+    → (status_number s ≡ 0) ⊎ (status_number s ≡ 1)
+    → Says report × IsWritten report out_old out_new err_old err_new × (status_number s ≡ status_number report.status)
+delivered Says report s a b c d says (inl refused) (inl ends) = absurd cc
+delivered Says report s a b c d says (inl refused) (inr ends) = absurd cc
+delivered Says report status.Clean a b c d says (inr written) ends = (says (inl (sym written.0)), written.1, ap status_number written.0)
+delivered Says report status.Diagnostics a b c d says (inr written) ends = (says (inr (sym written.0)), written.1, ap status_number written.0)
+delivered Says report status.Refused a b c d says (inr written) (inl ends) = absurd cc
+delivered Says report status.Refused a b c d says (inr written) (inr ends) = absurd cc
+delivered Says report status.ChainRefused a b c d says (inr written) (inl ends) = absurd cc
+delivered Says report status.ChainRefused a b c d says (inr written) (inr ends) = absurd cc
+delivered Says report status.OutOfMemory a b c d says (inr written) (inl ends) = absurd cc
+delivered Says report status.OutOfMemory a b c d says (inr written) (inr ends) = absurd cc
+
+-- the report of a subcommand that has FILEs alone
+pub prints : (subcommand : Subcommand) (names : List (List ℕ)) (report : Report) (s : Status) (out_old out_new err_old err_new : Option (List ℕ))
+    → ((report.status ≡ status.Clean) ⊎ (report.status ≡ status.Diagnostics) → Reports subcommand names report)
+    → (s ≡ status.Refused) ⊎ ((s ≡ report.status) × IsWritten report out_old out_new err_old err_new)
+    → (status_number s ≡ 0) ⊎ (status_number s ≡ 1)
+    → Prints subcommand names (status_number s) out_old out_new err_old err_new
+prints subcommand names report s a b c d reports ends number =
+    let all = delivered (Reports subcommand names) report s a b c d reports ends number in
+    record { report = report; reports = all.0; written = all.1; ends = all.2 }
+
+-- the report of a check, or help
+pub prints_check : (given : List (List ℕ)) (report : Report) (s : Status) (out_old out_new err_old err_new : Option (List ℕ))
+    → ((report.status ≡ status.Clean) ⊎ (report.status ≡ status.Diagnostics) → ReportsCheck given report ⊎ TellsHelp report)
+    → (s ≡ status.Refused) ⊎ ((s ≡ report.status) × IsWritten report out_old out_new err_old err_new)
+    → (status_number s ≡ 0) ⊎ (status_number s ≡ 1)
+    → PrintsCheck given (status_number s) out_old out_new err_old err_new
+prints_check given report s a b c d reports ends number =
+    let all = delivered (λ r. ReportsCheck given r ⊎ TellsHelp r) report s a b c d reports ends number in
+    record { report = report; reports = all.0; written = all.1; ends = all.2 }
+
+-- want of memory ends neither so nor so
+pub silent : (s : Status) (Said : Type 0) → (s ≡ status.Refused) ⊎ ((s ≡ status.OutOfMemory) × Said) → (status_number s ≡ 0) ⊎ (status_number s ≡ 1) → ⊥
+silent s Said (inl refused) (inl ends) = absurd cc
+silent s Said (inl refused) (inr ends) = absurd cc
+silent s Said (inr said) (inl ends) = let out : s ≡ status.OutOfMemory = said.0 in absurd cc
+silent s Said (inr said) (inr ends) = let out : s ≡ status.OutOfMemory = said.0 in absurd cc

@@ -1,0 +1,34 @@
+-- What a check over a cache reports.
+use Rattle.std.specs.Prelude.{◌≡◌, ◌++◌, ℕ, List, string_bytes}
+use Rattle.mj_project.specs.Projects.{SourceFile, names_of}
+use Rattle.mj_rules.specs.AnswerWords.{AnswerValue, text_of}
+use Rattle.sessions.specs.Sessions.{SessionValue}
+use Rattle.cached_check.specs.Checks.{IsAnswerIn, IsBeginning, IsNextAt}
+use Rattle.cached_check.specs.Lines.{summary_line}
+use Rattle.cached_check.specs.declared.beginning.Beginning.{Beginning}
+use Rattle.program_run.specs.Endings.{status_of_answer}
+use Rattle.program_run.specs.Lines.{is_clean, IsFaultText}
+use Rattle.program_run.specs.declared.report.Report.{Report}
+
+-- The text of the session's answer, and behind the notes a line for each of its faults with its place
+-- in the files, and a line on the session.
+pub record TellsSession (files : List SourceFile) (notes : List ℕ) (session : SessionValue)
+    (report : Report) : Type 0 where
+  pub answer : AnswerValue
+  pub recorded : IsAnswerIn session answer
+  pub text : string_bytes report.answer ≡ text_of answer
+  pub lines : List ℕ
+  pub places : IsFaultText files answer lines
+  pub told : string_bytes report.notes ≡ notes ++ lines ++ summary_line session
+  pub status : report.status ≡ status_of_answer (is_clean answer)
+
+-- A report on files of these names by the session that comes where the cache of this folder lets it
+-- begin.
+pub record ChecksTo (dir : List ℕ) (names : List (List ℕ)) (report : Report) : Type 0 where
+  pub files : List SourceFile
+  pub named : names_of files ≡ names
+  pub beginning : Beginning
+  pub begins : IsBeginning dir beginning
+  pub session : SessionValue
+  pub next : IsNextAt beginning files session
+  pub tells : TellsSession files (string_bytes beginning.notes) session report

@@ -1,0 +1,33 @@
+-- How a run ends.
+use Rattle.std.specs.Prelude.{Bool, true, false}
+use Rattle.audit_graph.specs.declared.fault.AuditFault.TheVariants as chain
+use Rattle.mj_project.specs.declared.project.ProjectFault.TheVariants as project
+use Rattle.session_file.specs.declared.fault.FileFault.TheVariants as file
+use Rattle.program_run.specs.declared.failure.Failure.{Failure}
+use Rattle.program_run.specs.declared.failure.Failure.TheVariants as failure
+use Rattle.program_run.specs.declared.report.Status.{Status}
+use Rattle.program_run.specs.declared.report.Status.TheVariants as status
+use Rattle.cached_check.specs.declared.fault.CheckFault.TheVariants as cache
+use Rattle.command_line.specs.declared.asked.WordsFault.TheVariants as words
+
+-- an answer without faults is clean
+abbrev pub status_of_answer : Bool → Status
+status_of_answer true = status.Clean
+status_of_answer false = status.Diagnostics
+
+-- help that was asked for is clean, and every other failure but want of memory is refused
+abbrev pub status_of_failure : Failure → Status
+status_of_failure (failure.Words (words.Help text)) = status.Clean
+status_of_failure (failure.Words (words.Refused text)) = status.Refused
+status_of_failure (failure.Words words.OutOfMemory) = status.OutOfMemory
+status_of_failure (failure.CannotRead name) = status.Refused
+status_of_failure (failure.Project project.OutOfMemory) = status.OutOfMemory
+status_of_failure (failure.Project fault) = status.Refused
+status_of_failure (failure.Chain chain.OutOfMemory) = status.OutOfMemory
+status_of_failure (failure.Chain fault) = status.ChainRefused
+status_of_failure (failure.SessionFile file.OutOfMemory) = status.OutOfMemory
+status_of_failure (failure.SessionFile fault) = status.Refused
+status_of_failure (failure.Cache (cache.CannotRead path)) = status.Refused
+status_of_failure (failure.Cache (cache.CannotWrite notes path)) = status.Refused
+status_of_failure (failure.Cache cache.OutOfMemory) = status.OutOfMemory
+status_of_failure failure.OutOfMemory = status.OutOfMemory

@@ -1,0 +1,75 @@
+-- What a run writes.
+use Rattle.std.specs.Prelude.{◌≡◌, ◌⊎◌, ℕ, List, [], Option, drop, map, string_bytes}
+use Rattle.std.specs.Io.KnownBytes.{Appends}
+use Rattle.mj_project.specs.Projects.{SourceFile, names_of}
+use Rattle.mj_rules.specs.AnswerWords.{AnswerValue, text_of}
+use Rattle.mj_rules.specs.Rules.{Rules}
+use Rattle.command_line.specs.Given.{IsGivenBy}
+use Rattle.command_line.specs.declared.asked.CheckWords.{CheckWords}
+use Rattle.command_line.specs.declared.asked.Subcommand.{Subcommand}
+use Rattle.command_line.specs.declared.asked.Subcommand.TheVariants.{Scratch, Audit, Show}
+use Rattle.program_run.specs.Audits.{AuditsTo, ShowsFile}
+use Rattle.program_run.specs.Checks.{ChecksTo}
+use Rattle.program_run.specs.Endings.{status_of_answer}
+use Rattle.program_run.specs.Lines.{is_clean, IsFaultText}
+use Rattle.program_run.specs.declared.report.Report.{Report}
+use Rattle.program_run.specs.declared.report.Status.{Status}
+use Rattle.program_run.specs.declared.report.Status.TheVariants as status
+
+-- The answer that the rules give files of these names: its text, a line for each of its faults with
+-- its place, and the status that it ends with.
+pub record ReportsOn (names : List (List ℕ)) (report : Report) : Type 0 where
+  pub files : List SourceFile
+  pub answer : AnswerValue
+  pub named : names_of files ≡ names
+  pub rules : Rules files answer
+  pub text : string_bytes report.answer ≡ text_of answer
+  pub lines : IsFaultText files answer (string_bytes report.notes)
+  pub status : report.status ≡ status_of_answer (is_clean answer)
+
+-- Both texts of a report stand behind what the two streams held before.
+pub record IsWritten (report : Report)
+    (out_old out_new err_old err_new : Option (List ℕ)) : Type 0 where
+  pub notes : Appends err_old err_new (string_bytes report.notes)
+  pub answer : Appends out_old out_new (string_bytes report.answer)
+
+-- the exit status
+abbrev pub status_number : Status → ℕ
+status_number status.Clean = 0
+status_number status.Diagnostics = 1
+status_number status.Refused = 2
+status_number status.ChainRefused = 3
+status_number status.OutOfMemory = 4
+
+-- the report of a subcommand on files of these names
+abbrev pub Reports : Subcommand → List (List ℕ) → Report → Type 0
+Reports Scratch names report = ReportsOn names report
+Reports Audit names report = AuditsTo names report
+Reports Show names report = ShowsFile report
+
+-- A subcommand's report on files of these names is written, and the run ends with its status.
+pub record Prints (subcommand : Subcommand) (names : List (List ℕ)) (status : ℕ)
+    (out_old out_new err_old err_new : Option (List ℕ)) : Type 0 where
+  pub report : Report
+  pub reports : Reports subcommand names report
+  pub written : IsWritten report out_old out_new err_old err_new
+  pub ends : status ≡ status_number report.status
+
+-- The report of a check over the cache and on the files that the words give.
+pub record ReportsCheck (given : List (List ℕ)) (report : Report) : Type 0 where
+  pub asked : CheckWords
+  pub gives : IsGivenBy (drop 2 given) asked
+  pub checks : ChecksTo (string_bytes asked.cache) (map string_bytes asked.files.items) report
+
+-- Help: nothing stands on standard error, where a check has a line on its session.
+pub record TellsHelp (report : Report) : Type 0 where
+  pub notes : string_bytes report.notes ≡ []
+  pub ends : report.status ≡ status.Clean
+
+-- The report of a check, or help, is written, and the run ends with its status.
+pub record PrintsCheck (given : List (List ℕ)) (status : ℕ)
+    (out_old out_new err_old err_new : Option (List ℕ)) : Type 0 where
+  pub report : Report
+  pub reports : ReportsCheck given report ⊎ TellsHelp report
+  pub written : IsWritten report out_old out_new err_old err_new
+  pub ends : status ≡ status_number report.status

@@ -1,0 +1,56 @@
+//! The check of a project over a cache.
+ghost use Rattle.std.specs.Prelude.{◌≡◌, ◌≢◌, ◌≤◌, IfOk, IfErr, map, string_bytes};
+ghost use Rattle.cached_check.specs.Checks.{IsAnswered};
+ghost use Rattle.program_run.specs.Checks.{ChecksTo, TellsSession};
+ghost use Rattle.program_run.specs.Endings.{status_of_failure};
+
+use crate::failure::Failure;
+use crate::files::read_files;
+use crate::lines::fault_text_of;
+use crate::report::{Report, Status};
+use cached_check::{Beginning, answer_in, begin, keep, next_session, summary_text};
+use command_line::CheckWords;
+use mj_rules::{Project, render};
+use sessions::Session;
+use std::alloc::{AllocError, Global};
+use std::rt::Files;
+
+/// The report on the project of these files by the session that comes behind the last one of the cache. All of it is made
+/// before the session's file is written.
+pub(crate) fn check<R: Files + AllocGlobal>(rt: &R, asked: CheckWords) -> Result<Report, Failure>
+    requires some { 1 ≤ asked.jobs }
+    requires most { asked.jobs ≤ 64 }
+    ensures reports { IfOk result
+        (ChecksTo (string_bytes asked.cache) (map string_bytes asked.files.items)) }
+    ensures failed { IfErr result (λ failure. status_of_failure failure ≢ Status.Clean) }
+{
+    let alloc = rt.alloc();
+    let CheckWords { cache, jobs, files } = asked;
+    let project = Project::new(alloc, read_files(rt, files)?)?;
+    let Beginning { past, place, notes } = begin(rt, cache.as_str())?;
+    let session = next_session(alloc, past, &project, jobs)?;
+    let report = session_report(alloc, &project, notes.as_str(), &session)?;
+    keep(rt, cache.as_str(), place, &session, notes)?;
+    Ok(report)
+}
+
+// What is told of a session: the notes, the faults of its answer, and how much of it was run.
+fn session_report(
+    alloc: Global,
+    project: &Project,
+    notes: &str,
+    session: &Session,
+) -> Result<Report, AllocError>
+    requires { IsAnswered session.now }
+    ensures { IfOk result (TellsSession project.now notes.now session.now) }
+{
+    let answer = answer_in(session);
+    let mut told = String::from_str(alloc, notes)?;
+    told.push_str(fault_text_of(alloc, project, answer)?.as_str())?;
+    told.push_str(summary_text(alloc, session)?.as_str())?;
+    Ok(Report {
+        notes: told,
+        answer: render(alloc, answer)?,
+        status: Status::of_answer(answer),
+    })
+}

@@ -1,0 +1,14 @@
+//! One run of the program: the words of the command line, what they ask for, and what is written.
+#![tactic(auto)]
+
+mod auditing;
+mod checking;
+mod failure;
+mod files;
+mod lines;
+mod report;
+mod running;
+mod showing;
+
+pub use report::{Status, no_words};
+pub use running::run;

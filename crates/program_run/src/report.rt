@@ -1,0 +1,150 @@
+//! What a run writes, all of it made before the first byte is written.
+ghost use Rattle.std.specs.Prelude.{◌≡◌, ◌⊎◌, [], OnOk, codes, string_bytes};
+ghost use Rattle.std.specs.Io.KnownBytes.{Appends};
+ghost use Rattle.std.specs.IoError.{error_kind};
+ghost use Rattle.program_run.specs.Endings.{status_of_answer};
+ghost use Rattle.program_run.specs.Lines.{is_clean};
+ghost use Rattle.program_run.specs.Runs.{IsWritten, status_number};
+
+use crate::lines::is_clean;
+use mj_rules::Answer;
+use std::alloc::Global;
+use std::io;
+use std::io::{ErrorKind, Write};
+
+/// How a run ends. The numbers are the program's exit statuses.
+#[derive(Clone, Copy, Debug, PartialEq, Eq)]
+pub enum Status {
+    /// There is no diagnostic, the chain is accepted, the session is shown, or help was asked for.
+    Clean = 0,
+    /// The answer has diagnostics.
+    Diagnostics = 1,
+    /// The words, the project or the session file are refused, or a file or a stream can't be used.
+    Refused = 2,
+    /// The chain is refused.
+    ChainRefused = 3,
+    /// Memory ran out.
+    OutOfMemory = 4,
+}
+
+impl Status {
+    /// How a run ends whose answer this is.
+    pub fn of_answer(answer: &Answer) -> Status
+        ensures { result ≡ status_of_answer (is_clean answer.now) }
+    {
+        if is_clean(answer) {
+            Status::Clean
+        } else {
+            Status::Diagnostics
+        }
+    }
+
+    /// The exit status.
+    pub fn number(self) -> u8
+        ensures { result ≡ status_number self }
+    {
+        self as u8
+    }
+}
+
+/// The texts of a run and its end.
+#[derive(Debug, Drop)]
+pub struct Report {
+    /// What goes to standard error.
+    pub notes: String,
+    /// What goes to standard output.
+    pub answer: String,
+    pub status: Status,
+}
+
+impl Report {
+    /// The help that was asked for.
+    pub fn help(alloc: Global, text: String) -> Self
+        ensures notes { string_bytes result.notes ≡ [] }
+        ensures answer { string_bytes result.answer ≡ string_bytes text }
+        ensures status { result.status ≡ Status.Clean }
+    {
+        Report {
+            notes: String::new(alloc),
+            answer: text,
+            status: Status::Clean,
+        }
+    }
+
+    /// Why there is no answer.
+    pub fn refusal(alloc: Global, text: String) -> Self
+        ensures notes { string_bytes result.notes ≡ string_bytes text }
+        ensures answer { string_bytes result.answer ≡ [] }
+        ensures status { result.status ≡ Status.Refused }
+    {
+        Report {
+            notes: text,
+            answer: String::new(alloc),
+            status: Status::Refused,
+        }
+    }
+
+    /// Why the chain is refused.
+    pub fn chain_refusal(alloc: Global, text: String) -> Self
+        ensures notes { string_bytes result.notes ≡ string_bytes text }
+        ensures answer { string_bytes result.answer ≡ [] }
+        ensures status { result.status ≡ Status.ChainRefused }
+    {
+        Report {
+            notes: text,
+            answer: String::new(alloc),
+            status: Status::ChainRefused,
+        }
+    }
+}
+
+/// Writes the notes, and then the answer. Where one of them can't be written the run is refused.
+pub(crate) fn deliver<W: Write, E: Write>(report: &Report, out: &mut W, err: &mut E) -> Status
+    ensures { (result ≡ Status.Refused)
+        ⊎ ((result ≡ report.now.status)
+        × IsWritten report.now (W.contents out.old) (W.contents out.new)
+        (E.contents err.old) (E.contents err.new)) }
+{
+    if write(err, report.notes.as_bytes()).is_err() {
+        return Status::Refused;
+    }
+    if write(out, report.answer.as_bytes()).is_err() {
+        let _ = write(err, b"cannot write standard output\n");
+        return Status::Refused;
+    }
+    report.status
+}
+
+/// Says that memory ran out, and takes none for it. Where that can't be written the run is refused.
+pub(crate) fn no_memory<E: Write>(err: &mut E) -> Status
+    ensures { (result ≡ Status.Refused)
+        ⊎ ((result ≡ Status.OutOfMemory)
+        × Appends (E.contents err.old) (E.contents err.new) (codes "out of memory\n")) }
+{
+    match write(err, b"out of memory\n") {
+        Ok(()) => Status::OutOfMemory,
+        Err(_) => Status::Refused,
+    }
+}
+
+/// Says why the system gave no words.
+pub fn no_words<E: Write>(error: &io::Error, err: &mut E) -> Status
+    ensures { (result ≡ Status.Refused)
+        ⊎ ((result ≡ Status.OutOfMemory) × (error_kind error.now ≡ ErrorKind.OutOfMemory)
+        × Appends (E.contents err.old) (E.contents err.new) (codes "out of memory\n")) }
+{
+    if error.kind() == ErrorKind::OutOfMemory {
+        return no_memory(err);
+    }
+    let _ = write(err, b"error: a word of the command line isn't UTF-8\n");
+    Status::Refused
+}
+
+// Writes and flushes.
+#[tactic(auto, using(crate::proofs::Streams::appends_kept))]
+fn write<W: Write>(writer: &mut W, bytes: &[u8]) -> io::Result<()>
+    ensures { OnOk result (Appends (W.contents writer.old) (W.contents writer.new) bytes.now) }
+{
+    writer.write_all(bytes)?;
+    writer.flush()
+}

@@ -1,0 +1,182 @@
+//! Reads and writes that fail.
+use crate::devices::{Full, Logged, Memory};
+use crate::runs::scratch;
+use std::alloc::Global;
+use std::cell::{Cell, RefCell};
+use std::io::ErrorKind;
+use std::test::Fail;
+
+/// Two files of a project, and one whose name is no file's.
+const FILES: &[(&str, &[u8])] = &[
+    ("a", b"class A { }"),
+    (
+        "M",
+        b"class M { public static void main(String[] a) { System.out.println(1); } }",
+    ),
+    ("", b"class B { }"),
+];
+
+/// The files that are named, the read that fails, and how; then the exit status, standard output and standard error.
+type Read<'a> = (
+    &'a [&'a str],
+    Option<(usize, ErrorKind)>,
+    u8,
+    &'a str,
+    &'a str,
+);
+
+/// No read fails.
+const PLAIN: Read = (&["a", "M"], None, 0, "class A\nclass M\n", "");
+
+const READS: &[Read] = &[
+    PLAIN,
+    (
+        &["a", "M"],
+        Some((0, ErrorKind::Other)),
+        2,
+        "",
+        "cannot read a\n",
+    ),
+    (
+        &["a", "M"],
+        Some((1, ErrorKind::Other)),
+        2,
+        "",
+        "cannot read a\n",
+    ),
+    (
+        &["a", "M"],
+        Some((2, ErrorKind::PermissionDenied)),
+        2,
+        "",
+        "cannot read M\n",
+    ),
+    (
+        &["a", "M"],
+        Some((3, ErrorKind::Other)),
+        2,
+        "",
+        "cannot read M\n",
+    ),
+    (
+        &["a", "M"],
+        Some((1, ErrorKind::OutOfMemory)),
+        4,
+        "",
+        "out of memory\n",
+    ),
+    // The memory has a file without a name, which no folder has.
+    (
+        &["M", "", "M"],
+        None,
+        2,
+        "",
+        "refused: 3.4 BadFileName(1)\n",
+    ),
+];
+
+/// Whether the run ends so, and how often it has read.
+fn ends(alloc: Global, row: &Read) -> Result<(bool, usize), Fail> {
+    let (names, failing, status, wanted_out, wanted_err) = *row;
+    let reads = Cell::new(0);
+    let memory = Memory {
+        files: FILES,
+        reads: &reads,
+        failing,
+    };
+    let mut out: Vec<u8> = Vec::new(alloc);
+    let mut err: Vec<u8> = Vec::new(alloc);
+    let ended = scratch(alloc, memory, names, &mut out, &mut err)?;
+    let is_so = ended == status
+        && out.as_slice() == wanted_out.as_bytes()
+        && err.as_slice() == wanted_err.as_bytes();
+    Ok((is_so, reads.get()))
+}
+
+#[test]
+fn a_failed_read_ends_the_run(rt: HostRuntime) -> Result<(), Fail> {
+    for row in READS {
+        assert!(rt; ends(rt.alloc(), row)?.0, "{row:?}");
+    }
+    Ok(())
+}
+
+// Each of the four reads of the two files fails in a row above.
+#[test]
+fn two_files_are_four_reads(rt: HostRuntime) -> Result<(), Fail> {
+    assert_eq!(rt; ends(rt.alloc(), &PLAIN)?.1, 4);
+    Ok(())
+}
+
+/// A class at fault, with what is written of it.
+const FAULTY: &[(&str, &[u8])] = &[("a", b"class A extends A { }")];
+
+const OUT: &str = "E102 project\nclass A\n  E202 class\n";
+
+const ERR: &str = "project: E102\na:1:7: E202\n";
+
+fn faulty(reads: &Cell<usize>) -> Memory<'_> {
+    Memory {
+        files: FAULTY,
+        reads,
+        failing: None,
+    }
+}
+
+/// Whether standard output that is full after so many bytes is noted and refused.
+fn is_refused_after(alloc: Global, left: usize) -> Result<bool, Fail> {
+    let reads = Cell::new(0);
+    let mut err: Vec<u8> = Vec::new(alloc);
+    let status = scratch(alloc, faulty(&reads), &["a"], &mut Full { left }, &mut err)?;
+    let noted = err.strip_prefix(ERR.as_bytes());
+    Ok(status == 2 && noted == Some(b"cannot write standard output\n".as_slice()))
+}
+
+#[test]
+fn a_failed_write_is_refused(rt: HostRuntime) -> Result<(), Fail> {
+    for left in 0..OUT.len() {
+        assert!(rt; is_refused_after(rt.alloc(), left)?, "after {left}");
+    }
+    Ok(())
+}
+
+/// Whether nothing is written to standard output where standard error is full after so many bytes.
+fn is_silent_after(alloc: Global, left: usize) -> Result<bool, Fail> {
+    let reads = Cell::new(0);
+    let mut out: Vec<u8> = Vec::new(alloc);
+    let status = scratch(alloc, faulty(&reads), &["a"], &mut out, &mut Full { left })?;
+    Ok(status == 2 && out.is_empty())
+}
+
+#[test]
+fn nothing_follows_a_failed_note(rt: HostRuntime) -> Result<(), Fail> {
+    for left in 0..ERR.len() {
+        assert!(rt; is_silent_after(rt.alloc(), left)?, "after {left}");
+    }
+    Ok(())
+}
+
+/// Whether the log has these bytes.
+fn has(log: &RefCell<Vec<u8>>, bytes: &[u8]) -> bool {
+    match log.try_borrow() {
+        Ok(log) => log.as_slice() == bytes,
+        Err(_) => false,
+    }
+}
+
+#[test]
+fn standard_error_comes_first(rt: HostRuntime) -> Result<(), Fail> {
+    let reads = Cell::new(0);
+    let log = RefCell::new(Vec::new(rt.alloc()));
+    let mut out = Logged { log: &log };
+    let mut err = Logged { log: &log };
+    let status = scratch(rt.alloc(), faulty(&reads), &["a"], &mut out, &mut err)?;
+    assert_eq!(rt; status, 1);
+    assert!(rt;
+        has(
+            &log,
+            b"project: E102\na:1:7: E202\nE102 project\nclass A\n  E202 class\n"
+        )
+    );
+    Ok(())
+}
