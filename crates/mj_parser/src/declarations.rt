@@ -9,7 +9,7 @@ ghost use Rattle.mj_parser.specs.FileReading.{type_at, variable_at, local_at, be
 use crate::expressions::{ANY_TIER, read};
 use crate::fault::ParseFault;
 use crate::statements::statement;
-use crate::tokens::{Part, expect, expect_name, has, name};
+use crate::tokens::{Part, expect, expect_name, expect_two, has, name};
 use mj_lexer::{Name, Terminal, Token};
 use mj_tree::{MOST_LEVELS, MethodTree, Stmt, Ty, Variable};
 use std::alloc::Global;
@@ -195,8 +195,12 @@ pub fn method(alloc: Global, tokens: &[Token]) -> Result<Part<MethodTree>, Parse
     let locals = locals(alloc, tokens, signature.after)?;
     let body = body(alloc, tokens, locals.after)?;
     let returned = read(alloc, tokens, body.after + 1, MOST_LEVELS, ANY_TIER)?;
-    let after = expect(tokens, returned.after, Terminal::Semicolon)?;
-    let after = expect(tokens, after, Terminal::RightBrace)?;
+    let after = expect_two(
+        tokens,
+        returned.after,
+        Terminal::Semicolon,
+        Terminal::RightBrace,
+    )?;
     Ok(Part {
         tree: MethodTree {
             name: signature.tree.name,

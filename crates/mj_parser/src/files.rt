@@ -9,7 +9,7 @@ ghost use Rattle.mj_parser.specs.declared.fault.ParseFault.TheVariants.{OutOfMem
 use crate::declarations::{local, method};
 use crate::fault::ParseFault;
 use crate::statements::statement;
-use crate::tokens::{Part, expect, expect_name, expect_word, has, name};
+use crate::tokens::{Part, expect, expect_name, expect_two, expect_word, has, name};
 use mj_lexer::{Name, Terminal, Token};
 use mj_tree::{ClassTree, Field, FileTree, MOST_LEVELS, MainTree, MethodTree, Stmt};
 use std::alloc::Global;
@@ -186,8 +186,12 @@ fn main_method(alloc: Global, tokens: &[Token]) -> Result<Part<Stmt>, ParseFault
     expect_main_head(tokens)?;
     let inside = expect_main_parameter(tokens)?;
     let statement = statement(alloc, tokens, inside, MOST_LEVELS)?;
-    let after = expect(tokens, statement.after, Terminal::RightBrace)?;
-    let after = expect(tokens, after, Terminal::RightBrace)?;
+    let after = expect_two(
+        tokens,
+        statement.after,
+        Terminal::RightBrace,
+        Terminal::RightBrace,
+    )?;
     Ok(Part {
         tree: statement.tree,
         after,

@@ -14,7 +14,7 @@ ghost use Rattle.mj_parser.specs.declared.fault.ParseFault.TheVariants.{NotAFile
 use crate::expressions::{ANY_TIER, ExpPart, read};
 use crate::fault::ParseFault;
 use crate::nodes;
-use crate::tokens::{Part, expect, expect_name, expect_word, has, name, says};
+use crate::tokens::{Part, expect, expect_name, expect_two, expect_word, has, name, says};
 use mj_lexer::{Name, Terminal, Token};
 use mj_tree::Stmt;
 use std::alloc::Global;
@@ -62,8 +62,12 @@ fn print(alloc: Global, tokens: &[Token], at: usize, room: usize) -> Result<Part
 {
     let inside = print_opening(tokens, at)?;
     let value = read(alloc, tokens, inside, room, ANY_TIER)?;
-    let after = expect(tokens, value.after, Terminal::RightParenthesis)?;
-    let after = expect(tokens, after, Terminal::Semicolon)?;
+    let after = expect_two(
+        tokens,
+        value.after,
+        Terminal::RightParenthesis,
+        Terminal::Semicolon,
+    )?;
     Ok(Part {
         tree: nodes::print(at, value.exp),
         after,

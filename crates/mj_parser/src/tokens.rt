@@ -1,7 +1,7 @@
 //! Tokens by their places.
-ghost use Rattle.std.specs.Prelude.{◌≡◌, ◌+◌, ◌<◌, ◌≤◌, ◌↔◌, ◌^◌, IsTrue, IsSome, IfOk, IfErr, MatchOption, length, true, false, Some, None};
+ghost use Rattle.std.specs.Prelude.{◌≡◌, ◌≢◌, ◌+◌, ◌<◌, ◌≤◌, ◌↔◌, ◌^◌, ◌&&◌, IsTrue, IsSome, IfOk, IfErr, MatchOption, length, true, false, Some, None};
 ghost use Rattle.mj_parser.specs.Tokens.{same_terminal, kind_at, has, name_at, says};
-ghost use Rattle.mj_parser.specs.declared.fault.ParseFault.TheVariants.{NotAFile};
+ghost use Rattle.mj_parser.specs.declared.fault.ParseFault.TheVariants.{NotAFile, OutOfMemory};
 
 use crate::fault::ParseFault;
 use mj_lexer::{Kind, Name, Terminal, Token};
@@ -80,6 +80,24 @@ pub fn expect(tokens: &[Token], at: usize, terminal: Terminal) -> Result<usize, 
     } else {
         Err(ParseFault::NotAFile(at))
     }
+}
+
+/// The place after two symbols that have to stand here.
+pub fn expect_two(
+    tokens: &[Token],
+    at: usize,
+    first: Terminal,
+    second: Terminal,
+) -> Result<usize, ParseFault>
+    requires { at < 2 ^ 62 }
+    ensures found { IfOk result (λ after.
+        ((has tokens.now at first && has tokens.now (at + 1) second) ≡ true) × (after ≡ at + 2)
+        × (after ≤ length tokens.now)) }
+    ensures fault { IfErr result (λ e.
+        (e ≢ OutOfMemory) × ((has tokens.now at first && has tokens.now (at + 1) second) ≡ false)) }
+{
+    let after = expect(tokens, at, first)?;
+    expect(tokens, after, second)
 }
 
 /// The place after a word that has to stand here.
