@@ -1,5 +1,5 @@
 -- What is read as an expression is that expression by the grammar.
-use Rattle.std.proofs.Common.{◌≡◌, ℕ, zero, suc, ◌+◌, ◌≤◌, true, not, ◌&&◌, eqb, leb, List, length, Option, Some, None, refl, sym, ap, ◌∙◌, subst, arith, inl, inr}
+use Rattle.std.proofs.Common.{◌≡◌, ℕ, zero, suc, ◌+◌, ◌≤◌, true, not, ◌&&◌, eqb, leb, List, length, Option, Some, None, refl, sym, ap, subst, arith, inl, inr}
 use Rattle.std.specs.Prelude.{codes}
 use Rattle.std.proofs.lemmas.Bool.{eqb-true, leb-true}
 use Rattle.mj_lexer.specs.declared.token.Terminal.{Terminal}
@@ -8,7 +8,7 @@ use Rattle.mj_lexer.specs.declared.token.Terminal.TheVariants as terminals
 use Rattle.mj_lexer.specs.declared.token.Kind.{Kind}
 use Rattle.mj_lexer.specs.declared.token.Kind.TheVariants as kinds
 use Rattle.mj_tree.specs.declared.tree.Operator.{Operator}
-use Rattle.mj_parser.specs.Tokens.{Stands, same_terminal, is_terminal, name_of, value_of, kind_at, has, name_at, value_at, says}
+use Rattle.mj_parser.specs.Tokens.{Stands, name_of, value_of, kind_at, has, name_at, value_at, says}
 use Rattle.mj_tree.specs.Trees.{Expression, Binary, Index, Length, Call, Literal, Boolean, Named, This, NewArray, NewObject, Not, Parenthesized}
 use Rattle.mj_parser.specs.Expressions.{tier_of, terminal_of, size, sizes, sizes_more, height, heights, is_new_array, IsExp, AreArguments, AreMore}
 use Rattle.mj_tree.specs.Views.{expressions_of}

@@ -10,7 +10,7 @@ use Rattle.mj_parser.specs.Statements.{stmt_size, stmts_size, stmt_height, stmts
 use Rattle.mj_parser.specs.Steps.{PartParser, items_from}
 use Rattle.mj_parser.specs.ExpressionReading.{exp_at}
 use Rattle.mj_parser.specs.StatementReading.{not_brace, block_at, condition_at, if_at, while_at, print_at, assign_at, store_at, named_at, stmt_of, stmt_at}
-use Rattle.mj_parser.proofs.Binds.{bind_some, when_some, if_some, some_is, and_both}
+use Rattle.mj_parser.proofs.Binds.{bind_some, when_some, if_some, some_is}
 use Rattle.mj_parser.proofs.ExpressionFound.{exp_found}
 use Rattle.mj_parser.proofs.Stands.{stands, when_stands, if_stands, both_stand}
 

@@ -143,31 +143,9 @@ pub fn choice(
         ≡ trees.If mark (exp_view condition) (stmt_view then_branch)
         (stmt_view else_branch)) }
 {
-    let branches = boxed_branches(alloc, then_branch, else_branch)?;
     Ok(Stmt::If {
         mark,
         condition,
-        then_branch: branches.then_branch,
-        else_branch: branches.else_branch,
-    })
-}
-
-// The two statements of an `if`.
-#[derive(Drop)]
-struct Branches {
-    then_branch: Box<Stmt>,
-    else_branch: Box<Stmt>,
-}
-
-fn boxed_branches(
-    alloc: Global,
-    then_branch: Stmt,
-    else_branch: Stmt,
-) -> Result<Branches, AllocError>
-    ensures { IfOk result (λ b.
-        (b.then_branch.value ≡ then_branch) × (b.else_branch.value ≡ else_branch)) }
-{
-    Ok(Branches {
         then_branch: Box::new(alloc, then_branch)?,
         else_branch: Box::new(alloc, else_branch)?,
     })
