@@ -1,7 +1,5 @@
-//! Tests of the crates that read text: their expected values are from the rules of the language and its worked examples.
+//! Tests of the crate that reads tokens into trees: their expected values are from the rules of the language and its worked examples.
 #![tactic(auto)]
 
-#[cfg(test)]
-mod lexing;
 #[cfg(test)]
 mod parsing;
