@@ -1,9 +1,7 @@
-//! Tests of what no run over real files shows: reads and writes that fail, the order of the writes, the words by
-//! themselves, and a cache by itself.
+//! Tests of what no run over real files shows: reads and writes that fail, the order of the writes, and the words by
+//! themselves.
 #![tactic(auto)]
 
-#[cfg(test)]
-mod caches;
 #[cfg(test)]
 mod command_words;
 #[cfg(test)]
