@@ -1,7 +1,7 @@
 //! Tokens by their places.
-ghost use Rattle.std.specs.Prelude.{◌≡◌, ◌≢◌, ◌+◌, ◌<◌, ◌≤◌, ◌↔◌, ◌^◌, ◌&&◌, IsTrue, IsSome, IfOk, IfErr, MatchOption, length, true, false, Some, None};
+ghost use Rattle.std.specs.Prelude.{◌≡◌, ◌+◌, ◌<◌, ◌≤◌, ◌↔◌, ◌^◌, ◌&&◌, if◌then◌else◌, IsTrue, IsSome, IfOk, IfErr, MatchOption, length, true, false, Some, None};
 ghost use Rattle.mj_parser.specs.Tokens.{same_terminal, kind_at, has, name_at, says};
-ghost use Rattle.mj_parser.specs.declared.fault.ParseFault.TheVariants.{NotAFile, OutOfMemory};
+ghost use Rattle.mj_parser.specs.declared.fault.ParseFault.TheVariants.{NotAFile};
 
 use crate::fault::ParseFault;
 use mj_lexer::{Kind, Name, Terminal, Token};
@@ -94,7 +94,8 @@ pub fn expect_two(
         ((has tokens.now at first && has tokens.now (at + 1) second) ≡ true) × (after ≡ at + 2)
         × (after ≤ length tokens.now)) }
     ensures fault { IfErr result (λ e.
-        (e ≢ OutOfMemory) × ((has tokens.now at first && has tokens.now (at + 1) second) ≡ false)) }
+        (e ≡ NotAFile (if has tokens.now at first then at + 1 else at))
+        × ((has tokens.now at first && has tokens.now (at + 1) second) ≡ false)) }
 {
     let after = expect(tokens, at, first)?;
     expect(tokens, after, second)
