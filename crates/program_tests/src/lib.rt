@@ -1,9 +1,6 @@
-//! Tests of what no run over real files shows: reads and writes that fail, the order of the writes, and the words by
-//! themselves.
+//! Tests of what no run over real files shows: reads and writes that fail, and the order of the writes.
 #![tactic(auto)]
 
-#[cfg(test)]
-mod command_words;
 #[cfg(test)]
 mod devices;
 #[cfg(test)]

@@ -5,13 +5,13 @@ use std::alloc::Global;
 use std::io::Write;
 use std::test::Fail;
 
-/// The words of a command line.
-pub(crate) fn list(alloc: Global, texts: &[&str]) -> Result<Vec<String>, Fail> {
-    let mut list = Vec::new(alloc);
-    for text in texts {
-        list.push(String::from_str(alloc, text)?)?;
+/// The words of `mjrg scratch -- NAME..`.
+fn words(alloc: Global, names: &[&str]) -> Result<Vec<String>, Fail> {
+    let mut words = Vec::new(alloc);
+    for word in ["mjrg", "scratch", "--"].iter().chain(names) {
+        words.push(String::from_str(alloc, word)?)?;
     }
-    Ok(list)
+    Ok(words)
 }
 
 /// Runs `scratch` on these files of a memory, writes to the two streams and gives the exit status.
@@ -22,9 +22,6 @@ pub(crate) fn scratch<W: Write, E: Write>(
     out: &mut W,
     err: &mut E,
 ) -> Result<u8, Fail> {
-    let mut words = list(alloc, &["mjrg", "scratch", "--"])?;
-    for name in names {
-        words.push(String::from_str(alloc, name)?)?;
-    }
+    let words = words(alloc, names)?;
     Ok(run(&(memory, alloc), words, out, err))
 }

@@ -1,8 +1,16 @@
 //! Words that no shell gives: another name of the program, and none.
-use crate::runs::list;
 use command_line::{Subcommand, Words, WordsFault, words};
 use std::alloc::{AllocError, Global};
 use std::test::Fail;
+
+/// The words of a command line.
+fn list(alloc: Global, texts: &[&str]) -> Result<Vec<String>, Fail> {
+    let mut list = Vec::new(alloc);
+    for text in texts {
+        list.push(String::from_str(alloc, text)?)?;
+    }
+    Ok(list)
+}
 
 /// Command lines, the subcommand that they ask for, and the files that they name.
 const FILES: &[(&[&str], Subcommand, &[&str])] = &[

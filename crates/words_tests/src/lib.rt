@@ -1,0 +1,5 @@
+//! Tests of the reader of the command line, of words that no shell gives among them.
+#![tactic(auto)]
+
+#[cfg(test)]
+mod command_words;
