@@ -1,1 +1,4 @@
 mod Reporting
+mod Turns
+mod Changing
+mod Answering

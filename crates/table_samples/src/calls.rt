@@ -1,4 +1,9 @@
 //! The calls of a table, and what they say.
+ghost use Rattle.std.specs.Prelude.{◌≡◌, length, IfOk, IsTrue};
+ghost use Rattle.answer_samples.specs.Telling.{IsKeyOf};
+ghost use Rattle.session_samples.specs.declared.records.Kept.{Kept as SpecKept};
+ghost use Rattle.table_samples.specs.Told.{InTurn};
+ghost use Rattle.table_samples.specs.Called.{said_of, SaysOfAsk, SaysOfMark, SaysOfBegin, SaysOfFinish, SaysOfFail, SaysOfClose, IsLast, Says, IsSaid, AreSaid};
 
 use crate::changes::Change;
 use crate::runs::outcome_of;
@@ -51,7 +56,9 @@ pub struct Calls {
     pub sayings: &'static [Saying],
 }
 
-pub(crate) fn ask(table: &mut Table<MiniJava>, worker: u32, key: &Key) -> Said {
+pub(crate) fn ask(table: &mut Table<MiniJava>, worker: u32, key: &Key) -> Said
+    ensures { SaysOfAsk worker key.now result table.old table.new }
+{
     match table.ask(worker, key) {
         Ok(Told::Yours) => Said::Yours,
         Ok(Told::Done(_)) => Said::Done,
@@ -61,29 +68,42 @@ pub(crate) fn ask(table: &mut Table<MiniJava>, worker: u32, key: &Key) -> Said {
     }
 }
 
-pub(crate) fn mark(table: &mut Table<MiniJava>, worker: u32, key: &Key) -> Said {
+pub(crate) fn mark(table: &mut Table<MiniJava>, worker: u32, key: &Key) -> Said
+    ensures { SaysOfMark worker key.now result table.old table.new }
+{
     match table.mark(worker, key) {
         Ok(_) => Said::Done,
         Err(fault) => Said::Refused(fault),
     }
 }
 
+pub(crate) fn begin(table: &mut Table<MiniJava>, worker: u32, key: &Key) -> Said
+    ensures { SaysOfBegin worker key.now result table.old table.new }
+{
+    answer_of(table.begin_run(worker, key))
+}
+
 /// What is said by a call that gives nothing.
-pub(crate) fn answer_of(called: Result<(), TableFault>) -> Said {
+fn answer_of(called: Result<(), TableFault>) -> Said
+    ensures { result ≡ said_of called }
+{
     match called {
         Ok(()) => Said::Done,
         Err(fault) => Said::Refused(fault),
     }
 }
 
-/// What the table says to the outcome of a run.
+/// What the table says to the outcome of the record's run.
 pub(crate) fn finish(
     alloc: Global,
     table: &mut Table<MiniJava>,
     worker: u32,
     records: &[Kept],
     kept: &Kept,
-) -> Result<Said, Unfit> {
+) -> Result<Said, Unfit>
+    ensures { IfOk result (λ said.
+        SaysOfFinish records.now kept.now worker said table.old table.new) }
+{
     let outcome = outcome_of(alloc, records, kept)?;
     Ok(answer_of(table.finish(worker, outcome)))
 }
@@ -93,14 +113,25 @@ fn finish_last(
     table: &mut Table<MiniJava>,
     worker: u32,
     records: &[Kept],
-) -> Result<Said, Unfit> {
+) -> Result<Said, Unfit>
+    ensures { IfOk result (λ said. (kept : SpecKept) × IsLast records.now kept
+        × SaysOfFinish records.now kept worker said table.old table.new) }
+{
     match records.last() {
         Some(kept) => finish(alloc, table, worker, records, kept),
         None => Err(Unfit),
     }
 }
 
-fn close(table: &Table<MiniJava>) -> Said {
+fn fail(table: &mut Table<MiniJava>, worker: u32) -> Said
+    ensures { SaysOfFail worker result table.old table.new }
+{
+    answer_of(table.fail(worker))
+}
+
+fn close(table: &Table<MiniJava>) -> Said
+    ensures { SaysOfClose result table.now }
+{
     match table.close() {
         Ok(_) => Said::Done,
         Err(fault) => Said::NotClosed(fault),
@@ -113,25 +144,60 @@ fn answer_to(
     table: &mut Table<MiniJava>,
     saying: &Saying,
     key: &Key,
-) -> Result<Said, Unfit> {
+) -> Result<Said, Unfit>
+    ensures { IfOk result (λ said.
+        Says saying.now.call saying.now.worker key.now said table.old table.new) }
+{
     match saying.call {
         Call::Ask => Ok(ask(table, saying.worker, key)),
         Call::Mark => Ok(mark(table, saying.worker, key)),
-        Call::Begin => Ok(answer_of(table.begin_run(saying.worker, key))),
+        Call::Begin => Ok(begin(table, saying.worker, key)),
         Call::Finish(records) => finish_last(alloc, table, saying.worker, records),
-        Call::Fail => Ok(answer_of(table.fail(saying.worker))),
+        Call::Fail => Ok(fail(table, saying.worker)),
         Call::Close => Ok(close(table)),
     }
 }
 
-/// Whether the call says so, and the table has so many events then.
-fn says(alloc: Global, table: &mut Table<MiniJava>, saying: &Saying) -> Result<bool, Unfit> {
-    let key = key_of(alloc, saying.key)?;
-    let said = answer_to(alloc, table, saying, &key)?;
-    Ok(said == saying.said && table.history().len() == saying.events)
+/// How many events the table has.
+pub(crate) fn events(table: &Table<MiniJava>) -> usize
+    ensures { result ≡ length table.now.history }
+{
+    table.history().len()
 }
 
-fn all_say(alloc: Global, table: &mut Table<MiniJava>, sayings: &[Saying]) -> Result<bool, Unfit> {
+/// Whether this is what should be said, and the table has so many events.
+fn is_so(table: &Table<MiniJava>, saying: &Saying, said: Said) -> bool
+    ensures said { IsTrue result → said ≡ saying.now.said }
+    ensures events { IsTrue result → length table.now.history ≡ saying.now.events }
+{
+    said == saying.said && events(table) == saying.events
+}
+
+/// Whether the call with this key says so, and the table has so many events then.
+fn says_of(
+    alloc: Global,
+    table: &mut Table<MiniJava>,
+    saying: &Saying,
+    key: &Key,
+) -> Result<bool, Unfit>
+    requires { IsKeyOf saying.now.key key.now }
+    ensures { IfOk result (λ b. IsTrue b → IsSaid saying.now table.old table.new) }
+{
+    let said = answer_to(alloc, table, saying, key)?;
+    Ok(is_so(table, saying, said))
+}
+
+/// Whether the call says so, and the table has so many events then.
+fn says(alloc: Global, table: &mut Table<MiniJava>, saying: &Saying) -> Result<bool, Unfit>
+    ensures { IfOk result (λ b. IsTrue b → IsSaid saying.now table.old table.new) }
+{
+    let key = key_of(alloc, saying.key)?;
+    says_of(alloc, table, saying, &key)
+}
+
+fn all_say(alloc: Global, table: &mut Table<MiniJava>, sayings: &[Saying]) -> Result<bool, Unfit>
+    ensures { IfOk result (λ b. IsTrue b → InTurn IsSaid sayings.now table.old table.new) }
+{
     for saying in sayings {
         if !says(alloc, table, saying)? {
             return Ok(false);
@@ -141,7 +207,9 @@ fn all_say(alloc: Global, table: &mut Table<MiniJava>, sayings: &[Saying]) -> Re
 }
 
 /// Opens the table and makes the calls in turn: whether each says what it should.
-pub fn are_said(alloc: Global, calls: &Calls) -> Result<bool, Unfit> {
+pub fn are_said(alloc: Global, calls: &Calls) -> Result<bool, Unfit>
+    ensures { IfOk result (λ b. IsTrue b → AreSaid calls.now) }
+{
     let mut table = table_of(alloc, calls.chain, calls.text)?;
     all_say(alloc, &mut table, calls.sayings)
 }

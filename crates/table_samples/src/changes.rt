@@ -1,9 +1,16 @@
 //! Sessions by what changed.
-ghost use Rattle.std.specs.Prelude.{◌≡◌, IfOk};
+ghost use Rattle.std.specs.Prelude.{◌≡◌, ◌==◌, find, option_copied, IfOk};
 ghost use Rattle.std.specs.Arc.{arc_value};
+ghost use Rattle.std.specs.List.{list_any};
+ghost use Rattle.sessions.specs.Spelling.{digest_of};
+ghost use Rattle.sessions.specs.Sessions.{SessionValue};
+ghost use Rattle.job_table.specs.Tables.{session_in};
+ghost use Rattle.job_table.specs.Closes.{next_number, next_link};
+ghost use Rattle.table_samples.specs.Told.{mark_told, digits_told, IsChanged, AreChanged, IsNextOf, IsBehind, IsLastOf};
 
 use answer_samples::Unfit;
-use session_samples::{Kept, digest_of, session_of};
+use session_file::digest;
+use session_samples::{Kept, session_of};
 use sessions::{Mark, Session};
 use std::alloc::{AllocError, AllocFailed, Global};
 use std::sync::Arc;
@@ -24,8 +31,10 @@ pub struct Other {
     pub digits: &'static str,
 }
 
-/// How the record became done.
-fn mark_at(change: &Change, at: usize, kept: &Kept) -> Mark {
+/// How the record becomes done.
+fn mark_at(change: &Change, at: usize, kept: &Kept) -> Mark
+    ensures { result ≡ mark_told (list_any (λ i. i == at) change.now.executed.now) kept.now.mark }
+{
     if kept.mark == Mark::Input {
         Mark::Input
     } else if change.executed.contains(&at) {
@@ -35,66 +44,91 @@ fn mark_at(change: &Change, at: usize, kept: &Kept) -> Mark {
     }
 }
 
+/// The other result of the record.
+fn other_at(others: &[Other], at: usize) -> Option<&Other>
+    ensures { option_copied result ≡ find (λ other. other.at == at) others.now }
+{
+    others.iter().find(|other| other.at == at)
+}
+
 /// The digits of the record's result.
-fn digits_at(change: &Change, at: usize, kept: &Kept) -> &'static str {
-    for other in change.others {
-        if other.at == at {
-            return other.digits;
-        }
+fn digits_at(change: &Change, at: usize, kept: &Kept) -> &'static str
+    ensures { result.now
+        ≡ digits_told (find (λ other. other.at == at) change.now.others.now) kept.now.digits.now }
+{
+    match other_at(change.others, at) {
+        Some(other) => other.digits,
+        None => kept.digits,
     }
-    kept.digits
+}
+
+/// What the change makes of the record at a place.
+fn changed(change: &Change, at: usize, kept: &Kept) -> Kept
+    ensures { IsChanged change.now at kept.now result }
+{
+    Kept {
+        mark: mark_at(change, at, kept),
+        digits: digits_at(change, at, kept),
+        ..*kept
+    }
 }
 
 /// The records of the session.
-pub(crate) fn records_of(alloc: Global, change: &Change) -> Result<Vec<Kept>, AllocError> {
+pub(crate) fn records_of(alloc: Global, change: &Change) -> Result<Vec<Kept>, AllocError>
+    ensures { IfOk result (λ records. AreChanged change.now records.items) }
+{
     let mut records = Vec::new(alloc);
     for (at, kept) in change.records.iter().enumerate() {
-        let record = Kept {
-            mark: mark_at(change, at, kept),
-            digits: digits_at(change, at, kept),
-            ..*kept
-        };
-        records.push(record)?;
+        records.push(changed(change, at, kept))?;
     }
     Ok(records)
 }
 
-/// A place in a chain of sessions: the number of the session there, and its link.
-#[derive(Clone, Copy)]
-pub(crate) struct Place {
-    number: u32,
-    link: [u8; 32],
-}
-
-/// The place behind the session at this one.
-fn place_behind(alloc: Global, place: Place, change: &Change) -> Result<Place, Unfit> {
-    let records = records_of(alloc, change)?;
-    Ok(Place {
-        number: place.number.saturating_add(1),
-        link: digest_of(alloc, place.number, place.link, records.as_slice())?,
-    })
-}
-
-/// The place behind a chain of sessions.
-fn place_after(alloc: Global, chain: &[Change]) -> Result<Place, Unfit> {
-    let mut place = Place {
-        number: 0,
-        link: [0; 32],
-    };
-    for change in chain {
-        place = place_behind(alloc, place, change)?;
+/// The number of the session behind this one, or of the first.
+fn number_behind(past: &Option<Arc<Session>>) -> u32
+    ensures { result ≡ next_number (session_in past.now) }
+{
+    match past {
+        Some(past) => {
+            let _few = past.records();
+            past.number() + 1
+        }
+        None => 0,
     }
-    Ok(place)
 }
 
-/// The digest of the file of the session of these records behind a chain.
+/// The link of the session behind this one, or of the first.
+pub(crate) fn link_behind(past: &Option<Arc<Session>>) -> [u8; 32]
+    ensures { result ≡ next_link (session_in past.now) }
+{
+    match past {
+        Some(past) => digest(past),
+        None => [0; 32],
+    }
+}
+
+/// The session of these records behind this one.
+fn session_behind(
+    alloc: Global,
+    past: &Option<Arc<Session>>,
+    records: &[Kept],
+) -> Result<Session, Unfit>
+    ensures { IfOk result (IsNextOf (session_in past.now) records.now) }
+{
+    session_of(alloc, number_behind(past), link_behind(past), records)
+}
+
+/// The digest of the file of the session of these records behind this one.
 pub(crate) fn digest_behind(
     alloc: Global,
-    chain: &[Change],
+    past: &Option<Arc<Session>>,
     records: &[Kept],
-) -> Result<[u8; 32], Unfit> {
-    let place = place_after(alloc, chain)?;
-    digest_of(alloc, place.number, place.link, records)
+) -> Result<[u8; 32], Unfit>
+    ensures { IfOk result (λ digest. (s : SessionValue)
+        × IsNextOf (session_in past.now) records.now s × (digest ≡ digest_of s)) }
+{
+    let session = session_behind(alloc, past, records)?;
+    Ok(digest(&session))
 }
 
 /// The session, to be shared.
@@ -104,18 +138,26 @@ pub(crate) fn share(alloc: Global, session: Session) -> Result<Arc<Session>, All
     Ok(Arc::new(alloc, session)?)
 }
 
-/// The session behind a chain.
-fn session_behind(alloc: Global, chain: &[Change], change: &Change) -> Result<Arc<Session>, Unfit> {
-    let place = place_after(alloc, chain)?;
+/// The session that changed so, behind this one.
+fn past_behind(
+    alloc: Global,
+    past: &Option<Arc<Session>>,
+    change: &Change,
+) -> Result<Option<Arc<Session>>, Unfit>
+    ensures { IfOk result (λ after. IsBehind change.now (session_in past.now) (session_in after)) }
+{
     let records = records_of(alloc, change)?;
-    let session = session_of(alloc, place.number, place.link, records.as_slice())?;
-    Ok(share(alloc, session)?)
+    let session = session_behind(alloc, past, records.as_slice())?;
+    Ok(Some(share(alloc, session)?))
 }
 
 /// The last session of a chain, or `None` where there is none.
-pub(crate) fn past_of(alloc: Global, chain: &[Change]) -> Result<Option<Arc<Session>>, Unfit> {
-    match chain {
-        [before @ .., last] => Ok(Some(session_behind(alloc, before, last)?)),
-        [] => Ok(None),
+pub(crate) fn past_of(alloc: Global, chain: &[Change]) -> Result<Option<Arc<Session>>, Unfit>
+    ensures { IfOk result (λ past. IsLastOf chain.now (session_in past)) }
+{
+    let mut past = None;
+    for change in chain {
+        past = past_behind(alloc, &past, change)?;
     }
+    Ok(past)
 }

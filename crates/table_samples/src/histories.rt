@@ -1,7 +1,14 @@
 //! Whole histories: each key of a session is claimed, and marked or run, in the order of keys.
+ghost use Rattle.std.specs.Prelude.{◌≡◌, IfOk, IsTrue, Ok};
+ghost use Rattle.job_table.specs.Tables.{session_in};
+ghost use Rattle.sessions.specs.Sessions.{SessionValue};
+ghost use Rattle.sessions.specs.Spelling.{digest_of};
+ghost use Rattle.job_table.specs.Closes.{next_link, CloseGives};
+ghost use Rattle.table_samples.specs.Told.{InTurn, AreChanged};
+ghost use Rattle.table_samples.specs.Called.{IsTakenOver, IsBegun, IsBroughtBy, IsDoneAs, IsBrought, AreBrought, ClosesAs, IsLed, IsHistory};
 
-use crate::calls::{Said, answer_of, ask, finish, mark};
-use crate::changes::{Change, digest_behind, records_of};
+use crate::calls::{Said, ask, begin, events, finish, mark};
+use crate::changes::{Change, digest_behind, link_behind, past_of, records_of};
 use crate::tables::table_of;
 use answer_samples::{Unfit, is_spelled, key_of};
 use item_ids::Key;
@@ -9,8 +16,9 @@ use job_table::{Asked as Told, Table};
 use providers::MiniJava;
 use session_file::digest;
 use session_samples::Kept;
-use sessions::Mark;
-use std::alloc::Global;
+use sessions::{Mark, Session};
+use std::alloc::{AllocError, Global};
+use std::sync::Arc;
 
 /// A session of a project of this text behind a chain: what changed, what is run beside it and reached by nothing, and
 /// how many events lead there.
@@ -24,13 +32,17 @@ pub struct History {
 }
 
 /// Claims the key and takes over its result from the past.
-fn is_marked(table: &mut Table<MiniJava>, key: &Key) -> bool {
+fn is_marked(table: &mut Table<MiniJava>, key: &Key) -> bool
+    ensures { IsTrue result → IsTakenOver key.now table.old table.new }
+{
     ask(table, 0, key) == Said::Yours && mark(table, 0, key) == Said::Done
 }
 
 /// Claims the key and begins its run.
-fn is_begun(table: &mut Table<MiniJava>, key: &Key) -> bool {
-    ask(table, 0, key) == Said::Yours && answer_of(table.begin_run(0, key)) == Said::Done
+fn is_begun(table: &mut Table<MiniJava>, key: &Key) -> bool
+    ensures { IsTrue result → IsBegun key.now table.old table.new }
+{
+    ask(table, 0, key) == Said::Yours && begin(table, 0, key) == Said::Done
 }
 
 /// Claims the record's key, and marks it or runs it over the answers of its edges, as the record says.
@@ -39,33 +51,47 @@ fn is_brought(
     table: &mut Table<MiniJava>,
     records: &[Kept],
     kept: &Kept,
-) -> Result<bool, Unfit> {
-    let key = key_of(alloc, kept.key)?;
+    key: &Key,
+) -> Result<bool, Unfit>
+    ensures { IfOk result (λ b. IsTrue b
+        → IsBroughtBy kept.now.mark records.now kept.now key.now table.old table.new) }
+{
     match kept.mark {
         Mark::Input => Ok(true),
-        Mark::Green => Ok(is_marked(table, &key)),
+        Mark::Green => Ok(is_marked(table, key)),
         Mark::Executed => {
-            Ok(is_begun(table, &key) && finish(alloc, table, 0, records, kept)? == Said::Done)
+            Ok(is_begun(table, key) && finish(alloc, table, 0, records, kept)? == Said::Done)
         }
     }
 }
 
 /// Whether the key is done with the result that these digits spell.
-fn has_result(
+fn is_done(
     alloc: Global,
     table: &mut Table<MiniJava>,
     key: &Key,
     digits: &str,
-) -> Result<bool, Unfit> {
+) -> Result<bool, Unfit>
+    ensures done { IfOk result (λ b. IsTrue b → IsDoneAs key.now digits.now table.old) }
+    ensures same { IfOk result (λ b. IsTrue b → table.new ≡ table.old) }
+{
     match table.ask(0, key) {
         Ok(Told::Done(sealed)) => is_spelled(alloc, &sealed, digits),
         _ => Ok(false),
     }
 }
 
-fn is_done(alloc: Global, table: &mut Table<MiniJava>, kept: &Kept) -> Result<bool, Unfit> {
+/// Brings the record's key to done: whether it is done then with the record's result.
+fn comes_done(
+    alloc: Global,
+    table: &mut Table<MiniJava>,
+    records: &[Kept],
+    kept: &Kept,
+) -> Result<bool, Unfit>
+    ensures { IfOk result (λ b. IsTrue b → IsBrought records.now kept.now table.old table.new) }
+{
     let key = key_of(alloc, kept.key)?;
-    has_result(alloc, table, &key, kept.digits)
+    Ok(is_brought(alloc, table, records, kept, &key)? && is_done(alloc, table, &key, kept.digits)?)
 }
 
 /// Brings these keys to done: whether each is done then with its result. The edges are indices of `records`.
@@ -74,35 +100,62 @@ fn all_done(
     table: &mut Table<MiniJava>,
     records: &[Kept],
     brought: &[Kept],
-) -> Result<bool, Unfit> {
+) -> Result<bool, Unfit>
+    ensures { IfOk result (λ b. IsTrue b
+        → InTurn (IsBrought records.now) brought.now table.old table.new) }
+{
     for kept in brought {
-        if !is_brought(alloc, table, records, kept)? || !is_done(alloc, table, kept)? {
+        if !comes_done(alloc, table, records, kept)? {
             return Ok(false);
         }
     }
     Ok(true)
 }
 
-/// How many records the table's past has.
-fn past_records(table: &Table<MiniJava>) -> Option<usize> {
-    match table.past() {
-        Ok(Some(past)) => Some(past.records().len()),
-        Ok(None) => Some(0),
-        Err(_) => None,
-    }
-}
-
-/// How many records the last session of a chain has.
-fn last_records(chain: &[Change]) -> Option<usize> {
-    Some(chain.last().map_or(0, |last| last.records.len()))
+/// Brings the keys of the records to done, and then those beside them.
+fn are_brought(
+    alloc: Global,
+    table: &mut Table<MiniJava>,
+    records: &[Kept],
+    beside: &[Kept],
+) -> Result<bool, Unfit>
+    ensures { IfOk result (λ b. IsTrue b
+        → AreBrought records.now beside.now table.old table.new) }
+{
+    Ok(all_done(alloc, table, records, records)? && all_done(alloc, table, records, beside)?)
 }
 
 /// Whether the table closes with a session whose file has this digest.
-fn closes_with(table: &Table<MiniJava>, wanted: [u8; 32]) -> bool {
+fn closes_with(table: &Table<MiniJava>, wanted: [u8; 32]) -> bool
+    ensures { IsTrue result → (s : SessionValue) × CloseGives table.now (Ok s)
+        × (digest_of s ≡ wanted) }
+{
     match table.close() {
         Ok(session) => digest(&session) == wanted,
         Err(_) => false,
     }
+}
+
+/// Whether the table stands behind this session.
+fn is_behind(table: &Table<MiniJava>, past: &Option<Arc<Session>>) -> Result<bool, AllocError>
+    ensures { IfOk result (λ b. IsTrue b
+        → next_link table.now.past ≡ next_link (session_in past.now)) }
+{
+    Ok(link_behind(&table.past()?) == link_behind(past))
+}
+
+/// Whether the table stands behind the chain, and closes with just these records.
+fn closes(
+    alloc: Global,
+    table: &Table<MiniJava>,
+    chain: &[Change],
+    records: &[Kept],
+) -> Result<bool, Unfit>
+    ensures { IfOk result (λ b. IsTrue b → ClosesAs chain.now records.now table.now) }
+{
+    let past = past_of(alloc, chain)?;
+    let wanted = digest_behind(alloc, &past, records)?;
+    Ok(is_behind(table, &past)? && closes_with(table, wanted))
 }
 
 /// Whether the table comes so to its end.
@@ -111,26 +164,30 @@ fn is_led(
     table: &mut Table<MiniJava>,
     history: &History,
     records: &[Kept],
-) -> Result<bool, Unfit> {
-    let wanted = digest_behind(alloc, history.chain, records)?;
-    let all_done = all_done(alloc, table, records, records)?
-        && all_done(alloc, table, records, history.beside)?;
+) -> Result<bool, Unfit>
+    ensures { IfOk result (λ b. IsTrue b
+        → IsLed history.now records.now table.old table.new) }
+{
     Ok(
-        all_done
-            && past_records(table) == last_records(history.chain)
-            && table.history().len() == history.events
-            && closes_with(table, wanted),
+        are_brought(alloc, table, records, history.beside)?
+            && events(table) == history.events
+            && closes(alloc, table, history.chain, records)?,
     )
 }
 
-fn is_of_records(alloc: Global, history: &History, records: &[Kept]) -> Result<bool, Unfit> {
+fn is_of_records(alloc: Global, history: &History, records: &[Kept]) -> Result<bool, Unfit>
+    requires { AreChanged history.now.change records.now }
+    ensures { IfOk result (λ b. IsTrue b → IsHistory history.now) }
+{
     let mut table = table_of(alloc, history.chain, history.text)?;
     is_led(alloc, &mut table, history, records)
 }
 
 /// Whether the session comes about so: each of its keys is claimed and marked or run as its record says, and is done
 /// with the record's result; so many events lead there; and the table closes with just these records.
-pub fn is_history(alloc: Global, history: &History) -> Result<bool, Unfit> {
+pub fn is_history(alloc: Global, history: &History) -> Result<bool, Unfit>
+    ensures { IfOk result (λ b. IsTrue b → IsHistory history.now) }
+{
     let records = records_of(alloc, &history.change)?;
     is_of_records(alloc, history, records.as_slice())
 }

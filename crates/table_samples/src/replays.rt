@@ -1,12 +1,23 @@
 //! Replays of events.
+ghost use Rattle.std.specs.Prelude.{◌≡◌, List, [], ◌∷◌, ◌++◌, map, IfOk, OnOk};
+ghost use Rattle.std.specs.Arc.{arc_value};
+ghost use Rattle.recorder.specs.Runs.{OutcomeValue};
+ghost use Rattle.graph_rules.specs.Steps.{Event as SpecEvent, Finish};
+ghost use Rattle.answer_samples.specs.Telling.{one_file};
+ghost use Rattle.job_table.specs.Kept.{event_of};
+ghost use Rattle.table_samples.specs.Called.{IsLast, run_events, AreEventsOf, EndsSo, IsReplay};
 
+use crate::calls::events;
 use crate::runs::outcome_of;
-use answer_samples::{Asked, Unfit, key_of, project_of};
+use answer_samples::{Unfit, key_of, project_of};
+use item_ids::Key;
 use job_table::{Event, ReplayFault, Table};
 use mj_project::Project;
 use providers::MiniJava;
+use recorder::Outcome;
 use session_samples::Kept;
 use std::alloc::{AllocError, AllocFailed, Global};
+use std::sync::Arc;
 
 /// The events of a run by the worker 0 in a project of this text: the key of the last of these records is claimed and
 /// finished over the answers of its edges, with a begin between them or without.
@@ -19,55 +30,72 @@ pub struct Replay {
 
 type Events = Vec<Event<MiniJava>>;
 
-fn add(events: &mut Events, event: Event<MiniJava>) -> Result<(), AllocError> {
+fn add(events: &mut Events, event: Event<MiniJava>) -> Result<(), AllocError>
+    ensures { OnOk result (events.new.items ≡ events.old.items ++ event ∷ []) }
+{
     Ok(events.push(event)?)
 }
 
-fn add_claim(alloc: Global, events: &mut Events, asked: Asked) -> Result<(), Unfit> {
-    let key = key_of(alloc, asked)?;
-    Ok(add(events, Event::Claim(0, key))?)
+/// Adds that the key is claimed, and begun where it is.
+fn add_start(alloc: Global, events: &mut Events, key: &Key, begins: bool) -> Result<(), AllocError>
+    requires { events.old.items ≡ [] }
+    ensures { (o : OutcomeValue) → OnOk result
+        (map event_of events.new.items ++ Finish 0 o ∷ [] ≡ run_events begins key.now o) }
+{
+    add(events, Event::Claim(0, key.copy(alloc)?))?;
+    if begins {
+        add(events, Event::Begin(0, key.copy(alloc)?))?;
+    }
+    Ok(())
 }
 
-fn add_begin(alloc: Global, events: &mut Events, asked: Asked) -> Result<(), Unfit> {
-    let key = key_of(alloc, asked)?;
-    Ok(add(events, Event::Begin(0, key))?)
-}
-
-fn add_finish(
+/// The events of a run of the key that has this outcome.
+fn run_of(
     alloc: Global,
-    events: &mut Events,
-    records: &[Kept],
-    kept: &Kept,
-) -> Result<(), Unfit> {
-    let outcome = outcome_of(alloc, records, kept)?;
-    Ok(add(events, Event::Finish(0, outcome))?)
-}
-
-fn add_run(alloc: Global, events: &mut Events, replay: &Replay, kept: &Kept) -> Result<(), Unfit> {
-    add_claim(alloc, events, kept.key)?;
-    if replay.begins {
-        add_begin(alloc, events, kept.key)?;
-    }
-    add_finish(alloc, events, replay.records, kept)
-}
-
-fn events_of(alloc: Global, replay: &Replay) -> Result<Events, Unfit> {
+    key: &Key,
+    begins: bool,
+    outcome: Arc<Outcome<MiniJava>>,
+) -> Result<Events, AllocError>
+    ensures { IfOk result (λ events.
+        map event_of events.items ≡ run_events begins key.now (arc_value outcome)) }
+{
     let mut events = Vec::new(alloc);
-    match replay.records.last() {
-        Some(kept) => add_run(alloc, &mut events, replay, kept)?,
-        None => return Err(Unfit),
-    }
+    add_start(alloc, &mut events, key, begins)?;
+    add(&mut events, Event::Finish(0, outcome))?;
     Ok(events)
+}
+
+/// The events of the run of a record's key.
+fn events_by(alloc: Global, replay: &Replay, kept: &Kept) -> Result<Events, Unfit>
+    requires { IsLast replay.now.records.now kept.now }
+    ensures { IfOk result (λ events. AreEventsOf replay.now (map event_of events.items)) }
+{
+    let key = key_of(alloc, kept.key)?;
+    match outcome_of(alloc, replay.records, kept) {
+        Ok(outcome) => Ok(run_of(alloc, &key, replay.begins, outcome)?),
+        Err(fault) => Err(fault),
+    }
+}
+
+fn events_of(alloc: Global, replay: &Replay) -> Result<Events, Unfit>
+    ensures { IfOk result (λ events. AreEventsOf replay.now (map event_of events.items)) }
+{
+    match replay.records.last() {
+        Some(kept) => events_by(alloc, replay, kept),
+        None => Err(Unfit),
+    }
 }
 
 /// How many events the replay has in a project with no past, or why there is none.
 fn replay_in(
     alloc: Global,
     project: &Project,
-    events: &[Event<MiniJava>],
-) -> Result<usize, ReplayFault> {
-    match Table::replay(alloc, None, project, events) {
-        Ok(table) => Ok(table.history().len()),
+    list: &[Event<MiniJava>],
+) -> Result<usize, ReplayFault>
+    ensures { EndsSo project.now (map event_of list.now) result }
+{
+    match Table::replay(alloc, None, project, list) {
+        Ok(table) => Ok(events(&table)),
         Err(fault) => Err(fault),
     }
 }
@@ -76,13 +104,18 @@ fn replay_over(
     alloc: Global,
     project: &Project,
     replay: &Replay,
-) -> Result<Result<usize, ReplayFault>, Unfit> {
+) -> Result<Result<usize, ReplayFault>, Unfit>
+    ensures { IfOk result (λ ending. (events : List SpecEvent) × AreEventsOf replay.now events
+        × EndsSo project.now events ending) }
+{
     let events = events_of(alloc, replay)?;
     Ok(replay_in(alloc, project, &events))
 }
 
 /// How many events the replay has with no past, or why there is none.
-pub fn replay_of(alloc: Global, replay: &Replay) -> Result<Result<usize, ReplayFault>, Unfit> {
+pub fn replay_of(alloc: Global, replay: &Replay) -> Result<Result<usize, ReplayFault>, Unfit>
+    ensures { IfOk result (IsReplay replay.now) }
+{
     let project = project_of(alloc, replay.text)?;
     replay_over(alloc, &project, replay)
 }

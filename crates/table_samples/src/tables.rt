@@ -1,4 +1,9 @@
 //! Tables of projects of one file.
+ghost use Rattle.std.specs.Prelude.{Option, IfOk, Ok};
+ghost use Rattle.sessions.specs.Sessions.{SessionValue};
+ghost use Rattle.answer_samples.specs.Telling.{one_file};
+ghost use Rattle.job_table.specs.Calls.{OpenGives};
+ghost use Rattle.table_samples.specs.Told.{IsLastOf, IsTableOf};
 
 use crate::changes::{Change, past_of};
 use answer_samples::{Unfit, project_of};
@@ -12,16 +17,17 @@ pub(crate) fn table_of(
     alloc: Global,
     chain: &[Change],
     text: &str,
-) -> Result<Table<MiniJava>, Unfit> {
+) -> Result<Table<MiniJava>, Unfit>
+    ensures { IfOk result (IsTableOf chain.now text.now) }
+{
     let project = project_of(alloc, text)?;
     table_over(alloc, chain, &project)
 }
 
-fn table_over(
-    alloc: Global,
-    chain: &[Change],
-    project: &Project,
-) -> Result<Table<MiniJava>, Unfit> {
+fn table_over(alloc: Global, chain: &[Change], project: &Project) -> Result<Table<MiniJava>, Unfit>
+    ensures { IfOk result (λ t. (past : Option SessionValue) × IsLastOf chain.now past
+        × OpenGives past project.now (Ok t)) }
+{
     let past = past_of(alloc, chain)?;
     match Table::open(alloc, past, project) {
         Ok(table) => Ok(table),
