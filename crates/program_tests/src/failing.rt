@@ -1,6 +1,5 @@
 //! Reads and writes that fail.
-use crate::devices::{Full, Logged, Memory};
-use crate::runs::scratch;
+use program_samples::{Full, Logged, Memory, scratch};
 use std::alloc::Global;
 use std::cell::{Cell, RefCell};
 use std::io::ErrorKind;

@@ -2,8 +2,4 @@
 #![tactic(auto)]
 
 #[cfg(test)]
-mod devices;
-#[cfg(test)]
 mod failing;
-#[cfg(test)]
-mod runs;
