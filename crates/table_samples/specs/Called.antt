@@ -36,6 +36,7 @@ use Rattle.table_samples.specs.Told.{InTurn, IsRunOf, AreChanged, IsNextOf, IsLa
 
 -- ---- what a call says
 
+-- the answer of a call, by its name; a result, a session or nothing that it gives is done
 abbrev pub said_of_ask : Result Asked TableFault → Said
 said_of_ask (Ok asked.Yours) = Yours
 said_of_ask (Ok (asked.Done v)) = Done
@@ -51,7 +52,7 @@ abbrev pub said_of_close : Result SessionValue CloseFault → Said
 said_of_close (Ok s) = Done
 said_of_close (Err fault) = NotClosed fault
 
--- asked for q by w, the table t says so and becomes u; and so on for each call
+-- the table t says this to w, which asks for q, and becomes u; the other calls in the same way
 abbrev pub SaysOfAsk : ℕ → Key → Said → TableValue → TableValue → Type 0
 SaysOfAsk w q said t u =
     (a : Result Asked TableFault) × AskGives t w q a u × (said ≡ said_of_ask a)
@@ -64,7 +65,7 @@ abbrev pub SaysOfBegin : ℕ → Key → Said → TableValue → TableValue → 
 SaysOfBegin w q said t u =
     (a : Result (Unit {0}) TableFault) × BeginGives t w q a u × (said ≡ said_of a)
 
--- of the outcome of the record's run
+-- to the outcome of the record's run
 abbrev pub SaysOfFinish : List Kept → Kept → ℕ → Said → TableValue → TableValue → Type 0
 SaysOfFinish records kept w said t u =
     (o : OutcomeValue) × IsRunOf records kept o

@@ -90,7 +90,8 @@ fn number_behind(past: &Option<Arc<Session>>) -> u32
 {
     match past {
         Some(past) => {
-            let _few = past.records();
+            // A session has a number up to 9,999, by its type.
+            let _session = past.records();
             past.number() + 1
         }
         None => 0,

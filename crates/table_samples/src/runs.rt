@@ -96,6 +96,7 @@ fn outcome_over(alloc: Global, key: &Key, list: AnswerList) -> Result<Arc<Outcom
     let mut recorder = Recorder::new(alloc, list);
     match record(alloc, &mut runner, key, &mut recorder) {
         Ok(outcome) => {
+            // What was read is answered by the list, by the recorder's type.
             let _reads = recorder.reads();
             Ok(share(alloc, outcome)?)
         }
