@@ -18,7 +18,7 @@ use Rattle.job_table.specs.Tables.{IsFull, session_in as session_at_table}
 use Rattle.session_cache.specs.Names.{most}
 use Rattle.session_cache.specs.Starts.{session_in}
 use Rattle.driver.specs.Sessions.{AreEventsOf, IsSessionOf}
-use Rattle.driver.specs.declared.reports.Reports.{Reports}
+use Rattle.session_reports.specs.declared.reports.Reports.{Reports}
 use Rattle.cached_check.specs.Checks.{IsAnswered, IsNextSession}
 
 -- a record at some place of the list that is mapped

@@ -9,7 +9,7 @@ use Rattle.graph_rules.specs.Steps.{Legal}
 use Rattle.graph_rules.specs.Sound.{AreBacked}
 use Rattle.job_table.specs.Tables.{TableValue, past_of, state_of}
 use Rattle.job_table.specs.Closes.{IsClosing}
-use Rattle.driver.specs.declared.reports.Reports.{Reports}
+use Rattle.session_reports.specs.declared.reports.Reports.{Reports}
 use Rattle.driver.specs.Sessions.{AreEventsOf, IsSessionOf}
 use Rattle.driver.specs.Frees.{Brings}
 use Rattle.driver.proofs.FreeRules.{all_done}

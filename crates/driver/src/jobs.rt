@@ -7,11 +7,12 @@ ghost use Rattle.driver.specs.Frees.{IsFree, WorksOn, Brings};
 
 use fingerprint::Sealed;
 use item_ids::Key;
-use mark_green::{Fault, Solo};
+use mark_green::Fault;
 use mj_lexer::Name;
 use mj_project::Project;
 use recorder::Runner;
 use result_bytes::{IndexRow, Value};
+use solo_table::Solo;
 use std::alloc::{AllocError, Global};
 use std::sync::Arc;
 

@@ -4,10 +4,9 @@
 mod fault;
 mod gate;
 mod jobs;
-mod reports;
 mod session;
 
 pub use fault::DriveFault;
 pub use gate::{Gate, Open};
-pub use reports::Reports;
 pub use session::drive;
+pub use session_reports::Reports;

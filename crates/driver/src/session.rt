@@ -8,12 +8,12 @@ ghost use Rattle.driver.specs.Frees.{IsFree, Brings};
 
 use crate::fault::DriveFault;
 use crate::jobs::do_jobs;
-use crate::reports::{Reports, reports_of};
 use job_table::{CloseFault, OpenFault, Table};
-use mark_green::Solo;
 use mj_project::Project;
 use recorder::Runner;
+use session_reports::{Reports, reports_of};
 use sessions::Session;
+use solo_table::Solo;
 use std::alloc::{AllocError, Global};
 use std::sync::Arc;
 

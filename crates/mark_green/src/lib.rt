@@ -8,11 +8,9 @@ mod edges;
 mod fault;
 mod giving_up;
 mod runs;
-mod solo;
 mod steps;
 mod store;
 
 pub use bringing::ensure;
 pub use fault::Fault;
-pub use solo::Solo;
 pub use store::Store;

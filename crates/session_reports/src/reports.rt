@@ -11,7 +11,7 @@ pub struct Reports {
 }
 
 /// The reports of so many workers, of which the first made all events.
-pub(crate) fn reports_of(
+pub fn reports_of(
     alloc: Global,
     history: usize,
     workers: usize,

@@ -3,12 +3,10 @@ ghost use Rattle.std.specs.Prelude.{◌≡◌, Some};
 ghost use Rattle.std.specs.Arc.{arc_value};
 ghost use Rattle.mark_green.specs.Ensures.{EnsureGives};
 
-use crate::bringing::ensure;
-use crate::fault::Fault;
-use crate::store::Store;
 use fingerprint::Sealed;
 use item_ids::Key;
 use job_table::{Asked, Table, TableFault};
+use mark_green::{Fault, Store, ensure};
 use recorder::{Outcome, Runner};
 use sessions::Session;
 use std::alloc::{AllocError, Global};

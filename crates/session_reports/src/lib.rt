@@ -1,0 +1,6 @@
+//! What is reported of a session beside its file.
+#![tactic(auto)]
+
+mod reports;
+
+pub use reports::{Reports, reports_of};
