@@ -18,7 +18,7 @@ use Rattle.result_bytes.specs.declared.value.Value.{Value}
 use Rattle.recorder.specs.Programs.{Prog, Ret, runs, asks, is_seen}
 use Rattle.query_rules.specs.BodyReads.{type_reads, types_reads}
 use Rattle.query_rules.specs.Reads.{firsts}
-use Rattle.body_query.specs.Facts.{is_declared_in, descends_in, field_in, method_in}
+use Rattle.body_questions.specs.Facts.{is_declared_in, descends_in, field_in, method_in}
 use Rattle.body_query.specs.Programs.{reads_of}
 
 -- what the answers of a meaning say

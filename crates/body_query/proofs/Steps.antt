@@ -13,7 +13,8 @@ use Rattle.mj_tree.specs.Trees.{Name}
 use Rattle.mj_tree.specs.declared.tree.Ty.{Ty}
 use Rattle.mj_typing.specs.Inquiries.{Sig, Concludes, AsksDescent, AsksField, AsksMethod, AsksDeclared}
 use Rattle.mj_typing.specs.Steps.{Check, Proceeds, Aborts}
-use Rattle.body_query.specs.Programs.{reads_of, descends_step, field_step, method_step, declared_step}
+use Rattle.body_questions.specs.Questions.{descends_step, field_step, method_step, declared_step}
+use Rattle.body_query.specs.Programs.{reads_of}
 use Rattle.body_query.specs.Steps.{Comes, Ends, fault_of}
 
 -- each question is its step

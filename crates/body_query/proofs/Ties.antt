@@ -23,7 +23,7 @@ use Rattle.query_rules.specs.Items.{body_at, mistakes_in, fault_set}
 use Rattle.query_rules.specs.BodyReads.{body_reads}
 use Rattle.query_rules.specs.Meaning.{mean}
 use Rattle.query_rules.specs.Reads.{asked_keys, firsts, reads}
-use Rattle.body_query.specs.Facts.{is_declared_in, descends_in, field_in, method_in, body_in}
+use Rattle.body_questions.specs.Facts.{is_declared_in, descends_in, field_in, method_in, body_in}
 use Rattle.body_query.specs.Programs.{reads_of}
 use Rattle.body_query.specs.Body.{fault_in, faults_in, check_of, body_prog}
 use Rattle.body_query.specs.Laws.{BodyTies}

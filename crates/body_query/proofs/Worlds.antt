@@ -17,7 +17,7 @@ use Rattle.mj_rules.proofs.RowLemmas.{sig_in-rows}
 use Rattle.recorder.specs.Projects.{Project}
 use Rattle.query_rules.specs.Items.{class_at, header_of, chain_value}
 use Rattle.query_rules.specs.Meaning.{mean}
-use Rattle.body_query.specs.Facts.{classes_of, fields_of, methods_of, is_declared_in, descends_in, field_in, method_in}
+use Rattle.body_questions.specs.Facts.{classes_of, fields_of, methods_of, is_declared_in, descends_in, field_in, method_in}
 use Rattle.body_query.proofs.Asked.{world_in}
 use Rattle.body_query.proofs.FieldRows.{type_in-rows}
 

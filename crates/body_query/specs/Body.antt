@@ -15,7 +15,7 @@ use Rattle.result_bytes.specs.declared.value.Value.{Value}
 use Rattle.result_bytes.specs.declared.value.Value.TheVariants as values
 use Rattle.recorder.specs.Programs.{Prog, Ret, Ask}
 use Rattle.query_rules.specs.Items.{fault_set}
-use Rattle.body_query.specs.Facts.{body_in}
+use Rattle.body_questions.specs.Facts.{body_in}
 use Rattle.body_query.specs.Bounds.{bound}
 use Rattle.body_query.specs.Programs.{reads_of}
 

@@ -1,4 +1,3 @@
-pub mod Facts
 pub mod Programs
 pub mod Steps
 pub mod Bounds

@@ -7,25 +7,9 @@ use Rattle.mj_typing.specs.declared.verdict.Mistake.{Mistake}
 use Rattle.mj_typing.specs.Inquiries.{Sig, Concludes, AsksDescent, AsksField, AsksMethod, AsksDeclared}
 use Rattle.mj_typing.specs.Steps.{Check}
 use Rattle.recorder.specs.Programs.{Prog, Ask}
-use Rattle.body_query.specs.Facts.{is_declared_in, descends_in, field_in, method_in}
+use Rattle.body_questions.specs.Questions.{descends_step, field_step, method_step, declared_step}
 
--- ---- one question each
-
--- the second class stands in the chain of the first
-abbrev pub descends_step : Name → Name → (Bool → Prog) → Prog
-descends_step c d k = Ask (keys.Supers c) (λ v. k (descends_in v d))
-
-abbrev pub field_step : Name → Name → (Option Ty → Prog) → Prog
-field_step c x k = Ask (keys.Members c) (λ v. k (field_in v x))
-
-abbrev pub method_step : Name → Name → (Option Sig → Prog) → Prog
-method_step c m k = Ask (keys.Members c) (λ v. k (method_in v m))
-
-abbrev pub declared_step : Name → (Bool → Prog) → Prog
-declared_step c k = Ask (keys.Header c) (λ v. k (is_declared_in v))
-
--- ---- a check, which goes on with its mistakes
-
+-- a check, which goes on with its mistakes
 unfoldable pub reads_of : Check → (List Mistake → Prog) → Prog
 reads_of (Concludes mistakes) k = k mistakes
 reads_of (AsksDescent c d f) k = descends_step c d (λ answer. reads_of (f answer) k)

@@ -1,7 +1,6 @@
 //! The query of a body's mistakes: the check of a body that gets what it asks by reads.
 #![tactic(auto)]
 
-mod facts;
 mod faults;
 mod laws;
 mod query;

@@ -6,7 +6,7 @@ ghost use Rattle.recorder.specs.Programs.{Goes, GivesUp, Performs};
 ghost use Rattle.query_rules.specs.Items.{fault_set};
 ghost use Rattle.body_query.specs.Programs.{reads_of};
 ghost use Rattle.body_query.specs.Body.{faults_in as faults_told, check_of, body_steps, body_prog};
-ghost use Rattle.body_query.specs.Facts.{body_in as body_told};
+ghost use Rattle.body_questions.specs.Facts.{body_in as body_told};
 
 use crate::faults::{class_faults, faults_in};
 use crate::reads::{check_main_by_reads, check_method_by_reads};

@@ -1,5 +1,5 @@
 //! A check that gets what it asks by reads.
-ghost use Rattle.std.specs.Prelude.{◌≡◌, List, [], Option, IfOk, IfErr, option_copied, option_map};
+ghost use Rattle.std.specs.Prelude.{◌≡◌, List, [], Option, IfOk, IfErr};
 ghost use Rattle.std.specs.Arc.{arc_value};
 ghost use Rattle.item_ids.specs.declared.key.Key.TheVariants as keys;
 ghost use Rattle.mj_tree.specs.Views.{method_view, stmt_view};
@@ -7,89 +7,15 @@ ghost use Rattle.mj_typing.specs.Bodies.{method_check, statement_step};
 ghost use Rattle.mj_typing.specs.Inquiries.{Concludes};
 ghost use Rattle.mj_typing.specs.Table.{main_scope};
 ghost use Rattle.recorder.specs.Programs.{Goes, GivesUp};
-ghost use Rattle.body_query.specs.Programs.{reads_of, declared_step, descends_step, field_step, method_step};
+ghost use Rattle.body_query.specs.Programs.{reads_of};
 
-use crate::facts::{MethodTypes, descends_in, field_in, is_declared_in, method_in};
-use item_ids::Key;
+use body_questions::{MethodTypes, ask_declared, ask_descends, ask_field, ask_method};
 use mj_lexer::Name;
 use mj_tree::{MethodTree, Stmt, Ty};
-use mj_typing::{Asking, Mistake, Signature, Stop, check_main_statement, check_method};
-use recorder::{Reader, Recorder, RunFault, ask_key};
-use std::alloc::{AllocError, Global};
+use mj_typing::{Asking, Mistake, Stop, check_main_statement, check_method};
+use recorder::{Reader, Recorder, RunFault};
+use std::alloc::Global;
 use std::marker::{Brand, PhantomData};
-
-/// Whether a class is declared, by its header.
-fn ask_declared<D: Reader>(
-    alloc: Global,
-    recorder: &mut Recorder<D>,
-    class: &Name,
-) -> Result<bool, RunFault>
-    ensures ok { IfOk result (λ answer. Goes (declared_step class.now) recorder.old answer
-        recorder.new) }
-    ensures err { IfErr result (λ e. GivesUp (declared_step class.now) recorder.old e
-        recorder.new) }
-    ensures follows { D.follows recorder.old.inner recorder.new.inner }
-{
-    let key = Key::Header(class.copy(alloc)?);
-    let header = ask_key(recorder, &key)?;
-    Ok(is_declared_in(header.value()))
-}
-
-/// Whether a class stands in the chain of another.
-fn ask_descends<D: Reader>(
-    alloc: Global,
-    recorder: &mut Recorder<D>,
-    class: &Name,
-    ancestor: &Name,
-) -> Result<bool, RunFault>
-    ensures ok { IfOk result (λ answer. Goes (descends_step class.now ancestor.now) recorder.old
-        answer recorder.new) }
-    ensures err { IfErr result (λ e. GivesUp (descends_step class.now ancestor.now) recorder.old
-        e recorder.new) }
-    ensures follows { D.follows recorder.old.inner recorder.new.inner }
-{
-    let key = Key::Supers(class.copy(alloc)?);
-    let chain = ask_key(recorder, &key)?;
-    Ok(descends_in(chain.value(), ancestor))
-}
-
-/// The type of a field.
-fn ask_field<D: Reader>(
-    alloc: Global,
-    recorder: &mut Recorder<D>,
-    class: &Name,
-    name: &Name,
-) -> Result<Option<Ty>, RunFault>
-    ensures ok { IfOk result (λ answer. Goes (field_step class.now name.now) recorder.old
-        answer recorder.new) }
-    ensures err { IfErr result (λ e. GivesUp (field_step class.now name.now) recorder.old e
-        recorder.new) }
-    ensures follows { D.follows recorder.old.inner recorder.new.inner }
-{
-    let key = Key::Members(class.copy(alloc)?);
-    let fields = ask_key(recorder, &key)?;
-    let ty = field_in(alloc, fields.value(), name)?;
-    Ok(ty)
-}
-
-/// The types of a method.
-fn ask_method<D: Reader>(
-    alloc: Global,
-    recorder: &mut Recorder<D>,
-    class: &Name,
-    name: &Name,
-) -> Result<Option<MethodTypes>, RunFault>
-    ensures ok { IfOk result (λ answer. Goes (method_step class.now name.now) recorder.old
-        (option_map ⟦<MethodTypes as Signature>⟧.sig answer) recorder.new) }
-    ensures err { IfErr result (λ e. GivesUp (method_step class.now name.now) recorder.old e
-        recorder.new) }
-    ensures follows { D.follows recorder.old.inner recorder.new.inner }
-{
-    let key = Key::Members(class.copy(alloc)?);
-    let methods = ask_key(recorder, &key)?;
-    let types = method_in(alloc, methods.value(), name)?;
-    Ok(types)
-}
 
 /// What a recorder had read when a check began. Each call of a check picks it.
 trait Began {

@@ -32,7 +32,7 @@ use Rattle.query_rules.specs.Meaning.{mean}
 use Rattle.query_rules.specs.BodyReads.{type_reads}
 use Rattle.query_rules.specs.Reads.{field_headers, overriding, class_check_reads, asked_keys, reads}
 use Rattle.body_query.specs.Bounds.{bound}
-use Rattle.body_query.specs.Facts.{is_declared_in, classes_of, method_in}
+use Rattle.body_questions.specs.Facts.{is_declared_in, classes_of, method_in}
 use Rattle.body_query.proofs.Bounds.{same_number}
 use Rattle.body_query.proofs.Worlds.{world_same}
 use Rattle.table_queries.specs.Facts.{header_in, chain_in}

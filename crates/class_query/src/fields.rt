@@ -1,7 +1,7 @@
 //! The types of fields that are classes which aren't declared.
 ghost use Rattle.std.specs.Prelude.{◌≡◌, ◌++◌, ◌∷◌, [], IfOk, IfErr, OnOk};
 ghost use Rattle.recorder.specs.Programs.{Goes, GivesUp, each};
-ghost use Rattle.body_query.specs.Facts.{is_declared_in as declared_told};
+ghost use Rattle.body_questions.specs.Facts.{is_declared_in as declared_told};
 ghost use Rattle.class_query.specs.CheckClass.{type_step, field_step};
 
 use item_ids::Key;

@@ -5,7 +5,7 @@ ghost use Rattle.std.specs.Arc.{arc_value};
 ghost use Rattle.item_ids.specs.declared.key.Key.TheVariants as keys;
 ghost use Rattle.mj_rules.specs.FaultLists.{same_type as is_same_type};
 ghost use Rattle.recorder.specs.Programs.{Goes, GivesUp, Ask};
-ghost use Rattle.body_query.specs.Facts.{methods_in as methods_told, method_in as method_told, row_types};
+ghost use Rattle.body_questions.specs.Facts.{methods_in as methods_told, method_in as method_told, row_types};
 ghost use Rattle.class_query.specs.Signatures.{same_types as are_same_types, differ as do_differ};
 ghost use Rattle.class_query.specs.CheckClass.{overridden_class as overridden, differ_in as flags_in, override_step};
 

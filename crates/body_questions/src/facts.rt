@@ -2,7 +2,7 @@
 ghost use Rattle.std.specs.Prelude.{◌≡◌, List, ℕ, Some, find, option_copied, option_map, IfOk};
 ghost use Rattle.std.specs.Str.{bytes_eq};
 ghost use Rattle.std.specs.List.{list_any};
-ghost use Rattle.body_query.specs.Facts.{is_declared_in as declared_told, descends_in as descent_told, fields_in as fields_told, methods_in as methods_told, field_in as field_told, method_in as method_told};
+ghost use Rattle.body_questions.specs.Facts.{is_declared_in as declared_told, descends_in as descent_told, fields_in as fields_told, methods_in as methods_told, field_in as field_told, method_in as method_told};
 
 use mj_answer::{FieldRow, MethodRow, find_by_name};
 use mj_lexer::Name;

@@ -1,0 +1,8 @@
+//! What a check of a body asks of other results, each question by one read.
+#![tactic(auto)]
+
+mod facts;
+mod questions;
+
+pub use facts::MethodTypes;
+pub use questions::{ask_declared, ask_descends, ask_field, ask_method};
