@@ -7,10 +7,10 @@ ghost use Rattle.answer_query.specs.Answer.{class_answer as class_told, class_st
 
 use crate::facts::class_answer;
 use fingerprint::Sealed;
-use item_ids::Key;
 use mj_answer::ClassAnswer;
 use mj_lexer::Name;
-use recorder::{Reader, Recorder, RunFault, ask_key};
+use name_reads::{read_diags, read_members};
+use recorder::{Reader, Recorder, RunFault};
 use result_bytes::IndexRow;
 use std::alloc::{AllocError, Global};
 use std::sync::Arc;
@@ -50,10 +50,8 @@ fn ask_class<D: Reader>(
     ensures storable { OnOk result (AllByRecursion IsClassStorable classes.new.items) }
     ensures follows { D.follows recorder.old.inner recorder.new.inner }
 {
-    let key = Key::Members(row.class.copy(alloc)?);
-    let members = ask_key(recorder, &key)?;
-    let key = Key::Diags(row.class.copy(alloc)?);
-    let diags = ask_key(recorder, &key)?;
+    let members = read_members(alloc, recorder, &row.class)?;
+    let diags = read_diags(alloc, recorder, &row.class)?;
     add_class(alloc, classes, &row.class, &members, &diags)?;
     Ok(())
 }

@@ -7,9 +7,9 @@ ghost use Rattle.answer_query.specs.Trees.{named_tree, named_trees, tree_step};
 
 use crate::facts::tree_in;
 use fingerprint::Sealed;
-use item_ids::Key;
 use mj_lexer::Name;
-use recorder::{Reader, Recorder, RunFault, ask_key};
+use name_reads::read_tree;
+use recorder::{Reader, Recorder, RunFault};
 use std::alloc::{AllocError, Global};
 use std::sync::Arc;
 use tree_bytes::Tree;
@@ -59,8 +59,7 @@ fn ask_tree<D: Reader>(
         recorder.old e recorder.new) }
     ensures follows { D.follows recorder.old.inner recorder.new.inner }
 {
-    let key = Key::Tree(file.copy(alloc)?);
-    let tree = ask_key(recorder, &key)?;
+    let tree = read_tree(alloc, recorder, file)?;
     add_file(alloc, files, file, tree)?;
     Ok(())
 }

@@ -14,7 +14,8 @@ use answer_bytes::Faults;
 use item_ids::Key;
 use mj_lexer::Name;
 use mj_typing::Mistake;
-use recorder::{Reader, Recorder, RunFault, ask_key};
+use name_reads::read_method;
+use recorder::{Reader, Recorder, RunFault};
 use result_bytes::Value;
 use std::alloc::{AllocError, AllocFailed, Global};
 use tree_bytes::{Body, MainOrMethod};
@@ -71,8 +72,7 @@ pub fn check_body_steps<D: Reader>(
         recorder.new) }
     ensures follows { D.follows recorder.old.inner recorder.new.inner }
 {
-    let key = Key::Method(class.copy(alloc)?, method.copy(alloc)?);
-    let sealed = ask_key(recorder, &key)?;
+    let sealed = read_method(alloc, recorder, class, method)?;
     let mistakes = check_told(alloc, recorder, class, sealed.value())?;
     let faults = faults_for(alloc, method, &mistakes)?;
     Ok(Value::CheckBody(faults))

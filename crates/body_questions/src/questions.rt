@@ -4,11 +4,11 @@ ghost use Rattle.recorder.specs.Programs.{Goes, GivesUp};
 ghost use Rattle.body_questions.specs.Questions.{declared_step, descends_step, field_step, method_step};
 
 use crate::facts::{MethodTypes, descends_in, field_in, is_declared_in, method_in};
-use item_ids::Key;
 use mj_lexer::Name;
 use mj_tree::Ty;
 use mj_typing::Signature;
-use recorder::{Reader, Recorder, RunFault, ask_key};
+use name_reads::{read_header, read_members, read_supers};
+use recorder::{Reader, Recorder, RunFault};
 use std::alloc::Global;
 
 /// Whether a class is declared, by its header.
@@ -23,8 +23,7 @@ pub fn ask_declared<D: Reader>(
         recorder.new) }
     ensures follows { D.follows recorder.old.inner recorder.new.inner }
 {
-    let key = Key::Header(class.copy(alloc)?);
-    let header = ask_key(recorder, &key)?;
+    let header = read_header(alloc, recorder, class)?;
     Ok(is_declared_in(header.value()))
 }
 
@@ -41,8 +40,7 @@ pub fn ask_descends<D: Reader>(
         e recorder.new) }
     ensures follows { D.follows recorder.old.inner recorder.new.inner }
 {
-    let key = Key::Supers(class.copy(alloc)?);
-    let chain = ask_key(recorder, &key)?;
+    let chain = read_supers(alloc, recorder, class)?;
     Ok(descends_in(chain.value(), ancestor))
 }
 
@@ -59,8 +57,7 @@ pub fn ask_field<D: Reader>(
         recorder.new) }
     ensures follows { D.follows recorder.old.inner recorder.new.inner }
 {
-    let key = Key::Members(class.copy(alloc)?);
-    let fields = ask_key(recorder, &key)?;
+    let fields = read_members(alloc, recorder, class)?;
     let ty = field_in(alloc, fields.value(), name)?;
     Ok(ty)
 }
@@ -78,8 +75,7 @@ pub fn ask_method<D: Reader>(
         recorder.new) }
     ensures follows { D.follows recorder.old.inner recorder.new.inner }
 {
-    let key = Key::Members(class.copy(alloc)?);
-    let methods = ask_key(recorder, &key)?;
+    let methods = read_members(alloc, recorder, class)?;
     let types = method_in(alloc, methods.value(), name)?;
     Ok(types)
 }

@@ -9,15 +9,13 @@ ghost use Rattle.body_questions.specs.Facts.{methods_in as methods_told, method_
 ghost use Rattle.class_query.specs.Signatures.{same_types as are_same_types, differ as do_differ};
 ghost use Rattle.class_query.specs.CheckClass.{overridden_class as overridden, differ_in as flags_in, override_step};
 
-use fingerprint::Sealed;
-use item_ids::Key;
 use mj_answer::{MethodRow, find_by_name};
 use mj_lexer::Name;
 use mj_tree::Ty;
-use recorder::{Reader, Recorder, RunFault, ask_key};
+use name_reads::read_members;
+use recorder::{Reader, Recorder, RunFault};
 use result_bytes::Value;
 use std::alloc::{AllocError, Global};
-use std::sync::Arc;
 
 fn same_type(ty: &Ty, other: &Ty) -> bool
     ensures { result ≡ is_same_type ty.now other.now }
@@ -112,22 +110,6 @@ pub fn overridden_class<'c>(methods: &[Name], chain: &'c [Name]) -> Option<&'c N
     }
 }
 
-/// Asks the members of a class.
-fn ask_members<D: Reader>(
-    alloc: Global,
-    recorder: &mut Recorder<D>,
-    class: &Name,
-) -> Result<Arc<Sealed>, RunFault>
-    ensures ok { IfOk result (λ a. Goes (Ask (keys.Members class.now)) recorder.old (arc_value a)
-        recorder.new) }
-    ensures err { IfErr result (λ e. GivesUp (Ask (keys.Members class.now)) recorder.old e
-        recorder.new) }
-    ensures follows { D.follows recorder.old.inner recorder.new.inner }
-{
-    let key = Key::Members(class.copy(alloc)?);
-    ask_key(recorder, &key)
-}
-
 /// For each of these methods of a class, whether another class has it with other types.
 fn compare_classes<D: Reader>(
     alloc: Global,
@@ -142,8 +124,8 @@ fn compare_classes<D: Reader>(
         recorder.old e recorder.new) }
     ensures follows { D.follows recorder.old.inner recorder.new.inner }
 {
-    let own = ask_members(alloc, recorder, class)?;
-    let other = ask_members(alloc, recorder, other)?;
+    let own = read_members(alloc, recorder, class)?;
+    let other = read_members(alloc, recorder, other)?;
     let flags = differ_in(alloc, own.value(), other.value(), methods)?;
     Ok(flags)
 }

@@ -10,9 +10,9 @@ use crate::fields::ask_fields;
 use crate::overrides::{ask_overrides, overridden_class};
 use crate::told::faults_of;
 use answer_bytes::Faults;
-use item_ids::Key;
 use mj_lexer::Name;
-use recorder::{Reader, Recorder, RunFault, ask_key};
+use name_reads::{read_header, read_supers};
+use recorder::{Reader, Recorder, RunFault};
 use result_bytes::{Header, Supers, Value};
 use std::alloc::Global;
 use table_queries::{chain_in, header_in};
@@ -65,8 +65,7 @@ fn check_header<D: Reader>(
         recorder.new) }
     ensures follows { D.follows recorder.old.inner recorder.new.inner }
 {
-    let key = Key::Supers(class.copy(alloc)?);
-    let answer = ask_key(recorder, &key)?;
+    let answer = read_supers(alloc, recorder, class)?;
     check_declared(alloc, recorder, class, header, chain_in(answer.value()))
 }
 
@@ -108,7 +107,6 @@ pub fn run_check_class<D: Reader>(
         recorder.new) }
     ensures follows { D.follows recorder.old.inner recorder.new.inner }
 {
-    let key = Key::Header(class.copy(alloc)?);
-    let answer = ask_key(recorder, &key)?;
+    let answer = read_header(alloc, recorder, class)?;
     check_told(alloc, recorder, class, header_in(answer.value()))
 }

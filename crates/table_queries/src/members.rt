@@ -17,12 +17,12 @@ ghost use Rattle.table_queries.specs.MemberTables.{member_name_view, member_name
 use crate::facts::{chain_in, header_in, signature_in};
 use answer_bytes::Members;
 use fingerprint::Sealed;
-use item_ids::Key;
 use mj_answer::{ClassTable, FieldRow, MethodRow};
 use mj_classes::FieldMember;
 use mj_lexer::Name;
 use mj_tree::{Field, copy_types};
-use recorder::{Reader, Recorder, RunFault, ask_key};
+use name_reads::{read_header, read_sig, read_supers};
+use recorder::{Reader, Recorder, RunFault};
 use result_bytes::{Signature, Supers, Value};
 use std::alloc::{AllocError, Global};
 use std::collections::BTreeMap;
@@ -108,8 +108,7 @@ fn ask_link<'c, D: Reader>(
         recorder.new) }
     ensures follows { D.follows recorder.old.inner recorder.new.inner }
 {
-    let key = Key::Header(class.copy(alloc)?);
-    let answer = ask_key(recorder, &key)?;
+    let answer = read_header(alloc, recorder, class)?;
     add_link(links, class, answer)?;
     Ok(())
 }
@@ -282,8 +281,7 @@ fn ask_types<D: Reader>(
         rows.old.items) recorder.old e recorder.new) }
     ensures follows { D.follows recorder.old.inner recorder.new.inner }
 {
-    let key = Key::Sig(method.owner.copy(alloc)?, method.name.copy(alloc)?);
-    let answer = ask_key(recorder, &key)?;
+    let answer = read_sig(alloc, recorder, method.owner, method.name)?;
     add_types(alloc, rows, method, signature_in(answer.value()))?;
     Ok(())
 }
@@ -389,7 +387,6 @@ pub fn run_members<D: Reader>(
         recorder.new) }
     ensures follows { D.follows recorder.old.inner recorder.new.inner }
 {
-    let key = Key::Supers(class.copy(alloc)?);
-    let answer = ask_key(recorder, &key)?;
+    let answer = read_supers(alloc, recorder, class)?;
     members_for(alloc, recorder, chain_in(answer.value()))
 }

@@ -9,6 +9,7 @@ ghost use Rattle.table_queries.specs.Supers.{chain, climb_by as climb_told, clim
 use crate::facts::{header_in, is_listed, rows_in};
 use item_ids::Key;
 use mj_lexer::Name;
+use name_reads::read_header;
 use recorder::{Reader, Recorder, RunFault, ask_key};
 use result_bytes::{ChainEnd, IndexRow, Supers, Value};
 use std::alloc::{AllocError, Global};
@@ -129,8 +130,7 @@ fn ask_next<D: Reader>(
         recorder.new) }
     ensures follows { D.follows recorder.old.inner recorder.new.inner }
 {
-    let key = Key::Header(class.copy(alloc)?);
-    let answer = ask_key(recorder, &key)?;
+    let answer = read_header(alloc, recorder, &class)?;
     let ascent = ascent.add(alloc, class)?;
     let climb = climb_by(alloc, rows, &ascent, answer.value())?;
     Ok((ascent, climb))

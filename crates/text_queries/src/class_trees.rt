@@ -9,6 +9,7 @@ use crate::facts::{file_in, tree_in};
 use fingerprint::Sealed;
 use item_ids::Key;
 use mj_lexer::Name;
+use name_reads::read_tree;
 use recorder::{Reader, Recorder, RunFault, ask_key};
 use std::alloc::Global;
 use std::sync::Arc;
@@ -38,8 +39,8 @@ fn ask_file<D: Reader>(
 {
     match file {
         Some(file) => {
-            let key = Key::Tree(file.copy(alloc)?);
-            Ok(Some(ask_key(recorder, &key)?))
+            let tree = read_tree(alloc, recorder, file)?;
+            Ok(Some(tree))
         }
         None => Ok(None),
     }

@@ -12,6 +12,7 @@ use crate::facts::{names_in, tree_in};
 use item_ids::Key;
 use mj_lexer::Name;
 use mj_tree::ClassTree;
+use name_reads::read_tree;
 use recorder::{Reader, Recorder, RunFault, ask_key};
 use result_bytes::{Index, IndexRow, Value};
 use std::alloc::{AllocError, Global};
@@ -99,8 +100,7 @@ fn ask_rows<D: Reader>(
         recorder.new) }
     ensures follows { D.follows recorder.old.inner recorder.new.inner }
 {
-    let key = Key::Tree(file.copy(alloc)?);
-    let answer = ask_key(recorder, &key)?;
+    let answer = read_tree(alloc, recorder, file)?;
     add_file(alloc, rows, file, tree_in(answer.value()))?;
     Ok(())
 }

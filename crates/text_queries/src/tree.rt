@@ -5,10 +5,10 @@ ghost use Rattle.recorder.specs.Programs.{Goes, GivesUp};
 ghost use Rattle.text_queries.specs.Tree.{tree_steps};
 
 use crate::facts::bytes_in;
-use item_ids::Key;
 use mj_lexer::Name;
 use mj_rules::read_file;
-use recorder::{Reader, Recorder, RunFault, ask_key};
+use name_reads::read_source;
+use recorder::{Reader, Recorder, RunFault};
 use result_bytes::{Text, Value};
 use std::alloc::{AllocError, Global};
 use tree_bytes::Tree;
@@ -44,8 +44,7 @@ pub fn run_tree<D: Reader>(
     ensures err { IfErr result (λ e. GivesUp (tree_steps file.now) recorder.old e recorder.new) }
     ensures follows { D.follows recorder.old.inner recorder.new.inner }
 {
-    let key = Key::Source(file.copy(alloc)?);
-    let source = ask_key(recorder, &key)?;
+    let source = read_source(alloc, recorder, file)?;
     let tree = tree_for(alloc, bytes_in(source.value()))?;
     Ok(Value::Tree(tree))
 }
