@@ -9,7 +9,7 @@ use answer_bytes::Faults;
 use mj_answer::{Code, Diagnostic, fault_set};
 use mj_lexer::Name;
 use mj_tree::Place;
-use mj_typing::Mistake;
+use mj_phrases::Mistake;
 use std::alloc::{AllocError, Global};
 
 /// The number in four bytes.

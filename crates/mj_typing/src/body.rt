@@ -2,17 +2,13 @@
 ghost use Rattle.std.specs.Prelude.{◌≡◌, IfOk, IfErr, OnOk};
 ghost use Rattle.mj_tree.specs.Views.{exp_view, stmt_view, stmts_view};
 ghost use Rattle.mj_typing.specs.Bodies.{mistakes_step, statement_step, statements_step};
-ghost use Rattle.mj_typing.specs.Phrases.{phrase, nothing, part, add_own};
-ghost use Rattle.mj_typing.specs.Steps.{Proceeds, Aborts};
-ghost use Rattle.mj_typing.specs.Table.{phrase_of, name_phrase, return_phrase, one_part, two_parts, three_parts, condition, print, assign, store};
-ghost use Rattle.mj_typing.specs.declared.asking.Stop.TheVariants.{OutOfMemory};
+ghost use Rattle.mj_phrases.specs.Phrases.{phrase, nothing, part, add_own};
+ghost use Rattle.mj_phrases.specs.Steps.{Proceeds, Aborts};
+ghost use Rattle.mj_phrases.specs.Table.{phrase_of, name_phrase, return_phrase, one_part, two_parts, three_parts, condition, print, assign, store};
+ghost use Rattle.mj_phrases.specs.declared.asking.Stop.TheVariants.{OutOfMemory};
 
-use crate::asking::{Asking, Stop};
-use crate::rows;
-use crate::scope::Scope;
-use crate::verdict::{Mistake, Verdict};
-use crate::walk::{check, name_type};
 use mj_lexer::Name;
+use mj_phrases::{Asking, Mistake, Scope, Stop, Verdict, check, name_type};
 use mj_tree::{Exp, Stmt, Ty};
 use std::alloc::Global;
 
@@ -39,7 +35,7 @@ fn report<E>(mistakes: &mut Vec<Mistake>, mark: usize, verdict: Verdict) -> Resu
 }
 
 /// The condition of `if` or `while`.
-#[tactic(auto, unfolding(crate::specs::Phrases::phrase_step, crate::specs::Phrases::parts_step))]
+#[tactic(auto, unfolding(mj_phrases::specs::Phrases::phrase_step, mj_phrases::specs::Phrases::parts_step))]
 fn check_condition<A: Asking>(
     alloc: Global,
     asking: &mut A,
@@ -63,13 +59,13 @@ fn check_condition<A: Asking>(
     ensures follows { A.follows asking.old asking.new }
 {
     match check(alloc, asking, scope, value, mistakes)? {
-        Some(ty) => report(mistakes, mark, rows::condition(&ty)),
+        Some(ty) => report(mistakes, mark, mj_phrases::condition(&ty)),
         None => Ok(()),
     }
 }
 
 /// What is printed.
-#[tactic(auto, unfolding(crate::specs::Phrases::phrase_step, crate::specs::Phrases::parts_step))]
+#[tactic(auto, unfolding(mj_phrases::specs::Phrases::phrase_step, mj_phrases::specs::Phrases::parts_step))]
 fn check_print<A: Asking>(
     alloc: Global,
     asking: &mut A,
@@ -93,13 +89,13 @@ fn check_print<A: Asking>(
     ensures follows { A.follows asking.old asking.new }
 {
     match check(alloc, asking, scope, value, mistakes)? {
-        Some(ty) => report(mistakes, mark, rows::print(&ty)),
+        Some(ty) => report(mistakes, mark, mj_phrases::print(&ty)),
         None => Ok(()),
     }
 }
 
 /// A value that is returned.
-#[tactic(auto, unfolding(crate::specs::Phrases::phrase_step, crate::specs::Phrases::parts_step))]
+#[tactic(auto, unfolding(mj_phrases::specs::Phrases::phrase_step, mj_phrases::specs::Phrases::parts_step))]
 pub fn check_return<A: Asking>(
     alloc: Global,
     asking: &mut A,
@@ -122,12 +118,12 @@ pub fn check_return<A: Asking>(
     let Some(ty) = check(alloc, asking, scope, value, mistakes)? else {
         return Ok(());
     };
-    let verdict = rows::return_value(alloc, asking, wanted, &ty)?;
+    let verdict = mj_phrases::return_value(alloc, asking, wanted, &ty)?;
     report(mistakes, mark, verdict)
 }
 
 /// `name = value`
-#[tactic(auto, unfolding(crate::specs::Phrases::phrase_step, crate::specs::Phrases::parts_step))]
+#[tactic(auto, unfolding(mj_phrases::specs::Phrases::phrase_step, mj_phrases::specs::Phrases::parts_step))]
 fn check_assign<A: Asking>(
     alloc: Global,
     asking: &mut A,
@@ -165,12 +161,12 @@ fn check_assign<A: Asking>(
     let (Some(variable), Some(value)) = (variable, value) else {
         return Ok(());
     };
-    let verdict = rows::assign(alloc, asking, &variable, &value)?;
+    let verdict = mj_phrases::assign(alloc, asking, &variable, &value)?;
     report(mistakes, target.mark, verdict)
 }
 
 /// `name[index] = value`
-#[tactic(auto, unfolding(crate::specs::Phrases::phrase_step, crate::specs::Phrases::parts_step))]
+#[tactic(auto, unfolding(mj_phrases::specs::Phrases::phrase_step, mj_phrases::specs::Phrases::parts_step))]
 fn check_store<A: Asking>(
     alloc: Global,
     asking: &mut A,
@@ -211,7 +207,7 @@ fn check_store<A: Asking>(
     let value = check(alloc, asking, scope, value, mistakes)?;
     match (array, index, value) {
         (Some(array), Some(index), Some(value)) => {
-            report(mistakes, target.mark, rows::store(&array, &index, &value))
+            report(mistakes, target.mark, mj_phrases::store(&array, &index, &value))
         }
         _ => Ok(()),
     }
@@ -220,7 +216,7 @@ fn check_store<A: Asking>(
 /// A statement and those inside it.
 #[cycle(statements)]
 #[inline(never)]
-#[tactic(auto, unfolding(crate::specs::Phrases::phrase_step, crate::specs::Phrases::parts_step, crate::specs::Bodies::statement_step, crate::specs::Bodies::statements_step))]
+#[tactic(auto, unfolding(mj_phrases::specs::Phrases::phrase_step, mj_phrases::specs::Phrases::parts_step, crate::specs::Bodies::statement_step, crate::specs::Bodies::statements_step))]
 pub fn check_statement<A: Asking>(
     alloc: Global,
     asking: &mut A,
