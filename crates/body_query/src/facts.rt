@@ -6,8 +6,8 @@ ghost use Rattle.body_query.specs.Facts.{is_declared_in as declared_told, descen
 
 use mj_answer::{FieldRow, MethodRow, find_by_name};
 use mj_lexer::Name;
-use mj_tree::{Ty, copy_types};
 use mj_phrases::Signature;
+use mj_tree::{Ty, copy_types};
 use result_bytes::Value;
 use std::alloc::{AllocError, Global};
 

@@ -3,17 +3,17 @@ ghost use Rattle.std.specs.Prelude.{◌≡◌, List, [], Option, IfOk, IfErr, op
 ghost use Rattle.std.specs.Arc.{arc_value};
 ghost use Rattle.item_ids.specs.declared.key.Key.TheVariants as keys;
 ghost use Rattle.mj_tree.specs.Views.{method_view, stmt_view};
-ghost use Rattle.mj_typing.specs.Bodies.{method_check, statement_step};
 ghost use Rattle.mj_phrases.specs.Inquiries.{Concludes};
 ghost use Rattle.mj_phrases.specs.Table.{main_scope};
+ghost use Rattle.mj_typing.specs.Bodies.{method_check, statement_step};
 ghost use Rattle.recorder.specs.Programs.{Goes, GivesUp};
 ghost use Rattle.body_query.specs.Programs.{reads_of, declared_step, descends_step, field_step, method_step};
 
 use crate::facts::{MethodTypes, descends_in, field_in, is_declared_in, method_in};
 use item_ids::Key;
 use mj_lexer::Name;
-use mj_tree::{MethodTree, Stmt, Ty};
 use mj_phrases::{Asking, Mistake, Signature, Stop};
+use mj_tree::{MethodTree, Stmt, Ty};
 use mj_typing::{check_main_statement, check_method};
 use recorder::{Reader, Recorder, RunFault, ask_key};
 use std::alloc::{AllocError, Global};

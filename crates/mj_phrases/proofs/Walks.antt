@@ -6,7 +6,7 @@ use Rattle.mj_tree.specs.declared.tree.Ty.{Ty}
 use Rattle.mj_phrases.specs.declared.verdict.Mistake.{Mistake}
 use Rattle.mj_phrases.specs.declared.verdict.Verdict.{Verdict}
 use Rattle.mj_phrases.specs.Inquiries.{Inquiry}
-use Rattle.mj_phrases.specs.Phrases.{Phrase, Phrases, phrase, nothing, part, Finding, own_step, phrase_step, parts_step, and_type, with_type}
+use Rattle.mj_phrases.specs.Phrases.{Phrase, Phrases, phrase, nothing, part, Finding, own_step, phrase_step, parts_step, and_type, with_type, mistakes_step}
 use Rattle.mj_phrases.specs.Steps.{Check, Proceeds, Aborts}
 use Rattle.mj_phrases.specs.Table.{Scope, phrase_of, phrases_of}
 use Rattle.mj_phrases.proofs.Asked.{Comes, memory_inside, front_at, at_end}
@@ -138,3 +138,8 @@ module _ {S E : Type 0} (stands : S → Check → Check → Type 0) (halts : S �
           subst (λ x. stands new start (k (found x mistakes))) (joined-nil types)
           (subst (λ ps. stands new start (parts_step ps mistakes (λ rest. k (found (joined types rest.type) rest.mistakes)))) (ap (λ es. phrases_of scope (exps_view es)) (at_end exps i h)) (l.comes start k w));
     }
+
+  -- ---- phrases whose mistakes alone matter
+
+  pub up_mistakes : (p : Phrase) (before : List Mistake) (e : E) (old new : S) → Aborts stands halts (phrase_step p before) old e new → Aborts stands halts (mistakes_step p before) old e new
+  up_mistakes p before e old new g = record { ends = λ start k h. g.ends start (λ found. k found.mistakes) h }

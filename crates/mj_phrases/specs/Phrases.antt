@@ -170,3 +170,7 @@ unfoldable mutual
         type = and_type first.type others.type;
         mistakes = others.mistakes;
       })))
+
+-- a phrase whose mistakes alone matter
+abbrev pub mistakes_step : Phrase → List Mistake → (List Mistake → Check) → Check
+mistakes_step p mistakes next = phrase_step p mistakes (λ found. next found.mistakes)

@@ -13,8 +13,8 @@ use crate::world::World;
 use mj_answer::Diagnostic;
 use mj_classes::{ClassRef, Declarations, Tree};
 use mj_lexer::Name;
-use mj_tree::{MethodTree, Place};
 use mj_phrases::Mistake;
+use mj_tree::{MethodTree, Place};
 use mj_typing::{main_mistakes, method_mistakes};
 use std::alloc::{AllocError, Global};
 

@@ -3,8 +3,8 @@
 use crate::tables::formal_types;
 use mj_classes::Declarations;
 use mj_lexer::Name;
-use mj_tree::Ty;
 use mj_phrases::Signature;
+use mj_tree::Ty;
 use std::alloc::{AllocError, Global};
 
 /// The types of a method.

@@ -6,12 +6,12 @@ use Rattle.mj_tree.specs.declared.tree.Ty.TheVariants as ty
 use Rattle.mj_tree.specs.declared.tree.Variable.{Variable}
 use Rattle.mj_phrases.specs.declared.verdict.Mistake.{Mistake}
 use Rattle.mj_phrases.specs.Inquiries.{World, Concludes, conclusion}
-use Rattle.mj_phrases.specs.Phrases.{Phrase, add_faults, add_each}
+use Rattle.mj_phrases.specs.Phrases.{Phrase, add_faults, add_each, mistakes_step}
 use Rattle.mj_phrases.specs.Steps.{Check, Proceeds}
 use Rattle.mj_phrases.specs.Table.{Scope, own_phrase, statement_phrases, statements_phrases, return_phrase, method_scope, main_scope}
 use Rattle.mj_phrases.specs.Variables.{variables_of, add_repeated_each}
 use Rattle.mj_phrases.proofs.Checks.{phrase_said}
-use Rattle.mj_typing.specs.Bodies.{return_type_mark, add_undeclared, add_undeclared_each, type_step, types_step, mistakes_step, statement_step, statements_step, declared_step, method_step, main_step, method_check, main_check, method_faults, main_faults}
+use Rattle.mj_typing.specs.Bodies.{return_type_mark, add_undeclared, add_undeclared_each, type_step, types_step, statement_step, statements_step, declared_step, method_step, main_step, method_check, main_check, method_faults, main_faults}
 
 module _ (w : World) where
   pub add_each-append : (mistakes : List Mistake) (ps qs : List Phrase) → add_each w mistakes (ps ++ qs) ≡ add_each w (add_each w mistakes ps) qs

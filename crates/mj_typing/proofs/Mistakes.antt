@@ -13,9 +13,9 @@ use Rattle.mj_phrases.specs.Types.{is_same}
 use Rattle.mj_phrases.specs.Inquiries.{World}
 use Rattle.mj_phrases.specs.Table.{method_phrases}
 use Rattle.mj_phrases.specs.Variables.{name_token, name_mark, has_name, variables_of, add_repeated, add_repeated_each}
-use Rattle.mj_typing.specs.Bodies.{MethodFault, UndeclaredReturn, UndeclaredVariable, RepeatedVariable, IllPhrase, return_type_mark, NamesFit, add_undeclared, add_undeclared_each, method_faults}
 use Rattle.mj_phrases.proofs.Names.{same_from, from_same}
 use Rattle.mj_phrases.proofs.Agree.{nowhere, first, later, first_or_later, each_listed, each_kept, each_there}
+use Rattle.mj_typing.specs.Bodies.{MethodFault, UndeclaredReturn, UndeclaredVariable, RepeatedVariable, IllPhrase, return_type_mark, NamesFit, add_undeclared, add_undeclared_each, method_faults}
 
 abbrev mistake : ℕ → Code → Mistake
 mistake mark code = record { mark = mark; code = code }

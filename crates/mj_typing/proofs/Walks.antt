@@ -6,18 +6,13 @@ use Rattle.mj_tree.specs.declared.tree.Stmt.{Stmt}
 use Rattle.mj_tree.specs.declared.tree.Variable.{Variable}
 use Rattle.mj_phrases.specs.declared.verdict.Mistake.{Mistake}
 use Rattle.mj_phrases.specs.Variables.{variables_of, add_repeated_each}
-use Rattle.mj_typing.specs.Bodies.{declared_step, method_step, type_step, types_step, mistakes_step, statement_step, statements_step}
-use Rattle.mj_phrases.specs.Phrases.{Phrase, phrase_step}
+use Rattle.mj_phrases.specs.Phrases.{Phrase, phrase_step, mistakes_step}
 use Rattle.mj_phrases.specs.Steps.{Check, Proceeds, Aborts}
 use Rattle.mj_phrases.specs.Table.{Scope, return_phrase, method_scope}
 use Rattle.mj_phrases.proofs.Asked.{Comes, front_at, at_end}
+use Rattle.mj_typing.specs.Bodies.{declared_step, method_step, type_step, types_step, statement_step, statements_step}
 
 module _ {S E : Type 0} (stands : S → Check → Check → Type 0) (halts : S → Check → E → Type 0) where
-  -- ---- phrases whose mistakes alone matter
-
-  pub up_mistakes : (p : Phrase) (before : List Mistake) (e : E) (old new : S) → Aborts stands halts (phrase_step p before) old e new → Aborts stands halts (mistakes_step p before) old e new
-  up_mistakes p before e old new g = record { ends = λ start k h. g.ends start (λ found. k found.mistakes) h }
-
   -- ---- a loop over statements
 
   module _ (scope : Scope) (stmts : List Stmt) (before : List Mistake) (old : S) where

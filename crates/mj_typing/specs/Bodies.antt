@@ -79,10 +79,6 @@ unfoldable pub types_step : List Variable → List Mistake → (List Mistake →
 types_step [] mistakes next = next mistakes
 types_step (v ∷ vs) mistakes next = type_step v.mark v.ty mistakes (λ more. types_step vs more next)
 
--- a phrase whose mistakes alone matter
-abbrev pub mistakes_step : Phrase → List Mistake → (List Mistake → Check) → Check
-mistakes_step p mistakes next = phrase_step p mistakes (λ found. next found.mistakes)
-
 -- the phrases of a statement in their order
 unfoldable mutual
   pub statement_step : Scope → Statement → List Mistake → (List Mistake → Check) → Check

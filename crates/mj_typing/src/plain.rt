@@ -1,8 +1,8 @@
 //! Checks that need no asking.
 ghost use Rattle.std.specs.Prelude.{◌≡◌, IfOk, Ok, refl};
 ghost use Rattle.mj_tree.specs.Views.{method_view, main_view};
-ghost use Rattle.mj_typing.specs.Bodies.{method_faults, main_faults};
 ghost use Rattle.mj_phrases.specs.Inquiries.{conclusion};
+ghost use Rattle.mj_typing.specs.Bodies.{method_faults, main_faults};
 
 use crate::check::{check_main, check_method};
 use mj_lexer::Name;
