@@ -7,13 +7,14 @@ use Rattle.mj_tree.specs.Trees.{Name, Statement, Statements, Block, If, While, P
 use Rattle.mj_tree.specs.declared.tree.Ty.{Ty}
 use Rattle.mj_tree.specs.declared.tree.Ty.TheVariants as types
 use Rattle.mj_tree.specs.declared.tree.Variable.{Variable}
-use Rattle.mj_typing.specs.declared.verdict.Verdict.{Verdict}
-use Rattle.mj_typing.specs.declared.verdict.Mistake.{Mistake}
-use Rattle.mj_typing.specs.Inquiries.{World, Inquiry, Concludes, AsksDescent, AsksField, AsksMethod, AsksDeclared, conclusion, and_then}
-use Rattle.mj_typing.specs.Phrases.{Phrase, Phrases, phrase, nothing, part, Finding, finding_of, own_step, phrase_step, parts_step, type_of, types_of, verdict_by, and_type, add_faults, add_all, add_each}
-use Rattle.mj_typing.specs.Steps.{Check}
-use Rattle.mj_typing.specs.Table.{Scope, own_phrase, statement_phrases, statements_phrases, return_phrase, method_scope, main_scope, method_phrases, main_phrases}
-use Rattle.mj_typing.specs.Bodies.{return_type_mark, variables_of, add_undeclared, add_undeclared_each, add_repeated_each, type_step, types_step, mistakes_step, statement_step, statements_step, declared_step, method_step, main_step, method_check, main_check}
+use Rattle.mj_phrases.specs.declared.verdict.Verdict.{Verdict}
+use Rattle.mj_phrases.specs.declared.verdict.Mistake.{Mistake}
+use Rattle.mj_phrases.specs.Inquiries.{World, Inquiry, Concludes, AsksDescent, AsksField, AsksMethod, AsksDeclared, conclusion, and_then}
+use Rattle.mj_phrases.specs.Phrases.{Phrase, Phrases, phrase, nothing, part, Finding, finding_of, own_step, phrase_step, parts_step, type_of, types_of, verdict_by, and_type, add_faults, add_all, add_each, mistakes_step}
+use Rattle.mj_phrases.specs.Steps.{Check}
+use Rattle.mj_phrases.specs.Table.{Scope, own_phrase, statement_phrases, statements_phrases, return_phrase, method_scope, main_scope, method_phrases, main_phrases}
+use Rattle.mj_phrases.specs.Variables.{variables_of, add_repeated_each}
+use Rattle.mj_typing.specs.Bodies.{return_type_mark, add_undeclared, add_undeclared_each, type_step, types_step, statement_step, statements_step, declared_step, method_step, main_step, method_check, main_check}
 use Rattle.result_bytes.specs.declared.value.Value.{Value}
 use Rattle.recorder.specs.Programs.{Prog, Ret, runs, asks, is_seen}
 use Rattle.query_rules.specs.BodyReads.{type_reads, types_reads}

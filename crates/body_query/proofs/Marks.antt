@@ -8,13 +8,14 @@ use Rattle.mj_tree.specs.declared.tree.Ty.TheVariants as ty
 use Rattle.mj_tree.specs.declared.tree.Variable.{Variable}
 use Rattle.mj_parser.specs.Declarations.{type_size}
 use Rattle.mj_parser.specs.MarkBounds.{ExpMarksBelow, ExpsMarksBelow, StmtMarksBelow, StmtsMarksBelow, VariableBelow, MethodMarksBelow}
-use Rattle.mj_typing.specs.declared.verdict.Verdict.{Verdict}
-use Rattle.mj_typing.specs.declared.verdict.Verdict.TheVariants.{Is, Fine, Wrong, Silent}
-use Rattle.mj_typing.specs.declared.verdict.Mistake.{Mistake}
-use Rattle.mj_typing.specs.Inquiries.{World}
-use Rattle.mj_typing.specs.Phrases.{Phrase, Phrases, phrase, nothing, part, add_own, add_faults, add_all, add_each, verdict_by, types_of}
-use Rattle.mj_typing.specs.Table.{Scope, phrase_of, phrases_of, statement_phrases, statements_phrases, return_phrase, method_scope, main_scope, method_phrases, main_phrases}
-use Rattle.mj_typing.specs.Bodies.{return_type_mark, variables_of, name_mark, has_name, add_undeclared, add_undeclared_each, add_repeated, add_repeated_each, method_faults, main_faults}
+use Rattle.mj_phrases.specs.declared.verdict.Verdict.{Verdict}
+use Rattle.mj_phrases.specs.declared.verdict.Verdict.TheVariants.{Is, Fine, Wrong, Silent}
+use Rattle.mj_phrases.specs.declared.verdict.Mistake.{Mistake}
+use Rattle.mj_phrases.specs.Inquiries.{World}
+use Rattle.mj_phrases.specs.Phrases.{Phrase, Phrases, phrase, nothing, part, add_own, add_faults, add_all, add_each, verdict_by, types_of}
+use Rattle.mj_phrases.specs.Table.{Scope, phrase_of, phrases_of, statement_phrases, statements_phrases, return_phrase, method_scope, main_scope, method_phrases, main_phrases}
+use Rattle.mj_phrases.specs.Variables.{variables_of, name_mark, has_name, add_repeated, add_repeated_each}
+use Rattle.mj_typing.specs.Bodies.{return_type_mark, add_undeclared, add_undeclared_each, method_faults, main_faults}
 use Rattle.mj_answer.specs.declared.code.Code.TheVariants.{E206, E207}
 use Rattle.mj_answer.proofs.Alike.{Contains-first, Contains-later}
 use Rattle.recorder.proofs.Recorded.{all_last}

@@ -9,11 +9,11 @@ use Rattle.mj_tree.specs.declared.tree.Ty.{Ty}
 use Rattle.mj_tree.specs.declared.tree.Ty.TheVariants as types
 use Rattle.mj_answer.specs.declared.code.Code.{Code}
 use Rattle.mj_answer.specs.declared.code.Code.TheVariants.{E301, E302, E303, E304, E305, E306, E307, E308, E309, E311, E312, E313, E314, E315, E316, E317, E318, E319}
-use Rattle.mj_typing.specs.declared.verdict.Verdict.{Verdict}
-use Rattle.mj_typing.specs.Types.{is_same, is_int, is_boolean, is_int_array}
-use Rattle.mj_typing.specs.Inquiries.{World, Sig, Inquiry, Concludes, AsksDescent, conclusion}
-use Rattle.mj_typing.specs.Phrases.{demand, demand_asked, demand_some, is, fine}
-use Rattle.mj_typing.specs.Table.{Scope, local_of, is_accepted, are_accepted, most_value, literal, local_or_field, variable, this, negation, binary, index, array_length, arguments, call, new_array, new_object, condition, print, assign, store, return_value}
+use Rattle.mj_phrases.specs.declared.verdict.Verdict.{Verdict}
+use Rattle.mj_phrases.specs.Types.{is_same, is_int, is_boolean, is_int_array}
+use Rattle.mj_phrases.specs.Inquiries.{World, Sig, Inquiry, Concludes, AsksDescent, conclusion}
+use Rattle.mj_phrases.specs.Phrases.{demand, demand_asked, demand_some, is, fine}
+use Rattle.mj_phrases.specs.Table.{Scope, local_of, is_accepted, are_accepted, most_value, literal, local_or_field, variable, this, negation, binary, index, array_length, arguments, call, new_array, new_object, condition, print, assign, store, return_value}
 use Rattle.query_rules.specs.BodyReads.{field_reads, accept_reads, arguments_reads, called_reads, call_reads}
 use Rattle.body_query.proofs.Asked.{asked_in, asked-and_then}
 

@@ -8,7 +8,7 @@ use Rattle.mj_answer.proofs.Alike.{Contains-first, Contains-later, one_list_by}
 use Rattle.mj_answer.proofs.Orders.{faults}
 use Rattle.mj_rules.specs.Answering.{set_of, fault_order}
 use Rattle.mj_rules.proofs.Sets.{faults_compare, set_ascends, from_set, to_set}
-use Rattle.mj_typing.specs.declared.verdict.Mistake.{Mistake}
+use Rattle.mj_phrases.specs.declared.verdict.Mistake.{Mistake}
 use Rattle.answer_bytes.specs.Storable.{AreClassFaults, IsClassPlace}
 use Rattle.recorder.proofs.Recorded.{all_at}
 use Rattle.query_rules.specs.Items.{fault_set}

@@ -5,14 +5,14 @@ use Rattle.recorder.specs.Recording.{Recording}
 use Rattle.recorder.specs.Programs.{Prog, Reached, IsAt, Goes, GivesUp}
 use Rattle.recorder.specs.declared.refused.Refused.{Refused}
 use Rattle.recorder.specs.declared.runner.RunFault.{RunFault}
-use Rattle.mj_typing.specs.declared.verdict.Mistake.{Mistake}
-use Rattle.mj_typing.specs.declared.asking.Stop.{Stop}
-use Rattle.mj_typing.specs.declared.asking.Stop.TheVariants as stops
+use Rattle.mj_phrases.specs.declared.verdict.Mistake.{Mistake}
+use Rattle.mj_phrases.specs.declared.asking.Stop.{Stop}
+use Rattle.mj_phrases.specs.declared.asking.Stop.TheVariants as stops
 use Rattle.std.specs.Prelude.{Bool}
 use Rattle.mj_tree.specs.Trees.{Name}
 use Rattle.mj_tree.specs.declared.tree.Ty.{Ty}
-use Rattle.mj_typing.specs.Inquiries.{Sig, Concludes, AsksDescent, AsksField, AsksMethod, AsksDeclared}
-use Rattle.mj_typing.specs.Steps.{Check, Proceeds, Aborts}
+use Rattle.mj_phrases.specs.Inquiries.{Sig, Concludes, AsksDescent, AsksField, AsksMethod, AsksDeclared}
+use Rattle.mj_phrases.specs.Steps.{Check, Proceeds, Aborts}
 use Rattle.body_questions.specs.Questions.{descends_step, field_step, method_step, declared_step}
 use Rattle.body_query.specs.Programs.{reads_of}
 use Rattle.body_query.specs.Steps.{Comes, Ends, fault_of}

@@ -4,10 +4,10 @@ use Rattle.std.proofs.lemmas.List.{append-nil}
 use Rattle.mj_tree.specs.Trees.{Name, Expression, Expressions, Binary, Index, Length, Call, Literal, Boolean, Named, This, NewArray, NewObject, Not, Parenthesized, none, more, Statement, Statements, Block, If, While, Print, Assign, Store, done, next, Method}
 use Rattle.mj_tree.specs.declared.tree.Ty.{Ty}
 use Rattle.mj_tree.specs.declared.tree.Ty.TheVariants as types
-use Rattle.mj_typing.specs.declared.verdict.Verdict.{Verdict}
-use Rattle.mj_typing.specs.Inquiries.{World, Inquiry}
-use Rattle.mj_typing.specs.Phrases.{Phrase, phrase, nothing, part, type_of, types_of, and_type}
-use Rattle.mj_typing.specs.Table.{Scope, method_scope, parentheses, negation, binary, index, array_length, call, new_array, condition, print, assign, store, return_value, one_part, two_parts, three_parts, some_parts, name_phrase, phrase_of, phrases_of, statement_phrases, statements_phrases, return_phrase}
+use Rattle.mj_phrases.specs.declared.verdict.Verdict.{Verdict}
+use Rattle.mj_phrases.specs.Inquiries.{World, Inquiry}
+use Rattle.mj_phrases.specs.Phrases.{Phrase, phrase, nothing, part, type_of, types_of, and_type}
+use Rattle.mj_phrases.specs.Table.{Scope, method_scope, parentheses, negation, binary, index, array_length, call, new_array, condition, print, assign, store, return_value, one_part, two_parts, three_parts, some_parts, name_phrase, phrase_of, phrases_of, statement_phrases, statements_phrases, return_phrase}
 use Rattle.query_rules.specs.BodyReads.{type_reads, types_reads, name_reads, value_reads, call_reads, exp_reads, exps_reads, statement_reads, statements_reads, return_reads, method_reads}
 use Rattle.body_query.proofs.Asked.{asked_in, own_reads, phrase_reads, parts_reads, each_reads, each_reads-append, method_keys}
 use Rattle.body_query.proofs.Rows.{named_asked, this_asked, new_object_asked, assign_asked, returned_asked, call_asked, binary_asked, literal_asked, negation_asked, index_asked, array_length_asked, new_array_asked, condition_asked, print_asked, store_asked}

@@ -4,10 +4,10 @@ use Rattle.item_ids.specs.declared.key.Key.{Key}
 use Rattle.item_ids.specs.declared.key.Key.TheVariants as keys
 use Rattle.mj_tree.specs.Trees.{Name}
 use Rattle.mj_tree.specs.declared.place.Place.TheVariants.{Inside}
-use Rattle.mj_typing.specs.declared.verdict.Mistake.{Mistake}
-use Rattle.mj_typing.specs.Inquiries.{World, Concludes, AsksDescent, AsksField, AsksMethod, AsksDeclared, conclusion}
-use Rattle.mj_typing.specs.Steps.{Check}
-use Rattle.mj_typing.specs.Table.{main_scope}
+use Rattle.mj_phrases.specs.declared.verdict.Mistake.{Mistake}
+use Rattle.mj_phrases.specs.Inquiries.{World, Concludes, AsksDescent, AsksField, AsksMethod, AsksDeclared, conclusion}
+use Rattle.mj_phrases.specs.Steps.{Check}
+use Rattle.mj_phrases.specs.Table.{main_scope}
 use Rattle.mj_typing.specs.Bodies.{main_check, main_step}
 use Rattle.mj_typing.proofs.Checks.{method_concludes, main_concludes}
 use Rattle.mj_rules.specs.Sentences.{classes_in}

@@ -5,10 +5,10 @@ use Rattle.item_ids.specs.declared.key.Key.TheVariants as keys
 use Rattle.mj_tree.specs.Trees.{Name}
 use Rattle.mj_tree.specs.declared.place.Place.TheVariants.{Inside}
 use Rattle.mj_answer.specs.declared.diagnostic.Diagnostic.{Diagnostic}
-use Rattle.mj_typing.specs.declared.verdict.Mistake.{Mistake}
-use Rattle.mj_typing.specs.Inquiries.{Concludes}
-use Rattle.mj_typing.specs.Steps.{Check}
-use Rattle.mj_typing.specs.Table.{main_scope}
+use Rattle.mj_phrases.specs.declared.verdict.Mistake.{Mistake}
+use Rattle.mj_phrases.specs.Inquiries.{Concludes}
+use Rattle.mj_phrases.specs.Steps.{Check}
+use Rattle.mj_phrases.specs.Table.{main_scope}
 use Rattle.mj_typing.specs.Bodies.{statement_step, method_check}
 use Rattle.tree_bytes.specs.Bodies.{BodyValue, OfMain, OfMethod}
 use Rattle.result_bytes.specs.declared.value.Value.{Value}

@@ -3,9 +3,9 @@ use Rattle.std.specs.Prelude.{Bool, List, Option}
 use Rattle.item_ids.specs.declared.key.Key.TheVariants as keys
 use Rattle.mj_tree.specs.Trees.{Name}
 use Rattle.mj_tree.specs.declared.tree.Ty.{Ty}
-use Rattle.mj_typing.specs.declared.verdict.Mistake.{Mistake}
-use Rattle.mj_typing.specs.Inquiries.{Sig, Concludes, AsksDescent, AsksField, AsksMethod, AsksDeclared}
-use Rattle.mj_typing.specs.Steps.{Check}
+use Rattle.mj_phrases.specs.declared.verdict.Mistake.{Mistake}
+use Rattle.mj_phrases.specs.Inquiries.{Sig, Concludes, AsksDescent, AsksField, AsksMethod, AsksDeclared}
+use Rattle.mj_phrases.specs.Steps.{Check}
 use Rattle.recorder.specs.Programs.{Prog, Ask}
 use Rattle.body_questions.specs.Questions.{descends_step, field_step, method_step, declared_step}
 

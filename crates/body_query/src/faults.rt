@@ -8,8 +8,8 @@ ghost use Rattle.body_query.specs.Body.{faults_in};
 use answer_bytes::Faults;
 use mj_answer::{Code, Diagnostic, fault_set};
 use mj_lexer::Name;
+use mj_phrases::Mistake;
 use mj_tree::Place;
-use mj_typing::Mistake;
 use std::alloc::{AllocError, Global};
 
 /// The number in four bytes.

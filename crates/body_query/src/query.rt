@@ -13,7 +13,7 @@ use crate::reads::{check_main_by_reads, check_method_by_reads};
 use answer_bytes::Faults;
 use item_ids::Key;
 use mj_lexer::Name;
-use mj_typing::Mistake;
+use mj_phrases::Mistake;
 use name_reads::read_method;
 use recorder::{Reader, Recorder, RunFault};
 use result_bytes::Value;

@@ -6,7 +6,7 @@ use Rattle.mj_tree.specs.Trees.{Name}
 use Rattle.mj_tree.specs.declared.tree.Ty.{Ty}
 use Rattle.mj_answer.specs.declared.table.FieldRow.{FieldRow}
 use Rattle.mj_answer.specs.AnswerValues.{MethodRowValue, ClassTableValue}
-use Rattle.mj_typing.specs.Inquiries.{Sig}
+use Rattle.mj_phrases.specs.Inquiries.{Sig}
 use Rattle.tree_bytes.specs.Bodies.{BodyValue}
 use Rattle.result_bytes.specs.Payloads.{ChainValue}
 use Rattle.result_bytes.specs.declared.value.Value.{Value}

@@ -3,7 +3,7 @@ use Rattle.std.specs.Prelude.{Bool, Option}
 use Rattle.item_ids.specs.declared.key.Key.TheVariants as keys
 use Rattle.mj_tree.specs.Trees.{Name}
 use Rattle.mj_tree.specs.declared.tree.Ty.{Ty}
-use Rattle.mj_typing.specs.Inquiries.{Sig}
+use Rattle.mj_phrases.specs.Inquiries.{Sig}
 use Rattle.recorder.specs.Programs.{Prog, Ask}
 use Rattle.body_questions.specs.Facts.{is_declared_in, descends_in, field_in, method_in}
 

@@ -6,8 +6,8 @@ ghost use Rattle.body_questions.specs.Facts.{is_declared_in as declared_told, de
 
 use mj_answer::{FieldRow, MethodRow, find_by_name};
 use mj_lexer::Name;
+use mj_phrases::Signature;
 use mj_tree::{Ty, copy_types};
-use mj_typing::Signature;
 use result_bytes::Value;
 use std::alloc::{AllocError, Global};
 

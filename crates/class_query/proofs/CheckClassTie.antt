@@ -18,7 +18,7 @@ use Rattle.mj_classes.specs.Members.{own_method}
 use Rattle.mj_classes.proofs.Climb.{decl_name, links_declared, all_declared, chain_of_is, has_chain}
 use Rattle.mj_classes.proofs.Distinct.{contains_in}
 use Rattle.mj_project.specs.Repeats.{is_in, repeats_behind, repeats}
-use Rattle.mj_typing.specs.Inquiries.{Sig, World}
+use Rattle.mj_phrases.specs.Inquiries.{Sig, World}
 use Rattle.mj_rules.specs.Sentences.{classes_in}
 use Rattle.mj_rules.specs.Worlds.{sig_of}
 use Rattle.mj_rules.specs.FaultLists.{fault, when_fault, each_numbered, superclass_faults, is_cycle, chain_faults, is_undeclared, field_faults, override_faults, rest_of, nearest_sig, method_faults_of, field_names, method_names, declaration_faults}

@@ -13,7 +13,7 @@ use Rattle.mj_classes.specs.Declarations.{ClassDecl, decl}
 use Rattle.mj_classes.specs.Chains.{EndOf, IsChain, ancestry}
 use Rattle.mj_classes.specs.Members.{nearest, or_farther, own_method}
 use Rattle.mj_classes.proofs.Nearest.{ancestry_of_chain}
-use Rattle.mj_typing.specs.Inquiries.{Sig}
+use Rattle.mj_phrases.specs.Inquiries.{Sig}
 use Rattle.mj_rules.specs.Worlds.{sig_of}
 use Rattle.mj_rules.specs.FaultLists.{when_fault, same_type, same_types as same_formals, override_faults, nearest_sig, rest_of}
 use Rattle.class_query.specs.Signatures.{same_types, differ}

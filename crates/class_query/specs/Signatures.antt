@@ -1,7 +1,7 @@
 -- Which methods differ in their types.
 use Rattle.std.specs.Prelude.{Bool, true, false, ◌&&◌, not, List, [], ◌∷◌, Option, Some, None}
 use Rattle.mj_tree.specs.declared.tree.Ty.{Ty}
-use Rattle.mj_typing.specs.Inquiries.{Sig}
+use Rattle.mj_phrases.specs.Inquiries.{Sig}
 use Rattle.mj_rules.specs.FaultLists.{same_type}
 
 -- the same types in the same order

@@ -3,12 +3,12 @@ use Rattle.std.proofs.Common.{◌≡◌, List, [], ◌∷◌, ◌++◌, map, ref
 use Rattle.std.specs.Prelude.{Contains, ◌↔◌}
 use Rattle.std.proofs.lemmas.List.{map-append}
 use Rattle.mj_tree.specs.Trees.{Name, Statement, Statements, Block, If, While, Print, Assign, Store, done, next, Method, Main}
-use Rattle.mj_typing.specs.declared.verdict.Mistake.{Mistake}
-use Rattle.mj_typing.specs.Inquiries.{World}
-use Rattle.mj_typing.specs.Phrases.{Phrase, FaultIn, FaultInSome}
-use Rattle.mj_typing.specs.Table.{Scope, method_scope, main_scope, own_phrase, statement_phrases, statements_phrases, method_phrases, main_phrases}
+use Rattle.mj_phrases.specs.declared.verdict.Mistake.{Mistake}
+use Rattle.mj_phrases.specs.Inquiries.{World}
+use Rattle.mj_phrases.specs.Phrases.{Phrase, FaultIn, FaultInSome}
+use Rattle.mj_phrases.specs.Table.{Scope, method_scope, main_scope, own_phrase, statement_phrases, statements_phrases, method_phrases, main_phrases}
+use Rattle.mj_phrases.proofs.Agree.{nowhere, first, later, first_or_later, each_exact}
 use Rattle.mj_typing.specs.Bodies.{MethodFault, MainFault, UndeclaredReturn, UndeclaredVariable, RepeatedVariable, IllPhrase, NamesFit, method_faults, main_faults}
-use Rattle.mj_typing.proofs.Agree.{nowhere, first, later, first_or_later, each_exact}
 use Rattle.mj_typing.proofs.Mistakes.{method_listed, method_there}
 use Rattle.fault_rules.specs.Demands.{BodyPhrase, OfStatement, OfReturn}
 use Rattle.fault_rules.specs.Faults.{FaultWithin, statements_of, all_statements, phrases_in, phrases_in_main, FaultInMethod, InReturnType, InVariableType, InVariableName, InPhrase, FaultInMain}

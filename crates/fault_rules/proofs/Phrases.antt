@@ -2,12 +2,12 @@
 use Rattle.std.proofs.Common.{◌≡◌, List, [], ◌∷◌, refl, sym, subst, inl, inr}
 use Rattle.mj_tree.specs.Trees.{Expression, Expressions, Binary, Index, Length, Call, Literal, Boolean, Named, This, NewArray, NewObject, Not, Parenthesized, none, more, Block, If, While, Print, Assign, Store}
 use Rattle.mj_tree.specs.declared.tree.Ty.{Ty}
-use Rattle.mj_typing.specs.declared.verdict.Verdict.{Verdict}
-use Rattle.mj_typing.specs.declared.verdict.Mistake.{Mistake}
-use Rattle.mj_typing.specs.Inquiries.{World, conclusion}
-use Rattle.mj_typing.specs.Phrases.{Phrase, phrase, AllTyped, PhraseFault, FaultIn, FaultInAny}
-use Rattle.mj_typing.specs.Table.{Scope, phrase_of, phrases_of}
-use Rattle.mj_typing.proofs.ByCases.{by_cases, from_cases}
+use Rattle.mj_phrases.specs.declared.verdict.Verdict.{Verdict}
+use Rattle.mj_phrases.specs.declared.verdict.Mistake.{Mistake}
+use Rattle.mj_phrases.specs.Inquiries.{World, conclusion}
+use Rattle.mj_phrases.specs.Phrases.{Phrase, phrase, AllTyped, PhraseFault, FaultIn, FaultInAny}
+use Rattle.mj_phrases.specs.Table.{Scope, phrase_of, phrases_of}
+use Rattle.mj_phrases.proofs.ByCases.{by_cases, from_cases}
 use Rattle.fault_rules.specs.Demands.{BodyPhrase, OfExpression, OfStatement, OfReturn, mark_of, parts_of, demands}
 use Rattle.fault_rules.specs.Faults.{HaveTypes, IsAtFault, IsAmong, FaultWithin, Own, Inner}
 use Rattle.fault_rules.specs.Laws.{form_of}

@@ -8,16 +8,16 @@ use Rattle.mj_tree.specs.declared.tree.Operator.TheVariants.{And, Less, Plus, Mi
 use Rattle.mj_tree.specs.declared.tree.Ty.{Ty}
 use Rattle.mj_tree.specs.declared.tree.Ty.TheVariants as ty
 use Rattle.mj_answer.specs.declared.code.Code.TheVariants.{E301, E302, E303, E304, E305, E306, E307, E308, E309, E310, E311, E312, E313, E314, E315, E316, E317, E318, E319}
-use Rattle.mj_typing.specs.declared.verdict.Verdict.{Verdict}
-use Rattle.mj_typing.specs.declared.verdict.Verdict.TheVariants.{Is, Fine, Wrong, Silent}
-use Rattle.mj_typing.specs.Types.{is_int, is_boolean, is_int_array, class_in}
-use Rattle.mj_typing.specs.Inquiries.{World, Sig, Inquiry, Concludes, AsksMethod, conclusion}
-use Rattle.mj_typing.specs.Phrases.{demand, demand_asked, demand_some, is, fine}
-use Rattle.mj_typing.specs.Table.{Scope, most_value, local_of, is_accepted, are_accepted, literal, local_or_field, variable, parentheses, this, negation, binary, index, array_length, arguments, call, new_array, new_object, condition, print, assign, store, return_value, no_parts, one_part, two_parts, three_parts, some_parts}
-use Rattle.mj_typing.specs.Cases.{Accepted, operand_type}
-use Rattle.mj_typing.specs.Laws.{IsOfExpression, IsOfStatement}
-use Rattle.mj_typing.proofs.ByCases.{boolean_is, int_is, array_is, accepted_from, from_accepted, variable_from, from_variable}
-use Rattle.mj_typing.proofs.Checks.{conclusion-and_then}
+use Rattle.mj_phrases.specs.declared.verdict.Verdict.{Verdict}
+use Rattle.mj_phrases.specs.declared.verdict.Verdict.TheVariants.{Is, Fine, Wrong, Silent}
+use Rattle.mj_phrases.specs.Types.{is_int, is_boolean, is_int_array, class_in}
+use Rattle.mj_phrases.specs.Inquiries.{World, Sig, Inquiry, Concludes, AsksMethod, conclusion}
+use Rattle.mj_phrases.specs.Phrases.{demand, demand_asked, demand_some, is, fine}
+use Rattle.mj_phrases.specs.Table.{Scope, most_value, local_of, is_accepted, are_accepted, literal, local_or_field, variable, parentheses, this, negation, binary, index, array_length, arguments, call, new_array, new_object, condition, print, assign, store, return_value, no_parts, one_part, two_parts, three_parts, some_parts}
+use Rattle.mj_phrases.specs.Cases.{Accepted, operand_type}
+use Rattle.mj_phrases.specs.Laws.{IsOfExpression, IsOfStatement}
+use Rattle.mj_phrases.proofs.ByCases.{boolean_is, int_is, array_is, accepted_from, from_accepted, variable_from, from_variable}
+use Rattle.mj_phrases.proofs.Checks.{conclusion-and_then}
 use Rattle.fault_rules.specs.Demands.{BodyPhrase, OfExpression, OfStatement, OfReturn, parts_of, Demands, demands, IsInScope, IsInMethod, IsClass, HasMethod, AreAccepted, operand_code}
 use Rattle.fault_rules.specs.Faults.{HaveTypes}
 use Rattle.fault_rules.proofs.Verdicts.{Tells, demand_tells, asked_tells, given_tells}

@@ -2,12 +2,12 @@
 use Rattle.std.proofs.Common.{◌≡◌, Bool, true, false, [], ◌∷◌, Option, Some, None, refl, sym, ap, ◌∙◌, subst, inl, inr}
 use Rattle.mj_tree.specs.declared.tree.Ty.{Ty}
 use Rattle.mj_answer.specs.declared.code.Code.{Code}
-use Rattle.mj_typing.specs.declared.verdict.Verdict.{Verdict}
-use Rattle.mj_typing.specs.declared.verdict.Verdict.TheVariants.{Is, Fine, Wrong, Silent}
-use Rattle.mj_typing.specs.Inquiries.{World, Inquiry, conclusion}
-use Rattle.mj_typing.specs.Phrases.{demand, demand_asked, demand_some}
-use Rattle.mj_typing.specs.Laws.{IsOfExpression, IsOfStatement}
-use Rattle.mj_typing.proofs.Checks.{conclusion-and_then}
+use Rattle.mj_phrases.specs.declared.verdict.Verdict.{Verdict}
+use Rattle.mj_phrases.specs.declared.verdict.Verdict.TheVariants.{Is, Fine, Wrong, Silent}
+use Rattle.mj_phrases.specs.Inquiries.{World, Inquiry, conclusion}
+use Rattle.mj_phrases.specs.Phrases.{demand, demand_asked, demand_some}
+use Rattle.mj_phrases.specs.Laws.{IsOfExpression, IsOfStatement}
+use Rattle.mj_phrases.proofs.Checks.{conclusion-and_then}
 use Rattle.fault_rules.specs.Demands.{Demands}
 use Rattle.fault_rules.specs.Faults.{FirstFails, AllHold}
 

@@ -5,14 +5,14 @@ use Rattle.std.proofs.lemmas.List.Elements.{Contains-append_left, Contains-appen
 use Rattle.mj_tree.specs.Trees.{Name, Expression, Named, none, more, Statement, Statements, Block, If, While, Print, Assign, Store, done, next, Method}
 use Rattle.mj_tree.specs.declared.tree.Ty.{Ty}
 use Rattle.mj_tree.specs.declared.tree.Ty.TheVariants as ty
-use Rattle.mj_typing.specs.declared.verdict.Verdict.{Verdict}
-use Rattle.mj_typing.specs.Inquiries.{World, conclusion}
-use Rattle.mj_typing.specs.Phrases.{Phrase, HasType, Well}
-use Rattle.mj_typing.specs.Table.{Scope, own_phrase, return_phrase}
-use Rattle.mj_typing.specs.Cases.{Accepted, IsVariable, HasTypeByCases, IsWellThroughoutByCases, AreWellThroughoutByCases}
-use Rattle.mj_typing.specs.Laws.{IsOfExpression, IsOfStatement}
-use Rattle.mj_typing.proofs.ByCases.{by_cases, from_cases}
-use Rattle.mj_typing.proofs.Agree.{nowhere, first, later, first_or_later}
+use Rattle.mj_phrases.specs.declared.verdict.Verdict.{Verdict}
+use Rattle.mj_phrases.specs.Inquiries.{World, conclusion}
+use Rattle.mj_phrases.specs.Phrases.{Phrase, HasType, Well}
+use Rattle.mj_phrases.specs.Table.{Scope, own_phrase, return_phrase}
+use Rattle.mj_phrases.specs.Cases.{Accepted, IsVariable, HasTypeByCases, IsWellThroughoutByCases, AreWellThroughoutByCases}
+use Rattle.mj_phrases.specs.Laws.{IsOfExpression, IsOfStatement}
+use Rattle.mj_phrases.proofs.ByCases.{by_cases, from_cases}
+use Rattle.mj_phrases.proofs.Agree.{nowhere, first, later, first_or_later}
 use Rattle.fault_rules.specs.Demands.{BodyPhrase, OfExpression, OfStatement, OfReturn, parts_of, demands}
 use Rattle.fault_rules.specs.Faults.{HaveTypes, AllHold, IsWell, IsWellThroughout, statements_of, all_statements, phrases_in}
 use Rattle.fault_rules.specs.Laws.{form_of}

@@ -8,9 +8,9 @@ use Rattle.mj_tree.specs.declared.tree.Ty.{Ty}
 use Rattle.mj_tree.specs.declared.tree.Ty.TheVariants as ty
 use Rattle.mj_answer.specs.declared.code.Code.{Code}
 use Rattle.mj_answer.specs.declared.code.Code.TheVariants.{E301, E302, E303, E304, E305, E306, E307, E308, E309, E310, E311, E312, E313, E314, E315, E316, E317, E318, E319}
-use Rattle.mj_typing.specs.Inquiries.{World, Sig}
-use Rattle.mj_typing.specs.Table.{Scope, most_value}
-use Rattle.mj_typing.specs.Cases.{Accepted, IsVariable, operand_type}
+use Rattle.mj_phrases.specs.Inquiries.{World, Sig}
+use Rattle.mj_phrases.specs.Table.{Scope, most_value}
+use Rattle.mj_phrases.specs.Cases.{Accepted, IsVariable, operand_type}
 
 -- a phrase of a body: an expression, a statement, or the return of a method with the type that is
 -- wanted

@@ -6,11 +6,12 @@ use Rattle.mj_tree.specs.declared.tree.Ty.TheVariants as ty
 use Rattle.mj_tree.specs.declared.tree.Variable.{Variable}
 use Rattle.mj_answer.specs.declared.code.Code.{Code}
 use Rattle.mj_answer.specs.declared.code.Code.TheVariants.{E206, E207}
-use Rattle.mj_typing.specs.declared.verdict.Mistake.{Mistake}
-use Rattle.mj_typing.specs.Inquiries.{World}
-use Rattle.mj_typing.specs.Table.{Scope, method_scope, main_scope}
-use Rattle.mj_typing.specs.Cases.{HasTypeByCases}
-use Rattle.mj_typing.specs.Bodies.{variables_of, return_type_mark, name_token}
+use Rattle.mj_phrases.specs.declared.verdict.Mistake.{Mistake}
+use Rattle.mj_phrases.specs.Inquiries.{World}
+use Rattle.mj_phrases.specs.Table.{Scope, method_scope, main_scope}
+use Rattle.mj_phrases.specs.Cases.{HasTypeByCases}
+use Rattle.mj_phrases.specs.Variables.{variables_of, name_token}
+use Rattle.mj_typing.specs.Bodies.{return_type_mark}
 use Rattle.fault_rules.specs.Demands.{BodyPhrase, OfExpression, OfStatement, OfReturn, mark_of, parts_of, Demands, demands}
 
 -- ---- a phrase

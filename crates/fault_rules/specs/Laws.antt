@@ -2,11 +2,11 @@
 use Rattle.std.specs.Prelude.{◌↔◌, ℕ, Contains}
 use Rattle.mj_tree.specs.Trees.{Name, Expression, Statement, Method, Main}
 use Rattle.mj_tree.specs.declared.tree.Ty.{Ty}
-use Rattle.mj_typing.specs.declared.verdict.Mistake.{Mistake}
-use Rattle.mj_typing.specs.Inquiries.{World}
-use Rattle.mj_typing.specs.Phrases.{Phrase, PhraseFault, Well}
-use Rattle.mj_typing.specs.Table.{Scope, method_scope, phrase_of, own_phrase, return_phrase}
-use Rattle.mj_typing.specs.Cases.{HasTypeByCases, IsWellThroughoutByCases, MethodIsWell}
+use Rattle.mj_phrases.specs.declared.verdict.Mistake.{Mistake}
+use Rattle.mj_phrases.specs.Inquiries.{World}
+use Rattle.mj_phrases.specs.Phrases.{Phrase, PhraseFault, Well}
+use Rattle.mj_phrases.specs.Table.{Scope, method_scope, phrase_of, own_phrase, return_phrase}
+use Rattle.mj_phrases.specs.Cases.{HasTypeByCases, IsWellThroughoutByCases, MethodIsWell}
 use Rattle.mj_typing.specs.Bodies.{NamesFit, method_faults, main_faults}
 use Rattle.fault_rules.specs.Demands.{BodyPhrase, OfExpression, OfStatement, OfReturn}
 use Rattle.fault_rules.specs.Faults.{IsAtFault, IsWell, IsWellThroughout, phrases_in, FaultInMethod, FaultInMain}

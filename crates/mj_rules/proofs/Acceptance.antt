@@ -6,8 +6,8 @@ use Rattle.mj_tree.specs.declared.tree.Ty.TheVariants.{Int, Boolean, IntArray, C
 use Rattle.mj_classes.specs.Declarations.{ClassDecl}
 use Rattle.mj_classes.specs.Chains.{EndOf, IsChain, IsAcceptedBy}
 use Rattle.mj_classes.proofs.Acceptance.{accepted_by_itself}
-use Rattle.mj_typing.specs.Inquiries.{World}
-use Rattle.mj_typing.specs.Cases.{Accepted}
+use Rattle.mj_phrases.specs.Inquiries.{World}
+use Rattle.mj_phrases.specs.Cases.{Accepted}
 
 abbrev TellsChains : List ClassDecl → World → Type 0
 TellsChains cs w = (c d : Name) → (w.descends c d ≡ true) ↔ ((chain : List Name) × (end : EndOf) × IsChain cs c chain end × Contains chain d)

@@ -15,7 +15,7 @@ use Rattle.mj_classes.specs.Declarations.{ClassDecl, decl}
 use Rattle.mj_classes.specs.Chains.{EndOf, Top, Undeclared, Repeated, Chain, chain_of}
 use Rattle.mj_classes.specs.Members.{nearest, own_method}
 use Rattle.mj_classes.specs.Laws.{ChainLaws}
-use Rattle.mj_typing.specs.declared.verdict.Mistake.{Mistake}
+use Rattle.mj_phrases.specs.declared.verdict.Mistake.{Mistake}
 use Rattle.mj_typing.specs.Bodies.{NamesFit, method_faults, main_faults}
 use Rattle.mj_project.specs.Repeats.{is_in, repeats}
 use Rattle.mj_rules.specs.Worlds.{sig_of, world_of}

@@ -20,8 +20,9 @@ use Rattle.mj_parser.proofs.FileFound.{file_found}
 use Rattle.mj_parser.proofs.Bounds.{marks_below}
 use Rattle.mj_classes.specs.Declarations.{ClassDecl, number_classes, main_first, main_decl, class_decl, classes_of, declared_from, decl}
 use Rattle.mj_project.specs.Projects.{SourceFile}
-use Rattle.mj_typing.specs.Bodies.{name_token, NamesFit}
-use Rattle.mj_typing.proofs.Agree.{nowhere, first, later, first_or_later}
+use Rattle.mj_phrases.specs.Variables.{name_token}
+use Rattle.mj_phrases.proofs.Agree.{nowhere, first, later, first_or_later}
+use Rattle.mj_typing.specs.Bodies.{NamesFit}
 use Rattle.mj_rules.specs.Sentences.{file_of, trees_of, classes_in}
 use Rattle.mj_rules.specs.FaultLists.{NamesFitIn}
 use Rattle.mj_rules.proofs.OneAnswer.{decl_stands}

@@ -1,6 +1,6 @@
 -- The laws of bodies, of the crate below.
-use Rattle.mj_typing.specs.Table.{main_phrases}
-use Rattle.mj_typing.proofs.Agree.{each_exact}
+use Rattle.mj_phrases.specs.Table.{main_phrases}
+use Rattle.mj_phrases.proofs.Agree.{each_exact}
 use Rattle.mj_typing.proofs.Mistakes.{method_listed, method_there}
 use Rattle.mj_rules.specs.Laws.{BodyFaultLaws}
 

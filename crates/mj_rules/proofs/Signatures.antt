@@ -5,7 +5,7 @@ use Rattle.mj_tree.specs.Trees.{Method}
 use Rattle.mj_tree.specs.declared.tree.Ty.{Ty}
 use Rattle.mj_tree.specs.declared.tree.Ty.TheVariants.{Int, Boolean, IntArray, Class}
 use Rattle.mj_tree.specs.declared.tree.Variable.{Variable}
-use Rattle.mj_typing.specs.Inquiries.{Sig}
+use Rattle.mj_phrases.specs.Inquiries.{Sig}
 use Rattle.mj_rules.specs.Worlds.{sig_of}
 use Rattle.mj_rules.specs.FaultLists.{same_type, same_types, same_signature}
 

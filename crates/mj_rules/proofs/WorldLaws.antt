@@ -7,7 +7,7 @@ use Rattle.mj_tree.specs.declared.tree.Field.{Field}
 use Rattle.mj_classes.specs.Declarations.{ClassDecl, decl}
 use Rattle.mj_classes.specs.Chains.{EndOf, Chain, IsChain, chain_of, chain_names, is_in}
 use Rattle.mj_classes.specs.Members.{FieldOf, MethodOf, field_of, method_of}
-use Rattle.mj_typing.specs.Inquiries.{Sig}
+use Rattle.mj_phrases.specs.Inquiries.{Sig}
 use Rattle.mj_rules.specs.Worlds.{sig_of, world_of}
 use Rattle.mj_rules.specs.Laws.{WorldLaw}
 use Rattle.mj_project.proofs.RepeatLemmas.{Contains-is_in, is_in-Contains}

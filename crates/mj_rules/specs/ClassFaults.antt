@@ -10,7 +10,7 @@ use Rattle.mj_answer.specs.declared.code.Code.TheVariants.{E201, E202, E203, E20
 use Rattle.mj_classes.specs.Declarations.{ClassDecl, decl}
 use Rattle.mj_classes.specs.Chains.{EndOf, Repeated, IsChain}
 use Rattle.mj_classes.specs.Members.{own_method}
-use Rattle.mj_typing.specs.declared.verdict.Mistake.{Mistake}
+use Rattle.mj_phrases.specs.declared.verdict.Mistake.{Mistake}
 use Rattle.mj_typing.specs.Bodies.{MethodFault, MainFault}
 use Rattle.mj_rules.specs.Worlds.{sig_of, world_of}
 

@@ -6,8 +6,8 @@ use Rattle.mj_tree.specs.declared.tree.Field.{Field}
 use Rattle.mj_classes.specs.Declarations.{ClassDecl, decl}
 use Rattle.mj_classes.specs.Chains.{EndOf, IsChain, IsAcceptedBy, chain_of, chain_names, is_in}
 use Rattle.mj_classes.specs.Members.{FieldOf, MethodOf, field_of, method_of}
-use Rattle.mj_typing.specs.Inquiries.{World, Sig}
-use Rattle.mj_typing.specs.Cases.{Accepted}
+use Rattle.mj_phrases.specs.Inquiries.{World, Sig}
+use Rattle.mj_phrases.specs.Cases.{Accepted}
 
 -- the types of a method
 abbrev pub sig_of : Method → Sig

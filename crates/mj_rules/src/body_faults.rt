@@ -13,8 +13,9 @@ use crate::world::World;
 use mj_answer::Diagnostic;
 use mj_classes::{ClassRef, Declarations, Tree};
 use mj_lexer::Name;
+use mj_phrases::Mistake;
 use mj_tree::{MethodTree, Place};
-use mj_typing::{Mistake, main_mistakes, method_mistakes};
+use mj_typing::{main_mistakes, method_mistakes};
 use std::alloc::{AllocError, Global};
 
 /// Adds mistakes in the body of a method.

@@ -3,8 +3,8 @@
 use crate::tables::formal_types;
 use mj_classes::Declarations;
 use mj_lexer::Name;
+use mj_phrases::Signature;
 use mj_tree::Ty;
-use mj_typing::Signature;
 use std::alloc::{AllocError, Global};
 
 /// The types of a method.
@@ -32,7 +32,7 @@ pub struct World<'d, 'a> {
     pub declarations: &'d Declarations<'a>,
 }
 
-impl<'d, 'a> mj_typing::Environment for World<'d, 'a> {
+impl<'d, 'a> mj_phrases::Environment for World<'d, 'a> {
     ghost use Rattle.mj_classes.specs.Index.{declared_in};
     ghost use Rattle.mj_rules.specs.Worlds.{world_of};
 

@@ -1,41 +1,19 @@
 -- Checks that ask conclude with the mistakes.
-use Rattle.std.proofs.Common.{◌≡◌, ℕ, List, [], ◌∷◌, ◌++◌, Option, Some, None, Result, Ok, Err, IfOk, refl, sym, ap, ◌∙◌, subst}
+use Rattle.std.proofs.Common.{◌≡◌, ℕ, List, [], ◌∷◌, ◌++◌, Result, Ok, Err, IfOk, refl, sym, ap, ◌∙◌, subst}
 use Rattle.mj_tree.specs.Trees.{Name, Statement, Statements, Block, If, While, Print, Assign, Store, done, next, Method, Main}
 use Rattle.mj_tree.specs.declared.tree.Ty.{Ty}
 use Rattle.mj_tree.specs.declared.tree.Ty.TheVariants as ty
 use Rattle.mj_tree.specs.declared.tree.Variable.{Variable}
-use Rattle.mj_typing.specs.declared.verdict.Verdict.{Verdict}
-use Rattle.mj_typing.specs.declared.verdict.Mistake.{Mistake}
-use Rattle.mj_typing.specs.Inquiries.{World, Inquiry, Concludes, AsksDescent, AsksField, AsksMethod, AsksDeclared, conclusion, and_then}
-use Rattle.mj_typing.specs.Phrases.{Phrase, Phrases, phrase, nothing, part, Finding, finding_of, own_step, phrase_step, parts_step, type_of, types_of, verdict_by, and_type, add_faults, add_all, add_each}
-use Rattle.mj_typing.specs.Steps.{Check, Proceeds}
-use Rattle.mj_typing.specs.Table.{Scope, own_phrase, statement_phrases, statements_phrases, return_phrase, method_scope, main_scope}
-use Rattle.mj_typing.specs.Bodies.{return_type_mark, variables_of, add_undeclared, add_undeclared_each, add_repeated_each, type_step, types_step, mistakes_step, statement_step, statements_step, declared_step, method_step, main_step, method_check, main_check, method_faults, main_faults}
-
-pub conclusion-and_then : {R S : Type 0} (w : World) (m : Inquiry R) (f : R → Inquiry S) → conclusion w (and_then m f) ≡ conclusion w (f (conclusion w m))
-conclusion-and_then w (Concludes r) f = refl
-conclusion-and_then w (AsksDescent c d k) f = conclusion-and_then w (k (w.descends c d)) f
-conclusion-and_then w (AsksField c x k) f = conclusion-and_then w (k (w.field c x)) f
-conclusion-and_then w (AsksMethod c m k) f = conclusion-and_then w (k (w.method c m)) f
-conclusion-and_then w (AsksDeclared c k) f = conclusion-and_then w (k (w.is_declared c)) f
+use Rattle.mj_phrases.specs.declared.verdict.Mistake.{Mistake}
+use Rattle.mj_phrases.specs.Inquiries.{World, Concludes, conclusion}
+use Rattle.mj_phrases.specs.Phrases.{Phrase, add_faults, add_each, mistakes_step}
+use Rattle.mj_phrases.specs.Steps.{Check, Proceeds}
+use Rattle.mj_phrases.specs.Table.{Scope, own_phrase, statement_phrases, statements_phrases, return_phrase, method_scope, main_scope}
+use Rattle.mj_phrases.specs.Variables.{variables_of, add_repeated_each}
+use Rattle.mj_phrases.proofs.Checks.{phrase_said}
+use Rattle.mj_typing.specs.Bodies.{return_type_mark, add_undeclared, add_undeclared_each, type_step, types_step, statement_step, statements_step, declared_step, method_step, main_step, method_check, main_check, method_faults, main_faults}
 
 module _ (w : World) where
-  own_said : (mark : ℕ) (row : List Ty → Inquiry Verdict) (types : Option (List Ty)) (mistakes : List Mistake) (k : Finding Ty → Check) → conclusion w (own_step mark row (record { type = types; mistakes = mistakes }) k) ≡ conclusion w (k (finding_of mistakes mark (verdict_by w row types)))
-  own_said mark row None mistakes k = refl
-  own_said mark row (Some ts) mistakes k = conclusion-and_then w (row ts) (λ verdict. k (finding_of mistakes mark verdict))
-
-  mutual
-    unfolding phrase_step parts_step
-
-    pub phrase_said : (p : Phrase) (mistakes : List Mistake) (k : Finding Ty → Check) → conclusion w (phrase_step p mistakes k) ≡ conclusion w (k (record { type = type_of w p; mistakes = add_faults w mistakes p }))
-    phrase_said (phrase mark row parts) mistakes k = parts_said parts mistakes (λ found. own_step mark row found k) ∙ own_said mark row (types_of w parts) (add_all w mistakes parts) k
-
-    parts_said : (ps : Phrases) (mistakes : List Mistake) (k : Finding (List Ty) → Check) → conclusion w (parts_step ps mistakes k) ≡ conclusion w (k (record { type = types_of w ps; mistakes = add_all w mistakes ps }))
-    parts_said nothing mistakes k = refl
-    parts_said (part p ps) mistakes k =
-        phrase_said p mistakes (λ first. parts_step ps first.mistakes (λ others. k (record { type = and_type first.type others.type; mistakes = others.mistakes })))
-        ∙ parts_said ps (add_faults w mistakes p) (λ others. k (record { type = and_type (type_of w p) others.type; mistakes = others.mistakes }))
-
   pub add_each-append : (mistakes : List Mistake) (ps qs : List Phrase) → add_each w mistakes (ps ++ qs) ≡ add_each w (add_each w mistakes ps) qs
   add_each-append mistakes [] qs = refl
   add_each-append mistakes (p ∷ ps) qs = add_each-append (add_faults w mistakes p) ps qs
@@ -45,19 +23,19 @@ module _ (w : World) where
 
     statement_said : (s : Scope) (a : Statement) (mistakes : List Mistake) (k : List Mistake → Check) → conclusion w (statement_step s a mistakes k) ≡ conclusion w (k (add_each w mistakes (statement_phrases s a)))
     statement_said s (Block mark body) mistakes k =
-        phrase_said (own_phrase s (Block mark body)) mistakes (λ found. statements_step s body found.mistakes k)
+        phrase_said w (own_phrase s (Block mark body)) mistakes (λ found. statements_step s body found.mistakes k)
         ∙ statements_said s body (add_faults w mistakes (own_phrase s (Block mark body))) k
     statement_said s (If mark e a b) mistakes k =
-        phrase_said (own_phrase s (If mark e a b)) mistakes (λ found. statement_step s a found.mistakes (λ others. statement_step s b others k))
+        phrase_said w (own_phrase s (If mark e a b)) mistakes (λ found. statement_step s a found.mistakes (λ others. statement_step s b others k))
         ∙ statement_said s a (add_faults w mistakes (own_phrase s (If mark e a b))) (λ others. statement_step s b others k)
         ∙ statement_said s b (add_each w (add_faults w mistakes (own_phrase s (If mark e a b))) (statement_phrases s a)) k
         ∙ ap (λ ms. conclusion w (k ms)) (sym (add_each-append (add_faults w mistakes (own_phrase s (If mark e a b))) (statement_phrases s a) (statement_phrases s b)))
     statement_said s (While mark e a) mistakes k =
-        phrase_said (own_phrase s (While mark e a)) mistakes (λ found. statement_step s a found.mistakes k)
+        phrase_said w (own_phrase s (While mark e a)) mistakes (λ found. statement_step s a found.mistakes k)
         ∙ statement_said s a (add_faults w mistakes (own_phrase s (While mark e a))) k
-    statement_said s (Print mark e) mistakes k = phrase_said (own_phrase s (Print mark e)) mistakes (λ found. k found.mistakes)
-    statement_said s (Assign mark x x_mark e) mistakes k = phrase_said (own_phrase s (Assign mark x x_mark e)) mistakes (λ found. k found.mistakes)
-    statement_said s (Store mark x x_mark i e) mistakes k = phrase_said (own_phrase s (Store mark x x_mark i e)) mistakes (λ found. k found.mistakes)
+    statement_said s (Print mark e) mistakes k = phrase_said w (own_phrase s (Print mark e)) mistakes (λ found. k found.mistakes)
+    statement_said s (Assign mark x x_mark e) mistakes k = phrase_said w (own_phrase s (Assign mark x x_mark e)) mistakes (λ found. k found.mistakes)
+    statement_said s (Store mark x x_mark i e) mistakes k = phrase_said w (own_phrase s (Store mark x x_mark i e)) mistakes (λ found. k found.mistakes)
 
     statements_said : (s : Scope) (ss : Statements) (mistakes : List Mistake) (k : List Mistake → Check) → conclusion w (statements_step s ss mistakes k) ≡ conclusion w (k (add_each w mistakes (statements_phrases s ss)))
     statements_said s done mistakes k = refl
@@ -96,7 +74,7 @@ module _ (w : World) where
       ∙ types_said m.formals a (λ b. types_step m.locals b (λ c. statements_step s m.body c after))
       ∙ types_said m.locals b (λ c. statements_step s m.body c after)
       ∙ statements_said s m.body c after
-      ∙ phrase_said last d (λ found. Concludes found.mistakes)
+      ∙ phrase_said w last d (λ found. Concludes found.mistakes)
       ∙ sym (add_each-append c (statements_phrases s m.body) (last ∷ []))
 
 -- ---- declarations that answer by themselves

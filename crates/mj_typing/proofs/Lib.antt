@@ -1,10 +1,4 @@
-pub mod Agree
-pub mod Asked
-pub mod ByCases
 pub mod Checks
-pub mod Faultless
 pub mod Mistakes
-pub mod NeverSilent
-pub mod Scopes
 pub mod Views
 pub mod Walks

@@ -2,19 +2,20 @@
 use Rattle.std.proofs.Common.{◌≡◌, ℕ, ◌<◌, ◌^◌, Bool, true, false, cond, List, [], ◌∷◌, ◌++◌, refl, sym, ap, ◌∙◌, subst, ◌⊎◌, inl, inr, append_assoc, append-nil, arith}
 use Rattle.std.specs.Prelude.{Contains}
 use Rattle.std.proofs.lemmas.List.Elements.{Contains-append_left, Contains-append_right, Contains-append_cases, Contains-push, Contains-push_cases}
-use Rattle.std.proofs.lemmas.Slice.Eq.{bytes_eq-Decides}
 use Rattle.mj_tree.specs.Trees.{Name, Method}
 use Rattle.mj_tree.specs.declared.tree.Ty.{Ty}
 use Rattle.mj_tree.specs.declared.tree.Ty.TheVariants as ty
 use Rattle.mj_tree.specs.declared.tree.Variable.{Variable}
 use Rattle.mj_answer.specs.declared.code.Code.{Code}
 use Rattle.mj_answer.specs.declared.code.Code.TheVariants.{E206, E207}
-use Rattle.mj_typing.specs.declared.verdict.Mistake.{Mistake}
-use Rattle.mj_typing.specs.Types.{is_same}
-use Rattle.mj_typing.specs.Inquiries.{World}
-use Rattle.mj_typing.specs.Table.{method_phrases}
-use Rattle.mj_typing.specs.Bodies.{MethodFault, UndeclaredReturn, UndeclaredVariable, RepeatedVariable, IllPhrase, return_type_mark, name_token, name_mark, NamesFit, has_name, variables_of, add_undeclared, add_undeclared_each, add_repeated, add_repeated_each, method_faults}
-use Rattle.mj_typing.proofs.Agree.{nowhere, first, later, first_or_later, each_listed, each_kept, each_there}
+use Rattle.mj_phrases.specs.declared.verdict.Mistake.{Mistake}
+use Rattle.mj_phrases.specs.Types.{is_same}
+use Rattle.mj_phrases.specs.Inquiries.{World}
+use Rattle.mj_phrases.specs.Table.{method_phrases}
+use Rattle.mj_phrases.specs.Variables.{name_token, name_mark, has_name, variables_of, add_repeated, add_repeated_each}
+use Rattle.mj_phrases.proofs.Names.{same_from, from_same}
+use Rattle.mj_phrases.proofs.Agree.{nowhere, first, later, first_or_later, each_listed, each_kept, each_there}
+use Rattle.mj_typing.specs.Bodies.{MethodFault, UndeclaredReturn, UndeclaredVariable, RepeatedVariable, IllPhrase, return_type_mark, NamesFit, add_undeclared, add_undeclared_each, method_faults}
 
 abbrev mistake : ℕ → Code → Mistake
 mistake mark code = record { mark = mark; code = code }
@@ -71,12 +72,6 @@ module _ (w : World) where
       ]
 
 -- ---- repeated names
-
-pub same_from : (x y : Name) → is_same x y ≡ true → x ≡ y
-same_from x y e = (bytes_eq-Decides x y).0 e
-
-pub from_same : (x y : Name) → x ≡ y → is_same x y ≡ true
-from_same x y e = (bytes_eq-Decides x y).1 e
 
 pub named_among : (vs : List Variable) (x : Name) → has_name vs x ≡ true → (u : Variable) × Contains vs u × (u.name ≡ x)
 named_among [] x h = absurd cc

@@ -1,40 +1,21 @@
 -- The mistakes in a method, and in main.
-use Rattle.std.specs.Prelude.{◌≡◌, ℕ, ◌+◌, ◌-◌, ◌<◌, ◌^◌, min, Bool, true, false, List, [], ◌∷◌, ◌++◌, Contains, if◌then◌else◌}
+use Rattle.std.specs.Prelude.{◌≡◌, ℕ, ◌<◌, ◌^◌, false, List, [], ◌∷◌, ◌++◌, Contains, if◌then◌else◌}
 use Rattle.mj_tree.specs.Trees.{Name, Expression, Statement, Statements, Block, If, While, Print, Assign, Store, done, Method, Main}
 use Rattle.mj_tree.specs.Trees as trees
 use Rattle.mj_tree.specs.declared.tree.Ty.{Ty}
 use Rattle.mj_tree.specs.declared.tree.Ty.TheVariants as ty
 use Rattle.mj_tree.specs.declared.tree.Variable.{Variable}
 use Rattle.mj_answer.specs.declared.code.Code.TheVariants.{E206, E207}
-use Rattle.mj_typing.specs.declared.verdict.Mistake.{Mistake}
-use Rattle.mj_typing.specs.Types.{is_same}
-use Rattle.mj_typing.specs.Inquiries.{World, Concludes, AsksDeclared}
-use Rattle.mj_typing.specs.Steps.{Check}
-use Rattle.mj_typing.specs.Phrases.{Phrase, FaultInSome, add_each, phrase_step}
-use Rattle.mj_typing.specs.Table.{Scope, method_scope, main_scope, own_phrase, return_phrase, method_phrases, main_phrases}
-
--- formals and locals in their order
-abbrev pub variables_of : Method → List Variable
-variables_of m = m.formals ++ m.locals
+use Rattle.mj_phrases.specs.declared.verdict.Mistake.{Mistake}
+use Rattle.mj_phrases.specs.Inquiries.{World, Concludes, AsksDeclared}
+use Rattle.mj_phrases.specs.Steps.{Check}
+use Rattle.mj_phrases.specs.Phrases.{Phrase, FaultInSome, add_each, phrase_step}
+use Rattle.mj_phrases.specs.Variables.{variables_of, name_token, add_repeated_each}
+use Rattle.mj_phrases.specs.Table.{Scope, method_scope, main_scope, own_phrase, return_phrase, method_phrases, main_phrases}
 
 -- the token of the return type, behind `public`
 abbrev pub return_type_mark : ℕ
 return_type_mark = 1
-
--- the token of a variable's name: 3 behind the first of `int[]`, 1 behind any other type
-abbrev pub name_token : Variable → ℕ
-name_token v = v.mark + type_tokens v.ty
-  where
-    type_tokens : Ty → ℕ
-    type_tokens ty.IntArray = 3
-    type_tokens ty.Int = 1
-    type_tokens ty.Boolean = 1
-    type_tokens (ty.Class c) = 1
-
--- one of the variables has this name
-abbrev pub has_name : List Variable → Name → Bool
-has_name [] x = false
-has_name (v ∷ vs) x = if is_same v.name x then true else has_name vs x
 
 -- ---- the judgement
 
@@ -59,10 +40,6 @@ MainFault w m x = FaultInSome w (main_phrases m) x
 abbrev pub NamesFit : Method → Type 0
 NamesFit m = (v : Variable) → Contains (variables_of m) v → name_token v < 2 ^ 64
 
--- the token of a variable's name, or the greatest number of 64 bits where its number has more
-abbrev pub name_mark : Variable → ℕ
-name_mark v = min (name_token v) (2 ^ 64 - 1)
-
 -- behind these mistakes, that a type at the mark is an undeclared class
 abbrev pub add_undeclared : World → List Mistake → ℕ → Ty → List Mistake
 add_undeclared w mistakes mark (ty.Class c) =
@@ -75,17 +52,6 @@ abbrev pub add_undeclared_each : World → List Mistake → List Variable → Li
 add_undeclared_each w mistakes [] = mistakes
 add_undeclared_each w mistakes (v ∷ vs) =
     add_undeclared_each w (add_undeclared w mistakes v.mark v.ty) vs
-
--- that a variable's name stands before it
-abbrev pub add_repeated : List Mistake → List Variable → Variable → List Mistake
-add_repeated mistakes before v =
-    if has_name before v.name then mistakes
-    ++ record { mark = name_mark v; code = E207 } ∷ [] else mistakes
-
-abbrev pub add_repeated_each : List Mistake → List Variable → List Variable → List Mistake
-add_repeated_each mistakes before [] = mistakes
-add_repeated_each mistakes before (v ∷ vs) =
-    add_repeated_each (add_repeated mistakes before v) (before ++ v ∷ []) vs
 
 abbrev pub method_faults : World → Name → Method → List Mistake
 method_faults w class m =
@@ -112,10 +78,6 @@ type_step mark ty.IntArray mistakes next = next mistakes
 unfoldable pub types_step : List Variable → List Mistake → (List Mistake → Check) → Check
 types_step [] mistakes next = next mistakes
 types_step (v ∷ vs) mistakes next = type_step v.mark v.ty mistakes (λ more. types_step vs more next)
-
--- a phrase whose mistakes alone matter
-abbrev pub mistakes_step : Phrase → List Mistake → (List Mistake → Check) → Check
-mistakes_step p mistakes next = phrase_step p mistakes (λ found. next found.mistakes)
 
 -- the phrases of a statement in their order
 unfoldable mutual

@@ -1,9 +1,2 @@
 pub mod Bodies
-pub mod Cases
-pub mod Inquiries
 pub mod Laws
-pub mod Phrases
-pub mod Seen
-pub mod Steps
-pub mod Table
-pub mod Types

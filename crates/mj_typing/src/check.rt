@@ -2,16 +2,14 @@
 ghost use Rattle.std.specs.Prelude.{◌≡◌, ◌++◌, ◌∷◌, [], IfOk, IfErr, OnOk};
 ghost use Rattle.mj_answer.specs.declared.code.Code.TheVariants.{E206};
 ghost use Rattle.mj_tree.specs.Views.{method_view, main_view, stmt_view};
+ghost use Rattle.mj_phrases.specs.Steps.{Proceeds, Aborts};
+ghost use Rattle.mj_phrases.specs.Table.{main_scope};
 ghost use Rattle.mj_typing.specs.Bodies.{method_step, main_step, statement_step, declared_step, type_step, types_step};
-ghost use Rattle.mj_typing.specs.Steps.{Proceeds, Aborts};
-ghost use Rattle.mj_typing.specs.Table.{main_scope};
 
-use crate::asking::{Asking, Stop};
 use crate::body::{check_return, check_statement, check_statements};
-use crate::scope::Scope;
-use crate::verdict::Mistake;
 use mj_answer::Code;
 use mj_lexer::Name;
+use mj_phrases::{Asking, Mistake, Scope, Stop};
 use mj_tree::{MainTree, MethodTree, Stmt, Ty, Variable};
 use std::alloc::{AllocError, Global};
 

@@ -1,13 +1,12 @@
 //! Checks that need no asking.
 ghost use Rattle.std.specs.Prelude.{◌≡◌, IfOk, Ok, refl};
 ghost use Rattle.mj_tree.specs.Views.{method_view, main_view};
+ghost use Rattle.mj_phrases.specs.Inquiries.{conclusion};
 ghost use Rattle.mj_typing.specs.Bodies.{method_faults, main_faults};
-ghost use Rattle.mj_typing.specs.Inquiries.{conclusion};
 
-use crate::asking::{Asking, Environment, Stop};
 use crate::check::{check_main, check_method};
-use crate::verdict::Mistake;
 use mj_lexer::Name;
+use mj_phrases::{Asking, Environment, Mistake, Stop};
 use mj_tree::{MainTree, MethodTree, Ty};
 use std::alloc::{AllocError, Global};
 use std::convert::Infallible;

@@ -7,10 +7,10 @@ use Rattle.mj_tree.specs.Trees.{Name, Expression, Expressions, Binary, Index, Le
 use Rattle.mj_tree.specs.declared.tree.Ty.{Ty}
 use Rattle.mj_tree.specs.declared.tree.Ty.TheVariants as types
 use Rattle.mj_tree.specs.declared.tree.Variable.{Variable}
-use Rattle.mj_typing.specs.Types.{is_same}
-use Rattle.mj_typing.specs.Inquiries.{World, Sig, conclusion}
-use Rattle.mj_typing.specs.Phrases.{type_of, types_of}
-use Rattle.mj_typing.specs.Table.{Scope, main_scope, method_scope, local_of, is_accepted, name_phrase, phrase_of, phrases_of}
+use Rattle.mj_phrases.specs.Types.{is_same}
+use Rattle.mj_phrases.specs.Inquiries.{World, Sig, conclusion}
+use Rattle.mj_phrases.specs.Phrases.{type_of, types_of}
+use Rattle.mj_phrases.specs.Table.{Scope, main_scope, method_scope, local_of, is_accepted, name_phrase, phrase_of, phrases_of}
 use Rattle.tree_bytes.specs.Bodies.{BodyValue, OfMain, OfMethod}
 
 -- a declared type: the header of a class

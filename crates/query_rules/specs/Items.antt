@@ -7,8 +7,8 @@ use Rattle.mj_classes.specs.Declarations.{ClassDecl, decl}
 use Rattle.mj_classes.specs.Chains.{EndOf, Chain}
 use Rattle.mj_classes.specs.Chains as chains
 use Rattle.mj_classes.specs.Members.{own_method}
-use Rattle.mj_typing.specs.declared.verdict.Mistake.{Mistake}
-use Rattle.mj_typing.specs.Inquiries.{World}
+use Rattle.mj_phrases.specs.declared.verdict.Mistake.{Mistake}
+use Rattle.mj_phrases.specs.Inquiries.{World}
 use Rattle.mj_typing.specs.Bodies.{method_faults, main_faults}
 use Rattle.mj_project.specs.Projects.{SourceFile}
 use Rattle.mj_rules.specs.Sentences.{file_of, classes_in}

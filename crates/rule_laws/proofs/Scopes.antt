@@ -7,8 +7,8 @@ use Rattle.mj_tree.specs.Trees.{Name, Statement, Method}
 use Rattle.mj_classes.specs.Declarations.{ClassDecl}
 use Rattle.mj_project.specs.Projects.{SourceFile}
 use Rattle.mj_project.proofs.Listed.{contains_at}
-use Rattle.mj_typing.specs.Table.{Scope, method_scope}
-use Rattle.mj_typing.proofs.Agree.{nowhere}
+use Rattle.mj_phrases.specs.Table.{Scope, method_scope}
+use Rattle.mj_phrases.proofs.Agree.{nowhere}
 use Rattle.mj_rules.specs.ClassFaults.{IsFirstMethod}
 use Rattle.mj_rules.proofs.Declared.{orderly_class}
 use Rattle.rule_laws.specs.Typing.{IsMethodIn, IsMainIn, IsScopeIn, OfMethod, OfMain}

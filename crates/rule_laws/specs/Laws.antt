@@ -5,9 +5,9 @@ use Rattle.mj_tree.specs.declared.tree.Ty.{Ty}
 use Rattle.mj_tree.specs.declared.place.Place.TheVariants.{Inside}
 use Rattle.mj_answer.specs.AnswerValues.{ClassAnswerValue, AnswerValue}
 use Rattle.mj_answer.specs.declared.diagnostic.Diagnostic.{Diagnostic}
-use Rattle.mj_typing.specs.declared.verdict.Mistake.{Mistake}
-use Rattle.mj_typing.specs.Phrases.{type_of, Well}
-use Rattle.mj_typing.specs.Table.{Scope, phrase_of, own_phrase, return_phrase}
+use Rattle.mj_phrases.specs.declared.verdict.Mistake.{Mistake}
+use Rattle.mj_phrases.specs.Phrases.{type_of, Well}
+use Rattle.mj_phrases.specs.Table.{Scope, phrase_of, own_phrase, return_phrase}
 use Rattle.fault_rules.specs.Demands.{OfExpression, OfStatement, OfReturn}
 use Rattle.mj_project.specs.Projects.{SourceFile}
 use Rattle.mj_rules.specs.Rules.{Rules}

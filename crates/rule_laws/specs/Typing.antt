@@ -3,10 +3,10 @@ use Rattle.std.specs.Prelude.{◌≡◌, ℕ, List, Some}
 use Rattle.mj_tree.specs.Trees.{Name, Expression, Statement, Method}
 use Rattle.mj_tree.specs.declared.tree.Ty.{Ty}
 use Rattle.mj_classes.specs.Declarations.{ClassDecl, decl}
-use Rattle.mj_typing.specs.declared.verdict.Mistake.{Mistake}
-use Rattle.mj_typing.specs.Inquiries.{World}
-use Rattle.mj_typing.specs.Table.{Scope, method_scope, main_scope}
-use Rattle.mj_typing.specs.Cases.{HasTypeByCases}
+use Rattle.mj_phrases.specs.declared.verdict.Mistake.{Mistake}
+use Rattle.mj_phrases.specs.Inquiries.{World}
+use Rattle.mj_phrases.specs.Table.{Scope, method_scope, main_scope}
+use Rattle.mj_phrases.specs.Cases.{HasTypeByCases}
 use Rattle.fault_rules.specs.Demands.{BodyPhrase}
 use Rattle.fault_rules.specs.Faults.{IsWell, FaultInMethod, FaultInMain}
 use Rattle.mj_project.specs.Projects.{SourceFile}

@@ -3,8 +3,9 @@
 use crate::made::trees_of;
 use mj_answer::Code;
 use mj_lexer::Name;
+use mj_phrases::{Asking, Mistake, Signature, Stop};
 use mj_tree::{ClassTree, FileTree, MainTree, Ty};
-use mj_typing::{Asking, Mistake, Signature, Stop, check_main, check_method};
+use mj_typing::{check_main, check_method};
 use std::alloc::{AllocError, Global};
 use std::test::*;
 

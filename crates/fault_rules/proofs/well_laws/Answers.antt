@@ -1,4 +1,4 @@
-use Rattle.mj_typing.specs.Table.{method_scope}
+use Rattle.mj_phrases.specs.Table.{method_scope}
 use Rattle.fault_rules.proofs.Wells.{expression_law, statement_law, return_law, throughout_law, method_within, within_method}
 use Rattle.fault_rules.proofs.well_laws.Goals as goal
 

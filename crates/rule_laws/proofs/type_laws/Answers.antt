@@ -2,11 +2,11 @@ use Rattle.std.proofs.Common.{◌≡◌, ℕ, Some, subst}
 use Rattle.std.specs.Prelude.{◌↔◌, List}
 use Rattle.mj_tree.specs.Trees.{Name, Expression, Statement}
 use Rattle.mj_tree.specs.declared.tree.Ty.{Ty}
-use Rattle.mj_typing.specs.Phrases.{type_of, Well}
-use Rattle.mj_typing.specs.Table.{Scope, phrase_of, own_phrase, return_phrase}
-use Rattle.mj_typing.specs.Cases.{HasTypeByCases}
-use Rattle.mj_typing.proofs.Agree.{typed, has, one_type}
-use Rattle.mj_typing.proofs.ByCases.{by_cases, from_cases}
+use Rattle.mj_phrases.specs.Phrases.{type_of, Well}
+use Rattle.mj_phrases.specs.Table.{Scope, phrase_of, own_phrase, return_phrase}
+use Rattle.mj_phrases.specs.Cases.{HasTypeByCases}
+use Rattle.mj_phrases.proofs.Agree.{typed, has, one_type}
+use Rattle.mj_phrases.proofs.ByCases.{by_cases, from_cases}
 use Rattle.fault_rules.specs.Demands.{BodyPhrase, OfExpression, OfStatement, OfReturn}
 use Rattle.fault_rules.specs.Faults.{IsWell}
 use Rattle.fault_rules.proofs.Wells.{expression_law, statement_law, return_law}

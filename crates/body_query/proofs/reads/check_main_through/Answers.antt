@@ -1,7 +1,7 @@
 use Rattle.std.specs.Prelude.{[]}
 use Rattle.mj_tree.specs.Views.{stmt_view}
-use Rattle.mj_typing.specs.Table.{main_scope}
-use Rattle.mj_typing.specs.declared.asking.Stop.TheVariants as stops
+use Rattle.mj_phrases.specs.Table.{main_scope}
+use Rattle.mj_phrases.specs.declared.asking.Stop.TheVariants as stops
 use Rattle.mj_typing.specs.Bodies.{statement_step}
 use Rattle.body_query.specs.declared.reads.Reads.{Reads}
 use Rattle.body_query.proofs.Steps.{check_goes, check_gives_up}

@@ -1,5 +1,5 @@
 use Rattle.mj_tree.specs.Views.{method_view}
-use Rattle.mj_typing.specs.declared.asking.Stop.TheVariants as stops
+use Rattle.mj_phrases.specs.declared.asking.Stop.TheVariants as stops
 use Rattle.mj_typing.specs.Bodies.{method_step, method_check}
 use Rattle.body_query.specs.declared.reads.Reads.{Reads}
 use Rattle.body_query.proofs.Steps.{check_goes, check_gives_up}

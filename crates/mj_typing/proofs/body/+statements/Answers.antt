@@ -1,7 +1,7 @@
 use Rattle.std.proofs.Common.{rules}
 use Rattle.mj_tree.specs.Views.{stmts_view}
+use Rattle.mj_phrases.specs.Steps.{Aborts}
 use Rattle.mj_typing.specs.Bodies.{statement_step, statements_step}
-use Rattle.mj_typing.specs.Steps.{Aborts}
 use Rattle.mj_typing.proofs.Views.{stmt_view-Assign, stmt_view-Store}
 use Rattle.mj_typing.proofs.Walks.{statements_more, statements_up, statements_done}
 use Rattle.mj_typing.proofs.body.+statements.Goals as goal

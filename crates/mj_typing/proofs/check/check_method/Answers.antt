@@ -1,7 +1,7 @@
 use Rattle.std.proofs.Common.{rules}
 use Rattle.mj_tree.specs.Views.{method_view}
+use Rattle.mj_phrases.specs.Steps.{Aborts}
 use Rattle.mj_typing.specs.Bodies.{method_step}
-use Rattle.mj_typing.specs.Steps.{Aborts}
 use Rattle.mj_typing.proofs.Walks.{goes_method, up_return}
 use Rattle.mj_typing.proofs.check.check_method.Goals as goal
 

@@ -1,6 +1,6 @@
 use Rattle.std.proofs.Common.{rules}
+use Rattle.mj_phrases.specs.Steps.{Aborts}
 use Rattle.mj_typing.specs.Bodies.{types_step}
-use Rattle.mj_typing.specs.Steps.{Aborts}
 use Rattle.mj_typing.proofs.Walks.{types_more, types_up, types_done}
 use Rattle.mj_typing.proofs.check.check_types.Goals as goal
 

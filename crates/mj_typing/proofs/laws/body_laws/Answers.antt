@@ -1,5 +1,5 @@
-use Rattle.mj_typing.specs.Table.{main_phrases}
-use Rattle.mj_typing.proofs.Agree.{each_exact}
+use Rattle.mj_phrases.specs.Table.{main_phrases}
+use Rattle.mj_phrases.proofs.Agree.{each_exact}
 use Rattle.mj_typing.proofs.Checks.{method_concludes, main_concludes}
 use Rattle.mj_typing.proofs.Mistakes.{method_listed, method_there}
 use Rattle.mj_typing.proofs.laws.body_laws.Goals as goal

@@ -1,8 +1,8 @@
 use Rattle.std.proofs.Common.{◌≡◌, ap}
 use Rattle.mj_tree.specs.Views.{method_view}
+use Rattle.mj_phrases.proofs.Walks.{if_ok}
 use Rattle.mj_typing.specs.Bodies.{method_faults}
 use Rattle.mj_typing.proofs.Checks.{method_plainly, handed_on}
-use Rattle.mj_typing.proofs.Walks.{if_ok}
 use Rattle.mj_typing.proofs.plain.method_mistakes.Goals as goal
 
 pub returns : goal.returns

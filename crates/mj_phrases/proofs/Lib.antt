@@ -1,0 +1,10 @@
+pub mod Agree
+pub mod Asked
+pub mod ByCases
+pub mod Checks
+pub mod Faultless
+pub mod Names
+pub mod NeverSilent
+pub mod Scopes
+pub mod Views
+pub mod Walks

@@ -1,0 +1,9 @@
+pub mod Cases
+pub mod Inquiries
+pub mod Laws
+pub mod Phrases
+pub mod Seen
+pub mod Steps
+pub mod Table
+pub mod Types
+pub mod Variables

@@ -1,0 +1,210 @@
+//! The walk over expressions.
+ghost use Rattle.std.specs.Prelude.{◌≡◌, IfOk, IfErr};
+ghost use Rattle.mj_tree.specs.Views.{exp_view, exps_view};
+ghost use Rattle.mj_phrases.specs.Phrases.{phrase_step, parts_step, own_step, and_type, finding_of, with_type};
+ghost use Rattle.mj_phrases.specs.declared.asking.Stop.TheVariants.{OutOfMemory};
+ghost use Rattle.mj_phrases.specs.Steps.{Proceeds, Aborts};
+ghost use Rattle.mj_phrases.specs.Seen.{items_in};
+ghost use Rattle.mj_phrases.specs.Table.{name_phrase, phrase_of, phrases_of, some_parts, call};
+
+use crate::asking::{Asking, Stop};
+use crate::rows;
+use crate::scope::Scope;
+use crate::verdict::{Mistake, Verdict};
+use mj_lexer::Name;
+use mj_tree::{Exp, Ty};
+use std::alloc::{AllocError, Global};
+
+/// Notes what is wrong, and gives the type.
+pub fn note<E>(
+    mistakes: &mut Vec<Mistake>,
+    mark: usize,
+    verdict: Verdict,
+) -> Result<Option<Ty>, Stop<E>>
+    ensures err { IfErr result (λ e. e ≡ OutOfMemory) }
+    ensures ok { IfOk result (λ ty.
+        finding_of mistakes.old.items mark verdict
+        ≡ record { type = ty; mistakes = mistakes.new.items }) }
+{
+    match verdict {
+        Verdict::Is(ty) => Ok(Some(ty)),
+        Verdict::Wrong(code) => match mistakes.push(Mistake { mark, code }) {
+            Ok(()) => Ok(None),
+            Err(_) => Err(Stop::OutOfMemory),
+        },
+        Verdict::Fine | Verdict::Silent => Ok(None),
+    }
+}
+
+/// The type of a variable's name, if it is in scope; adds the mistake if it isn't.
+#[tactic(auto, unfolding(crate::specs::Phrases::phrase_step, crate::specs::Phrases::parts_step))]
+pub fn name_type<A: Asking>(
+    alloc: Global,
+    asking: &mut A,
+    scope: &Scope,
+    mark: usize,
+    name: &Name,
+    mistakes: &mut Vec<Mistake>,
+) -> Result<Option<Ty>, Stop<A::Refusal>>
+    ensures ok { IfOk result (λ ty.
+        Proceeds A.stands (phrase_step (name_phrase scope.now mark name.now) mistakes.old.items)
+        asking.old (record { type = ty; mistakes = mistakes.new.items }) asking.new) }
+    ensures err { IfErr result (λ e.
+        Aborts A.stands A.halts
+        (phrase_step (name_phrase scope.now mark name.now) mistakes.old.items) asking.old e
+        asking.new) }
+    ensures follows { A.follows asking.old asking.new }
+{
+    let verdict = rows::variable(alloc, asking, scope, name)?;
+    note(mistakes, mark, verdict)
+}
+
+/// The type of an expression, if it has one; adds the mistakes in it.
+#[cycle(expressions)]
+#[inline(never)]
+#[tactic(auto, unfolding(crate::specs::Phrases::phrase_step, crate::specs::Phrases::parts_step))]
+pub fn check<A: Asking>(
+    alloc: Global,
+    asking: &mut A,
+    scope: &Scope,
+    exp: &Exp,
+    mistakes: &mut Vec<Mistake>,
+) -> Result<Option<Ty>, Stop<A::Refusal>>
+    ensures ok { IfOk result (λ ty.
+        Proceeds A.stands
+        (phrase_step (phrase_of scope.now (exp_view exp.now)) mistakes.old.items) asking.old
+        (record { type = ty; mistakes = mistakes.new.items }) asking.new) }
+    ensures err { IfErr result (λ e.
+        Aborts A.stands A.halts
+        (phrase_step (phrase_of scope.now (exp_view exp.now)) mistakes.old.items) asking.old
+        e asking.new) }
+    ensures follows { A.follows asking.old asking.new }
+{
+    match exp {
+        Exp::Literal { mark, value } => note(mistakes, *mark, rows::literal(*value)),
+        Exp::Boolean { .. } => Ok(Some(Ty::Boolean)),
+        Exp::Variable { mark, name } => name_type(alloc, asking, scope, *mark, name, mistakes),
+        Exp::This { mark } => note(mistakes, *mark, rows::this(alloc, scope)?),
+        Exp::Parenthesized { inner, .. } => check(alloc, asking, scope, inner, mistakes),
+        Exp::Not { mark, operand } => match check(alloc, asking, scope, operand, mistakes)? {
+            Some(operand) => note(mistakes, *mark, rows::negation(&operand)),
+            None => Ok(None),
+        },
+        Exp::Binary {
+            operator,
+            mark,
+            left,
+            right,
+        } => {
+            let left = check(alloc, asking, scope, left, mistakes)?;
+            let right = check(alloc, asking, scope, right, mistakes)?;
+            match (left, right) {
+                (Some(left), Some(right)) => note(
+                    mistakes,
+                    *mark,
+                    rows::binary(*operator, &left, &right),
+                ),
+                _ => Ok(None),
+            }
+        }
+        Exp::Index { mark, array, index } => {
+            let array = check(alloc, asking, scope, array, mistakes)?;
+            let index = check(alloc, asking, scope, index, mistakes)?;
+            match (array, index) {
+                (Some(array), Some(index)) => note(mistakes, *mark, rows::index(&array, &index)),
+                _ => Ok(None),
+            }
+        }
+        Exp::Length { mark, array } => match check(alloc, asking, scope, array, mistakes)? {
+            Some(array) => note(mistakes, *mark, rows::array_length(&array)),
+            None => Ok(None),
+        },
+        Exp::Call {
+            mark,
+            receiver,
+            method,
+            arguments,
+        } => {
+            let receiver = check(alloc, asking, scope, receiver, mistakes)?;
+            let types = check_all(alloc, asking, scope, arguments, mistakes)?;
+            conclude_call(alloc, asking, *mark, method, receiver, types, mistakes)
+        }
+        Exp::NewArray { mark, length } => match check(alloc, asking, scope, length, mistakes)? {
+            Some(length) => note(mistakes, *mark, rows::new_array(&length)),
+            None => Ok(None),
+        },
+        Exp::NewObject { mark, class } => {
+            let verdict = rows::new_object(alloc, asking, class)?;
+            note(mistakes, *mark, verdict)
+        }
+    }
+}
+
+/// What a call comes to, where all its parts have types.
+fn conclude_call<A: Asking>(
+    alloc: Global,
+    asking: &mut A,
+    mark: usize,
+    method: &Name,
+    receiver: Option<Ty>,
+    types: Option<Vec<Ty>>,
+    mistakes: &mut Vec<Mistake>,
+) -> Result<Option<Ty>, Stop<A::Refusal>>
+    ensures ok { IfOk result (λ ty.
+        Proceeds A.stands
+        (own_step mark (some_parts (call method.now))
+        (record { type = and_type receiver (items_in types); mistakes = mistakes.old.items }))
+        asking.old (record { type = ty; mistakes = mistakes.new.items }) asking.new) }
+    ensures err { IfErr result (λ e.
+        Aborts A.stands A.halts
+        (own_step mark (some_parts (call method.now))
+        (record { type = and_type receiver (items_in types); mistakes = mistakes.old.items }))
+        asking.old e asking.new) }
+    ensures follows { A.follows asking.old asking.new }
+{
+    let (Some(receiver), Some(types)) = (receiver, types) else {
+        return Ok(None);
+    };
+    let verdict = rows::call(alloc, asking, method, &receiver, &types)?;
+    note(mistakes, mark, verdict)
+}
+
+/// These types and one more, if all are there.
+fn with_type(types: Option<Vec<Ty>>, ty: Option<Ty>) -> Result<Option<Vec<Ty>>, AllocError>
+    ensures { IfOk result (λ all. items_in all ≡ with_type (items_in types) ty) }
+{
+    let (Some(mut types), Some(ty)) = (types, ty) else {
+        return Ok(None);
+    };
+    types.push(ty)?;
+    Ok(Some(types))
+}
+
+/// The types of these, if all have one; adds the mistakes in them.
+#[cycle(expressions)]
+#[inline(never)]
+fn check_all<A: Asking>(
+    alloc: Global,
+    asking: &mut A,
+    scope: &Scope,
+    exps: &Vec<Exp>,
+    mistakes: &mut Vec<Mistake>,
+) -> Result<Option<Vec<Ty>>, Stop<A::Refusal>>
+    ensures ok { IfOk result (λ types.
+        Proceeds A.stands
+        (parts_step (phrases_of scope.now (exps_view exps.now.items)) mistakes.old.items)
+        asking.old (record { type = items_in types; mistakes = mistakes.new.items })
+        asking.new) }
+    ensures err { IfErr result (λ e.
+        Aborts A.stands A.halts
+        (parts_step (phrases_of scope.now (exps_view exps.now.items)) mistakes.old.items)
+        asking.old e asking.new) }
+    ensures follows { A.follows asking.old asking.new }
+{
+    let mut types = Some(Vec::new(alloc));
+    for exp in exps {
+        let ty = check(alloc, asking, scope, exp, mistakes)?;
+        types = with_type(types, ty)?;
+    }
+    Ok(types)
+}
