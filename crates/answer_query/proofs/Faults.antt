@@ -5,7 +5,8 @@ use Rattle.std.proofs.lemmas.Option.{slice_get-map}
 use Rattle.mj_tree.specs.declared.place.Place.TheVariants as places
 use Rattle.mj_answer.specs.declared.code.Code.TheVariants.{E102, E104}
 use Rattle.mj_answer.specs.declared.diagnostic.Diagnostic.{Diagnostic}
-use Rattle.mj_classes.specs.Declarations.{ClassDecl, declarations}
+use Rattle.mj_members.specs.Declarations.{ClassDecl}
+use Rattle.mj_classes.specs.Declarations.{declarations}
 use Rattle.mj_project.specs.Projects.{SourceFile}
 use Rattle.mj_project.specs.Repeats.{repeats}
 use Rattle.mj_rules.specs.Sentences.{file_of, classes_in}

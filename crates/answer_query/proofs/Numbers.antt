@@ -4,7 +4,8 @@ use Rattle.std.specs.List.{AllByRecursion}
 use Rattle.mj_lexer.specs.Lexes.{limit}
 use Rattle.mj_tree.specs.Trees.{Main, Class, File}
 use Rattle.mj_parser.specs.Declarations.{class_size}
-use Rattle.mj_classes.specs.Declarations.{ClassDecl, number_classes, main_first, classes_of, declared_from}
+use Rattle.mj_members.specs.Declarations.{ClassDecl}
+use Rattle.mj_classes.specs.Declarations.{number_classes, main_first, classes_of, declared_from}
 use Rattle.mj_project.specs.Projects.{SourceFile}
 use Rattle.mj_rules.specs.Sentences.{file_of, trees_of, classes_in}
 use Rattle.mj_rules.proofs.LowerLaws.{sentence_law}

@@ -2,7 +2,7 @@
 ghost use Rattle.std.specs.Prelude.{◌≡◌, ◌++◌, ◌≤◌, [], if◌then◌else◌, map, false, is_some, option_copied, slice_get, IfOk, OnOk};
 ghost use Rattle.mj_tree.specs.Views.{class_view};
 ghost use Rattle.mj_classes.specs.Declarations.{classes_of, number_classes, declarations};
-ghost use Rattle.mj_classes.specs.Classes.{classes_view};
+ghost use Rattle.mj_members.specs.Classes.{classes_view};
 ghost use Rattle.mj_project.specs.Repeats.{repeats as repeated_names};
 ghost use Rattle.mj_rules.specs.FaultLists.{has_main as has_main_in, file_faults, class_names};
 ghost use Rattle.answer_bytes.specs.Storable.{AreProjectFaults};

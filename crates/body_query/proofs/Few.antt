@@ -6,7 +6,8 @@ use Rattle.std.proofs.lemmas.List.Elements.{All-contains, at_from_Contains}
 use Rattle.mj_lexer.specs.Lexes.{limit}
 use Rattle.mj_tree.specs.Trees.{Name, Statement, Method, Main, Class, File}
 use Rattle.mj_parser.specs.MarkBounds.{StmtMarksBelow, MethodMarksBelow, ClassMarksBelow, MainMarksBelow, FileMarksBelow}
-use Rattle.mj_classes.specs.Declarations.{ClassDecl, number_classes, main_first, classes_of, declared_from, decl}
+use Rattle.mj_members.specs.Declarations.{ClassDecl}
+use Rattle.mj_classes.specs.Declarations.{number_classes, main_first, classes_of, declared_from, decl}
 use Rattle.mj_classes.specs.Members.{own_method}
 use Rattle.mj_answer.proofs.Alike.{Contains-first, Contains-later}
 use Rattle.mj_phrases.specs.declared.verdict.Mistake.{Mistake}

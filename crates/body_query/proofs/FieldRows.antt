@@ -5,9 +5,10 @@ use Rattle.std.proofs.lemmas.Slice.Eq.{bytes_eq-Decides}
 use Rattle.mj_tree.specs.Trees.{Name}
 use Rattle.mj_tree.specs.declared.tree.Field.{Field}
 use Rattle.mj_answer.specs.declared.table.FieldRow.{FieldRow}
-use Rattle.mj_classes.specs.Declarations.{ClassDecl}
+use Rattle.mj_members.specs.Declarations.{ClassDecl}
 use Rattle.mj_classes.specs.Members.{nearest, or_farther, own_field}
-use Rattle.mj_classes.specs.Tables.{IsTable, fields_along}
+use Rattle.mj_members.specs.Tables.{fields_along}
+use Rattle.mj_classes.specs.Tables.{IsTable}
 use Rattle.mj_classes.proofs.Tables.{is_table}
 use Rattle.mj_rules.specs.Tables.{field_row}
 use Rattle.mj_project.proofs.Listed.{place_of}

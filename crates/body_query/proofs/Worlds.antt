@@ -4,12 +4,13 @@ use Rattle.item_ids.specs.declared.key.Key.TheVariants as keys
 use Rattle.mj_tree.specs.Trees.{Name}
 use Rattle.mj_answer.specs.declared.table.FieldRow.{FieldRow}
 use Rattle.mj_answer.specs.AnswerValues.{MethodRowValue}
-use Rattle.mj_classes.specs.Declarations.{ClassDecl, decl}
+use Rattle.mj_members.specs.Declarations.{ClassDecl}
+use Rattle.mj_classes.specs.Declarations.{decl}
 use Rattle.mj_classes.specs.Chains.{Chain, chain_of, chain_names, ancestry, is_in}
-use Rattle.mj_classes.specs.Tables.{fields_along, methods_along}
+use Rattle.mj_members.specs.Tables.{fields_along, methods_along}
 use Rattle.mj_classes.proofs.Climb.{has_none}
 use Rattle.mj_classes.proofs.Nearest.{ancestry_by}
-use Rattle.mj_classes.proofs.Tables.{firsts_are}
+use Rattle.mj_members.proofs.Tables.{firsts_are}
 use Rattle.mj_rules.specs.Sentences.{classes_in}
 use Rattle.mj_rules.specs.Tables.{field_row, method_row, table_of, sig_in}
 use Rattle.mj_rules.specs.Worlds.{world_of}

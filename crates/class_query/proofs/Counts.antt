@@ -15,7 +15,8 @@ use Rattle.mj_parser.proofs.FileFound.{file_found}
 use Rattle.mj_parser.proofs.Stands.{stands_within}
 use Rattle.storable_trees.proofs.Counts.{row_count}
 use Rattle.storable_trees.proofs.TextTokens.{tokens_few}
-use Rattle.mj_classes.specs.Declarations.{ClassDecl, number_classes, main_first, classes_of, declared_from}
+use Rattle.mj_members.specs.Declarations.{ClassDecl}
+use Rattle.mj_classes.specs.Declarations.{number_classes, main_first, classes_of, declared_from}
 use Rattle.mj_classes.proofs.Tables.{all_append}
 use Rattle.mj_project.specs.Projects.{SourceFile}
 use Rattle.mj_rules.specs.Sentences.{file_of, trees_of, classes_in}

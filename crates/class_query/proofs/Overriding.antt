@@ -9,7 +9,8 @@ use Rattle.mj_tree.specs.declared.tree.Ty.TheVariants as types
 use Rattle.mj_tree.specs.declared.tree.Variable.{Variable}
 use Rattle.mj_tree.specs.declared.place.Place.TheVariants as places
 use Rattle.mj_answer.specs.declared.code.Code.TheVariants.{E205}
-use Rattle.mj_classes.specs.Declarations.{ClassDecl, decl}
+use Rattle.mj_members.specs.Declarations.{ClassDecl}
+use Rattle.mj_classes.specs.Declarations.{decl}
 use Rattle.mj_classes.specs.Chains.{EndOf, IsChain, ancestry}
 use Rattle.mj_classes.specs.Members.{nearest, or_farther, own_method}
 use Rattle.mj_classes.proofs.Nearest.{ancestry_of_chain}

@@ -1,6 +1,6 @@
 //! A line for each fault.
 ghost use Rattle.std.specs.Prelude.{◌≡◌, ◌++◌, None, List, map, flat_map, slice_get, Some, option_copied, IfOk, OnOk};
-ghost use Rattle.mj_classes.specs.Classes.{class_ref_view};
+ghost use Rattle.mj_members.specs.Classes.{class_ref_view};
 ghost use Rattle.mj_classes.specs.Index.{declared_in};
 ghost use Rattle.mj_rules.specs.Sentences.{classes_in};
 ghost use Rattle.fault_lines.specs.Pairs.{Pairwise};

@@ -4,7 +4,7 @@ use Rattle.std.specs.Prelude.{Contains}
 use Rattle.mj_tree.specs.Trees.{Name}
 use Rattle.mj_tree.specs.declared.tree.Ty.{Ty}
 use Rattle.mj_tree.specs.declared.tree.Ty.TheVariants.{Int, Boolean, IntArray, Class}
-use Rattle.mj_classes.specs.Declarations.{ClassDecl}
+use Rattle.mj_members.specs.Declarations.{ClassDecl}
 use Rattle.mj_classes.specs.Chains.{EndOf, Top, Undeclared, Repeated, Ends, Links, AreDistinct, IsChain, IsAcceptedBy, chain_names}
 use Rattle.mj_classes.proofs.Distinct.{In, contains_in, in_contains}
 use Rattle.mj_classes.proofs.Climb.{chain_of_is}

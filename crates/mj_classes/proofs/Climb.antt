@@ -5,7 +5,8 @@ use Rattle.std.specs.Str.{bytes_eq}
 use Rattle.std.proofs.lemmas.Slice.Eq.{bytes_eq-Decides}
 use Rattle.std.proofs.lemmas.List.Elements.{Contains-push_cases}
 use Rattle.mj_tree.specs.Trees.{Name}
-use Rattle.mj_classes.specs.Declarations.{ClassDecl, decl}
+use Rattle.mj_members.specs.Declarations.{ClassDecl}
+use Rattle.mj_classes.specs.Declarations.{decl}
 use Rattle.mj_classes.specs.Chains.{EndOf, Top, Undeclared, Repeated, Ends, Links, AreDistinct, IsChain, Chain, is_in, on_from, on_by, chain_from, chain_of}
 use Rattle.mj_classes.proofs.Distinct.{In, nowhere, contains_in, in_contains, pigeons, distinct_push, fresh_behind, is_listed, listed_is, not_listed, not_in}
 

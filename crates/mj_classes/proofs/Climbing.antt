@@ -7,7 +7,8 @@ use Rattle.std.proofs.lemmas.List.{take_all, take_more, length-map}
 use Rattle.std.proofs.lemmas.List.Elements.{filter-append, filter_map-append}
 use Rattle.std.proofs.lemmas.Option.{none-some, same_Some, slice_get_within, slice_get-get_or, get_or_from_slice_get}
 use Rattle.mj_tree.specs.Trees.{Name}
-use Rattle.mj_classes.specs.Declarations.{ClassDecl, has_members, decl, place, superclass_places}
+use Rattle.mj_members.specs.Declarations.{ClassDecl, has_members}
+use Rattle.mj_classes.specs.Declarations.{decl, place, superclass_places}
 use Rattle.mj_classes.specs.Chains.{EndOf, Top, Undeclared, Repeated, Ends, Links, Extends, AreDistinct, IsChain, Chain}
 use Rattle.mj_classes.specs.Walks.{IsChainOf, IsChainAt, straight_end, StandsAt, IsRing, IsInRing, ComesTo, LeadsTo, declaring}
 use Rattle.mj_classes.proofs.Distinct.{contains_in}

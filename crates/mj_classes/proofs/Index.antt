@@ -5,8 +5,8 @@ use Rattle.std.specs.Str.{bytes_eq}
 use Rattle.std.proofs.lemmas.List.{length-map}
 use Rattle.mj_tree.specs.Trees.{Name}
 use Rattle.mj_classes.specs.Declarations.{decl}
-use Rattle.mj_classes.specs.Classes.{class_ref_view, classes_view}
-use Rattle.mj_classes.specs.declared.class.ClassRef.{ClassRef}
+use Rattle.mj_members.specs.Classes.{class_ref_view, classes_view}
+use Rattle.mj_members.specs.declared.class.ClassRef.{ClassRef}
 use Rattle.mj_tree.proofs.Positions.{find_from_position, find_at_place, position_below}
 
 abbrev pub place_of : List ClassRef → Name → Option ℕ

@@ -6,6 +6,5 @@ pub mod Distinct
 pub mod Index
 pub mod Nearest
 pub mod Places
-pub mod Rows
 pub mod Tables
 pub mod Walks

@@ -5,7 +5,8 @@ use Rattle.std.specs.Option.{option_map_or}
 use Rattle.std.specs.List.{filter_map, cons_option}
 use Rattle.std.proofs.lemmas.List.Elements.{Contains-append_right}
 use Rattle.mj_tree.specs.Trees.{Name}
-use Rattle.mj_classes.specs.Declarations.{ClassDecl, decl}
+use Rattle.mj_members.specs.Declarations.{ClassDecl}
+use Rattle.mj_classes.specs.Declarations.{decl}
 use Rattle.mj_classes.specs.Chains.{EndOf, IsChain, Chain, chain_names, chain_of, ancestry}
 use Rattle.mj_classes.specs.Members.{IsNearest, or_farther, nearest}
 use Rattle.mj_classes.proofs.Distinct.{In, nowhere, contains_in, in_contains}

@@ -5,7 +5,8 @@ use Rattle.std.specs.Str.{bytes_eq}
 use Rattle.std.proofs.lemmas.Option.{slice_get-map, same_Some}
 use Rattle.std.proofs.lemmas.List.{take_all}
 use Rattle.mj_tree.specs.Trees.{Name}
-use Rattle.mj_classes.specs.Declarations.{ClassDecl, decl, place, superclass_places}
+use Rattle.mj_members.specs.Declarations.{ClassDecl}
+use Rattle.mj_classes.specs.Declarations.{decl, place, superclass_places}
 use Rattle.mj_classes.specs.Chains.{Ends}
 use Rattle.mj_classes.specs.Walks.{straight_end}
 use Rattle.mj_tree.proofs.Positions.{at_some, find_from_position, position_below}

@@ -1,13 +1,12 @@
--- Tables by name: what stands in them, and in which order.
+-- Tables of classes: what stands in them, and in which order.
 use Rattle.std.proofs.Common.{◌≡◌, Bool, true, false, List, [], ◌∷◌, ◌++◌, map, Option, Some, refl, sym, ap, ◌∙◌, subst, arith, ◌⊎◌, inl, inr, cond}
 use Rattle.std.specs.Prelude.{find, Contains, ◌&&◌, T}
 use Rattle.std.specs.List.{AllByRecursion}
 use Rattle.std.specs.List.Sorted.{IsStrictlySortedBy}
 use Rattle.std.specs.Map.{lookup, keys_of, values_of}
-use Rattle.std.specs.Ordering.{nat_cmp, eq_by_cmp, is_lt}
+use Rattle.std.specs.Ordering.{eq_by_cmp, is_lt}
 use Rattle.std.specs.declared.cmp.Ordering.{Ordering}
 use Rattle.std.specs.declared.cmp.Ordering.TheVariants.{Less, Equal, Greater}
-use Rattle.std.specs.Cmp.Lexicographic.{slice_cmp}
 use Rattle.std.specs.FinMap as names
 use Rattle.std.specs.FinMap.Entries as entries
 use Rattle.std.specs.Str.{bytes_eq}
@@ -17,17 +16,12 @@ use Rattle.std.proofs.lemmas.Map.Keys.{IsDistinct-from_sorted}
 use Rattle.std.proofs.lemmas.Map.Lookups.{exact_bytes}
 use Rattle.std.proofs.lemmas.Map.Views.{tells_apart, lookup-from_Contains, Contains-from_lookup}
 use Rattle.mj_tree.specs.Trees.{Name}
-use Rattle.mj_classes.specs.Declarations.{ClassDecl}
+use Rattle.mj_members.specs.Declarations.{ClassDecl}
 use Rattle.mj_classes.specs.Members.{nearest, or_farther}
-use Rattle.mj_classes.specs.Tables.{AreAscending, IsTable, all_along, firsts}
+use Rattle.mj_members.specs.Tables.{all_along, firsts}
+use Rattle.mj_classes.specs.Tables.{AreAscending, IsTable}
+use Rattle.mj_members.proofs.Tables.{by_bytes, under, under_first}
 use Rattle.mj_tree.proofs.Positions.{names_tie, bytes_eq_back}
-
-abbrev pub by_bytes : Name → Name → Ordering
-by_bytes = slice_cmp nat_cmp
-
--- what stands under a name
-abbrev pub under : {A : Type 0} → Name → List (Name × A) → Option A
-under n es = entries.find by_bytes n es
 
 -- ---- lists of entries
 
@@ -147,16 +141,8 @@ under_along name own n (k ∷ ks) =
 
 -- ---- the table
 
-pub under_first : {A : Type 0} (n : Name) (es : List (Name × A)) → under n (names.entries (names.from_entries {R = by_bytes} es)) ≡ under n es
-under_first n es = sym (names.get-entries (names.from_entries {R = by_bytes} es) n) ∙ names.get-from_entries nat_list_cmp_total es n
-
 pub firsts_ascend : {A : Type 0} (es : List (Name × A)) → AreAscending (keys_of (names.entries (names.from_entries {R = by_bytes} es)))
 firsts_ascend es = ascending_keys _ (names.entries_sorted (names.from_entries {R = by_bytes} es))
-
--- entries that ascend are the first of each name, where the same stands under each name
-pub firsts_are : {A : Type 0} (es fs : List (Name × A)) → T (entries.is_sorted by_bytes es) → ((n : Name) → under n es ≡ under n fs) → values_of es ≡ firsts fs
-firsts_are es fs up same =
-    ap values_of (entries.same_entries by_bytes nat_list_cmp_total exact_bytes es (names.entries (names.from_entries {R = by_bytes} fs)) up (names.entries_sorted (names.from_entries {R = by_bytes} fs)) (λ n. same n ∙ sym (under_first n fs)))
 
 -- the table of what these classes declare
 pub is_table : {A : Type 0} (name : A → Name) (own : ClassDecl → List A) (ks : List ClassDecl) (IsMember : Name → A → Type 0)

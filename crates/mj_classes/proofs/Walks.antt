@@ -5,7 +5,8 @@ use Rattle.std.specs.Str.{bytes_eq}
 use Rattle.std.specs.List.{filter_map, cons_option}
 use Rattle.mj_tree.specs.Trees.{Name}
 use Rattle.std.proofs.lemmas.Option.{same_Some}
-use Rattle.mj_classes.specs.Declarations.{ClassDecl, decl, place, superclass_places}
+use Rattle.mj_members.specs.Declarations.{ClassDecl}
+use Rattle.mj_classes.specs.Declarations.{decl, place, superclass_places}
 use Rattle.mj_classes.specs.Chains.{EndOf, Links, IsChain, is_in, chain_names, chain_of, ancestry}
 use Rattle.mj_classes.proofs.Distinct.{In}
 use Rattle.mj_classes.proofs.Climb.{decl_name, all_declared, links_declared, no_more, has_chain, has_none}

@@ -5,7 +5,8 @@ use Rattle.std.specs.List.{list_any, filter_map}
 use Rattle.mj_tree.specs.Trees.{Name}
 use Rattle.mj_tree.specs.declared.tree.Ty.{Ty}
 use Rattle.mj_tree.specs.declared.tree.Ty.TheVariants.{Class}
-use Rattle.mj_classes.specs.Declarations.{ClassDecl, decl}
+use Rattle.mj_members.specs.Declarations.{ClassDecl}
+use Rattle.mj_classes.specs.Declarations.{decl}
 
 -- How a chain ends: its last class extends nothing, a name that is not declared, or a class of the
 -- chain.

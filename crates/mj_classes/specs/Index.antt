@@ -1,7 +1,7 @@
 -- The declared classes, found by their names.
 use Rattle.std.specs.Prelude.{List}
-use Rattle.mj_classes.specs.Declarations.{ClassDecl}
-use Rattle.mj_classes.specs.Classes.{classes_view}
+use Rattle.mj_members.specs.Declarations.{ClassDecl}
+use Rattle.mj_members.specs.Classes.{classes_view}
 use Rattle.mj_classes.specs.declared.declarations.Declarations.{Declarations}
 
 -- all classes, in file order

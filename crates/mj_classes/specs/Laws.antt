@@ -4,7 +4,8 @@ use Rattle.mj_tree.specs.Trees.{Name, Method}
 use Rattle.mj_tree.specs.declared.tree.Ty.{Ty}
 use Rattle.mj_tree.specs.declared.tree.Ty.TheVariants.{Class}
 use Rattle.mj_tree.specs.declared.tree.Field.{Field}
-use Rattle.mj_classes.specs.Declarations.{ClassDecl, decl}
+use Rattle.mj_members.specs.Declarations.{ClassDecl}
+use Rattle.mj_classes.specs.Declarations.{decl}
 use Rattle.mj_classes.specs.Chains.{EndOf, Repeated, IsChain, IsAcceptedBy, chain_of}
 use Rattle.mj_classes.specs.Members.{FieldOf, MethodOf, field_of, method_of}
 use Rattle.mj_classes.specs.Tables.{IsTable, field_table, method_table}

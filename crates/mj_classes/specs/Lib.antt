@@ -4,6 +4,5 @@ pub mod Declarations
 pub mod Index
 pub mod Laws
 pub mod Members
-pub mod Rows
 pub mod Tables
 pub mod Walks

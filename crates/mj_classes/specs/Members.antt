@@ -3,7 +3,8 @@ use Rattle.std.specs.Prelude.{◌≡◌, List, [], ◌∷◌, ◌++◌, find, Op
 use Rattle.std.specs.Str.{bytes_eq}
 use Rattle.mj_tree.specs.Trees.{Name, Method}
 use Rattle.mj_tree.specs.declared.tree.Field.{Field}
-use Rattle.mj_classes.specs.Declarations.{ClassDecl, decl}
+use Rattle.mj_members.specs.Declarations.{ClassDecl}
+use Rattle.mj_classes.specs.Declarations.{decl}
 use Rattle.mj_classes.specs.Chains.{EndOf, IsChain, ancestry}
 
 -- the first field of a name in a class, and the first method

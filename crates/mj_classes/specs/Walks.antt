@@ -4,10 +4,12 @@ use Rattle.std.specs.List.{filter_map}
 use denote.Ref.{Bor}
 use Rattle.std.specs.Str.{bytes_eq}
 use Rattle.mj_tree.specs.Trees.{Name}
-use Rattle.mj_classes.specs.Declarations.{ClassDecl, has_members, decl, place}
+use Rattle.mj_members.specs.Declarations.{ClassDecl, has_members}
+use Rattle.mj_classes.specs.Declarations.{decl, place}
 use Rattle.mj_classes.specs.Chains.{EndOf, Top, Undeclared, Repeated, IsChain, chain_of, ancestry}
 use Rattle.mj_classes.specs.Members.{own_field, own_method}
-use Rattle.mj_classes.specs.Classes.{class_ref_view, classes_view, end_view}
+use Rattle.mj_members.specs.Classes.{class_ref_view, classes_view}
+use Rattle.mj_classes.specs.Classes.{end_view}
 use Rattle.mj_classes.specs.declared.chain.Climb.{Climb}
 use Rattle.mj_classes.specs.declared.chain.Climb.TheVariants.{Straight, Round}
 use Rattle.mj_classes.specs.declared.own.OwnMembers.{OwnMembers}

@@ -1,13 +1,15 @@
 //! The chain of a class.
 ghost use Rattle.std.specs.Prelude.{◌≡◌, ◌<◌, ◌+◌, ◌++◌, ◌∷◌, [], ℕ, List, length, filter, Some, None, IfOk, OnOk, MatchOption, option_map, slice_get};
-ghost use Rattle.mj_classes.specs.Declarations.{ClassDecl, decl, has_members, superclass_places};
+ghost use Rattle.mj_members.specs.Declarations.{ClassDecl, has_members};
+ghost use Rattle.mj_classes.specs.Declarations.{decl, superclass_places};
 ghost use Rattle.mj_classes.specs.Chains.{chain_of, ancestry};
-ghost use Rattle.mj_classes.specs.Classes.{classes_view, class_ref_view, end_view};
+ghost use Rattle.mj_members.specs.Classes.{classes_view, class_ref_view};
+ghost use Rattle.mj_classes.specs.Classes.{end_view};
 ghost use Rattle.mj_classes.specs.Walks.{IsPlace, IsChainAt, IsInRing, RunsInto, LeadsTo, ClimbGives, straight_end};
 
-use crate::class::ClassRef;
 use crate::declarations::Declarations;
 use mj_lexer::Name;
+use mj_members::ClassRef;
 use std::alloc::{AllocError, Global};
 
 /// How a chain ends.

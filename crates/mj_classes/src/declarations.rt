@@ -5,12 +5,14 @@ ghost use Rattle.std.specs.BTreeMap.{get};
 ghost use Rattle.std.specs.Cmp.Lexicographic.{slice_cmp};
 ghost use Rattle.std.specs.Ordering.{nat_cmp};
 ghost use Rattle.mj_tree.specs.Views.{class_view, file_view};
-ghost use Rattle.mj_classes.specs.Declarations.{ClassDecl, has_members, classes_of, number_classes, declarations, decl, place, superclass_places};
-ghost use Rattle.mj_classes.specs.Classes.{class_ref_view, classes_view, files_view};
+ghost use Rattle.mj_members.specs.Declarations.{ClassDecl, has_members};
+ghost use Rattle.mj_classes.specs.Declarations.{classes_of, number_classes, declarations, decl, place, superclass_places};
+ghost use Rattle.mj_members.specs.Classes.{class_ref_view, classes_view};
+ghost use Rattle.mj_classes.specs.Classes.{files_view};
 
-use crate::class::{ClassRef, Tree};
 use crate::own::OwnMembers;
 use mj_lexer::Name;
+use mj_members::{ClassRef, Tree};
 use mj_tree::{ClassTree, FileTree};
 use std::alloc::{AllocError, Global};
 use std::collections::BTreeMap;

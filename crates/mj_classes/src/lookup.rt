@@ -2,13 +2,13 @@
 ghost use Rattle.std.specs.Prelude.{◌≡◌, find, option_map};
 ghost use Rattle.mj_classes.specs.Chains.{ancestry, chain_of, chain_names, is_in};
 ghost use Rattle.mj_classes.specs.Members.{field_of, method_of};
-ghost use Rattle.mj_classes.specs.Classes.{class_ref_view, field_member_view, method_member_view};
+ghost use Rattle.mj_members.specs.Classes.{class_ref_view, field_member_view, method_member_view};
 ghost use Rattle.mj_classes.specs.Walks.{is_sought, own_view};
 
 use crate::declarations::Declarations;
-use crate::member::{FieldMember, MethodMember};
 use crate::own::OwnMembers;
 use mj_lexer::Name;
+use mj_members::{FieldMember, MethodMember};
 
 /// What a walk up a chain looks for: a class, or one that declares a member.
 #[derive(Clone, Copy)]

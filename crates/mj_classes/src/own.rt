@@ -6,10 +6,10 @@ ghost use Rattle.std.specs.Cmp.Lexicographic.{slice_cmp};
 ghost use Rattle.std.specs.Ordering.{nat_cmp};
 ghost use Rattle.mj_tree.specs.Views.{method_view};
 ghost use Rattle.mj_classes.specs.Members.{own_field, own_method};
-ghost use Rattle.mj_classes.specs.Classes.{class_ref_view};
+ghost use Rattle.mj_members.specs.Classes.{class_ref_view};
 
-use crate::class::ClassRef;
 use mj_lexer::Name;
+use mj_members::ClassRef;
 use mj_tree::{Field, MethodTree};
 use std::alloc::{AllocError, Global};
 use std::collections::BTreeMap;

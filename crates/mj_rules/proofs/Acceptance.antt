@@ -3,7 +3,7 @@ use Rattle.std.proofs.Common.{◌≡◌, true, List, Contains, refl, ap, subst, 
 use Rattle.mj_tree.specs.Trees.{Name}
 use Rattle.mj_tree.specs.declared.tree.Ty.{Ty}
 use Rattle.mj_tree.specs.declared.tree.Ty.TheVariants.{Int, Boolean, IntArray, Class}
-use Rattle.mj_classes.specs.Declarations.{ClassDecl}
+use Rattle.mj_members.specs.Declarations.{ClassDecl}
 use Rattle.mj_classes.specs.Chains.{EndOf, IsChain, IsAcceptedBy}
 use Rattle.mj_classes.proofs.Acceptance.{accepted_by_itself}
 use Rattle.mj_phrases.specs.Inquiries.{World}

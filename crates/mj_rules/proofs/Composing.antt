@@ -4,7 +4,8 @@ use Rattle.mj_tree.specs.Trees.{Name}
 use Rattle.mj_answer.specs.declared.diagnostic.Diagnostic.{Diagnostic}
 use Rattle.mj_answer.specs.AnswerValues.{ClassAnswerValue, AnswerValue}
 use Rattle.mj_answer.specs.Order.{NameBefore, IsAscendingBy, IsAscending}
-use Rattle.mj_classes.specs.Declarations.{ClassDecl, decl}
+use Rattle.mj_members.specs.Declarations.{ClassDecl}
+use Rattle.mj_classes.specs.Declarations.{decl}
 use Rattle.mj_classes.specs.Laws.{ChainLaws, MemberLaws}
 use Rattle.mj_project.specs.Projects.{SourceFile}
 use Rattle.mj_rules.specs.Sentences.{classes_in}

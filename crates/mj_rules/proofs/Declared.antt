@@ -18,7 +18,8 @@ use Rattle.mj_parser.specs.FileReading.{tree_of}
 use Rattle.mj_parser.specs.MarkBounds.{VariableBelow, MethodMarksBelow, ClassMarksBelow, FileMarksBelow}
 use Rattle.mj_parser.proofs.FileFound.{file_found}
 use Rattle.mj_parser.proofs.Bounds.{marks_below}
-use Rattle.mj_classes.specs.Declarations.{ClassDecl, number_classes, main_first, main_decl, class_decl, classes_of, declared_from, decl}
+use Rattle.mj_members.specs.Declarations.{ClassDecl, main_decl, class_decl}
+use Rattle.mj_classes.specs.Declarations.{number_classes, main_first, classes_of, declared_from, decl}
 use Rattle.mj_project.specs.Projects.{SourceFile}
 use Rattle.mj_phrases.specs.Variables.{name_token}
 use Rattle.mj_phrases.proofs.Agree.{nowhere, first, later, first_or_later}

@@ -15,10 +15,11 @@ use Rattle.mj_tree.specs.declared.place.Place.TheVariants as places
 use Rattle.mj_answer.specs.declared.code.Code.TheVariants.{E202, E204}
 use Rattle.mj_answer.specs.declared.diagnostic.Diagnostic.{Diagnostic}
 use Rattle.mj_answer.proofs.Alike.{Contains-first}
-use Rattle.mj_classes.specs.Declarations.{ClassDecl, has_members, decl}
+use Rattle.mj_members.specs.Declarations.{ClassDecl, has_members}
+use Rattle.mj_classes.specs.Declarations.{decl}
 use Rattle.mj_classes.specs.Chains.{EndOf, IsChain, Chain, chain_of, ancestry}
 use Rattle.mj_classes.specs.Members.{nearest, or_farther, own_method}
-use Rattle.mj_classes.specs.Tables.{own_rows, all_along, firsts, fields_along, methods_along}
+use Rattle.mj_members.specs.Tables.{own_rows, all_along, firsts, fields_along, methods_along}
 use Rattle.mj_classes.proofs.Climb.{decl_name, is_chain_of, links_declared}
 use Rattle.mj_classes.proofs.Nearest.{ancestry_of_chain}
 use Rattle.mj_project.specs.Repeats.{repeats}

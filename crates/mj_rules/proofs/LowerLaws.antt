@@ -1,7 +1,7 @@
 -- The laws of the crates below.
 use Rattle.mj_classes.specs.Chains.{ancestry}
 use Rattle.mj_classes.specs.Members.{own_field, own_method, FieldOf, MethodOf}
-use Rattle.mj_classes.specs.Tables.{fields_along, methods_along}
+use Rattle.mj_members.specs.Tables.{fields_along, methods_along}
 use Rattle.mj_classes.specs.Laws.{ChainLaws, MemberLaws}
 use Rattle.mj_classes.proofs.Climb.{chain_of_is, is_chain_of, has_chain, has_none}
 use Rattle.mj_classes.proofs.Nearest.{nearest_from_is, is_from_nearest}

@@ -5,7 +5,8 @@ use Rattle.std.proofs.lemmas.Option.{none-some, same_Some}
 use Rattle.std.proofs.lemmas.Slice.Eq.{bytes_eq-Decides}
 use Rattle.mj_answer.proofs.Alike.{Contains-cases, Contains-first, Contains-later}
 use Rattle.mj_tree.specs.Trees.{Name, Method}
-use Rattle.mj_classes.specs.Declarations.{ClassDecl, decl}
+use Rattle.mj_members.specs.Declarations.{ClassDecl}
+use Rattle.mj_classes.specs.Declarations.{decl}
 use Rattle.mj_classes.specs.Chains.{EndOf, Top, Undeclared, Repeated, Ends, Links, IsChain, chain_names, ancestry}
 use Rattle.mj_classes.specs.Members.{nearest, or_farther, own_method}
 use Rattle.mj_classes.specs.Laws.{ChainLaws}

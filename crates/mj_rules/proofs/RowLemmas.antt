@@ -6,9 +6,10 @@ use Rattle.mj_tree.specs.Trees.{Name, Method}
 use Rattle.mj_answer.specs.declared.diagnostic.Diagnostic.{Diagnostic}
 use Rattle.mj_answer.specs.AnswerValues.{MethodRowValue}
 use Rattle.mj_answer.proofs.Alike.{Contains-first, Contains-later}
-use Rattle.mj_classes.specs.Declarations.{ClassDecl}
+use Rattle.mj_members.specs.Declarations.{ClassDecl}
 use Rattle.mj_classes.specs.Members.{nearest, or_farther, own_method}
-use Rattle.mj_classes.specs.Tables.{IsTable, methods_along}
+use Rattle.mj_members.specs.Tables.{methods_along}
+use Rattle.mj_classes.specs.Tables.{IsTable}
 use Rattle.mj_classes.proofs.Tables.{is_table}
 use Rattle.mj_rules.specs.FaultLists.{fault, each_numbered, nearest_sig, override_faults, method_faults_of}
 use Rattle.mj_tree.specs.declared.place.Place.TheVariants as places
@@ -17,8 +18,8 @@ use Rattle.mj_answer.specs.Order.{NameBefore, IsAscendingByName}
 use Rattle.mj_answer.proofs.Compared.{ascends}
 use Rattle.std.specs.Ordering.{nat_cmp}
 use Rattle.std.specs.Cmp.Lexicographic.{slice_cmp}
-use Rattle.mj_classes.specs.Classes.{classes_view}
-use Rattle.mj_classes.specs.declared.class.ClassRef.{ClassRef}
+use Rattle.mj_members.specs.Classes.{classes_view}
+use Rattle.mj_members.specs.declared.class.ClassRef.{ClassRef}
 use Rattle.mj_rules.specs.Worlds.{sig_of}
 use Rattle.mj_rules.specs.Tables.{method_row, row_sig, sig_in}
 use Rattle.mj_project.proofs.Listed.{place_of}

@@ -6,10 +6,11 @@ use Rattle.mj_tree.specs.declared.tree.FileTree.{FileTree}
 use Rattle.mj_tree.specs.declared.tree.Ty.{Ty}
 use Rattle.mj_tree.specs.declared.tree.Variable.{Variable}
 use Rattle.mj_tree.specs.Views.{file_view}
-use Rattle.mj_classes.specs.Classes.{tree_view, class_ref_view, files_view}
-use Rattle.mj_classes.specs.declared.class.Tree.{Tree}
-use Rattle.mj_classes.specs.declared.class.Tree.TheVariants.{Main, Plain}
-use Rattle.mj_classes.specs.declared.class.ClassRef.{ClassRef}
+use Rattle.mj_members.specs.Classes.{tree_view, class_ref_view}
+use Rattle.mj_classes.specs.Classes.{files_view}
+use Rattle.mj_members.specs.declared.class.Tree.{Tree}
+use Rattle.mj_members.specs.declared.class.Tree.TheVariants.{Main, Plain}
+use Rattle.mj_members.specs.declared.class.ClassRef.{ClassRef}
 use Rattle.mj_tree.specs.declared.place.Place.TheVariants.{Project, ClassOf}
 use Rattle.mj_answer.specs.declared.code.Code.TheVariants.{E102, E104}
 use Rattle.mj_answer.specs.declared.diagnostic.Diagnostic.{Diagnostic}

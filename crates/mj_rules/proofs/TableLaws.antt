@@ -12,7 +12,7 @@ use Rattle.mj_answer.specs.declared.table.FieldRow.{FieldRow}
 use Rattle.mj_answer.specs.AnswerValues.{MethodRowValue}
 use Rattle.mj_answer.specs.Order.{NameBefore, IsAscendingBy, IsAscendingByName}
 use Rattle.mj_answer.proofs.Compared.{ascends}
-use Rattle.mj_classes.specs.Declarations.{ClassDecl}
+use Rattle.mj_members.specs.Declarations.{ClassDecl}
 use Rattle.mj_classes.specs.Members.{FieldOf, MethodOf}
 use Rattle.mj_classes.specs.Tables.{field_table, method_table}
 use Rattle.mj_classes.specs.Laws.{MemberLaws}

@@ -7,7 +7,8 @@ use Rattle.mj_tree.specs.declared.place.Place.{Place}
 use Rattle.mj_tree.specs.declared.place.Place.TheVariants.{Class, Field as FieldAt, Method as MethodAt, Inside}
 use Rattle.mj_answer.specs.declared.code.Code.{Code}
 use Rattle.mj_answer.specs.declared.code.Code.TheVariants.{E201, E202, E203, E204, E205, E206}
-use Rattle.mj_classes.specs.Declarations.{ClassDecl, decl}
+use Rattle.mj_members.specs.Declarations.{ClassDecl}
+use Rattle.mj_classes.specs.Declarations.{decl}
 use Rattle.mj_classes.specs.Chains.{EndOf, Repeated, IsChain}
 use Rattle.mj_classes.specs.Members.{own_method}
 use Rattle.mj_phrases.specs.declared.verdict.Mistake.{Mistake}

@@ -6,7 +6,8 @@ use Rattle.mj_lexer.specs.Lexing.{tokens_of}
 use Rattle.mj_tree.specs.Trees.{File}
 use Rattle.mj_parser.specs.Declarations.{Derives}
 use Rattle.mj_parser.specs.FileReading.{tree_of}
-use Rattle.mj_classes.specs.Declarations.{ClassDecl, declarations}
+use Rattle.mj_members.specs.Declarations.{ClassDecl}
+use Rattle.mj_classes.specs.Declarations.{declarations}
 use Rattle.mj_project.specs.Projects.{SourceFile}
 
 -- The bytes are cut into tokens, and the grammar derives these.

@@ -5,9 +5,9 @@ use Rattle.mj_tree.specs.Trees.{Name, Method}
 use Rattle.mj_tree.specs.declared.tree.Field.{Field}
 use Rattle.mj_answer.specs.declared.table.FieldRow.{FieldRow}
 use Rattle.mj_answer.specs.AnswerValues.{MethodRowValue, ClassTableValue}
-use Rattle.mj_classes.specs.Declarations.{ClassDecl}
+use Rattle.mj_members.specs.Declarations.{ClassDecl}
 use Rattle.mj_classes.specs.Chains.{ancestry}
-use Rattle.mj_classes.specs.Tables.{fields_along, methods_along}
+use Rattle.mj_members.specs.Tables.{fields_along, methods_along}
 use Rattle.mj_phrases.specs.Inquiries.{Sig}
 
 -- the row of a field with its owner, and that of a method

@@ -3,7 +3,8 @@ use Rattle.std.specs.Prelude.{◌≡◌, ◌↔◌, List, map, Some, option_map,
 use Rattle.mj_tree.specs.Trees.{Name, Method}
 use Rattle.mj_tree.specs.declared.tree.Ty.{Ty}
 use Rattle.mj_tree.specs.declared.tree.Field.{Field}
-use Rattle.mj_classes.specs.Declarations.{ClassDecl, decl}
+use Rattle.mj_members.specs.Declarations.{ClassDecl}
+use Rattle.mj_classes.specs.Declarations.{decl}
 use Rattle.mj_classes.specs.Chains.{EndOf, IsChain, IsAcceptedBy, chain_of, chain_names, is_in}
 use Rattle.mj_classes.specs.Members.{FieldOf, MethodOf, field_of, method_of}
 use Rattle.mj_phrases.specs.Inquiries.{World, Sig}

@@ -1,7 +1,7 @@
 //! The faults of the bodies of a class.
 ghost use Rattle.std.specs.Prelude.{◌≡◌, [], ◌++◌, if◌then◌else◌, map, OnOk};
 ghost use Rattle.mj_tree.specs.Views.{method_view};
-ghost use Rattle.mj_classes.specs.Classes.{class_ref_view};
+ghost use Rattle.mj_members.specs.Classes.{class_ref_view};
 ghost use Rattle.mj_classes.specs.Index.{declared_in};
 ghost use Rattle.mj_typing.specs.Bodies.{method_faults};
 ghost use Rattle.mj_project.specs.Repeats.{repeats};

@@ -2,7 +2,8 @@
 ghost use Rattle.std.specs.Prelude.{◌≡◌, ◌↔◌, ℕ, List, Some, IfOk, Contains};
 ghost use Rattle.mj_answer.specs.Order.{NameBefore, IsAscendingBy};
 ghost use Rattle.mj_classes.specs.Declarations.{decl};
-ghost use Rattle.mj_classes.specs.Classes.{class_ref_view, files_view};
+ghost use Rattle.mj_members.specs.Classes.{class_ref_view};
+ghost use Rattle.mj_classes.specs.Classes.{files_view};
 ghost use Rattle.mj_classes.specs.Index.{declared_in};
 ghost use Rattle.mj_rules.specs.FaultLists.{NamesFitIn, class_names};
 ghost use Rattle.mj_rules.specs.Sentences.{trees_of};

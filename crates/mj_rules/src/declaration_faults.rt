@@ -2,9 +2,11 @@
 ghost use Rattle.std.specs.Prelude.{◌≡◌, ◌++◌, map, filter, Some, IfOk, OnOk, is_some, option_map, option_copied};
 ghost use Rattle.mj_tree.specs.Views.{method_view};
 ghost use Rattle.mj_answer.specs.Order.{IsAscendingByName};
-ghost use Rattle.mj_classes.specs.Declarations.{decl, has_members};
+ghost use Rattle.mj_members.specs.Declarations.{has_members};
+ghost use Rattle.mj_classes.specs.Declarations.{decl};
 ghost use Rattle.mj_classes.specs.Chains.{chain_of, ancestry};
-ghost use Rattle.mj_classes.specs.Classes.{class_ref_view, classes_view, end_view};
+ghost use Rattle.mj_members.specs.Classes.{class_ref_view, classes_view};
+ghost use Rattle.mj_classes.specs.Classes.{end_view};
 ghost use Rattle.mj_classes.specs.Index.{declared_in};
 ghost use Rattle.mj_project.specs.Repeats.{repeats};
 ghost use Rattle.mj_rules.specs.Tables.{row_sig, sig_in, behind};

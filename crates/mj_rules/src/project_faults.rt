@@ -1,7 +1,8 @@
 //! The faults of a project itself.
 ghost use Rattle.std.specs.Prelude.{◌≡◌, [], ◌++◌, if◌then◌else◌, ◌||◌, ◌<◌, ◌≤◌, ℕ, List, map, option_map, length, false, All, IfOk, OnOk, slice_get};
 ghost use Rattle.mj_tree.specs.Views.{file_view};
-ghost use Rattle.mj_classes.specs.Classes.{class_ref_view, classes_view, files_view};
+ghost use Rattle.mj_members.specs.Classes.{class_ref_view, classes_view};
+ghost use Rattle.mj_classes.specs.Classes.{files_view};
 ghost use Rattle.mj_project.specs.Projects.{sources_view, names_of, IsFileName};
 ghost use Rattle.mj_project.specs.Repeats.{repeats};
 ghost use Rattle.mj_rules.specs.Sentences.{trees_of, classes_in};

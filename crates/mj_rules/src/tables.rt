@@ -1,7 +1,7 @@
 //! The tables of classes.
 ghost use Rattle.std.specs.Prelude.{◌≡◌, map, IfOk};
-ghost use Rattle.mj_classes.specs.Classes.{classes_view, field_member_view, method_member_view};
-ghost use Rattle.mj_classes.specs.Tables.{fields_along, methods_along};
+ghost use Rattle.mj_members.specs.Classes.{classes_view, field_member_view, method_member_view};
+ghost use Rattle.mj_members.specs.Tables.{fields_along, methods_along};
 ghost use Rattle.mj_rules.specs.Tables.{field_row, method_row, table_along};
 
 use mj_answer::{ClassTable, FieldRow, MethodRow};

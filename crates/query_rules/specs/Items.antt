@@ -3,7 +3,8 @@ use Rattle.std.specs.Prelude.{List, [], map, Option, Some, None, option_map, opt
 use Rattle.std.specs.Str.{bytes_eq}
 use Rattle.mj_tree.specs.Trees.{Name, Statement, File}
 use Rattle.mj_answer.specs.declared.diagnostic.Diagnostic.{Diagnostic}
-use Rattle.mj_classes.specs.Declarations.{ClassDecl, decl}
+use Rattle.mj_members.specs.Declarations.{ClassDecl}
+use Rattle.mj_classes.specs.Declarations.{decl}
 use Rattle.mj_classes.specs.Chains.{EndOf, Chain}
 use Rattle.mj_classes.specs.Chains as chains
 use Rattle.mj_classes.specs.Members.{own_method}

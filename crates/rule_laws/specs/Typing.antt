@@ -2,7 +2,8 @@
 use Rattle.std.specs.Prelude.{◌≡◌, ℕ, List, Some}
 use Rattle.mj_tree.specs.Trees.{Name, Expression, Statement, Method}
 use Rattle.mj_tree.specs.declared.tree.Ty.{Ty}
-use Rattle.mj_classes.specs.Declarations.{ClassDecl, decl}
+use Rattle.mj_members.specs.Declarations.{ClassDecl}
+use Rattle.mj_classes.specs.Declarations.{decl}
 use Rattle.mj_phrases.specs.declared.verdict.Mistake.{Mistake}
 use Rattle.mj_phrases.specs.Inquiries.{World}
 use Rattle.mj_phrases.specs.Table.{Scope, method_scope, main_scope}

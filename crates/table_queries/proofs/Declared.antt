@@ -3,7 +3,8 @@ use Rattle.std.proofs.Common.{◌≡◌, ℕ, suc, Bool, true, false, cond, List
 use Rattle.std.specs.List.{AllByRecursion}
 use Rattle.std.proofs.lemmas.Option.{none-some}
 use Rattle.mj_tree.specs.Trees.{Name, Statement, Method, Main, Class, File}
-use Rattle.mj_classes.specs.Declarations.{ClassDecl, number_classes, main_first, classes_of, declared_from, decl}
+use Rattle.mj_members.specs.Declarations.{ClassDecl}
+use Rattle.mj_classes.specs.Declarations.{number_classes, main_first, classes_of, declared_from, decl}
 use Rattle.mj_classes.specs.Chains.{is_in}
 use Rattle.mj_rules.specs.Sentences.{classes_in, trees_of}
 use Rattle.mj_rules.proofs.OneAnswer.{decl_stands}

@@ -8,7 +8,7 @@ use Rattle.item_ids.specs.declared.key.Key.{Key}
 use Rattle.item_ids.specs.declared.key.Key.TheVariants as keys
 use Rattle.mj_tree.specs.Trees.{Name, Statement, Method}
 use Rattle.mj_answer.specs.declared.diagnostic.Diagnostic.{Diagnostic}
-use Rattle.mj_classes.specs.Declarations.{ClassDecl}
+use Rattle.mj_members.specs.Declarations.{ClassDecl}
 use Rattle.mj_classes.specs.Members.{own_method}
 use Rattle.mj_classes.proofs.Climb.{decl_name}
 use Rattle.mj_project.specs.Repeats.{is_in, repeats_behind, repeats}

@@ -4,7 +4,8 @@ use Rattle.std.specs.Prelude.{Contains}
 use Rattle.std.specs.List.{filter_map}
 use Rattle.mj_tree.specs.Trees.{Name}
 use Rattle.mj_answer.specs.Order.{NameBefore}
-use Rattle.mj_classes.specs.Declarations.{ClassDecl, decl}
+use Rattle.mj_members.specs.Declarations.{ClassDecl}
+use Rattle.mj_classes.specs.Declarations.{decl}
 use Rattle.mj_classes.specs.Chains.{AreDistinct, is_in}
 use Rattle.mj_classes.proofs.Climb.{decl_name}
 use Rattle.mj_classes.proofs.Distinct.{In, pigeons, contains_in, in_contains, listed_is, not_in}

@@ -17,10 +17,12 @@ use Rattle.mj_tree.specs.Trees.{Name}
 use Rattle.mj_tree.specs.declared.tree.Field.{Field}
 use Rattle.mj_answer.specs.Order.{NameBefore, IsAscendingBy, IsAscendingByName}
 use Rattle.mj_answer.specs.AnswerValues.{MethodRowValue, ClassTableValue}
-use Rattle.mj_classes.specs.Rows.{rows_by, SayAlike}
-use Rattle.mj_classes.specs.Tables.{AreAscending, own_rows, firsts}
-use Rattle.mj_classes.proofs.Rows.{name_order, under-append, sorted_rows}
-use Rattle.mj_classes.proofs.Tables.{by_bytes, under, under_first, firsts_ascend, firsts_are, all_append}
+use Rattle.mj_members.specs.Rows.{rows_by, SayAlike}
+use Rattle.mj_members.specs.Tables.{own_rows, firsts}
+use Rattle.mj_classes.specs.Tables.{AreAscending}
+use Rattle.mj_members.proofs.Rows.{name_order, under-append, sorted_rows}
+use Rattle.mj_members.proofs.Tables.{by_bytes, under, under_first, firsts_are}
+use Rattle.mj_classes.proofs.Tables.{firsts_ascend, all_append}
 use Rattle.mj_rules.specs.Tables.{field_row}
 use Rattle.result_bytes.specs.Payloads.{HeaderValue, SignatureValue}
 use Rattle.recorder.specs.Programs.{Prog, IsAt, Halts, Goes, GivesUp, each}

@@ -7,13 +7,16 @@ use Rattle.item_ids.specs.declared.key.Key.TheVariants as keys
 use Rattle.mj_tree.specs.Trees.{Name, Statement, Method}
 use Rattle.mj_tree.specs.declared.tree.Field.{Field}
 use Rattle.mj_answer.specs.AnswerValues.{MethodRowValue, ClassTableValue}
-use Rattle.mj_classes.specs.Declarations.{ClassDecl, decl}
+use Rattle.mj_members.specs.Declarations.{ClassDecl}
+use Rattle.mj_classes.specs.Declarations.{decl}
 use Rattle.mj_classes.specs.Chains.{EndOf, IsChain, ancestry, chain_of}
 use Rattle.mj_classes.specs.Members.{nearest, own_method}
-use Rattle.mj_classes.specs.Tables.{IsTable, fields_along, methods_along}
+use Rattle.mj_members.specs.Tables.{fields_along, methods_along}
+use Rattle.mj_classes.specs.Tables.{IsTable}
 use Rattle.mj_classes.proofs.Climb.{all_declared, chain_of_is, has_chain, has_none}
 use Rattle.mj_classes.proofs.Nearest.{ancestry_by, ancestry_of_chain, is_from_nearest}
-use Rattle.mj_classes.proofs.Tables.{is_table, firsts_are}
+use Rattle.mj_members.proofs.Tables.{firsts_are}
+use Rattle.mj_classes.proofs.Tables.{is_table}
 use Rattle.mj_rules.specs.Sentences.{classes_in}
 use Rattle.mj_rules.specs.Tables.{field_row, method_row, table_of}
 use Rattle.tree_bytes.specs.Bodies.{OfMethod}

@@ -4,7 +4,8 @@ use Rattle.std.specs.Prelude.{Contains}
 use Rattle.item_ids.specs.declared.key.Key.{Key}
 use Rattle.item_ids.specs.declared.key.Key.TheVariants as keys
 use Rattle.mj_tree.specs.Trees.{Name}
-use Rattle.mj_classes.specs.Declarations.{ClassDecl, decl}
+use Rattle.mj_members.specs.Declarations.{ClassDecl}
+use Rattle.mj_classes.specs.Declarations.{decl}
 use Rattle.mj_classes.specs.Chains.{EndOf, Top, Undeclared, Repeated, Links, AreDistinct, IsChain, is_in, chain_of}
 use Rattle.mj_classes.proofs.Climb.{links_declared, all_declared, chain_of_is, has_chain, has_none}
 use Rattle.mj_classes.proofs.Distinct.{contains_in, fresh_behind, listed_is, not_in}

@@ -10,11 +10,12 @@ use Rattle.std.proofs.lemmas.List.{map-append}
 use Rattle.mj_tree.specs.Trees.{Name, Method}
 use Rattle.mj_tree.specs.declared.tree.Field.{Field}
 use Rattle.mj_answer.proofs.Alike.{Contains-first, Contains-later}
-use Rattle.mj_classes.specs.Declarations.{ClassDecl, decl}
-use Rattle.mj_classes.specs.Tables.{own_rows, all_along, firsts, fields_along, methods_along}
+use Rattle.mj_members.specs.Declarations.{ClassDecl}
+use Rattle.mj_classes.specs.Declarations.{decl}
+use Rattle.mj_members.specs.Tables.{own_rows, all_along, firsts, fields_along, methods_along}
 use Rattle.mj_classes.proofs.Climb.{decl_name}
-use Rattle.mj_classes.proofs.Rows.{map_same}
-use Rattle.mj_classes.proofs.Tables.{by_bytes, under, under_first, firsts_are}
+use Rattle.mj_members.proofs.Rows.{map_same}
+use Rattle.mj_members.proofs.Tables.{by_bytes, under, under_first, firsts_are}
 use Rattle.result_bytes.specs.Payloads.{HeaderValue}
 use Rattle.query_rules.specs.Items.{header_of}
 use Rattle.table_queries.specs.Members.{Link, fields_of, methods_of, rows_along, fields_told, methods_told}

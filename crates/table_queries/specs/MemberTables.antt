@@ -3,7 +3,7 @@ use Rattle.std.specs.Prelude.{◌≡◌, List, map, Option}
 use denote.Ref.{Bor}
 use Rattle.mj_tree.specs.Trees.{Name}
 use Rattle.mj_answer.specs.AnswerValues.{MethodRowValue}
-use Rattle.mj_classes.specs.Rows.{rows_by}
+use Rattle.mj_members.specs.Rows.{rows_by}
 use Rattle.result_bytes.specs.Payloads.{SignatureValue}
 use Rattle.table_queries.specs.declared.members.MemberName.{MemberName}
 use Rattle.table_queries.specs.Members.{with_types}

@@ -5,7 +5,7 @@ use Rattle.item_ids.specs.declared.key.Key.TheVariants as keys
 use Rattle.mj_tree.specs.Trees.{Name}
 use Rattle.mj_tree.specs.declared.tree.Field.{Field}
 use Rattle.mj_answer.specs.AnswerValues.{MethodRowValue, ClassTableValue}
-use Rattle.mj_classes.specs.Tables.{own_rows, firsts}
+use Rattle.mj_members.specs.Tables.{own_rows, firsts}
 use Rattle.mj_rules.specs.Tables.{field_row}
 use Rattle.result_bytes.specs.Payloads.{HeaderValue, SignatureValue, ChainValue}
 use Rattle.result_bytes.specs.declared.value.Value.{Value}

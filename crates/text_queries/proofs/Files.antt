@@ -8,7 +8,8 @@ use Rattle.std.proofs.lemmas.List.Folds.{find-append}
 use Rattle.std.proofs.lemmas.Option.{none-some, same_Some}
 use Rattle.std.proofs.lemmas.Slice.Eq.{bytes_eq-Decides}
 use Rattle.mj_tree.specs.Trees.{Name, Main, Class, File}
-use Rattle.mj_classes.specs.Declarations.{ClassDecl, main_decl, class_decl, number_classes, main_first, classes_of, declared_from, decl}
+use Rattle.mj_members.specs.Declarations.{ClassDecl, main_decl, class_decl}
+use Rattle.mj_classes.specs.Declarations.{number_classes, main_first, classes_of, declared_from, decl}
 use Rattle.mj_project.specs.Projects.{SourceFile, names_of, IsProject}
 use Rattle.mj_project.proofs.Listed.{place_of, contains_before, map_at}
 use Rattle.mj_rules.specs.Sentences.{file_of, trees_of, classes_in}

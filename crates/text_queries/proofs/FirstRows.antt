@@ -17,7 +17,7 @@ use Rattle.mj_tree.specs.declared.tree.FileTree.{FileTree}
 use Rattle.mj_answer.specs.Order.{NameBefore, IsAscendingBy, IsAscendingByName}
 use Rattle.mj_classes.specs.Declarations.{number_classes, main_first}
 use Rattle.mj_tree.proofs.Positions.{names_tie, same_name}
-use Rattle.mj_classes.proofs.Tables.{by_bytes, under}
+use Rattle.mj_members.proofs.Tables.{by_bytes, under}
 use Rattle.mj_rules.specs.FaultLists.{class_names}
 use Rattle.mj_rules.proofs.TableLaws.{found_name}
 use Rattle.result_bytes.specs.declared.files.IndexRow.{IndexRow}

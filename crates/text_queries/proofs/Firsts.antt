@@ -14,7 +14,7 @@ use Rattle.mj_tree.specs.Trees.{Name}
 use Rattle.mj_answer.specs.Order.{NameBefore, IsAscendingBy, IsAscendingByName}
 use Rattle.mj_answer.proofs.Alike.{Contains-cases}
 use Rattle.mj_tree.proofs.Positions.{names_tie, bytes_eq_back}
-use Rattle.mj_classes.proofs.Tables.{by_bytes, under, firsts_are}
+use Rattle.mj_members.proofs.Tables.{by_bytes, under, firsts_are}
 use Rattle.mj_project.proofs.Listed.{place_of, contains_at, map_at}
 use Rattle.mj_rules.specs.Answering.{set_of, name_order}
 use Rattle.mj_rules.proofs.Numbered.{nowhere}

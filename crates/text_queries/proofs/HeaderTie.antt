@@ -3,7 +3,7 @@ use Rattle.std.proofs.Common.{◌≡◌, [], Option, Some, None, option_map, ref
 use Rattle.std.specs.Prelude.{option_and_then}
 use Rattle.item_ids.specs.declared.key.Key.TheVariants as keys
 use Rattle.mj_tree.specs.Trees.{Name, File}
-use Rattle.mj_classes.specs.Declarations.{ClassDecl}
+use Rattle.mj_members.specs.Declarations.{ClassDecl}
 use Rattle.mj_project.specs.Projects.{IsProject}
 use Rattle.result_bytes.specs.declared.value.Value.{Value}
 use Rattle.result_bytes.specs.declared.value.Value.TheVariants as values

@@ -7,7 +7,8 @@ use Rattle.mj_tree.specs.Views.{method_view, class_view}
 use Rattle.mj_tree.specs.declared.tree.Field.{Field}
 use Rattle.mj_tree.specs.declared.tree.ClassTree.{ClassTree}
 use Rattle.mj_tree.specs.declared.tree.MethodTree.{MethodTree}
-use Rattle.mj_classes.specs.Declarations.{ClassDecl, main_decl, class_decl, number_classes, main_first, decl}
+use Rattle.mj_members.specs.Declarations.{ClassDecl, main_decl, class_decl}
+use Rattle.mj_classes.specs.Declarations.{number_classes, main_first, decl}
 use Rattle.tree_bytes.specs.NamedBodies.{first_class}
 use Rattle.query_rules.specs.Items.{header_of}
 use Rattle.text_queries.specs.ClassTrees.{class_named}

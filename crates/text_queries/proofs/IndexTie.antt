@@ -7,7 +7,8 @@ use Rattle.std.proofs.lemmas.List.{map-append}
 use Rattle.item_ids.specs.declared.key.Key.{Key}
 use Rattle.item_ids.specs.declared.key.Key.TheVariants as keys
 use Rattle.mj_tree.specs.Trees.{Name, File}
-use Rattle.mj_classes.specs.Declarations.{ClassDecl, classes_of, declared_from, decl}
+use Rattle.mj_members.specs.Declarations.{ClassDecl}
+use Rattle.mj_classes.specs.Declarations.{classes_of, declared_from, decl}
 use Rattle.mj_project.specs.Projects.{SourceFile, names_of, IsProject}
 use Rattle.mj_rules.specs.Sentences.{file_of, trees_of, classes_in}
 use Rattle.mj_rules.specs.FaultLists.{class_names}

@@ -3,7 +3,8 @@ use Rattle.std.proofs.Common.{◌≡◌, Option, Some, None, option_map, find, r
 use Rattle.std.specs.Str.{bytes_eq}
 use Rattle.item_ids.specs.declared.key.Key.TheVariants as keys
 use Rattle.mj_tree.specs.Trees.{Name}
-use Rattle.mj_classes.specs.Declarations.{ClassDecl, decl}
+use Rattle.mj_members.specs.Declarations.{ClassDecl}
+use Rattle.mj_classes.specs.Declarations.{decl}
 use Rattle.mj_rules.specs.Sentences.{classes_in}
 use Rattle.mj_rules.specs.Answering.{first_classes}
 use Rattle.result_bytes.specs.declared.files.IndexRow.{IndexRow}

@@ -2,7 +2,8 @@
 use Rattle.std.specs.Prelude.{Option, Some, None}
 use Rattle.item_ids.specs.declared.key.Key.TheVariants as keys
 use Rattle.mj_tree.specs.Trees.{Name, File}
-use Rattle.mj_classes.specs.Declarations.{ClassDecl, classes_of, decl}
+use Rattle.mj_members.specs.Declarations.{ClassDecl}
+use Rattle.mj_classes.specs.Declarations.{classes_of, decl}
 use Rattle.recorder.specs.Programs.{Prog, Ask}
 use Rattle.text_queries.specs.Facts.{file_in, tree_in}
 

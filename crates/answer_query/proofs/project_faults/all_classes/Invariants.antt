@@ -1,6 +1,6 @@
 use Rattle.std.proofs.Common.{◌≡◌, ◌++◌, drop}
 use Rattle.mj_classes.specs.Declarations.{declared_from}
-use Rattle.mj_classes.specs.Classes.{classes_view}
+use Rattle.mj_members.specs.Classes.{classes_view}
 use Rattle.answer_query.specs.Trees.{named_trees, trees_of}
 use Rattle.answer_query.proofs.project_faults.all_classes.Given as goal
 

@@ -2,7 +2,7 @@ use Rattle.std.proofs.Common.{◌≡◌, ◌∙◌, ◌++◌, false, true, not, 
 use Rattle.std.proofs.lemmas.Bool.Decides.{nat_tests}
 use Rattle.mj_tree.specs.declared.place.Place.TheVariants.{Project}
 use Rattle.mj_answer.specs.declared.code.Code.TheVariants.{E102}
-use Rattle.mj_classes.specs.Classes.{classes_view}
+use Rattle.mj_members.specs.Classes.{classes_view}
 use Rattle.mj_classes.specs.Declarations.{declarations}
 use Rattle.mj_rules.specs.FaultLists.{when_fault}
 use Rattle.mj_rules.proofs.Steps.{three_parts, main_added}

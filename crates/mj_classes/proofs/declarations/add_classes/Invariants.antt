@@ -1,7 +1,7 @@
 use Rattle.std.proofs.Common.{◌≡◌, ◌++◌, ◌+◌, map, drop}
 use Rattle.mj_tree.specs.Views.{class_view}
 use Rattle.mj_classes.specs.Declarations.{number_classes}
-use Rattle.mj_classes.specs.Classes.{classes_view}
+use Rattle.mj_members.specs.Classes.{classes_view}
 use Rattle.mj_classes.proofs.declarations.add_classes.Given as goal
 
 -- those so far and those of the rest are those of all

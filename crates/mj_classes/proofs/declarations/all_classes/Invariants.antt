@@ -1,6 +1,7 @@
 use Rattle.std.proofs.Common.{◌≡◌, ◌++◌, drop}
 use Rattle.mj_classes.specs.Declarations.{declared_from}
-use Rattle.mj_classes.specs.Classes.{classes_view, files_view}
+use Rattle.mj_members.specs.Classes.{classes_view}
+use Rattle.mj_classes.specs.Classes.{files_view}
 use Rattle.mj_classes.proofs.declarations.all_classes.Given as goal
 
 -- those so far and those of the rest are those of all

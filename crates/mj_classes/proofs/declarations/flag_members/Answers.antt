@@ -1,6 +1,6 @@
 use Rattle.std.proofs.Common.{◌∙◌, arith}
-use Rattle.mj_classes.specs.Declarations.{has_members}
-use Rattle.mj_classes.specs.Classes.{class_ref_view}
+use Rattle.mj_members.specs.Declarations.{has_members}
+use Rattle.mj_members.specs.Classes.{class_ref_view}
 use Rattle.mj_classes.proofs.Places.{all_mapped}
 use Rattle.mj_classes.proofs.declarations.flag_members.Goals as goal
 

@@ -1,7 +1,7 @@
 use Rattle.std.proofs.Common.{◌≡◌, take}
 use Rattle.std.specs.Prelude.{map}
-use Rattle.mj_classes.specs.Declarations.{has_members}
-use Rattle.mj_classes.specs.Classes.{class_ref_view}
+use Rattle.mj_members.specs.Declarations.{has_members}
+use Rattle.mj_members.specs.Classes.{class_ref_view}
 use Rattle.mj_classes.proofs.declarations.flag_members.Given as goal
 
 abbrev pub invariant-loop-class : goal.invariant-loop-class

@@ -3,7 +3,7 @@ use Rattle.std.specs.Prelude.{is_some}
 use Rattle.std.specs.BTreeMap.{get}
 use Rattle.std.specs.Ordering.{nat_cmp, is_eq}
 use Rattle.std.specs.Cmp.Lexicographic.{slice_cmp}
-use Rattle.mj_classes.specs.Classes.{class_ref_view}
+use Rattle.mj_members.specs.Classes.{class_ref_view}
 use Rattle.mj_tree.proofs.NamePlaces.{index_kept, index_added}
 use Rattle.mj_classes.proofs.declarations.index_by_name.Goals as goal
 use Rattle.mj_classes.proofs.declarations.index_by_name.Goals.{then-not-contains_key+in_ok-copy+in_ok-insert, else-not-contains_key}

@@ -1,7 +1,8 @@
 use Rattle.std.proofs.Common.{◌∙◌, arith}
 use Rattle.std.specs.Prelude.{option_and_then}
-use Rattle.mj_classes.specs.Declarations.{ClassDecl, place}
-use Rattle.mj_classes.specs.Classes.{class_ref_view, classes_view}
+use Rattle.mj_members.specs.Declarations.{ClassDecl}
+use Rattle.mj_classes.specs.Declarations.{place}
+use Rattle.mj_members.specs.Classes.{class_ref_view, classes_view}
 use Rattle.mj_classes.proofs.Places.{all_mapped}
 use Rattle.mj_classes.proofs.declarations.link.Goals as goal
 

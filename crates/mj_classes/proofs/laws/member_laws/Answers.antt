@@ -1,6 +1,6 @@
 use Rattle.mj_classes.specs.Members.{own_field, own_method, FieldOf, MethodOf}
 use Rattle.mj_classes.specs.Chains.{ancestry}
-use Rattle.mj_classes.specs.Tables.{fields_along, methods_along}
+use Rattle.mj_members.specs.Tables.{fields_along, methods_along}
 use Rattle.mj_classes.proofs.Nearest.{nearest_from_is, is_from_nearest}
 use Rattle.mj_classes.proofs.Tables.{is_table}
 use Rattle.mj_classes.proofs.laws.member_laws.Goals as goal

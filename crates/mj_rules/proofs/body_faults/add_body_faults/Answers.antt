@@ -1,7 +1,7 @@
 use Rattle.std.proofs.Common.{◌≡◌, ◌∙◌, ◌++◌, List, ℕ, Result, Ok, Err, OnOk, map, ap, append_assoc}
 use Rattle.mj_tree.specs.Trees.{Method}
 use Rattle.mj_answer.specs.declared.diagnostic.Diagnostic.{Diagnostic}
-use Rattle.mj_classes.specs.Classes.{class_ref_view}
+use Rattle.mj_members.specs.Classes.{class_ref_view}
 use Rattle.mj_classes.specs.Index.{declared_in}
 use Rattle.mj_project.specs.Repeats.{repeats}
 use Rattle.mj_rules.specs.FaultLists.{each_numbered, body_faults_of, main_method_faults, method_names, body_faults}

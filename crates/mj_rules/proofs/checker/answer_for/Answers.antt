@@ -2,7 +2,8 @@ use Rattle.std.proofs.Common.{◌≡◌, ◌∙◌, List, sym, ap, subst}
 use Rattle.mj_answer.specs.declared.diagnostic.Diagnostic.{Diagnostic}
 use Rattle.mj_answer.specs.AnswerValues.{AnswerValue}
 use Rattle.mj_answer.specs.Order.{IsAscending}
-use Rattle.mj_classes.specs.Declarations.{ClassDecl, declarations}
+use Rattle.mj_members.specs.Declarations.{ClassDecl}
+use Rattle.mj_classes.specs.Declarations.{declarations}
 use Rattle.mj_classes.specs.Index.{declared_in}
 use Rattle.mj_rules.specs.Sentences.{classes_in}
 use Rattle.mj_rules.specs.FaultLists.{NamesFitIn, project_faults}

@@ -2,9 +2,9 @@ use Rattle.std.proofs.Common.{◌≡◌, ◌∙◌, ◌++◌, List, filter, sym,
 use Rattle.mj_answer.specs.declared.diagnostic.Diagnostic.{Diagnostic}
 use Rattle.mj_answer.specs.AnswerValues.{ClassAnswerValue}
 use Rattle.mj_answer.specs.Order.{IsAscending}
-use Rattle.mj_classes.specs.Declarations.{has_members}
+use Rattle.mj_members.specs.Declarations.{has_members}
 use Rattle.mj_classes.specs.Chains.{ancestry}
-use Rattle.mj_classes.specs.Classes.{class_ref_view, classes_view}
+use Rattle.mj_members.specs.Classes.{class_ref_view, classes_view}
 use Rattle.mj_classes.specs.Index.{declared_in}
 use Rattle.mj_rules.specs.FaultLists.{body_faults, class_faults}
 use Rattle.mj_rules.specs.Tables.{table_along, table_of}

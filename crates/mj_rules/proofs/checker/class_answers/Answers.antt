@@ -5,7 +5,7 @@ use Rattle.std.proofs.lemmas.List.Elements.{All-push}
 use Rattle.mj_tree.specs.Trees.{Name}
 use Rattle.mj_answer.specs.AnswerValues.{ClassAnswerValue}
 use Rattle.mj_classes.specs.Declarations.{decl}
-use Rattle.mj_classes.specs.Classes.{class_ref_view}
+use Rattle.mj_members.specs.Classes.{class_ref_view}
 use Rattle.mj_classes.specs.Index.{declared_in}
 use Rattle.mj_rules.specs.Rules.{IsAnswerFor}
 use Rattle.mj_project.proofs.Listed.{contains_at}

@@ -5,8 +5,8 @@ use Rattle.mj_tree.specs.Trees.{Method}
 use Rattle.mj_tree.specs.Views.{method_view}
 use Rattle.mj_answer.specs.AnswerValues.{MethodRowValue}
 use Rattle.mj_answer.specs.Order.{IsAscendingByName}
-use Rattle.mj_classes.specs.Classes.{classes_view}
-use Rattle.mj_classes.specs.Tables.{methods_along}
+use Rattle.mj_members.specs.Classes.{classes_view}
+use Rattle.mj_members.specs.Tables.{methods_along}
 use Rattle.mj_project.specs.Repeats.{repeats}
 use Rattle.mj_rules.specs.Tables.{method_row, behind}
 use Rattle.mj_rules.proofs.Declaring.{no_methods_added}

@@ -4,9 +4,10 @@ use Rattle.mj_tree.specs.declared.tree.Field.{Field}
 use Rattle.mj_tree.specs.Views.{method_view}
 use Rattle.mj_tree.specs.declared.place.Place.TheVariants.{Class}
 use Rattle.mj_answer.specs.declared.code.Code.TheVariants.{E202}
-use Rattle.mj_classes.specs.Declarations.{ClassDecl}
+use Rattle.mj_members.specs.Declarations.{ClassDecl}
 use Rattle.mj_classes.specs.Chains.{chain_of}
-use Rattle.mj_classes.specs.Classes.{class_ref_view, classes_view, end_view}
+use Rattle.mj_members.specs.Classes.{class_ref_view, classes_view}
+use Rattle.mj_classes.specs.Classes.{end_view}
 use Rattle.mj_classes.specs.Index.{declared_in}
 use Rattle.mj_project.specs.Repeats.{repeats}
 use Rattle.mj_rules.specs.Tables.{behind}

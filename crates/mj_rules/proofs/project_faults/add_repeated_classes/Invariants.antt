@@ -1,5 +1,5 @@
 use Rattle.std.proofs.Common.{◌≡◌, ◌++◌, drop}
-use Rattle.mj_classes.specs.Classes.{classes_view}
+use Rattle.mj_members.specs.Classes.{classes_view}
 use Rattle.mj_project.specs.Repeats.{repeats}
 use Rattle.mj_project.specs.Projects.{sources_view}
 use Rattle.mj_rules.specs.FaultLists.{class_names, repeated_class_faults, each_numbered}

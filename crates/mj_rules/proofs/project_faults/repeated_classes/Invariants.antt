@@ -1,5 +1,5 @@
 use Rattle.std.proofs.Common.{◌≡◌, map, take}
-use Rattle.mj_classes.specs.Classes.{classes_view}
+use Rattle.mj_members.specs.Classes.{classes_view}
 use Rattle.mj_rules.specs.FaultLists.{class_names}
 use Rattle.mj_rules.proofs.project_faults.repeated_classes.Given as goal
 

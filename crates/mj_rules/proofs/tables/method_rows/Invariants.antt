@@ -1,5 +1,5 @@
 use Rattle.std.proofs.Common.{◌≡◌, map, take}
-use Rattle.mj_classes.specs.Classes.{method_member_view}
+use Rattle.mj_members.specs.Classes.{method_member_view}
 use Rattle.mj_rules.specs.Tables.{method_row}
 use Rattle.mj_rules.proofs.tables.method_rows.Given as goal
 

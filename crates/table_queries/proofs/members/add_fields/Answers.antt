@@ -1,7 +1,7 @@
 use Rattle.std.proofs.Common.{◌∙◌, sym, refl, arith}
-use Rattle.mj_classes.specs.Classes.{field_member_view}
-use Rattle.mj_classes.specs.Rows.{field_rows}
-use Rattle.mj_classes.proofs.Rows.{row_kept, row_added, all_rows, map_same}
+use Rattle.mj_members.specs.Classes.{field_member_view}
+use Rattle.mj_members.specs.Rows.{field_rows}
+use Rattle.mj_members.proofs.Rows.{row_kept, row_added, all_rows, map_same}
 use Rattle.table_queries.proofs.members.add_fields.Goals as goal
 use Rattle.table_queries.proofs.members.add_fields.Goals.{then-not-contains_key+in_ok-insert, else-not-contains_key}
 

@@ -1,6 +1,6 @@
 use Rattle.std.proofs.Common.{◌++◌, map, take}
-use Rattle.mj_classes.specs.Tables.{own_rows}
-use Rattle.mj_classes.specs.Rows.{field_rows, SayAlike}
+use Rattle.mj_members.specs.Tables.{own_rows}
+use Rattle.mj_members.specs.Rows.{field_rows, SayAlike}
 use Rattle.table_queries.proofs.members.add_fields.Given as goal
 
 abbrev pub invariant-loop-field : goal.invariant-loop-field

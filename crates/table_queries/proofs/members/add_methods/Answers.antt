@@ -1,5 +1,5 @@
 use Rattle.std.proofs.Common.{◌∙◌, sym, refl, arith}
-use Rattle.mj_classes.proofs.Rows.{row_kept, row_added, all_rows, map_same}
+use Rattle.mj_members.proofs.Rows.{row_kept, row_added, all_rows, map_same}
 use Rattle.table_queries.specs.MemberTables.{member_name_view, name_rows}
 use Rattle.table_queries.proofs.members.add_methods.Goals as goal
 use Rattle.table_queries.proofs.members.add_methods.Goals.{then-not-contains_key+in_ok-insert, else-not-contains_key}

@@ -1,6 +1,6 @@
 use Rattle.std.proofs.Common.{◌++◌, map, take}
-use Rattle.mj_classes.specs.Tables.{own_rows}
-use Rattle.mj_classes.specs.Rows.{SayAlike}
+use Rattle.mj_members.specs.Tables.{own_rows}
+use Rattle.mj_members.specs.Rows.{SayAlike}
 use Rattle.table_queries.specs.MemberTables.{name_rows}
 use Rattle.table_queries.proofs.members.add_methods.Given as goal
 

@@ -1,5 +1,5 @@
 use Rattle.std.proofs.Common.{◌≡◌, map, take}
-use Rattle.mj_classes.specs.Classes.{field_member_view}
+use Rattle.mj_members.specs.Classes.{field_member_view}
 use Rattle.mj_rules.specs.Tables.{field_row}
 use Rattle.table_queries.proofs.members.field_rows.Given as goal
 

@@ -2,8 +2,8 @@ use Rattle.std.proofs.Common.{◌≡◌, ◌≤◌, List, length, subst, arith}
 use Rattle.std.specs.BTreeMap.{values}
 use Rattle.std.proofs.lemmas.List.{take_all}
 use Rattle.std.proofs.lemmas.Result.{IfOk-weaker}
-use Rattle.mj_classes.specs.Classes.{field_member_view}
-use Rattle.mj_classes.specs.Rows.{field_rows, SayAlike}
+use Rattle.mj_members.specs.Classes.{field_member_view}
+use Rattle.mj_members.specs.Rows.{field_rows, SayAlike}
 use Rattle.table_queries.specs.Members.{Link, fields_of, rows_along, fields_told}
 use Rattle.table_queries.proofs.MemberTables.{links_more, link_added, table_is}
 use Rattle.table_queries.proofs.members.field_table.Goals as goal

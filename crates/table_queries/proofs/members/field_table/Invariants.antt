@@ -1,5 +1,5 @@
 use Rattle.std.proofs.Common.{take}
-use Rattle.mj_classes.specs.Rows.{field_rows, SayAlike}
+use Rattle.mj_members.specs.Rows.{field_rows, SayAlike}
 use Rattle.table_queries.specs.Members.{fields_of, rows_along}
 use Rattle.table_queries.proofs.members.field_table.Given as goal
 

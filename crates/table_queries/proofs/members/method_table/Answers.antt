@@ -2,7 +2,7 @@ use Rattle.std.proofs.Common.{◌≡◌, ◌≤◌, List, length, subst, arith}
 use Rattle.std.specs.BTreeMap.{values}
 use Rattle.std.proofs.lemmas.List.{take_all}
 use Rattle.std.proofs.lemmas.Result.{IfOk-weaker}
-use Rattle.mj_classes.specs.Rows.{SayAlike}
+use Rattle.mj_members.specs.Rows.{SayAlike}
 use Rattle.table_queries.specs.Members.{Link, methods_of, rows_along, methods_told}
 use Rattle.table_queries.specs.MemberTables.{member_name_view, name_rows}
 use Rattle.table_queries.proofs.MemberTables.{links_more, link_added, table_is}

@@ -1,5 +1,5 @@
 use Rattle.std.proofs.Common.{take}
-use Rattle.mj_classes.specs.Rows.{SayAlike}
+use Rattle.mj_members.specs.Rows.{SayAlike}
 use Rattle.table_queries.specs.Members.{methods_of, rows_along}
 use Rattle.table_queries.specs.MemberTables.{name_rows}
 use Rattle.table_queries.proofs.members.method_table.Given as goal

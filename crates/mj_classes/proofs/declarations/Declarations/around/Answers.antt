@@ -1,6 +1,6 @@
 use Rattle.std.proofs.Common.{length, ap, arith, inl, inr}
 use Rattle.std.proofs.lemmas.List.{length-map}
-use Rattle.mj_classes.specs.Classes.{classes_view, class_ref_view}
+use Rattle.mj_members.specs.Classes.{classes_view, class_ref_view}
 use Rattle.mj_classes.proofs.Climbing.{rounds_start, rounds_on, goes_up, round_short}
 use Rattle.mj_classes.proofs.declarations.Declarations.around.Goals as goal
 

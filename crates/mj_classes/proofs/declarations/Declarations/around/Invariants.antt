@@ -1,5 +1,5 @@
 use Rattle.mj_tree.specs.Trees.{Name}
-use Rattle.mj_classes.specs.Classes.{classes_view}
+use Rattle.mj_members.specs.Classes.{classes_view}
 use Rattle.mj_classes.specs.Walks.{IsInRing}
 use Rattle.mj_classes.proofs.Climbing.{Rounds}
 use Rattle.mj_classes.proofs.declarations.Declarations.around.Given as goal

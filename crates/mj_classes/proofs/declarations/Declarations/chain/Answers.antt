@@ -1,7 +1,7 @@
 use Rattle.std.proofs.Common.{sym, ap}
 use Rattle.std.specs.Prelude.{option_map}
 use Rattle.mj_classes.specs.Chains.{Chain}
-use Rattle.mj_classes.specs.Classes.{classes_view}
+use Rattle.mj_members.specs.Classes.{classes_view}
 use Rattle.mj_classes.proofs.Climb.{has_none}
 use Rattle.mj_classes.proofs.Places.{place_none}
 use Rattle.mj_classes.proofs.declarations.Declarations.chain.Goals as goal

@@ -1,6 +1,6 @@
 use Rattle.std.proofs.Common.{arith}
 use Rattle.std.proofs.lemmas.List.{length-map}
-use Rattle.mj_classes.specs.Classes.{class_ref_view}
+use Rattle.mj_members.specs.Classes.{class_ref_view}
 use Rattle.mj_tree.proofs.Positions.{view_at}
 use Rattle.mj_classes.proofs.declarations.Declarations.class_at.Goals as goal
 

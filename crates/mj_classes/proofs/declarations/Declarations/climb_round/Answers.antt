@@ -1,5 +1,5 @@
 use Rattle.std.proofs.Common.{ap, arith}
-use Rattle.mj_classes.specs.Classes.{classes_view}
+use Rattle.mj_members.specs.Classes.{classes_view}
 use Rattle.mj_classes.proofs.Climbing.{has_class, class_of, ahead_starts, ahead_stands, ahead_on, goes_up, keeps, some_around, round_leads}
 use Rattle.mj_classes.proofs.declarations.Declarations.climb_round.Goals as goal
 

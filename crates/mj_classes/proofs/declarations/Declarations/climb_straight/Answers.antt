@@ -1,6 +1,6 @@
 use Rattle.std.proofs.Common.{◌≡◌, length, ap, arith, ◌⊎◌, inl, inr}
 use Rattle.std.proofs.lemmas.List.{length-map}
-use Rattle.mj_classes.specs.Classes.{classes_view, class_ref_view}
+use Rattle.mj_members.specs.Classes.{classes_view, class_ref_view}
 use Rattle.mj_classes.proofs.Climbing.{has_class, class_of, chain_at, walk_starts, walk_marks, walk_on, walk_back, walk_ends, walk_comes_back}
 use Rattle.mj_classes.proofs.declarations.Declarations.climb_straight.Goals as goal
 use Rattle.mj_classes.proofs.declarations.Declarations.climb_straight.Goals.{then-is_power_of_two, else-is_power_of_two}

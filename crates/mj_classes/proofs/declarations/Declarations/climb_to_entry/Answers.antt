@@ -1,6 +1,6 @@
 use Rattle.std.proofs.Common.{length, ap, arith}
 use Rattle.std.proofs.lemmas.List.{length-map}
-use Rattle.mj_classes.specs.Classes.{classes_view, class_ref_view}
+use Rattle.mj_members.specs.Classes.{classes_view, class_ref_view}
 use Rattle.mj_classes.proofs.Climbing.{has_class, class_of, chain_repeats, goes_up, pair_starts, pair_meets, pair_apart, pair_on, pair_short}
 use Rattle.mj_classes.proofs.declarations.Declarations.climb_to_entry.Goals as goal
 

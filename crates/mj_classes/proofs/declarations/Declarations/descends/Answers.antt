@@ -1,6 +1,6 @@
 use Rattle.std.proofs.Common.{◌∙◌, sym, ap}
 use Rattle.std.specs.Prelude.{is_some}
-use Rattle.mj_classes.specs.Classes.{classes_view}
+use Rattle.mj_members.specs.Classes.{classes_view}
 use Rattle.mj_classes.specs.Walks.{own_view}
 use Rattle.mj_classes.proofs.Walks.{is_some_mapped, stands_above}
 use Rattle.mj_classes.proofs.declarations.Declarations.descends.Goals as goal

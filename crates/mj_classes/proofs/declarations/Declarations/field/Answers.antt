@@ -1,7 +1,7 @@
 use Rattle.std.proofs.Common.{sym}
 use Rattle.mj_classes.specs.Chains.{ancestry}
 use Rattle.mj_classes.specs.Members.{own_field}
-use Rattle.mj_classes.specs.Classes.{classes_view, class_ref_view}
+use Rattle.mj_members.specs.Classes.{classes_view, class_ref_view}
 use Rattle.mj_classes.proofs.Nearest.{nearest_none, nearest_some}
 use Rattle.mj_classes.proofs.declarations.Declarations.field.Goals as goal
 

@@ -2,8 +2,8 @@ use Rattle.std.proofs.Common.{◌∙◌, ◌<◌, length, sym, ap, arith}
 use Rattle.std.specs.Prelude.{slice_get, option_map}
 use Rattle.std.proofs.lemmas.List.{length-map}
 use Rattle.std.proofs.lemmas.Option.{same_Some, slice_get-map}
-use Rattle.mj_classes.specs.Declarations.{has_members}
-use Rattle.mj_classes.specs.Classes.{classes_view}
+use Rattle.mj_members.specs.Declarations.{has_members}
+use Rattle.mj_members.specs.Classes.{classes_view}
 use Rattle.mj_tree.proofs.Positions.{read_at}
 use Rattle.mj_classes.proofs.declarations.Declarations.has_members_at.Goals as goal
 

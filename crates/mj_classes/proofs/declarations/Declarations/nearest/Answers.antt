@@ -2,7 +2,7 @@ use Rattle.std.proofs.Common.{◌≡◌, ◌∙◌, ◌-◌, ◌+◌, suc, lengt
 use Rattle.std.proofs.lemmas.List.{length-map}
 use Rattle.std.proofs.lemmas.Option.{slice_get_within}
 use Rattle.mj_classes.specs.Walks.{is_sought}
-use Rattle.mj_classes.specs.Classes.{classes_view, class_ref_view}
+use Rattle.mj_members.specs.Classes.{classes_view, class_ref_view}
 use Rattle.mj_classes.proofs.Places.{place_none}
 use Rattle.mj_classes.proofs.Walks.{nothing_undeclared, at_start, at_marks, at_on, at_back, at_top}
 use Rattle.mj_classes.proofs.declarations.Declarations.nearest.Goals as goal

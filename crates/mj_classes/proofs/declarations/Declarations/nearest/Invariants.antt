@@ -1,5 +1,5 @@
 use Rattle.std.proofs.Common.{◌-◌, length}
-use Rattle.mj_classes.specs.Classes.{classes_view}
+use Rattle.mj_members.specs.Classes.{classes_view}
 use Rattle.mj_classes.specs.Walks.{is_sought}
 use Rattle.mj_classes.proofs.Walks.{WalksAt}
 use Rattle.mj_classes.proofs.declarations.Declarations.nearest.Given as goal

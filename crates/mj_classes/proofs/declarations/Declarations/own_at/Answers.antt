@@ -2,7 +2,7 @@ use Rattle.std.proofs.Common.{◌∙◌, ◌<◌, length, map, sym, ap, arith}
 use Rattle.std.specs.Prelude.{slice_get, option_map}
 use Rattle.std.proofs.lemmas.List.{length-map}
 use Rattle.std.proofs.lemmas.Option.{slice_get-map}
-use Rattle.mj_classes.specs.Classes.{class_ref_view}
+use Rattle.mj_members.specs.Classes.{class_ref_view}
 use Rattle.mj_tree.proofs.Positions.{view_at}
 use Rattle.mj_classes.specs.declared.own.OwnMembers.{OwnMembers}
 use Rattle.mj_classes.proofs.declarations.Declarations.own_at.Goals as goal

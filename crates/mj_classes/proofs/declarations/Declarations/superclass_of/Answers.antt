@@ -1,8 +1,9 @@
 use Rattle.std.proofs.Common.{◌∙◌, length, sym, ap, arith}
 use Rattle.std.specs.Prelude.{slice_get, option_and_then}
 use Rattle.std.proofs.lemmas.List.{length-map}
-use Rattle.mj_classes.specs.Declarations.{ClassDecl, place}
-use Rattle.mj_classes.specs.Classes.{classes_view}
+use Rattle.mj_members.specs.Declarations.{ClassDecl}
+use Rattle.mj_classes.specs.Declarations.{place}
+use Rattle.mj_members.specs.Classes.{classes_view}
 use Rattle.mj_tree.proofs.Positions.{read_at}
 use Rattle.mj_classes.proofs.declarations.Declarations.superclass_of.Goals as goal
 

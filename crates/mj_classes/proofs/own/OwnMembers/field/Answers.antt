@@ -1,10 +1,10 @@
 use Rattle.std.proofs.Common.{◌∙◌, sym, None}
 use Rattle.std.specs.Str.{bytes_eq}
-use Rattle.mj_classes.specs.Classes.{class_ref_view}
+use Rattle.mj_members.specs.Classes.{class_ref_view}
 use Rattle.mj_tree.proofs.Positions.{find_from_position}
 use Rattle.mj_tree.proofs.Positions.{found_first}
 use Rattle.mj_tree.specs.declared.tree.Field.{Field}
-use Rattle.mj_classes.proofs.Rows.{map_same}
+use Rattle.mj_members.proofs.Rows.{map_same}
 use Rattle.mj_classes.proofs.own.OwnMembers.field.Goals as goal
 
 pub returns-in_err-at : goal.returns-in_err-at

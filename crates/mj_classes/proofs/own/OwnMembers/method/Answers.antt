@@ -1,7 +1,7 @@
 use Rattle.std.proofs.Common.{◌∙◌, sym, None}
 use Rattle.std.specs.Str.{bytes_eq}
 use Rattle.mj_tree.specs.Views.{method_view}
-use Rattle.mj_classes.specs.Classes.{class_ref_view}
+use Rattle.mj_members.specs.Classes.{class_ref_view}
 use Rattle.mj_tree.proofs.Positions.{find_from_position}
 use Rattle.mj_tree.proofs.Positions.{found_first}
 use Rattle.mj_classes.proofs.own.OwnMembers.method.Goals as goal

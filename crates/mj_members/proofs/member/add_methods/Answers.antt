@@ -1,10 +1,10 @@
 use Rattle.std.proofs.Common.{◌∙◌, sym, refl, arith}
 use Rattle.mj_tree.specs.Views.{method_view}
-use Rattle.mj_classes.specs.Classes.{method_member_view}
-use Rattle.mj_classes.specs.Rows.{method_rows}
-use Rattle.mj_classes.proofs.Rows.{row_kept, row_added, all_rows}
-use Rattle.mj_classes.proofs.member.add_methods.Goals as goal
-use Rattle.mj_classes.proofs.member.add_methods.Goals.{then-not-contains_key+in_ok-insert, else-not-contains_key}
+use Rattle.mj_members.specs.Classes.{method_member_view}
+use Rattle.mj_members.specs.Rows.{method_rows}
+use Rattle.mj_members.proofs.Rows.{row_kept, row_added, all_rows}
+use Rattle.mj_members.proofs.member.add_methods.Goals as goal
+use Rattle.mj_members.proofs.member.add_methods.Goals.{then-not-contains_key+in_ok-insert, else-not-contains_key}
 
 pub loop-method-preserved : goal.loop-method-preserved
 loop-method-preserved c = elim c.if-not-contains_key.branch [

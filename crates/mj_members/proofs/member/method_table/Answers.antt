@@ -2,13 +2,13 @@ use Rattle.std.proofs.Common.{◌≡◌, ◌≤◌, List, length, ap, subst, ari
 use Rattle.std.specs.BTreeMap.{values}
 use Rattle.std.proofs.lemmas.List.{take_all}
 use Rattle.std.proofs.lemmas.Result.{IfOk-weaker}
-use Rattle.mj_classes.specs.Declarations.{ClassDecl}
-use Rattle.mj_classes.specs.Classes.{classes_view, class_ref_view, method_member_view}
-use Rattle.mj_classes.specs.Tables.{all_along, methods_along}
-use Rattle.mj_classes.specs.Rows.{method_rows, SayAlike}
+use Rattle.mj_members.specs.Declarations.{ClassDecl}
+use Rattle.mj_members.specs.Classes.{classes_view, class_ref_view, method_member_view}
+use Rattle.mj_members.specs.Tables.{all_along, methods_along}
+use Rattle.mj_members.specs.Rows.{method_rows, SayAlike}
 use Rattle.mj_tree.proofs.NamePlaces.{more}
-use Rattle.mj_classes.proofs.Rows.{class_added, table_of}
-use Rattle.mj_classes.proofs.member.method_table.Goals as goal
+use Rattle.mj_members.proofs.Rows.{class_added, table_of}
+use Rattle.mj_members.proofs.member.method_table.Goals as goal
 
 pub loop-class-preserved : goal.loop-class-preserved
 loop-class-preserved c =

@@ -1,11 +1,11 @@
-//! The members of a class: what the nearest class of its chain declares.
+//! The members that classes declare, in tables by name.
 ghost use Rattle.std.specs.Prelude.{◌≡◌, ◌++◌, map, IfOk, OnOk};
 ghost use Rattle.std.specs.BTreeMap.{values, IsOrdered};
 ghost use Rattle.std.specs.Ordering.{nat_cmp};
 ghost use Rattle.std.specs.Cmp.Lexicographic.{slice_cmp};
-ghost use Rattle.mj_classes.specs.Rows.{field_rows, method_rows, SayAlike};
-ghost use Rattle.mj_classes.specs.Tables.{own_rows, fields_along, methods_along};
-ghost use Rattle.mj_classes.specs.Classes.{classes_view, class_ref_view, field_member_view, method_member_view};
+ghost use Rattle.mj_members.specs.Rows.{field_rows, method_rows, SayAlike};
+ghost use Rattle.mj_members.specs.Tables.{own_rows, fields_along, methods_along};
+ghost use Rattle.mj_members.specs.Classes.{classes_view, class_ref_view, field_member_view, method_member_view};
 
 use crate::class::ClassRef;
 use mj_lexer::Name;

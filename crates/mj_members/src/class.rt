@@ -1,8 +1,8 @@
 //! A declared class.
 ghost use Rattle.std.specs.Prelude.{◌≡◌, map, option_copied};
 ghost use Rattle.mj_tree.specs.Views.{method_view};
-ghost use Rattle.mj_classes.specs.Declarations.{has_members};
-ghost use Rattle.mj_classes.specs.Classes.{class_ref_view};
+ghost use Rattle.mj_members.specs.Declarations.{has_members};
+ghost use Rattle.mj_members.specs.Classes.{class_ref_view};
 
 use mj_lexer::Name;
 use mj_tree::{ClassTree, Field, MainTree, MethodTree};

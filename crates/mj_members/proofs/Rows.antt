@@ -17,10 +17,10 @@ use Rattle.std.proofs.lemmas.Map.Lookups.{exact_bytes}
 use Rattle.std.proofs.lemmas.Map.Views.{tells_apart}
 use denote.Ref.{Bor}
 use Rattle.mj_tree.specs.Trees.{Name}
-use Rattle.mj_classes.specs.Declarations.{ClassDecl}
-use Rattle.mj_classes.specs.Tables.{own_rows, all_along, firsts}
-use Rattle.mj_classes.specs.Rows.{rows_by, SayAlike}
-use Rattle.mj_classes.proofs.Tables.{by_bytes, under, firsts_are}
+use Rattle.mj_members.specs.Declarations.{ClassDecl}
+use Rattle.mj_members.specs.Tables.{own_rows, all_along, firsts}
+use Rattle.mj_members.specs.Rows.{rows_by, SayAlike}
+use Rattle.mj_members.proofs.Tables.{by_bytes, under, firsts_are}
 
 abbrev pub name_order : Bor Name → Bor Name → Ordering
 name_order x y = slice_cmp nat_cmp x.now y.now

@@ -6,9 +6,9 @@ use Rattle.std.specs.FinMap as names
 use denote.Ref.{Bor}
 use Rattle.mj_tree.specs.Trees.{Name, Method}
 use Rattle.mj_tree.specs.declared.tree.Field.{Field}
-use Rattle.mj_classes.specs.Classes.{field_member_view, method_member_view}
-use Rattle.mj_classes.specs.declared.member.FieldMember.{FieldMember}
-use Rattle.mj_classes.specs.declared.member.MethodMember.{MethodMember}
+use Rattle.mj_members.specs.Classes.{field_member_view, method_member_view}
+use Rattle.mj_members.specs.declared.member.FieldMember.{FieldMember}
+use Rattle.mj_members.specs.declared.member.MethodMember.{MethodMember}
 
 -- entries of a map by names
 abbrev pub rows_by : {X A : Type 0} → (X → A) → List (Bor Name × X) → List (Name × A)

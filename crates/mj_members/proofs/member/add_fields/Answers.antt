@@ -1,9 +1,9 @@
 use Rattle.std.proofs.Common.{◌∙◌, sym, refl, arith}
-use Rattle.mj_classes.specs.Classes.{field_member_view}
-use Rattle.mj_classes.specs.Rows.{field_rows}
-use Rattle.mj_classes.proofs.Rows.{row_kept, row_added, all_rows, map_same}
-use Rattle.mj_classes.proofs.member.add_fields.Goals as goal
-use Rattle.mj_classes.proofs.member.add_fields.Goals.{then-not-contains_key+in_ok-insert, else-not-contains_key}
+use Rattle.mj_members.specs.Classes.{field_member_view}
+use Rattle.mj_members.specs.Rows.{field_rows}
+use Rattle.mj_members.proofs.Rows.{row_kept, row_added, all_rows, map_same}
+use Rattle.mj_members.proofs.member.add_fields.Goals as goal
+use Rattle.mj_members.proofs.member.add_fields.Goals.{then-not-contains_key+in_ok-insert, else-not-contains_key}
 
 pub loop-field-preserved : goal.loop-field-preserved
 loop-field-preserved c = elim c.if-not-contains_key.branch [

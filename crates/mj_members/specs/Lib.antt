@@ -1,0 +1,4 @@
+pub mod Classes
+pub mod Declarations
+pub mod Rows
+pub mod Tables
