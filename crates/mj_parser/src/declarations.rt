@@ -209,8 +209,10 @@ fn make_signature(
     formals: Part<Vec<Variable>>,
 ) -> Result<Part<Signature>, ParseFault>
     ensures exact { Finds {A = reading.Signature × ℕ} (λ x. (signature_view x.tree, x.after)) result
-        (Some (record { name = name.now; returns = returns; formals = formals.tree.items },
-        formals.after)) }
+        (Some (
+          record { name = name.now; returns = returns; formals = formals.tree.items },
+          formals.after,
+        )) }
     ensures place { IfOk result (λ x. x.after ≡ formals.after) }
 {
     Ok(Part {

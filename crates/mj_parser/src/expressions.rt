@@ -353,8 +353,11 @@ fn called(
         × (listed.height ≡ heights (exps_view listed.exps.items)) }
     requires low { (left.height ≤ most_levels) × (listed.height ≤ most_levels) }
     ensures exact { Finds {A = Expression × ℕ} (λ x. (exp_view x.exp, x.after)) result
-        (Some (Call (left.after + 1) (exp_view left.exp) name.now
-        (exps_view listed.exps.items), listed.after)) }
+        (Some (
+          Call (left.after + 1) (exp_view left.exp) name.now
+              (exps_view listed.exps.items),
+          listed.after,
+        )) }
     ensures place { IfOk result (λ x. x.after ≡ listed.after) }
     ensures height { IfOk result (λ x. x.height ≡ height (exp_view x.exp)) }
     ensures low { IfOk result (λ x. x.height ≡ max left.height listed.height + 1) }

@@ -161,12 +161,7 @@ fn expect_main_head(tokens: &[Token]) -> Result<usize, ParseFault>
 {
     let after = expect_two(tokens, 0, Terminal::Public, Terminal::Static)?;
     let after = expect(tokens, after, Terminal::Void)?;
-    expect_word_and(
-        tokens,
-        after,
-        b"main".as_slice(),
-        Terminal::LeftParenthesis,
-    )
+    expect_word_and(tokens, after, b"main".as_slice(), Terminal::LeftParenthesis)
 }
 
 /// The place after `id ) {`, behind `String [ ]`.

@@ -16,7 +16,9 @@ ghost use Rattle.mj_parser.specs.declared.fault.ParseFault.TheVariants.{NotAFile
 use crate::expressions::{ANY_TIER, ExpPart, closed, read};
 use crate::fault::ParseFault;
 use crate::nodes;
-use crate::tokens::{Part, expect, expect_name, expect_two, expect_word_and, followed, has, name, says};
+use crate::tokens::{
+    Part, expect, expect_name, expect_two, expect_word_and, followed, has, name, says,
+};
 use mj_lexer::{Name, Terminal, Token};
 use mj_tree::Stmt;
 use std::alloc::Global;
@@ -143,8 +145,10 @@ fn stored(
     requires { (at < index.after) × (index.after < value.after) × (value.after ≤ length tokens.now) }
     ensures exact { Finds {A = Statement × ℕ} (λ x. (stmt_view x.tree, x.after)) result
         (when (has tokens.now value.after terminals.Semicolon)
-        (Some (Store (index.after + 1) name.now at (exp_view index.exp) (exp_view value.exp),
-        value.after + 1))) }
+        (Some (
+          Store (index.after + 1) name.now at (exp_view index.exp) (exp_view value.exp),
+          value.after + 1,
+        ))) }
     ensures within { IfOk result (λ x. (at < x.after) × (x.after ≤ length tokens.now)) }
 {
     let value = closed(tokens, value, Terminal::Semicolon)?;
@@ -239,8 +243,10 @@ fn chosen(
     second: Part<Stmt>,
 ) -> Result<Part<Stmt>, ParseFault>
     ensures exact { Finds {A = Statement × ℕ} (λ x. (stmt_view x.tree, x.after)) result
-        (Some (If at (exp_view condition.exp) (stmt_view first.tree) (stmt_view second.tree),
-        second.after)) }
+        (Some (
+          If at (exp_view condition.exp) (stmt_view first.tree) (stmt_view second.tree),
+          second.after,
+        )) }
     ensures place { IfOk result (λ x. x.after ≡ second.after) }
 {
     Ok(Part {

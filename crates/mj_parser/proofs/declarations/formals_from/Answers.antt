@@ -1,4 +1,4 @@
-use Rattle.std.proofs.Common.{◌≡◌, sym, ◌∙◌, ◌≤◌, length, None, Some, arith}
+use Rattle.std.proofs.Common.{sym, ◌∙◌, ◌≤◌, length, None, Some, arith}
 use Rattle.std.proofs.lemmas.Result.{err_from_is_err_and}
 use Rattle.mj_parser.specs.FileReading.{variable_at}
 use Rattle.mj_parser.proofs.Items.{list_from, list_end, list_fail, list_go_on, list_ends, fails_on}

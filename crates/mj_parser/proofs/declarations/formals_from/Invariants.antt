@@ -1,4 +1,4 @@
-use Rattle.std.proofs.Common.{◌≡◌, ℕ, Option, List, ◌<◌, ◌-◌, ◌≤◌, length}
+use Rattle.std.proofs.Common.{ℕ, Option, List, ◌-◌, ◌≤◌, length}
 use Rattle.mj_tree.specs.declared.tree.Variable.{Variable}
 use Rattle.mj_parser.specs.FileReading.{variable_at}
 use Rattle.mj_parser.proofs.Items.{ListLeads}
