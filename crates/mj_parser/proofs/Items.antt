@@ -1,11 +1,12 @@
 -- A loop that reads parts as long as a test holds.
-use Rattle.std.proofs.Common.{◌≡◌, ◌↔◌, ℕ, zero, suc, ◌+◌, ◌<◌, ◌≤◌, Bool, true, false, List, [], ◌∷◌, ◌++◌, length, Option, Some, None, refl, sym, ap, ◌∙◌, arith, append_assoc, append-nil}
+use Rattle.std.proofs.Common.{◌≡◌, ◌↔◌, ℕ, zero, suc, ◌+◌, ◌<◌, ◌≤◌, Bool, true, false, List, [], ◌∷◌, ◌++◌, length, Option, Some, None, Result, Ok, Err, refl, sym, ap, ◌∙◌, arith, append_assoc, append-nil}
+use Rattle.std.specs.Prelude.{IfOk, IfErr}
 use Rattle.mj_lexer.specs.declared.token.Token.{Token}
 use Rattle.mj_lexer.specs.declared.token.Terminal.TheVariants as terminals
 use Rattle.mj_parser.specs.declared.fault.ParseFault.{ParseFault}
 use Rattle.mj_parser.specs.declared.fault.ParseFault.TheVariants.{NotAFile, TooDeep, OutOfMemory}
 use Rattle.mj_parser.specs.Tokens.{has}
-use Rattle.mj_parser.specs.Steps.{◌>>=◌, when, PartParser, items_from, behind_comma, at_comma, listed_at, Fails}
+use Rattle.mj_parser.specs.Steps.{◌>>=◌, when, PartParser, items_from, behind_comma, at_comma, more_listed, listed_at, Fails, Finds}
 
 -- these items before those that are still read
 abbrev pub with_front : {A : Type 0} → List A → Option (List A × ℕ) → Option (List A × ℕ)
@@ -54,9 +55,12 @@ first_then : {A : Type 0} (ts : List Token) (x : A) (found : Option (List A × �
 first_then ts x None = refl
 first_then ts x (Some y) = refl
 
+pub list_from : {A : Type 0} (part : PartParser A) (ts : List Token) (k : ℕ) (x : A) (total : Option (List A × ℕ)) → ListLeads part ts (x ∷ []) k total → more_listed part ts (x, k) ≡ closed_list ts total
+list_from part ts k x total leads = first_then ts x (items_from (suc (length ts)) (behind_comma part) (at_comma ts) k) ∙ ap (closed_list ts) (leads (suc (length ts)) (omega arith))
+
 pub list_begins : {A : Type 0} (part : PartParser A) (ts : List Token) (i k : ℕ) (x : A) (total : Option (List A × ℕ)) → has ts i terminals.RightParenthesis ≡ false → part i ≡ Some (x, k) → ListLeads part ts (x ∷ []) k total → listed_at part ts i ≡ closed_list ts total
 unfolding listed_at
-list_begins part ts i k x total e n leads = rw (listed_at, e, n) (first_then ts x (items_from (suc (length ts)) (behind_comma part) (at_comma ts) k) ∙ ap (closed_list ts) (leads (suc (length ts)) (omega arith)))
+list_begins part ts i k x total e n leads = rw (listed_at, e, n) (list_from part ts k x total leads)
 
 pub list_empty : {A : Type 0} (part : PartParser A) (ts : List Token) (i : ℕ) → has ts i terminals.RightParenthesis ≡ true → listed_at part ts i ≡ Some ([], i + 1)
 unfolding listed_at
@@ -81,6 +85,11 @@ list_closes ts front j e = rw e refl
 
 pub list_open : {A : Type 0} (ts : List Token) (front : List A) (j : ℕ) → has ts j terminals.RightParenthesis ≡ false → closed_list ts (Some (front, j)) ≡ None
 list_open ts front j e = rw e refl
+
+-- the list's end, where a function looks for the parenthesis
+pub list_ends : {X B A : Type 0} (r : Result X ParseFault) (items : X → B) (after : X → ℕ) (front : B) (view : B → List A) (More : X → Type 0) (ts : List Token) (j : ℕ) → IfOk r (λ x. (has ts j terminals.RightParenthesis ≡ true) × (items x ≡ front) × (after x ≡ j + 1) × More x) → IfErr r (λ e. (e ≡ NotAFile j) × (has ts j terminals.RightParenthesis ≡ false)) → Finds (λ x. (view (items x), after x)) r (closed_list ts (Some (view front, j)))
+list_ends (Ok x) items after front view More ts j f g = rw (f.1, f.2) (list_closes ts (view front) j f.0)
+list_ends (Err e) items after front view More ts j f g = rw g.0 (list_open ts (view front) j g.1)
 
 -- where a part isn't found, the whole isn't
 pub fails_on : {A B : Type 0} (e : ParseFault) (x : Option A) (y : Option B) → (x ≡ None → y ≡ None) → Fails e x → Fails e y

@@ -9,7 +9,7 @@ use Rattle.mj_tree.specs.declared.tree.Field.{Field}
 use Rattle.mj_tree.specs.declared.tree.Variable.{Variable}
 use Rattle.mj_tree.specs.Limits.{most_levels}
 use Rattle.mj_parser.specs.Rows.{row_size, row_height, InRow}
-use Rattle.mj_parser.specs.Tokens.{has, Stands, says, name_at}
+use Rattle.mj_parser.specs.Tokens.{has, Stands, says, name_at, first_wrong}
 use Rattle.mj_tree.specs.Trees.{Name, Method, Main, Class, File}
 use Rattle.mj_parser.specs.Expressions.{any_tier, size, height, IsExp}
 use Rattle.mj_parser.specs.Statements.{stmt_size, stmts_size, stmt_height, stmts_height, IsStmt, AreStmts}
@@ -105,12 +105,25 @@ main_head ts =
     has ts 0 terminals.Public && has ts 1 terminals.Static && has ts 2 terminals.Void
     && says ts 3 (codes "main") && has ts 4 terminals.LeftParenthesis
 
+-- the first place where the head isn't as it has to be
+abbrev pub main_head_fault : List Token → ℕ
+main_head_fault ts =
+    first_wrong 0 (has ts 0 terminals.Public ∷ has ts 1 terminals.Static ∷ has ts 2 terminals.Void
+    ∷ says ts 3 (codes "main") ∷ has ts 4 terminals.LeftParenthesis ∷ [])
+
 -- and then `String [ ] id ) {`
 abbrev pub main_parameter : List Token → Bool
 main_parameter ts =
     says ts 5 (codes "String") && has ts 6 terminals.LeftBracket && has ts 7 terminals.RightBracket
     && is_some (name_at ts 8) && has ts 9 terminals.RightParenthesis
     && has ts 10 terminals.LeftBrace
+
+-- the first place where the parameter isn't as it has to be
+abbrev pub main_parameter_fault : List Token → ℕ
+main_parameter_fault ts =
+    first_wrong 5 (says ts 5 (codes "String") ∷ has ts 6 terminals.LeftBracket
+    ∷ has ts 7 terminals.RightBracket ∷ is_some (name_at ts 8)
+    ∷ has ts 9 terminals.RightParenthesis ∷ has ts 10 terminals.LeftBrace ∷ [])
 
 -- ---- classes
 

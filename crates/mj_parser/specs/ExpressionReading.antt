@@ -25,14 +25,18 @@ TierParser = ℕ → ℕ → Reading
 abbrev pub close : List Token → Terminal → (Expression → Expression) → Expression × ℕ → Reading
 close ts mark make x = when (has ts x.1 mark) (Some (make x.0, x.1 + 1))
 
+-- a new object
+abbrev pub object_at : List Token → ℕ → Reading
+object_at ts i = name_at ts (i + 1) >>= λ name. when
+    (has ts (i + 2) terminals.LeftParenthesis && has ts (i + 3) terminals.RightParenthesis)
+    (Some (NewObject i name, i + 4))
+
 unfoldable pub new_at : TierParser → List Token → ℕ → Reading
 new_at part ts i =
     if has ts (i + 1) terminals.Int
     then when (has ts (i + 2) terminals.LeftBracket)
     (part any_tier (i + 3) >>= close ts terminals.RightBracket (NewArray i))
-    else (name_at ts (i + 1) >>= λ name. when
-    (has ts (i + 2) terminals.LeftParenthesis && has ts (i + 3) terminals.RightParenthesis)
-    (Some (NewObject i name, i + 4)))
+    else object_at ts i
 
 unfoldable pub terminal_at : TierParser → List Token → ℕ → Terminal → Reading
 terminal_at part ts i terminals.True = Some (Boolean i true, i + 1)

@@ -65,14 +65,19 @@ pub record Signature : Type 0 where
 abbrev pub signature_view : parts.Signature → Signature
 signature_view s = record { name = s.name; returns = s.returns; formals = s.formals.items }
 
+-- the formals and the brace that opens the body, behind the type and the name
+abbrev pub signature_of : List Token → Name → Ty → ℕ → Option (Signature × ℕ)
+signature_of ts name returns i =
+    listed_at (variable_at ts) ts i
+    >>= λ fs. when (has ts fs.1 terminals.LeftBrace)
+    (Some (record { name = name; returns = returns; formals = fs.0 }, fs.1 + 1))
+
 unfoldable pub signature_at : List Token → Option (Signature × ℕ)
 signature_at ts =
     when (has ts 0 terminals.Public)
     (type_at ts 1 >>= λ t. name_at ts t.1
     >>= λ name. when (has ts (t.1 + 1) terminals.LeftParenthesis)
-    (listed_at (variable_at ts) ts (t.1 + 2)
-    >>= λ fs. when (has ts fs.1 terminals.LeftBrace)
-    (Some (record { name = name; returns = t.0; formals = fs.0 }, fs.1 + 1))))
+    (signature_of ts name t.0 (t.1 + 2)))
 
 abbrev pub not_return : List Token → ℕ → Bool
 not_return ts i = not (has ts i terminals.Return)

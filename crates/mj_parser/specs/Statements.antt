@@ -1,8 +1,8 @@
 -- The grammar of statements, one case a production.
-use Rattle.std.specs.Prelude.{◌≡◌, ℕ, ◌+◌, max, Bool, true, ◌&&◌, List, Some, codes}
+use Rattle.std.specs.Prelude.{◌≡◌, ℕ, ◌+◌, max, Bool, true, ◌&&◌, List, [], ◌∷◌, Some, codes, if◌then◌else◌}
 use Rattle.mj_lexer.specs.declared.token.Token.{Token}
 use Rattle.mj_lexer.specs.declared.token.Terminal.TheVariants as terminals
-use Rattle.mj_parser.specs.Tokens.{has, Stands, says, name_at}
+use Rattle.mj_parser.specs.Tokens.{has, Stands, says, name_at, first_wrong}
 use Rattle.mj_tree.specs.Trees.{Statement, Statements, Block, If, While, Print, Assign, Store, done, next}
 use Rattle.mj_parser.specs.Expressions.{any_tier, size, height, IsExp}
 
@@ -42,6 +42,16 @@ opens_print ts i =
     says ts i (codes "System") && has ts (i + 1) terminals.Dot && says ts (i + 2) (codes "out")
     && has ts (i + 3) terminals.Dot && says ts (i + 4) (codes "println")
     && has ts (i + 5) terminals.LeftParenthesis
+
+-- The first place where that isn't so. Another name than `System` begins a statement too, so that
+-- the place is the one behind it.
+abbrev pub print_fault : List Token → ℕ → ℕ
+print_fault ts i =
+    if says ts i (codes "System")
+    then first_wrong (i + 1) (has ts (i + 1) terminals.Dot ∷ says ts (i + 2) (codes "out")
+    ∷ has ts (i + 3) terminals.Dot ∷ says ts (i + 4) (codes "println")
+    ∷ has ts (i + 5) terminals.LeftParenthesis ∷ [])
+    else i + 1
 
 -- From place i on, the tokens are those of the statement.
 abbrev mutual

@@ -1,5 +1,5 @@
 -- Tokens by their places.
-use Rattle.std.specs.Prelude.{◌≡◌, ℕ, Bool, false, ◌==◌, List, Option, Some, None, slice_get}
+use Rattle.std.specs.Prelude.{◌≡◌, ℕ, ◌+◌, Bool, false, ◌==◌, List, [], ◌∷◌, Option, Some, None, slice_get, if◌then◌else◌}
 use Rattle.std.specs.Str.{bytes_eq}
 use Rattle.mj_lexer.specs.declared.token.Token.{Token}
 use Rattle.mj_lexer.specs.declared.token.Kind.{Kind}
@@ -88,6 +88,11 @@ value_at ts i = value_of (kind_at ts i)
 abbrev pub is_word : List ℕ → Option Name → Bool
 is_word word None = false
 is_word word (Some name) = bytes_eq name word
+
+-- Of what has to stand from a place on, the first place where it doesn't.
+abbrev pub first_wrong : ℕ → List Bool → ℕ
+first_wrong i [] = i
+first_wrong i (stands ∷ others) = if stands then first_wrong (i + 1) others else i
 
 -- the name at a place is this word
 unfoldable pub says : List Token → ℕ → List ℕ → Bool

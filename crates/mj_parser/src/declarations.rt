@@ -1,15 +1,17 @@
 //! Reading types, variables and methods.
-ghost use Rattle.std.specs.Prelude.{◌≡◌, ℕ, ◌+◌, ◌<◌, ◌≤◌, suc, length, map, IfOk, IsTrue};
+ghost use Rattle.std.specs.Prelude.{◌≡◌, ℕ, ◌+◌, ◌<◌, ◌≤◌, suc, length, map, [], ◌∷◌, ◌++◌, Some, IfOk, IfErr, IsTrue};
 ghost use Rattle.mj_tree.specs.Views.{stmt_view, method_view};
 ghost use Rattle.mj_tree.specs.Limits.{most_levels};
-ghost use Rattle.mj_parser.specs.Steps.{Finds, items_from, listed_at};
+ghost use Rattle.mj_parser.specs.Steps.{Finds, items_from, listed_at, more_listed};
+ghost use Rattle.mj_parser.specs.declared.fault.ParseFault.TheVariants.{OutOfMemory};
 ghost use Rattle.mj_parser.specs.StatementReading.{stmt_at};
-ghost use Rattle.mj_parser.specs.FileReading.{type_at, variable_at, local_at, begins_local, signature_view, signature_at, not_return, method_at};
+ghost use Rattle.mj_parser.specs.FileReading as reading;
+ghost use Rattle.mj_parser.specs.FileReading.{type_at, variable_at, local_at, begins_local, signature_view, signature_of, signature_at, not_return, method_at};
 
 use crate::expressions::{ANY_TIER, read};
 use crate::fault::ParseFault;
 use crate::statements::statement;
-use crate::tokens::{Part, expect, expect_name, expect_two, has, name};
+use crate::tokens::{Part, expect, expect_name, expect_two, followed, has, name};
 use mj_lexer::{Name, Terminal, Token};
 use mj_tree::{MOST_LEVELS, MethodTree, Stmt, Ty, Variable};
 use std::alloc::Global;
@@ -74,11 +76,7 @@ pub fn local(alloc: Global, tokens: &[Token], at: usize) -> Result<Part<Variable
     ensures within { IfOk result (λ x. (at < x.after) × (x.after ≤ length tokens.now)) }
 {
     let variable = variable(alloc, tokens, at)?;
-    let after = expect(tokens, variable.after, Terminal::Semicolon)?;
-    Ok(Part {
-        tree: variable.tree,
-        after,
-    })
+    followed(tokens, variable, Terminal::Semicolon)
 }
 
 /// Whether a local begins here, and no statement.
@@ -91,33 +89,72 @@ fn begins_local(tokens: &[Token], at: usize) -> bool
         || (name(tokens, at).is_some() && name(tokens, at + 1).is_some())
 }
 
+/// A list of one variable.
+fn started(alloc: Global, first: Part<Variable>) -> Result<Part<Vec<Variable>>, ParseFault>
+    ensures found { IfOk result (λ x.
+        (x.tree.items ≡ first.tree ∷ []) × (x.after ≡ first.after)) }
+    ensures fault { IfErr result (λ e. e ≡ OutOfMemory) }
+{
+    let mut variables = Vec::new(alloc);
+    variables.push(first.tree)?;
+    Ok(Part {
+        tree: variables,
+        after: first.after,
+    })
+}
+
+/// The list with one variable more.
+fn pushed(
+    variables: Part<Vec<Variable>>,
+    next: Part<Variable>,
+) -> Result<Part<Vec<Variable>>, ParseFault>
+    ensures found { IfOk result (λ x.
+        (x.tree.items ≡ variables.tree.items ++ next.tree ∷ []) × (x.after ≡ next.after)) }
+    ensures fault { IfErr result (λ e. e ≡ OutOfMemory) }
+{
+    let mut tree = variables.tree;
+    tree.push(next.tree)?;
+    Ok(Part {
+        tree,
+        after: next.after,
+    })
+}
+
+/// The formals that begin with this one, up to the parenthesis that closes them.
+fn formals_from(
+    alloc: Global,
+    tokens: &[Token],
+    first: Part<Variable>,
+) -> Result<Part<Vec<Variable>>, ParseFault>
+    requires { first.after ≤ length tokens.now }
+    ensures exact { Finds (λ x. (x.tree.items, x.after)) result
+        (more_listed (variable_at tokens.now) tokens.now (first.tree, first.after)) }
+    ensures within { IfOk result (λ x. (first.after < x.after) × (x.after ≤ length tokens.now)) }
+{
+    let mut formals = started(alloc, first)?;
+    'list: while has(tokens, formals.after, Terminal::Comma) {
+        let next = variable(alloc, tokens, formals.after + 1)?;
+        formals = pushed(formals, next)?;
+    }
+    followed(tokens, formals, Terminal::RightParenthesis)
+}
+
 /// Formals between commas, up to the parenthesis that closes them.
+#[tactic(auto, unfolding(crate::specs::Steps::listed_at))]
 fn formals(alloc: Global, tokens: &[Token], at: usize) -> Result<Part<Vec<Variable>>, ParseFault>
     requires { at ≤ length tokens.now }
     ensures exact { Finds (λ x. (x.tree.items, x.after)) result
         (listed_at (variable_at tokens.now) tokens.now at) }
     ensures within { IfOk result (λ x. (at < x.after) × (x.after ≤ length tokens.now)) }
 {
-    let mut formals = Vec::new(alloc);
     if has(tokens, at, Terminal::RightParenthesis) {
         return Ok(Part {
-            tree: formals,
+            tree: Vec::new(alloc),
             after: at + 1,
         });
     }
     let first = variable(alloc, tokens, at)?;
-    formals.push(first.tree)?;
-    let mut after = first.after;
-    'list: while has(tokens, after, Terminal::Comma) {
-        let next = variable(alloc, tokens, after + 1)?;
-        formals.push(next.tree)?;
-        after = next.after;
-    }
-    let after = expect(tokens, after, Terminal::RightParenthesis)?;
-    Ok(Part {
-        tree: formals,
-        after,
-    })
+    formals_from(alloc, tokens, first)
 }
 
 /// The locals of a body.
@@ -164,6 +201,48 @@ pub struct Signature {
     pub formals: Vec<Variable>,
 }
 
+/// The parts of a signature as one.
+fn make_signature(
+    alloc: Global,
+    name: &Name,
+    returns: Ty,
+    formals: Part<Vec<Variable>>,
+) -> Result<Part<Signature>, ParseFault>
+    ensures exact { Finds {A = reading.Signature × ℕ} (λ x. (signature_view x.tree, x.after)) result
+        (Some (
+          record { name = name.now; returns = returns; formals = formals.tree.items },
+          formals.after,
+        )) }
+    ensures place { IfOk result (λ x. x.after ≡ formals.after) }
+{
+    Ok(Part {
+        tree: Signature {
+            name: name.copy(alloc)?,
+            returns,
+            formals: formals.tree,
+        },
+        after: formals.after,
+    })
+}
+
+/// The signature whose formals begin at a place.
+fn signature_of(
+    alloc: Global,
+    tokens: &[Token],
+    name: &Name,
+    returns: Ty,
+    at: usize,
+) -> Result<Part<Signature>, ParseFault>
+    requires { at ≤ length tokens.now }
+    ensures exact { Finds (λ x. (signature_view x.tree, x.after)) result
+        (signature_of tokens.now name.now returns at) }
+    ensures within { IfOk result (λ x. (0 < x.after) × (x.after ≤ length tokens.now)) }
+{
+    let formals = formals(alloc, tokens, at)?;
+    let formals = followed(tokens, formals, Terminal::LeftBrace)?;
+    make_signature(alloc, name, returns, formals)
+}
+
 #[tactic(auto, unfolding(crate::specs::FileReading::signature_at))]
 fn read_signature(alloc: Global, tokens: &[Token]) -> Result<Part<Signature>, ParseFault>
     ensures exact { Finds (λ x. (signature_view x.tree, x.after)) result (signature_at tokens.now) }
@@ -173,16 +252,7 @@ fn read_signature(alloc: Global, tokens: &[Token]) -> Result<Part<Signature>, Pa
     let returns = declared_type(alloc, tokens, after)?;
     let name = expect_name(tokens, returns.after)?;
     let after = expect(tokens, returns.after + 1, Terminal::LeftParenthesis)?;
-    let formals = formals(alloc, tokens, after)?;
-    let after = expect(tokens, formals.after, Terminal::LeftBrace)?;
-    Ok(Part {
-        tree: Signature {
-            name: name.copy(alloc)?,
-            returns: returns.tree,
-            formals: formals.tree,
-        },
-        after,
-    })
+    signature_of(alloc, tokens, name, returns.tree, after)
 }
 
 /// The method that the tokens begin with.

@@ -1,15 +1,19 @@
 //! Reading an expression from left to right.
-ghost use Rattle.std.specs.Prelude.{◌≡◌, ℕ, ◌+◌, ◌^◌, ◌<◌, ◌≤◌, length, map, IfOk, IsSome, IsTrue};
+ghost use Rattle.std.specs.Prelude.{◌≡◌, ℕ, ◌+◌, ◌^◌, ◌<◌, ◌≤◌, ◌++◌, max, codes, length, map, [], ◌∷◌, true, false, Some, IfOk, IfErr, IsSome, IsTrue};
+ghost use Rattle.mj_parser.specs.Tokens.{has, says};
+ghost use Rattle.mj_lexer.specs.declared.token.Terminal.TheVariants as terminals;
+ghost use Rattle.mj_tree.specs.Trees.{Expression, Binary, Index, Length, Call, NewArray, NewObject, Not, Parenthesized};
+ghost use Rattle.mj_parser.specs.declared.fault.ParseFault.TheVariants.{NotAFile, OutOfMemory};
 ghost use Rattle.mj_tree.specs.Views.{exp_view, exps_view};
 ghost use Rattle.mj_tree.specs.Limits.{most_levels};
 ghost use Rattle.mj_parser.specs.Expressions.{any_tier, height, heights, is_new_array, tier_of};
-ghost use Rattle.mj_parser.specs.Steps.{Finds, listed_at};
-ghost use Rattle.mj_parser.specs.ExpressionReading.{new_at, prim_at, takes_index, index_at, member_at, post_from, post_at, operator_here, operator_at, binary_from, tier_at, exp_at};
+ghost use Rattle.mj_parser.specs.Steps.{Finds, when, listed_at};
+ghost use Rattle.mj_parser.specs.ExpressionReading.{close, object_at, new_at, prim_at, takes_index, index_at, member_at, post_from, post_at, operator_here, operator_at, binary_from, tier_at, exp_at};
 
 use crate::fault::ParseFault;
 use crate::nodes;
-use crate::tokens::{expect, expect_name, has, kind, says};
-use mj_lexer::{Kind, Terminal, Token};
+use crate::tokens::{expect, expect_name, expect_two, has, kind, says};
+use mj_lexer::{Kind, Name, Terminal, Token};
 use mj_tree::{Exp, Operator};
 use std::alloc::Global;
 
@@ -68,6 +72,19 @@ fn operator(tokens: &[Token], at: usize, tier: usize) -> Option<Operator>
     }
 }
 
+/// The expression, behind which this symbol has to stand, and the place after that.
+pub fn closed(tokens: &[Token], exp: ExpPart, terminal: Terminal) -> Result<ExpPart, ParseFault>
+    requires { exp.after < 2 ^ 63 }
+    ensures found { IfOk result (λ x.
+        (has tokens.now exp.after terminal ≡ true) × (x.exp ≡ exp.exp) × (x.after ≡ exp.after + 1)
+        × (x.height ≡ exp.height) × (x.after ≤ length tokens.now)) }
+    ensures fault { IfErr result (λ e.
+        (e ≡ NotAFile exp.after) × (has tokens.now exp.after terminal ≡ false)) }
+{
+    let after = expect(tokens, exp.after, terminal)?;
+    Ok(ExpPart { after, ..exp })
+}
+
 /// An expression of a tier, of no more than so many levels.
 #[cycle(expressions)]
 #[tactic(auto, unfolding(crate::specs::ExpressionReading::exp_at))]
@@ -91,6 +108,43 @@ pub fn read(
         return Err(ParseFault::TooDeep);
     }
     read_tier(alloc, tokens, at, room - 1, tier)
+}
+
+/// The negation of an expression.
+fn negated(alloc: Global, at: usize, operand: ExpPart) -> Result<ExpPart, ParseFault>
+    requires height { operand.height ≡ height (exp_view operand.exp) }
+    requires low { operand.height ≤ most_levels }
+    ensures exact { Finds {A = Expression × ℕ} (λ x. (exp_view x.exp, x.after)) result
+        (Some (Not at (exp_view operand.exp), operand.after)) }
+    ensures place { IfOk result (λ x. x.after ≡ operand.after) }
+    ensures height { IfOk result (λ x. x.height ≡ height (exp_view x.exp)) }
+    ensures low { IfOk result (λ x. x.height ≡ operand.height + 1) }
+{
+    Ok(ExpPart {
+        exp: nodes::not(alloc, at, operand.exp)?,
+        after: operand.after,
+        height: operand.height + 1,
+    })
+}
+
+/// Two expressions with an operator between them.
+fn joined(
+    alloc: Global,
+    operator: Operator,
+    left: ExpPart,
+    right: ExpPart,
+) -> Result<ExpPart, ParseFault>
+    requires { (left.height ≤ most_levels) × (right.height ≤ most_levels) }
+    ensures found { IfOk result (λ x.
+        (exp_view x.exp ≡ Binary operator left.after (exp_view left.exp) (exp_view right.exp))
+        × (x.after ≡ right.after) × (x.height ≡ max left.height right.height + 1)) }
+    ensures fault { IfErr result (λ e. e ≡ OutOfMemory) }
+{
+    Ok(ExpPart {
+        exp: nodes::binary(alloc, operator, left.after, left.exp, right.exp)?,
+        after: right.after,
+        height: left.height.max(right.height) + 1,
+    })
 }
 
 /// An expression of a tier whose parts have no more than so many levels.
@@ -124,11 +178,7 @@ fn read_tier(
             return Err(ParseFault::TooDeep);
         }
         let operand = read(alloc, tokens, at + 1, room, 1)?;
-        return Ok(ExpPart {
-            exp: nodes::not(alloc, at, operand.exp)?,
-            after: operand.after,
-            height: operand.height + 1,
-        });
+        return negated(alloc, at, operand);
     }
     let left = read_tier(alloc, tokens, at, room, tier - 1)?;
     chain(alloc, tokens, left, room, tier - 1)
@@ -163,13 +213,8 @@ fn chain(
         if left.height > room {
             return Err(ParseFault::TooDeep);
         }
-        let mark = left.after;
-        let right = read(alloc, tokens, mark + 1, room, tier)?;
-        left = ExpPart {
-            exp: nodes::binary(alloc, operator, mark, left.exp, right.exp)?,
-            after: right.after,
-            height: left.height.max(right.height) + 1,
-        };
+        let right = read(alloc, tokens, left.after + 1, room, tier)?;
+        left = joined(alloc, operator, left, right)?;
     }
     Ok(left)
 }
@@ -243,6 +288,33 @@ fn is_new_array(exp: &Exp) -> bool
     matches!(exp, Exp::NewArray { .. })
 }
 
+/// The element of an array at an index, with the bracket that closes it.
+fn indexed(
+    alloc: Global,
+    tokens: &[Token],
+    left: ExpPart,
+    index: ExpPart,
+) -> Result<ExpPart, ParseFault>
+    requires within { (left.after < index.after) × (index.after ≤ length tokens.now) }
+    requires heights { (left.height ≡ height (exp_view left.exp))
+        × (index.height ≡ height (exp_view index.exp)) }
+    requires low { (left.height ≤ most_levels) × (index.height ≤ most_levels) }
+    ensures exact { Finds (λ x. (exp_view x.exp, x.after)) result
+        (close tokens.now terminals.RightBracket (Index left.after (exp_view left.exp))
+        (exp_view index.exp, index.after)) }
+    ensures within { IfOk result (λ x. (left.after < x.after) × (x.after ≤ length tokens.now)) }
+    ensures height { IfOk result (λ x. x.height ≡ height (exp_view x.exp)) }
+    ensures low { IfOk result (λ x. x.height ≡ max left.height index.height + 1) }
+{
+    let index = closed(tokens, index, Terminal::RightBracket)?;
+    let height = left.height.max(index.height) + 1;
+    Ok(ExpPart {
+        exp: nodes::index(alloc, left.after, left.exp, index.exp)?,
+        after: index.after,
+        height,
+    })
+}
+
 #[cycle(expressions)]
 #[tactic(auto, unfolding(crate::specs::ExpressionReading::index_at))]
 #[inline(never)]
@@ -257,13 +329,67 @@ fn index(alloc: Global, tokens: &[Token], left: ExpPart, room: usize) -> Result<
     ensures height { IfOk result (λ x. x.height ≡ height (exp_view x.exp)) }
     ensures low { IfOk result (λ x. x.height ≤ room + 1) }
 {
-    let mark = left.after;
-    let index = read(alloc, tokens, mark + 1, room, ANY_TIER)?;
-    let after = expect(tokens, index.after, Terminal::RightBracket)?;
+    let index = read(alloc, tokens, left.after + 1, room, ANY_TIER)?;
+    indexed(alloc, tokens, left, index)
+}
+
+/// Expressions between commas, the place after them, and how many levels they have.
+#[derive(Debug, Drop)]
+struct ArgumentList {
+    exps: Vec<Exp>,
+    after: usize,
+    height: usize,
+}
+
+/// The call of a method, whose name stands two places before the arguments.
+fn called(
+    alloc: Global,
+    left: ExpPart,
+    name: &Name,
+    listed: ArgumentList,
+) -> Result<ExpPart, ParseFault>
+    requires place { left.after < 2 ^ 63 }
+    requires heights { (left.height ≡ height (exp_view left.exp))
+        × (listed.height ≡ heights (exps_view listed.exps.items)) }
+    requires low { (left.height ≤ most_levels) × (listed.height ≤ most_levels) }
+    ensures exact { Finds {A = Expression × ℕ} (λ x. (exp_view x.exp, x.after)) result
+        (Some (
+          Call (left.after + 1) (exp_view left.exp) name.now
+              (exps_view listed.exps.items),
+          listed.after,
+        )) }
+    ensures place { IfOk result (λ x. x.after ≡ listed.after) }
+    ensures height { IfOk result (λ x. x.height ≡ height (exp_view x.exp)) }
+    ensures low { IfOk result (λ x. x.height ≡ max left.height listed.height + 1) }
+{
+    let height = left.height.max(listed.height) + 1;
     Ok(ExpPart {
-        exp: nodes::index(alloc, mark, left.exp, index.exp)?,
-        after,
-        height: left.height.max(index.height) + 1,
+        exp: nodes::call(alloc, left.after + 1, left.exp, name, listed.exps)?,
+        after: listed.after,
+        height,
+    })
+}
+
+/// The length of an array, whose name has to stand behind the dot.
+fn length_of(alloc: Global, tokens: &[Token], left: ExpPart) -> Result<ExpPart, ParseFault>
+    requires within { left.after < length tokens.now }
+    requires height { left.height ≡ height (exp_view left.exp) }
+    requires low { left.height ≤ most_levels }
+    ensures exact { Finds {A = Expression × ℕ} (λ x. (exp_view x.exp, x.after)) result
+        (when (says tokens.now (left.after + 1) (codes "length"))
+        (Some (Length (left.after + 1) (exp_view left.exp), left.after + 1 + 1))) }
+    ensures within { IfOk result (λ x. (left.after < x.after) × (x.after ≤ length tokens.now)) }
+    ensures height { IfOk result (λ x. x.height ≡ height (exp_view x.exp)) }
+    ensures low { IfOk result (λ x. x.height ≡ left.height + 1) }
+{
+    let mark = left.after + 1;
+    if !says(tokens, mark, b"length".as_slice()) {
+        return Err(ParseFault::NotAFile(mark + 1));
+    }
+    Ok(ExpPart {
+        exp: nodes::length(alloc, mark, left.exp)?,
+        after: mark + 1,
+        height: left.height + 1,
     })
 }
 
@@ -290,28 +416,53 @@ fn member(
     let name = expect_name(tokens, mark)?;
     if has(tokens, mark + 1, Terminal::LeftParenthesis) {
         let listed = arguments(alloc, tokens, mark + 2, room)?;
-        return Ok(ExpPart {
-            exp: nodes::call(alloc, mark, left.exp, name, listed.exps)?,
-            after: listed.after,
-            height: left.height.max(listed.height) + 1,
-        });
+        called(alloc, left, name, listed)
+    } else {
+        length_of(alloc, tokens, left)
     }
-    if !says(tokens, mark, b"length".as_slice()) {
-        return Err(ParseFault::NotAFile(mark + 1));
+}
+
+/// No arguments.
+fn no_arguments(alloc: Global, after: usize) -> ArgumentList
+    ensures { (result.exps.items ≡ []) × (result.after ≡ after) × (result.height ≡ 0) }
+{
+    ArgumentList {
+        exps: Vec::new(alloc),
+        after,
+        height: 0,
     }
-    Ok(ExpPart {
-        exp: nodes::length(alloc, mark, left.exp)?,
-        after: mark + 1,
-        height: left.height + 1,
+}
+
+/// The arguments with one more behind them.
+fn pushed(listed: ArgumentList, next: ExpPart) -> Result<ArgumentList, ParseFault>
+    ensures found { IfOk result (λ x.
+        (x.exps.items ≡ listed.exps.items ++ next.exp ∷ []) × (x.after ≡ next.after)
+        × (x.height ≡ max listed.height next.height)) }
+    ensures fault { IfErr result (λ e. e ≡ OutOfMemory) }
+{
+    let mut exps = listed.exps;
+    exps.push(next.exp)?;
+    Ok(ArgumentList {
+        exps,
+        after: next.after,
+        height: listed.height.max(next.height),
     })
 }
 
-/// Expressions between commas, the place after the parenthesis that closes them, and how many levels they have.
-#[derive(Debug, Drop)]
-struct ArgumentList {
-    exps: Vec<Exp>,
-    after: usize,
-    height: usize,
+/// The arguments, with the parenthesis that closes them.
+fn ended(tokens: &[Token], listed: ArgumentList) -> Result<ArgumentList, ParseFault>
+    requires { listed.after < 2 ^ 63 }
+    ensures found { IfOk result (λ x.
+        (has tokens.now listed.after terminals.RightParenthesis ≡ true)
+        × (x.exps.items ≡ listed.exps.items) × (x.after ≡ listed.after + 1)
+        × (x.after ≤ length tokens.now)) }
+    ensures height { IfOk result (λ x. x.height ≡ listed.height) }
+    ensures fault { IfErr result (λ e.
+        (e ≡ NotAFile listed.after)
+        × (has tokens.now listed.after terminals.RightParenthesis ≡ false)) }
+{
+    let after = expect(tokens, listed.after, Terminal::RightParenthesis)?;
+    Ok(ArgumentList { after, ..listed })
 }
 
 #[cycle(expressions)]
@@ -330,29 +481,62 @@ fn arguments(
     ensures height { IfOk result (λ x. x.height ≡ heights (exps_view x.exps.items)) }
     ensures low { IfOk result (λ x. x.height ≤ room) }
 {
-    let mut exps = Vec::new(alloc);
     if has(tokens, at, Terminal::RightParenthesis) {
-        return Ok(ArgumentList {
-            exps,
-            after: at + 1,
-            height: 0,
-        });
+        return Ok(no_arguments(alloc, at + 1));
     }
     let first = read(alloc, tokens, at, room, ANY_TIER)?;
-    exps.push(first.exp)?;
-    let mut after = first.after;
-    let mut height = first.height;
-    'list: while has(tokens, after, Terminal::Comma) {
-        let next = read(alloc, tokens, after + 1, room, ANY_TIER)?;
-        exps.push(next.exp)?;
-        after = next.after;
-        height = height.max(next.height);
+    let mut listed = pushed(no_arguments(alloc, at), first)?;
+    'list: while has(tokens, listed.after, Terminal::Comma) {
+        let next = read(alloc, tokens, listed.after + 1, room, ANY_TIER)?;
+        listed = pushed(listed, next)?;
     }
-    let after = expect(tokens, after, Terminal::RightParenthesis)?;
-    Ok(ArgumentList {
-        exps,
+    ended(tokens, listed)
+}
+
+/// A new array of this length, with the bracket that closes it.
+fn new_array(
+    alloc: Global,
+    tokens: &[Token],
+    at: usize,
+    size: ExpPart,
+) -> Result<ExpPart, ParseFault>
+    requires within { (at < size.after) × (size.after ≤ length tokens.now) }
+    requires height { size.height ≡ height (exp_view size.exp) }
+    requires low { size.height ≤ most_levels }
+    ensures exact { Finds (λ x. (exp_view x.exp, x.after)) result
+        (close tokens.now terminals.RightBracket (NewArray at)
+        (exp_view size.exp, size.after)) }
+    ensures within { IfOk result (λ x. (at < x.after) × (x.after ≤ length tokens.now)) }
+    ensures height { IfOk result (λ x. x.height ≡ height (exp_view x.exp)) }
+    ensures low { IfOk result (λ x. x.height ≡ size.height + 1) }
+{
+    let size = closed(tokens, size, Terminal::RightBracket)?;
+    Ok(ExpPart {
+        exp: nodes::new_array(alloc, at, size.exp)?,
+        after: size.after,
+        height: size.height + 1,
+    })
+}
+
+/// A new object of a class, whose name has to stand behind `new`.
+fn new_object(alloc: Global, tokens: &[Token], at: usize) -> Result<ExpPart, ParseFault>
+    requires { at < length tokens.now }
+    ensures exact { Finds (λ x. (exp_view x.exp, x.after)) result (object_at tokens.now at) }
+    ensures within { IfOk result (λ x. (at < x.after) × (x.after ≤ length tokens.now)) }
+    ensures height { IfOk result (λ x. x.height ≡ height (exp_view x.exp)) }
+    ensures low { IfOk result (λ x. x.height ≡ 1) }
+{
+    let class = expect_name(tokens, at + 1)?;
+    let after = expect_two(
+        tokens,
+        at + 2,
+        Terminal::LeftParenthesis,
+        Terminal::RightParenthesis,
+    )?;
+    Ok(ExpPart {
+        exp: nodes::new_object(alloc, at, class)?,
         after,
-        height,
+        height: 1,
     })
 }
 
@@ -374,21 +558,10 @@ fn read_new(alloc: Global, tokens: &[Token], at: usize, room: usize) -> Result<E
         }
         let inside = expect(tokens, at + 2, Terminal::LeftBracket)?;
         let length = read(alloc, tokens, inside, room, ANY_TIER)?;
-        let after = expect(tokens, length.after, Terminal::RightBracket)?;
-        return Ok(ExpPart {
-            exp: nodes::new_array(alloc, at, length.exp)?,
-            after,
-            height: length.height + 1,
-        });
+        new_array(alloc, tokens, at, length)
+    } else {
+        new_object(alloc, tokens, at)
     }
-    let class = expect_name(tokens, at + 1)?;
-    let inside = expect(tokens, at + 2, Terminal::LeftParenthesis)?;
-    let after = expect(tokens, inside, Terminal::RightParenthesis)?;
-    Ok(ExpPart {
-        exp: nodes::new_object(alloc, at, class)?,
-        after,
-        height: 1,
-    })
 }
 
 /// An expression of one token.
@@ -401,6 +574,31 @@ fn single(exp: Exp, at: usize) -> ExpPart
         after: at + 1,
         height: 1,
     }
+}
+
+/// An expression in parentheses, with the one that closes them.
+fn parenthesized(
+    alloc: Global,
+    tokens: &[Token],
+    at: usize,
+    inner: ExpPart,
+) -> Result<ExpPart, ParseFault>
+    requires within { (at < inner.after) × (inner.after ≤ length tokens.now) }
+    requires height { inner.height ≡ height (exp_view inner.exp) }
+    requires low { inner.height ≤ most_levels }
+    ensures exact { Finds (λ x. (exp_view x.exp, x.after)) result
+        (close tokens.now terminals.RightParenthesis (Parenthesized at)
+        (exp_view inner.exp, inner.after)) }
+    ensures within { IfOk result (λ x. (at < x.after) × (x.after ≤ length tokens.now)) }
+    ensures height { IfOk result (λ x. x.height ≡ height (exp_view x.exp)) }
+    ensures low { IfOk result (λ x. x.height ≡ inner.height + 1) }
+{
+    let inner = closed(tokens, inner, Terminal::RightParenthesis)?;
+    Ok(ExpPart {
+        exp: nodes::parentheses(alloc, at, inner.exp)?,
+        after: inner.after,
+        height: inner.height + 1,
+    })
 }
 
 #[cycle(expressions)]
@@ -426,12 +624,7 @@ fn prim(alloc: Global, tokens: &[Token], at: usize, room: usize) -> Result<ExpPa
             Terminal::LeftParenthesis if room == 0 => Err(ParseFault::TooDeep),
             Terminal::LeftParenthesis => {
                 let inner = read(alloc, tokens, at + 1, room, ANY_TIER)?;
-                let after = expect(tokens, inner.after, Terminal::RightParenthesis)?;
-                Ok(ExpPart {
-                    exp: nodes::parentheses(alloc, at, inner.exp)?,
-                    after,
-                    height: inner.height + 1,
-                })
+                parenthesized(alloc, tokens, at, inner)
             }
             _ => Err(ParseFault::NotAFile(at)),
         },

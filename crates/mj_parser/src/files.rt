@@ -1,15 +1,17 @@
 //! Reading classes and the whole file.
-ghost use Rattle.std.specs.Prelude.{◌≡◌, ◌≢◌, ℕ, ◌+◌, ◌<◌, ◌≤◌, suc, length, drop, map, option_map, true, false, IfOk, IfErr, IsTrue};
+ghost use Rattle.std.specs.Prelude.{◌≡◌, ℕ, ◌+◌, ◌<◌, ◌≤◌, ◌&&◌, codes, suc, length, drop, map, option_map, true, false, IfOk, IfErr, IsTrue};
 ghost use Rattle.mj_tree.specs.Views.{stmt_view, method_view, main_view, class_view, file_view};
-ghost use Rattle.mj_parser.specs.Declarations.{main_head, main_parameter};
+ghost use Rattle.mj_lexer.specs.declared.token.Terminal.TheVariants as terminals;
+ghost use Rattle.mj_parser.specs.Tokens.{has, says};
+ghost use Rattle.mj_parser.specs.Declarations.{main_head, main_head_fault, main_parameter, main_parameter_fault};
 ghost use Rattle.mj_parser.specs.Steps.{Finds, items_from};
 ghost use Rattle.mj_parser.specs.FileReading.{field_at, begins_type, method_from, at_public, superclass_at, class_at, begins_main, main_method_at, main_from, main_at, main_part_at, before_end, tree_of};
-ghost use Rattle.mj_parser.specs.declared.fault.ParseFault.TheVariants.{OutOfMemory};
+ghost use Rattle.mj_parser.specs.declared.fault.ParseFault.TheVariants.{NotAFile};
 
 use crate::declarations::{local, method};
 use crate::fault::ParseFault;
 use crate::statements::statement;
-use crate::tokens::{Part, expect, expect_name, expect_two, expect_word, has, name};
+use crate::tokens::{Part, expect, expect_name, expect_two, expect_word_and, has, name};
 use mj_lexer::{Name, Terminal, Token};
 use mj_tree::{ClassTree, Field, FileTree, MOST_LEVELS, MainTree, MethodTree, Stmt};
 use std::alloc::Global;
@@ -154,27 +156,39 @@ fn classes(alloc: Global, tokens: &[Token], at: usize) -> Result<Part<Vec<ClassT
 fn expect_main_head(tokens: &[Token]) -> Result<usize, ParseFault>
     ensures found { IfOk result (λ after.
         (main_head tokens.now ≡ true) × (after ≡ 5) × (after ≤ length tokens.now)) }
-    ensures fault { IfErr result (λ e. (main_head tokens.now ≡ false) × (e ≢ OutOfMemory)) }
+    ensures fault { IfErr result (λ e.
+        (main_head tokens.now ≡ false) × (e ≡ NotAFile (main_head_fault tokens.now))) }
 {
-    let after = expect(tokens, 0, Terminal::Public)?;
-    let after = expect(tokens, after, Terminal::Static)?;
+    let after = expect_two(tokens, 0, Terminal::Public, Terminal::Static)?;
     let after = expect(tokens, after, Terminal::Void)?;
-    let after = expect_word(tokens, after, b"main".as_slice())?;
-    expect(tokens, after, Terminal::LeftParenthesis)
+    expect_word_and(tokens, after, b"main".as_slice(), Terminal::LeftParenthesis)
+}
+
+/// The place after `id ) {`, behind `String [ ]`.
+fn expect_parameter_end(tokens: &[Token]) -> Result<usize, ParseFault>
+    requires { (says tokens.now 5 (codes "String") && has tokens.now 6 terminals.LeftBracket
+        && has tokens.now 7 terminals.RightBracket) ≡ true }
+    ensures found { IfOk result (λ after.
+        (main_parameter tokens.now ≡ true) × (after ≡ 11) × (after ≤ length tokens.now)) }
+    ensures fault { IfErr result (λ e.
+        (main_parameter tokens.now ≡ false)
+        × (e ≡ NotAFile (main_parameter_fault tokens.now))) }
+{
+    expect_name(tokens, 8)?;
+    expect_two(tokens, 9, Terminal::RightParenthesis, Terminal::LeftBrace)
 }
 
 /// The place after `String [ ] id ) {`.
 fn expect_main_parameter(tokens: &[Token]) -> Result<usize, ParseFault>
     ensures found { IfOk result (λ after.
         (main_parameter tokens.now ≡ true) × (after ≡ 11) × (after ≤ length tokens.now)) }
-    ensures fault { IfErr result (λ e. (main_parameter tokens.now ≡ false) × (e ≢ OutOfMemory)) }
+    ensures fault { IfErr result (λ e.
+        (main_parameter tokens.now ≡ false)
+        × (e ≡ NotAFile (main_parameter_fault tokens.now))) }
 {
-    let after = expect_word(tokens, 5, b"String".as_slice())?;
-    let after = expect(tokens, after, Terminal::LeftBracket)?;
-    let after = expect(tokens, after, Terminal::RightBracket)?;
-    expect_name(tokens, after)?;
-    let after = expect(tokens, after + 1, Terminal::RightParenthesis)?;
-    expect(tokens, after, Terminal::LeftBrace)
+    let after = expect_word_and(tokens, 5, b"String".as_slice(), Terminal::LeftBracket)?;
+    expect(tokens, after, Terminal::RightBracket)?;
+    expect_parameter_end(tokens)
 }
 
 /// The statement of `main`, which the tokens begin with, and the end of the main class.

@@ -131,6 +131,27 @@ pub fn block(mark: usize, body: Vec<Stmt>) -> Stmt
     Stmt::Block { mark, body }
 }
 
+/// A choice, whose first branch stands in a box.
+fn choice_of(
+    alloc: Global,
+    mark: usize,
+    condition: Exp,
+    then_branch: Box<Stmt>,
+    else_branch: Stmt,
+) -> Result<Stmt, AllocError>
+    ensures { IfOk result (λ s.
+        stmt_view s
+        ≡ trees.If mark (exp_view condition) (stmt_view then_branch.value)
+        (stmt_view else_branch)) }
+{
+    Ok(Stmt::If {
+        mark,
+        condition,
+        then_branch,
+        else_branch: Box::new(alloc, else_branch)?,
+    })
+}
+
 pub fn choice(
     alloc: Global,
     mark: usize,
@@ -143,12 +164,8 @@ pub fn choice(
         ≡ trees.If mark (exp_view condition) (stmt_view then_branch)
         (stmt_view else_branch)) }
 {
-    Ok(Stmt::If {
-        mark,
-        condition,
-        then_branch: Box::new(alloc, then_branch)?,
-        else_branch: Box::new(alloc, else_branch)?,
-    })
+    let then_branch = Box::new(alloc, then_branch)?;
+    choice_of(alloc, mark, condition, then_branch, else_branch)
 }
 
 pub fn repetition(

@@ -1,20 +1,24 @@
 //! Reading a statement from left to right.
-ghost use Rattle.std.specs.Prelude.{◌≡◌, ℕ, ◌+◌, ◌^◌, ◌<◌, ◌≤◌, ◌||◌, suc, length, map, not, true, false, Some, None, ◌≢◌, IfOk, IfErr, IsTrue};
-ghost use Rattle.mj_parser.specs.Tokens.{has, name_at};
+ghost use Rattle.std.specs.Prelude.{◌≡◌, ℕ, ◌+◌, ◌^◌, ◌<◌, ◌≤◌, ◌||◌, suc, length, map, not, codes, true, false, Some, None, ◌≢◌, IfOk, IfErr, IsTrue};
+ghost use Rattle.mj_parser.specs.Tokens.{has, says, name_at};
 ghost use Rattle.mj_tree.specs.Views.{exp_view, stmt_view};
 ghost use Rattle.mj_tree.specs.Limits.{most_levels};
 ghost use Rattle.mj_parser.specs.Expressions.{any_tier};
-ghost use Rattle.mj_parser.specs.Statements.{opens_print};
-ghost use Rattle.mj_parser.specs.Steps.{Finds, items_from};
+ghost use Rattle.mj_parser.specs.Statements.{opens_print, print_fault};
+ghost use Rattle.mj_parser.specs.Steps.{Finds, items_from, when};
+ghost use Rattle.mj_lexer.specs.declared.token.Terminal.TheVariants as terminals;
+ghost use Rattle.mj_tree.specs.Trees.{Statement, If, While, Assign, Store};
 ghost use Rattle.mj_parser.specs.ExpressionReading.{exp_at};
 ghost use Rattle.mj_parser.specs.StatementReading.{not_brace, block_at, condition_at, if_at, while_at, print_at, assign_at, store_at, named_at, stmt_of, stmt_at};
 ghost use Rattle.mj_parser.specs.declared.fault.ParseFault.{ParseFault};
 ghost use Rattle.mj_parser.specs.declared.fault.ParseFault.TheVariants.{NotAFile, OutOfMemory};
 
-use crate::expressions::{ANY_TIER, ExpPart, read};
+use crate::expressions::{ANY_TIER, ExpPart, closed, read};
 use crate::fault::ParseFault;
 use crate::nodes;
-use crate::tokens::{Part, expect, expect_name, expect_two, expect_word, has, name, says};
+use crate::tokens::{
+    Part, expect, expect_name, expect_two, expect_word_and, followed, has, name, says,
+};
 use mj_lexer::{Name, Terminal, Token};
 use mj_tree::Stmt;
 use std::alloc::Global;
@@ -30,8 +34,26 @@ fn condition(alloc: Global, tokens: &[Token], at: usize, room: usize) -> Result<
 {
     let inside = expect(tokens, at, Terminal::LeftParenthesis)?;
     let exp = read(alloc, tokens, inside, room, ANY_TIER)?;
-    let after = expect(tokens, exp.after, Terminal::RightParenthesis)?;
-    Ok(ExpPart { after, ..exp })
+    closed(tokens, exp, Terminal::RightParenthesis)
+}
+
+/// The place after `. out . println (`, behind `System`.
+fn expect_print_path(tokens: &[Token], at: usize) -> Result<usize, ParseFault>
+    requires within { at < length tokens.now }
+    requires system { says tokens.now at (codes "System") ≡ true }
+    ensures found { IfOk result (λ after.
+        (opens_print tokens.now at ≡ true) × (after ≡ at + 6) × (after ≤ length tokens.now)) }
+    ensures fault { IfErr result (λ e.
+        (opens_print tokens.now at ≡ false) × (e ≡ NotAFile (print_fault tokens.now at))) }
+{
+    let after = expect(tokens, at + 1, Terminal::Dot)?;
+    let after = expect_word_and(tokens, after, b"out".as_slice(), Terminal::Dot)?;
+    expect_word_and(
+        tokens,
+        after,
+        b"println".as_slice(),
+        Terminal::LeftParenthesis,
+    )
 }
 
 /// The place after `System . out . println (`. Another name than `System` begins a statement too, so that the fault
@@ -40,16 +62,14 @@ fn print_opening(tokens: &[Token], at: usize) -> Result<usize, ParseFault>
     requires { at < length tokens.now }
     ensures found { IfOk result (λ after.
         (opens_print tokens.now at ≡ true) × (after ≡ at + 6) × (after ≤ length tokens.now)) }
-    ensures fault { IfErr result (λ e. (opens_print tokens.now at ≡ false) × (e ≢ OutOfMemory)) }
+    ensures fault { IfErr result (λ e.
+        (opens_print tokens.now at ≡ false) × (e ≡ NotAFile (print_fault tokens.now at))) }
 {
-    if !says(tokens, at, b"System".as_slice()) {
-        return Err(ParseFault::NotAFile(at + 1));
+    if says(tokens, at, b"System".as_slice()) {
+        expect_print_path(tokens, at)
+    } else {
+        Err(ParseFault::NotAFile(at + 1))
     }
-    let after = expect(tokens, at + 1, Terminal::Dot)?;
-    let after = expect_word(tokens, after, b"out".as_slice())?;
-    let after = expect(tokens, after, Terminal::Dot)?;
-    let after = expect_word(tokens, after, b"println".as_slice())?;
-    expect(tokens, after, Terminal::LeftParenthesis)
 }
 
 #[tactic(auto, unfolding(crate::specs::StatementReading::print_at))]
@@ -74,6 +94,27 @@ fn print(alloc: Global, tokens: &[Token], at: usize, room: usize) -> Result<Part
     })
 }
 
+/// The assignment of the expression, with its semicolon.
+fn assigned(
+    alloc: Global,
+    tokens: &[Token],
+    name: &Name,
+    at: usize,
+    value: ExpPart,
+) -> Result<Part<Stmt>, ParseFault>
+    requires { (at + 1 < value.after) × (value.after ≤ length tokens.now) }
+    ensures exact { Finds {A = Statement × ℕ} (λ x. (stmt_view x.tree, x.after)) result
+        (when (has tokens.now value.after terminals.Semicolon)
+        (Some (Assign (at + 1) name.now at (exp_view value.exp), value.after + 1))) }
+    ensures within { IfOk result (λ x. (at < x.after) × (x.after ≤ length tokens.now)) }
+{
+    let value = closed(tokens, value, Terminal::Semicolon)?;
+    Ok(Part {
+        tree: nodes::assign(alloc, at + 1, name, at, value.exp)?,
+        after: value.after,
+    })
+}
+
 #[tactic(auto, unfolding(crate::specs::StatementReading::assign_at))]
 fn assign(
     alloc: Global,
@@ -89,10 +130,31 @@ fn assign(
     ensures within { IfOk result (λ x. (at < x.after) × (x.after ≤ length tokens.now)) }
 {
     let value = read(alloc, tokens, at + 2, room, ANY_TIER)?;
-    let after = expect(tokens, value.after, Terminal::Semicolon)?;
+    assigned(alloc, tokens, name, at, value)
+}
+
+/// The assignment of the expression to the element of this index, with its semicolon.
+fn stored(
+    alloc: Global,
+    tokens: &[Token],
+    name: &Name,
+    at: usize,
+    index: ExpPart,
+    value: ExpPart,
+) -> Result<Part<Stmt>, ParseFault>
+    requires { (at < index.after) × (index.after < value.after) × (value.after ≤ length tokens.now) }
+    ensures exact { Finds {A = Statement × ℕ} (λ x. (stmt_view x.tree, x.after)) result
+        (when (has tokens.now value.after terminals.Semicolon)
+        (Some (
+          Store (index.after + 1) name.now at (exp_view index.exp) (exp_view value.exp),
+          value.after + 1,
+        ))) }
+    ensures within { IfOk result (λ x. (at < x.after) × (x.after ≤ length tokens.now)) }
+{
+    let value = closed(tokens, value, Terminal::Semicolon)?;
     Ok(Part {
-        tree: nodes::assign(alloc, at + 1, name, at, value.exp)?,
-        after,
+        tree: nodes::store(alloc, index.after + 1, name, at, index.exp, value.exp)?,
+        after: value.after,
     })
 }
 
@@ -111,14 +173,14 @@ fn store(
     ensures within { IfOk result (λ x. (at < x.after) × (x.after ≤ length tokens.now)) }
 {
     let index = read(alloc, tokens, at + 2, room, ANY_TIER)?;
-    let mark = expect(tokens, index.after, Terminal::RightBracket)?;
-    let inside = expect(tokens, mark, Terminal::Assign)?;
+    let inside = expect_two(
+        tokens,
+        index.after,
+        Terminal::RightBracket,
+        Terminal::Assign,
+    )?;
     let value = read(alloc, tokens, inside, room, ANY_TIER)?;
-    let after = expect(tokens, value.after, Terminal::Semicolon)?;
-    Ok(Part {
-        tree: nodes::store(alloc, mark, name, at, index.exp, value.exp)?,
-        after,
-    })
+    stored(alloc, tokens, name, at, index, value)
 }
 
 /// A statement that begins with a name.
@@ -170,6 +232,44 @@ fn lacks_levels(tokens: &[Token], at: usize, room: usize) -> bool
     ensures enough { result ≡ false → 0 < room }
 {
     room == 0 || (room == 1 && !has(tokens, at, Terminal::LeftBrace))
+}
+
+/// The choice between two statements.
+fn chosen(
+    alloc: Global,
+    at: usize,
+    condition: ExpPart,
+    first: Part<Stmt>,
+    second: Part<Stmt>,
+) -> Result<Part<Stmt>, ParseFault>
+    ensures exact { Finds {A = Statement × ℕ} (λ x. (stmt_view x.tree, x.after)) result
+        (Some (
+          If at (exp_view condition.exp) (stmt_view first.tree) (stmt_view second.tree),
+          second.after,
+        )) }
+    ensures place { IfOk result (λ x. x.after ≡ second.after) }
+{
+    Ok(Part {
+        tree: nodes::choice(alloc, at, condition.exp, first.tree, second.tree)?,
+        after: second.after,
+    })
+}
+
+/// The repetition of a statement.
+fn repeated(
+    alloc: Global,
+    at: usize,
+    condition: ExpPart,
+    body: Part<Stmt>,
+) -> Result<Part<Stmt>, ParseFault>
+    ensures exact { Finds {A = Statement × ℕ} (λ x. (stmt_view x.tree, x.after)) result
+        (Some (While at (exp_view condition.exp) (stmt_view body.tree), body.after)) }
+    ensures place { IfOk result (λ x. x.after ≡ body.after) }
+{
+    Ok(Part {
+        tree: nodes::repetition(alloc, at, condition.exp, body.tree)?,
+        after: body.after,
+    })
 }
 
 /// Statements up to a closing brace.
@@ -227,12 +327,9 @@ fn choice(alloc: Global, tokens: &[Token], at: usize, room: usize) -> Result<Par
 {
     let condition = condition(alloc, tokens, at + 1, room)?;
     let first = statement(alloc, tokens, condition.after, room)?;
-    let after = expect(tokens, first.after, Terminal::Else)?;
-    let second = statement(alloc, tokens, after, room)?;
-    Ok(Part {
-        tree: nodes::choice(alloc, at, condition.exp, first.tree, second.tree)?,
-        after: second.after,
-    })
+    let first = followed(tokens, first, Terminal::Else)?;
+    let second = statement(alloc, tokens, first.after, room)?;
+    chosen(alloc, at, condition, first, second)
 }
 
 #[cycle(statements)]
@@ -252,10 +349,7 @@ fn repetition(
 {
     let condition = condition(alloc, tokens, at + 1, room)?;
     let body = statement(alloc, tokens, condition.after, room)?;
-    Ok(Part {
-        tree: nodes::repetition(alloc, at, condition.exp, body.tree)?,
-        after: body.after,
-    })
+    repeated(alloc, at, condition, body)
 }
 
 /// A statement of no more than so many levels.

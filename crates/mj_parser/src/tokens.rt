@@ -115,6 +115,45 @@ pub fn expect_word(tokens: &[Token], at: usize, word: &[u8]) -> Result<usize, Pa
     }
 }
 
+/// The place after a word and a symbol that have to stand here.
+pub fn expect_word_and(
+    tokens: &[Token],
+    at: usize,
+    word: &[u8],
+    terminal: Terminal,
+) -> Result<usize, ParseFault>
+    requires { at < 2 ^ 62 }
+    ensures found { IfOk result (λ after.
+        ((says tokens.now at word.now && has tokens.now (at + 1) terminal) ≡ true)
+        × (after ≡ at + 2) × (after ≤ length tokens.now)) }
+    ensures fault { IfErr result (λ e.
+        (e ≡ NotAFile (if says tokens.now at word.now then at + 1 else at))
+        × ((says tokens.now at word.now && has tokens.now (at + 1) terminal) ≡ false)) }
+{
+    let after = expect_word(tokens, at, word)?;
+    expect(tokens, after, terminal)
+}
+
+/// The part, behind which this symbol or reserved word has to stand, and the place after that.
+pub fn followed<T: Drop>(
+    tokens: &[Token],
+    part: Part<T>,
+    terminal: Terminal,
+) -> Result<Part<T>, ParseFault>
+    requires { part.after < 2 ^ 63 }
+    ensures found { IfOk result (λ x.
+        (has tokens.now part.after terminal ≡ true) × (x.tree ≡ part.tree) × (x.after ≡ part.after + 1)
+        × (x.after ≤ length tokens.now)) }
+    ensures fault { IfErr result (λ e.
+        (e ≡ NotAFile part.after) × (has tokens.now part.after terminal ≡ false)) }
+{
+    let after = expect(tokens, part.after, terminal)?;
+    Ok(Part {
+        tree: part.tree,
+        after,
+    })
+}
+
 /// The name that has to stand here.
 pub fn expect_name(tokens: &[Token], at: usize) -> Result<&Name, ParseFault>
     ensures found { IfOk result (λ n.

@@ -64,12 +64,12 @@ decreases-read_suffixes-items l = length l.tokens - l.left.after
 
 abbrev pub invariant-arguments-list : goal.invariant-arguments-list
 invariant-arguments-list l = record {
-  within : l.after ≤ length l.tokens;
-  onward : l.at < l.after;
-  height_is : l.height ≡ heights (exps_view l.exps.items);
-  low : l.height ≤ l.room;
-  so_far : (total : Option (List Expression × ℕ)) → ListLeads (exp_at l.room l.tokens 5) l.tokens (map exp_view l.exps.items) l.after total → listed_at (exp_at l.room l.tokens 5) l.tokens l.at ≡ closed_list l.tokens total;
+  within : l.listed.after ≤ length l.tokens;
+  onward : l.at < l.listed.after;
+  height_is : l.listed.height ≡ heights (exps_view l.listed.exps.items);
+  low : l.listed.height ≤ l.room;
+  so_far : (total : Option (List Expression × ℕ)) → ListLeads (exp_at l.room l.tokens 5) l.tokens (map exp_view l.listed.exps.items) l.listed.after total → listed_at (exp_at l.room l.tokens 5) l.tokens l.at ≡ closed_list l.tokens total;
 }
 
 abbrev pub decreases-arguments-list : goal.decreases-arguments-list
-decreases-arguments-list l = length l.tokens - l.after
+decreases-arguments-list l = length l.tokens - l.listed.after
