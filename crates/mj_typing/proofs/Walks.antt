@@ -6,7 +6,7 @@ use Rattle.mj_tree.specs.declared.tree.Stmt.{Stmt}
 use Rattle.mj_tree.specs.declared.tree.Variable.{Variable}
 use Rattle.mj_phrases.specs.declared.verdict.Mistake.{Mistake}
 use Rattle.mj_phrases.specs.Variables.{variables_of, add_repeated_each}
-use Rattle.mj_phrases.specs.Phrases.{Phrase, phrase_step, mistakes_step}
+use Rattle.mj_phrases.specs.Phrases.{mistakes_step}
 use Rattle.mj_phrases.specs.Steps.{Check, Proceeds, Aborts}
 use Rattle.mj_phrases.specs.Table.{Scope, return_phrase, method_scope}
 use Rattle.mj_phrases.proofs.Asked.{Comes, front_at, at_end}

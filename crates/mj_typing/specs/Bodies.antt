@@ -9,7 +9,7 @@ use Rattle.mj_answer.specs.declared.code.Code.TheVariants.{E206, E207}
 use Rattle.mj_phrases.specs.declared.verdict.Mistake.{Mistake}
 use Rattle.mj_phrases.specs.Inquiries.{World, Concludes, AsksDeclared}
 use Rattle.mj_phrases.specs.Steps.{Check}
-use Rattle.mj_phrases.specs.Phrases.{Phrase, FaultInSome, add_each, phrase_step}
+use Rattle.mj_phrases.specs.Phrases.{FaultInSome, add_each, mistakes_step}
 use Rattle.mj_phrases.specs.Variables.{variables_of, name_token, add_repeated_each}
 use Rattle.mj_phrases.specs.Table.{Scope, method_scope, main_scope, own_phrase, return_phrase, method_phrases, main_phrases}
 
