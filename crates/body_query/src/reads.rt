@@ -11,8 +11,8 @@ ghost use Rattle.body_query.specs.Programs.{reads_of};
 
 use body_questions::{MethodTypes, ask_declared, ask_descends, ask_field, ask_method};
 use mj_lexer::Name;
-use mj_tree::{MethodTree, Stmt, Ty};
 use mj_phrases::{Asking, Mistake, Stop};
+use mj_tree::{MethodTree, Stmt, Ty};
 use mj_typing::{check_main_statement, check_method};
 use recorder::{Reader, Recorder, RunFault};
 use std::alloc::Global;

@@ -5,8 +5,8 @@ ghost use Rattle.body_questions.specs.Questions.{declared_step, descends_step, f
 
 use crate::facts::{MethodTypes, descends_in, field_in, is_declared_in, method_in};
 use mj_lexer::Name;
-use mj_tree::Ty;
 use mj_phrases::Signature;
+use mj_tree::Ty;
 use name_reads::{read_header, read_members, read_supers};
 use recorder::{Reader, Recorder, RunFault};
 use std::alloc::Global;

@@ -4,5 +4,6 @@
 mod reads;
 
 pub use reads::{
-    read_check_body, read_check_class, read_diags, read_header, read_members, read_method, read_sig, read_source, read_supers, read_tree,
+    read_check_body, read_check_class, read_diags, read_header, read_members, read_method,
+    read_sig, read_source, read_supers, read_tree,
 };

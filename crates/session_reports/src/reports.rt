@@ -11,11 +11,7 @@ pub struct Reports {
 }
 
 /// The reports of so many workers, of which the first made all events.
-pub fn reports_of(
-    alloc: Global,
-    history: usize,
-    workers: usize,
-) -> Result<Reports, AllocError>
+pub fn reports_of(alloc: Global, history: usize, workers: usize) -> Result<Reports, AllocError>
     requires { 1 ≤ workers }
     ensures history { IfOk result (λ r. r.history ≡ history) }
     ensures events { IfOk result (λ r. r.events.items ≡ history ∷ replicate (workers - 1) 0) }
