@@ -12,7 +12,7 @@ use Rattle.mj_parser.specs.Rows.{row_size, InRow}
 use Rattle.mj_parser.specs.Declarations.{field_size, method_size, head_size, class_size, main_part_size, IsClass}
 use Rattle.mj_parser.specs.FileReading.{tree_of}
 use Rattle.mj_parser.proofs.FileFound.{file_found}
-use Rattle.mj_parser.proofs.Stands.{stands_within}
+use Rattle.mj_expressions.proofs.Stands.{stands_within}
 use Rattle.storable_trees.proofs.Counts.{row_count}
 use Rattle.storable_trees.proofs.TextTokens.{tokens_few}
 use Rattle.mj_members.specs.Declarations.{ClassDecl}

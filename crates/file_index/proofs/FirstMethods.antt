@@ -11,7 +11,7 @@ use Rattle.std.proofs.lemmas.Map.Text.{is_eq-slice_cmp}
 use Rattle.std.proofs.lemmas.Slice.Eq.{bytes_eq-Decides}
 use Rattle.mj_lexer.specs.declared.token.Token.{Token}
 use Rattle.mj_tree.specs.Trees.{Name}
-use Rattle.mj_parser.specs.Tokens.{name_at, is_word}
+use Rattle.mj_expressions.specs.Tokens.{name_at, is_word}
 use Rattle.mj_parser.specs.Locations.{method_name}
 use Rattle.file_index.specs.Standing.{is_named}
 

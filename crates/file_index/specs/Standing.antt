@@ -4,7 +4,7 @@ use Rattle.mj_lexer.specs.declared.token.Token.{Token}
 use Rattle.mj_lexer.specs.declared.token.Terminal.{Terminal}
 use Rattle.mj_lexer.specs.declared.token.Terminal.TheVariants as terminals
 use Rattle.mj_tree.specs.Trees.{Name}
-use Rattle.mj_parser.specs.Tokens.{name_at, is_word}
+use Rattle.mj_expressions.specs.Tokens.{name_at, is_word}
 use Rattle.mj_parser.specs.Locations.{numbers, all_of, class_end, method_name, begins_method}
 
 pub record Standing : Type 0 where

@@ -12,7 +12,8 @@ ghost use Rattle.file_index.specs.Standing.{standing, is_named, first_method, cl
 
 use crate::terminals::TerminalPlaces;
 use mj_lexer::{Name, Token};
-use mj_parser::{method_name, name};
+use mj_expressions::name;
+use mj_parser::method_name;
 use std::alloc::{AllocError, Global};
 use std::collections::BTreeMap;
 use std::marker::Model;

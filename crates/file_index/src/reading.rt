@@ -1,7 +1,7 @@
 //! A file read once: its tokens, its tree, and where reading stopped.
 ghost use Rattle.std.specs.Prelude.{◌≡◌, ◌≢◌, None, [], IfOk};
 ghost use Rattle.mj_lexer.specs.declared.lexer.LexFault.TheVariants as lexing;
-ghost use Rattle.mj_parser.specs.declared.fault.ParseFault.TheVariants as parsing;
+ghost use Rattle.mj_expressions.specs.declared.fault.ParseFault.TheVariants as parsing;
 ghost use Rattle.file_index.specs.Reading.{IsReading, IsTreeOf, IsTokenStop, lexing_stop, token_start};
 
 use mj_lexer::{LexFault, Token, lex};

@@ -6,7 +6,7 @@ ghost use Rattle.file_index.specs.Standing.{Standing};
 
 use crate::places::{before, from};
 use mj_lexer::{Terminal, Token};
-use mj_parser::has;
+use mj_expressions::has;
 use std::alloc::{AllocError, Global};
 use std::marker::Model;
 

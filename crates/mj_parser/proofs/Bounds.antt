@@ -7,16 +7,16 @@ use Rattle.std.proofs.lemmas.Option.{slice_get_within}
 use Rattle.mj_lexer.specs.declared.token.Token.{Token}
 use Rattle.mj_lexer.specs.declared.token.Terminal.TheVariants as terminals
 use Rattle.mj_tree.specs.declared.tree.Variable.{Variable}
-use Rattle.mj_parser.specs.Tokens.{token_kind, value_of, says, value_at}
+use Rattle.mj_expressions.specs.Tokens.{token_kind, value_of, says, value_at}
 use Rattle.mj_tree.specs.Trees.{Expression, Expressions, Binary, Index, Length, Call, Literal, Boolean, Named, This, NewArray, NewObject, Not, Parenthesized, none, more, Statement, Statements, Block, If, While, Print, Assign, Store, done, next, Method, Main, Class, File}
-use Rattle.mj_parser.specs.Expressions.{terminal_of, terminal_of_bool, IsExp, AreArguments, AreMore}
+use Rattle.mj_expressions.specs.Expressions.{terminal_of, terminal_of_bool, IsExp, AreArguments, AreMore}
 use Rattle.mj_parser.specs.Statements.{IsStmt, AreStmts}
 use Rattle.mj_parser.specs.Rows.{InRow}
 use Rattle.mj_parser.specs.Declarations.{type_size, IsVariable, variable_size, IsMoreFormal, more_formal_size, AreFormals, IsLocal, local_size, method_size, formals_place, locals_place, body_place, return_place, IsMethod, IsMethodAt, class_size, IsClass, IsMainPart, Derives}
 use Rattle.mj_parser.specs.MarkBounds.{ExpMarksBelow, ExpsMarksBelow, StmtMarksBelow, StmtsMarksBelow, VariableBelow, MethodMarksBelow, ClassMarksBelow, MainMarksBelow, FileMarksBelow}
-use Rattle.mj_parser.proofs.Marks.{name_within, says_name}
+use Rattle.mj_expressions.proofs.Marks.{name_within, says_name}
 use Rattle.mj_parser.proofs.StatementAgain.{print_name}
-use Rattle.mj_parser.proofs.Stands.{stands_within}
+use Rattle.mj_expressions.proofs.Stands.{stands_within}
 
 within_value : (ts : List Token) (j v : ℕ) (k : Option Token) → slice_get ts j ≡ k → value_of (token_kind k) ≡ Some v → j < length ts
 within_value ts j v None e h = absurd cc

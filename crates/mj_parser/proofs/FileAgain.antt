@@ -11,22 +11,23 @@ use Rattle.mj_tree.specs.declared.tree.Ty.{Ty}
 use Rattle.mj_tree.specs.declared.tree.Ty.TheVariants as types
 use Rattle.mj_tree.specs.declared.tree.Field.{Field}
 use Rattle.mj_tree.specs.declared.tree.Variable.{Variable}
-use Rattle.mj_parser.specs.Tokens.{same_terminal, token_kind, kind_at, is_terminal, name_of, has, name_at}
+use Rattle.mj_expressions.specs.Tokens.{same_terminal, token_kind, kind_at, is_terminal, name_of, has, name_at}
 use Rattle.mj_tree.specs.Trees.{Name, Statement, Statements, Block, If, While, Print, Assign, Store, done, next, Method, Main, Class, File}
-use Rattle.mj_parser.specs.Expressions.{size}
+use Rattle.mj_expressions.specs.Expressions.{size}
 use Rattle.mj_parser.specs.Statements.{stmt_size, stmts_size, stmt_height, IsStmt, AreStmts}
 use Rattle.mj_parser.specs.Rows.{row_size, row_height, InRow}
 use Rattle.mj_parser.specs.Declarations.{type_size, IsType, IsVariable, variable_size, IsMoreFormal, more_formal_size, formals_size, AreFormals, IsLocal, local_size, formals_place, locals_place, body_place, return_place, method_size, method_height, IsMethod, main_head, main_parameter, field_size, IsField, IsMethodAt, superclass_size, IsSuperclass, head_size, class_size, IsClass, class_height, IsMain, main_size, IsMainPart, main_part_size, main_part_height, Derives}
-use Rattle.mj_parser.specs.Steps.{behind_comma, at_comma, listed_at}
+use Rattle.mj_expressions.specs.Steps.{behind_comma, at_comma, listed_at}
 use Rattle.mj_parser.specs.StatementReading.{stmt_at}
 use Rattle.mj_parser.specs.FileReading.{type_at, variable_at, local_at, field_at, begins_type, begins_local, signature_at, not_return, method_of, method_at, method_from, superclass_at, at_public, class_at, begins_main, main_method_at, main_from, main_at, main_part_at, before_end, tree_of}
-use Rattle.mj_parser.proofs.Binds.{and_both}
+use Rattle.mj_expressions.proofs.Binds.{and_both}
 use Rattle.mj_parser.proofs.Lists.{list_stmts}
-use Rattle.mj_parser.proofs.Marks.{has_other, has_named, has_within}
+use Rattle.mj_expressions.proofs.Marks.{has_other, has_named, has_within}
 use Rattle.mj_parser.proofs.Rows.{row_again}
-use Rattle.mj_parser.proofs.ExpressionAgain.{closer_semicolon}
-use Rattle.mj_parser.proofs.StatementAgain.{print_name, print_dot, no_statement, exp_before, stmts_again, stmt_again}
-use Rattle.mj_parser.proofs.Stands.{has_is}
+use Rattle.mj_expressions.proofs.ExpressionAgain.{closer_semicolon}
+use Rattle.mj_expressions.proofs.ExpressionLaw.{exp_before}
+use Rattle.mj_parser.proofs.StatementAgain.{print_name, print_dot, no_statement, stmts_again, stmt_again}
+use Rattle.mj_expressions.proofs.Stands.{has_is}
 
 -- ---- tokens
 

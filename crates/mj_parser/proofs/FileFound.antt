@@ -7,22 +7,22 @@ use Rattle.mj_lexer.specs.declared.token.Terminal.TheVariants as terminals
 use Rattle.mj_tree.specs.declared.tree.Ty.{Ty}
 use Rattle.mj_tree.specs.declared.tree.Field.{Field}
 use Rattle.mj_tree.specs.declared.tree.Variable.{Variable}
-use Rattle.mj_parser.specs.Tokens.{Stands, has, name_at}
+use Rattle.mj_expressions.specs.Tokens.{Stands, has, name_at}
 use Rattle.mj_tree.specs.Trees.{Name, Statement, Method, Main, Class, File}
 use Rattle.mj_tree.specs.Views.{statements_of}
-use Rattle.mj_parser.specs.Expressions.{size, IsExp}
+use Rattle.mj_expressions.specs.Expressions.{size, IsExp}
 use Rattle.mj_parser.specs.Statements.{stmt_size, stmts_size, stmt_height, IsStmt, AreStmts}
 use Rattle.mj_parser.specs.Rows.{row_size, InRow}
 use Rattle.mj_parser.specs.Declarations.{type_size, IsType, IsVariable, variable_size, IsMoreFormal, more_formal_size, formals_size, AreFormals, IsLocal, local_size, method_size, method_height, IsMethod, main_head, main_parameter, field_size, IsField, IsMethodAt, superclass_size, IsSuperclass, class_size, IsClass, class_height, IsMain, main_size, IsMainPart, main_part_size, main_part_height, Derives}
-use Rattle.mj_parser.specs.Steps.{items_from, behind_comma, at_comma, listed_at}
-use Rattle.mj_parser.specs.ExpressionReading.{exp_at}
+use Rattle.mj_expressions.specs.Steps.{items_from, behind_comma, at_comma, listed_at}
+use Rattle.mj_expressions.specs.ExpressionReading.{exp_at}
 use Rattle.mj_parser.specs.StatementReading.{stmt_at}
 use Rattle.mj_parser.specs.FileReading.{type_at, variable_at, local_at, field_at, begins_type, begins_local, Signature, signature_at, not_return, method_of, method_at, method_from, superclass_at, at_public, class_at, begins_main, main_method_at, main_from, main_at, main_part_at, before_end, tree_of}
-use Rattle.mj_parser.proofs.Binds.{bind_some, when_some, if_some, some_is, and_both}
+use Rattle.mj_expressions.proofs.Binds.{bind_some, when_some, if_some, some_is, and_both}
 use Rattle.mj_parser.proofs.Rows.{PartSound, row_found}
-use Rattle.mj_parser.proofs.ExpressionFound.{exp_found}
+use Rattle.mj_expressions.proofs.ExpressionFound.{exp_found}
 use Rattle.mj_parser.proofs.StatementFound.{not_is_false, stmts_found, stmt_found}
-use Rattle.mj_parser.proofs.Stands.{stands, when_stands, if_stands, both_stand, stands_within}
+use Rattle.mj_expressions.proofs.Stands.{stands, when_stands, if_stands, both_stand, stands_within}
 
 abbrev flat : {A : Type 0} → A → ℕ
 flat x = 0

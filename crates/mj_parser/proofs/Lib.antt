@@ -1,13 +1,6 @@
-pub mod Items
-pub mod Loops
 pub mod Rooms
-pub mod Binds
-pub mod Lists
-pub mod Marks
-pub mod Stands
-pub mod ExpressionFound
-pub mod ExpressionAgain
 pub mod Rows
+pub mod Lists
 pub mod StatementFound
 pub mod StatementAgain
 pub mod FileFound

@@ -5,7 +5,7 @@ use Rattle.mj_lexer.specs.declared.token.Token.{Token}
 use Rattle.mj_lexer.specs.declared.token.Terminal.{Terminal}
 use Rattle.mj_lexer.specs.declared.token.Terminal.TheVariants as terminals
 use Rattle.mj_tree.specs.Trees.{Name}
-use Rattle.mj_parser.specs.Tokens.{has, name_at}
+use Rattle.mj_expressions.specs.Tokens.{has, name_at}
 use Rattle.mj_parser.specs.Locations.{numbers, all_of, begins_method, method_name}
 
 pub none_left : (ts : List Token) (t : Terminal) (e at n : ℕ) (x : Option ℕ) → e ≤ at → slice_get (all_of ts t at e) n ≡ x → None ≡ x

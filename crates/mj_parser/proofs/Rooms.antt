@@ -3,13 +3,13 @@ use Rattle.std.proofs.Common.{◌≡◌, ◌≢◌, ℕ, zero, suc, ◌+◌, Boo
 use Rattle.std.specs.Prelude.{if◌then◌else◌}
 use Rattle.mj_lexer.specs.declared.token.Token.{Token}
 use Rattle.mj_lexer.specs.declared.token.Terminal.TheVariants as terminals
-use Rattle.mj_parser.specs.declared.fault.ParseFault.{ParseFault}
-use Rattle.mj_parser.specs.declared.fault.ParseFault.TheVariants.{NotAFile, TooDeep, OutOfMemory}
-use Rattle.mj_parser.specs.Tokens.{has, name_at}
+use Rattle.mj_expressions.specs.declared.fault.ParseFault.{ParseFault}
+use Rattle.mj_expressions.specs.declared.fault.ParseFault.TheVariants.{NotAFile, TooDeep, OutOfMemory}
+use Rattle.mj_expressions.specs.Tokens.{has, name_at}
 use Rattle.mj_tree.specs.Trees.{Name, Statement}
 use Rattle.mj_parser.specs.Statements.{opens_print}
-use Rattle.mj_parser.specs.Steps.{◌>>=◌, when, PartParser, Fails}
-use Rattle.mj_parser.specs.ExpressionReading.{exp_at}
+use Rattle.mj_expressions.specs.Steps.{◌>>=◌, when, PartParser, Fails}
+use Rattle.mj_expressions.specs.ExpressionReading.{exp_at}
 use Rattle.mj_parser.specs.StatementReading.{condition_at, if_at, while_at, print_at, assign_at, store_at, named_at, stmt_of, stmt_at}
 
 -- a refusal that isn't about memory, where nothing is found

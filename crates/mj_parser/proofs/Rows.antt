@@ -1,8 +1,8 @@
 -- Items that are read one after the other.
 use Rattle.std.proofs.Common.{◌≡◌, ℕ, zero, suc, ◌+◌, ◌<◌, ◌≤◌, Bool, true, false, List, [], ◌∷◌, Some, refl, subst, arith, inl, inr}
 use Rattle.mj_parser.specs.Rows.{row_size, row_height, InRow}
-use Rattle.mj_parser.specs.Steps.{PartParser, items_from}
-use Rattle.mj_parser.proofs.Binds.{bind_some, if_some, some_is}
+use Rattle.mj_expressions.specs.Steps.{PartParser, items_from}
+use Rattle.mj_expressions.proofs.Binds.{bind_some, if_some, some_is}
 
 -- a part that was read
 pub record PartSound {A : Type 0} (Is : ℕ → A → Type 0) (size height : A → ℕ) (most i : ℕ) (x : A × ℕ) : Type 0 where

@@ -4,17 +4,18 @@ use Rattle.std.specs.Prelude.{codes}
 use Rattle.mj_lexer.specs.declared.token.Token.{Token}
 use Rattle.mj_lexer.specs.declared.token.Terminal.{Terminal}
 use Rattle.mj_lexer.specs.declared.token.Terminal.TheVariants as terminals
-use Rattle.mj_parser.specs.Tokens.{same_terminal, has, says, name_at}
+use Rattle.mj_expressions.specs.Tokens.{same_terminal, has, says, name_at}
 use Rattle.mj_tree.specs.Trees.{Name, Expression, Statement, Statements, Block, If, While, Print, Assign, Store, done, next}
-use Rattle.mj_parser.specs.Expressions.{size, height, IsExp}
+use Rattle.mj_expressions.specs.Expressions.{size, height, IsExp}
 use Rattle.mj_parser.specs.Statements.{stmt_size, stmts_size, stmt_height, stmts_height, opens_print, IsStmt, AreStmts}
-use Rattle.mj_parser.specs.Steps.{PartParser, items_from}
-use Rattle.mj_parser.specs.ExpressionReading.{exp_at}
+use Rattle.mj_expressions.specs.Steps.{PartParser, items_from}
+use Rattle.mj_expressions.specs.ExpressionReading.{exp_at}
 use Rattle.mj_parser.specs.StatementReading.{not_brace, block_at, condition_at, if_at, while_at, print_at, assign_at, store_at, named_at, stmt_of, stmt_at}
 use Rattle.mj_parser.proofs.Lists.{stmts_list, list_stmts}
-use Rattle.mj_parser.proofs.Marks.{has_other, has_named, has_within, says_name, IsCloser, stops_closer}
-use Rattle.mj_parser.proofs.ExpressionAgain.{exp_again, closer_paren, closer_bracket, closer_semicolon}
-use Rattle.mj_parser.proofs.Stands.{has_is}
+use Rattle.mj_expressions.proofs.Marks.{has_other, has_named, has_within, says_name, IsCloser, stops_closer}
+use Rattle.mj_expressions.proofs.ExpressionLaw.{exp_before}
+use Rattle.mj_expressions.proofs.ExpressionAgain.{closer_paren, closer_bracket, closer_semicolon}
+use Rattle.mj_expressions.proofs.Stands.{has_is}
 
 pub stmt_some : (s : Statement) → 0 < stmt_size s
 stmt_some (Block m body) = omega arith
@@ -57,10 +58,6 @@ no_statement ts n a b c (While m e s) i h = has_other ts i terminals.While n (ha
 no_statement ts n a b c (Print m v) i h = has_named ts i n (codes "System") (print_name ts i h.1)
 no_statement ts n a b c (Assign m name k v) i h = has_named ts i n name h.2
 no_statement ts n a b c (Store m name k x v) i h = has_named ts i n name h.2
-
--- an expression that this token ends
-pub exp_before : (ts : List Token) (room : ℕ) (m : Terminal) → IsCloser m → (i j : ℕ) (e : Expression) → IsExp ts 5 i e → height e ≤ room → j ≡ i + size e → has ts j m ≡ true → exp_at room ts 5 i ≡ Some (e, j)
-exp_before ts room m closer i j e h low at c = let w = has_within ts j m c in exp_again ts room 5 i j e h low at (omega arith) (stops_closer ts 5 j m c closer)
 
 pub stmts_again : (ts : List Token) (room : ℕ) (part : PartParser Statement) → ((i j : ℕ) (s : Statement) → IsStmt ts i s → stmt_height s ≤ room → j ≡ i + stmt_size s → part i ≡ Some (s, j)) → (goes_on : ℕ → Bool) → ((i : ℕ) (s : Statement) → IsStmt ts i s → goes_on i ≡ true)
     → (ss : Statements) (gas i j : ℕ) → AreStmts ts i ss → stmts_height ss ≤ room → j ≡ i + stmts_size ss → goes_on j ≡ false → j ≤ length ts → length ts < gas + i → items_from gas part goes_on i ≡ Some (stmts_list ss, j)

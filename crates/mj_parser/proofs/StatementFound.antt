@@ -2,17 +2,17 @@
 use Rattle.std.proofs.Common.{◌≡◌, ℕ, zero, suc, ◌+◌, ◌≤◌, Bool, true, false, not, ◌&&◌, List, length, Some, refl, subst, arith, inl, inr}
 use Rattle.mj_lexer.specs.declared.token.Token.{Token}
 use Rattle.mj_lexer.specs.declared.token.Terminal.TheVariants as terminals
-use Rattle.mj_parser.specs.Tokens.{Stands, has, name_at}
+use Rattle.mj_expressions.specs.Tokens.{Stands, has, name_at}
 use Rattle.mj_tree.specs.Trees.{Name, Expression, Statement}
 use Rattle.mj_tree.specs.Views.{statements_of}
-use Rattle.mj_parser.specs.Expressions.{size, height, IsExp}
+use Rattle.mj_expressions.specs.Expressions.{size, height, IsExp}
 use Rattle.mj_parser.specs.Statements.{stmt_size, stmts_size, stmt_height, stmts_height, opens_print, IsStmt, AreStmts}
-use Rattle.mj_parser.specs.Steps.{PartParser, items_from}
-use Rattle.mj_parser.specs.ExpressionReading.{exp_at}
+use Rattle.mj_expressions.specs.Steps.{PartParser, items_from}
+use Rattle.mj_expressions.specs.ExpressionReading.{exp_at}
 use Rattle.mj_parser.specs.StatementReading.{not_brace, block_at, condition_at, if_at, while_at, print_at, assign_at, store_at, named_at, stmt_of, stmt_at}
-use Rattle.mj_parser.proofs.Binds.{bind_some, when_some, if_some, some_is}
-use Rattle.mj_parser.proofs.ExpressionFound.{exp_found}
-use Rattle.mj_parser.proofs.Stands.{stands, when_stands, if_stands, both_stand}
+use Rattle.mj_expressions.proofs.Binds.{bind_some, when_some, if_some, some_is}
+use Rattle.mj_expressions.proofs.ExpressionFound.{exp_found}
+use Rattle.mj_expressions.proofs.Stands.{stands, when_stands, if_stands, both_stand}
 
 pub not_is_false : (b : Bool) → not b ≡ false → b ≡ true
 not_is_false true e = refl

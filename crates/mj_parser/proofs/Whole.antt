@@ -2,15 +2,15 @@
 use Rattle.std.proofs.Common.{◌≡◌, List, Result, Ok, Err, refl, sym, ◌∙◌}
 use Rattle.std.specs.Prelude.{IfOk, MatchResult}
 use Rattle.mj_lexer.specs.declared.token.Token.{Token}
-use Rattle.mj_parser.specs.declared.fault.ParseFault.{ParseFault}
-use Rattle.mj_parser.specs.declared.fault.ParseFault.TheVariants.{NotAFile, TooDeep, OutOfMemory}
+use Rattle.mj_expressions.specs.declared.fault.ParseFault.{ParseFault}
+use Rattle.mj_expressions.specs.declared.fault.ParseFault.TheVariants.{NotAFile, TooDeep, OutOfMemory}
 use Rattle.mj_tree.specs.declared.tree.FileTree.{FileTree}
 use Rattle.mj_tree.specs.Trees.{File}
 use Rattle.mj_tree.specs.Views.{file_view}
 use Rattle.mj_parser.specs.Declarations.{Derives}
-use Rattle.mj_parser.specs.Steps.{Finds}
+use Rattle.mj_expressions.specs.Steps.{Finds}
 use Rattle.mj_parser.specs.FileReading.{tree_of}
-use Rattle.mj_parser.proofs.Binds.{some_is}
+use Rattle.mj_expressions.proofs.Binds.{some_is}
 use Rattle.mj_parser.proofs.FileFound.{file_found}
 use Rattle.mj_parser.proofs.FileAgain.{file_again}
 

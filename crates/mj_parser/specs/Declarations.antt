@@ -9,9 +9,9 @@ use Rattle.mj_tree.specs.declared.tree.Field.{Field}
 use Rattle.mj_tree.specs.declared.tree.Variable.{Variable}
 use Rattle.mj_tree.specs.Limits.{most_levels}
 use Rattle.mj_parser.specs.Rows.{row_size, row_height, InRow}
-use Rattle.mj_parser.specs.Tokens.{has, Stands, says, name_at, first_wrong}
+use Rattle.mj_expressions.specs.Tokens.{has, Stands, says, name_at, first_wrong}
 use Rattle.mj_tree.specs.Trees.{Name, Method, Main, Class, File}
-use Rattle.mj_parser.specs.Expressions.{any_tier, size, height, IsExp}
+use Rattle.mj_expressions.specs.Expressions.{any_tier, size, height, IsExp}
 use Rattle.mj_parser.specs.Statements.{stmt_size, stmts_size, stmt_height, stmts_height, IsStmt, AreStmts}
 
 -- ---- types and variables

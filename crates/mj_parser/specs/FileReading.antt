@@ -7,14 +7,14 @@ use Rattle.mj_tree.specs.declared.tree.Ty.{Ty}
 use Rattle.mj_tree.specs.declared.tree.Ty.TheVariants as types
 use Rattle.mj_tree.specs.declared.tree.Field.{Field}
 use Rattle.mj_tree.specs.declared.tree.Variable.{Variable}
-use Rattle.mj_parser.specs.Tokens.{has, name_at}
+use Rattle.mj_expressions.specs.Tokens.{has, name_at}
 use Rattle.mj_tree.specs.Trees.{Name, Statement, Method, Main, Class, File}
 use Rattle.mj_tree.specs.Views.{statements_of}
 use Rattle.mj_tree.specs.Limits.{most_levels}
-use Rattle.mj_parser.specs.Expressions.{any_tier}
+use Rattle.mj_expressions.specs.Expressions.{any_tier}
 use Rattle.mj_parser.specs.Declarations.{main_head, main_parameter}
-use Rattle.mj_parser.specs.Steps.{◌>>=◌, when, PartParser, items_from, listed_at}
-use Rattle.mj_parser.specs.ExpressionReading.{exp_at}
+use Rattle.mj_expressions.specs.Steps.{◌>>=◌, when, PartParser, items_from, listed_at}
+use Rattle.mj_expressions.specs.ExpressionReading.{exp_at}
 use Rattle.mj_parser.specs.StatementReading.{stmt_at}
 
 -- ---- types and variables

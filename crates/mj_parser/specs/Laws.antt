@@ -1,9 +1,7 @@
 -- Laws of the grammar.
-use Rattle.std.specs.Prelude.{◌≡◌, ◌↔◌, ℕ, true, List, length, Some}
+use Rattle.std.specs.Prelude.{◌≡◌, ◌↔◌, List, length, Some}
 use Rattle.mj_lexer.specs.declared.token.Token.{Token}
-use Rattle.mj_lexer.specs.declared.token.Terminal.{Terminal}
 use Rattle.mj_tree.specs.Trees.{File}
-use Rattle.mj_parser.specs.Tokens.{has, Stands}
 use Rattle.mj_parser.specs.Declarations.{Derives}
 use Rattle.mj_parser.specs.FileReading.{tree_of}
 use Rattle.mj_parser.specs.MarkBounds.{FileMarksBelow}
@@ -11,11 +9,6 @@ use Rattle.mj_parser.specs.MarkBounds.{FileMarksBelow}
 -- The tokens of a file are those that reading finds it in; so they have one file at most.
 abbrev pub GrammarLaws : Type 0
 GrammarLaws = (ts : List Token) (f : File) → Derives ts f ↔ (tree_of ts ≡ Some f)
-
--- Reading tests what stands at a place.
-abbrev pub StandsLaw : Type 0
-StandsLaw = (ts : List Token) (i : ℕ) (terminal : Terminal)
-    → Stands ts i terminal ↔ (has ts i terminal ≡ true)
 
 -- Every mark of a file's tree is less than the number of its tokens.
 abbrev pub MarkLaws : Type 0

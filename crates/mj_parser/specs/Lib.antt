@@ -1,10 +1,6 @@
-pub mod Tokens
-pub mod Expressions
 pub mod Statements
 pub mod Declarations
 pub mod Rows
-pub mod Steps
-pub mod ExpressionReading
 pub mod StatementReading
 pub mod FileReading
 pub mod Locations

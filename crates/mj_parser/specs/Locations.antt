@@ -6,9 +6,9 @@ use Rattle.mj_lexer.specs.declared.token.Terminal.{Terminal}
 use Rattle.mj_lexer.specs.declared.token.Terminal.TheVariants as terminals
 use Rattle.mj_tree.specs.declared.place.Place.{Place}
 use Rattle.mj_tree.specs.declared.place.Place.TheVariants as place
-use Rattle.mj_parser.specs.Tokens.{has, name_at, is_word}
+use Rattle.mj_expressions.specs.Tokens.{has, name_at, is_word}
 use Rattle.mj_tree.specs.Trees.{Name}
-use Rattle.mj_parser.specs.Steps.{◌>>=◌}
+use Rattle.mj_expressions.specs.Steps.{◌>>=◌}
 
 -- the numbers from `low` to before `high`
 abbrev pub numbers : ℕ → ℕ → List ℕ

@@ -2,13 +2,13 @@
 use Rattle.std.specs.Prelude.{ℕ, zero, suc, ◌+◌, Bool, ◌&&◌, not, List, length, Option, Some, None, if◌then◌else◌}
 use Rattle.mj_lexer.specs.declared.token.Token.{Token}
 use Rattle.mj_lexer.specs.declared.token.Terminal.TheVariants as terminals
-use Rattle.mj_parser.specs.Tokens.{has, name_at}
+use Rattle.mj_expressions.specs.Tokens.{has, name_at}
 use Rattle.mj_tree.specs.Trees.{Name, Expression, Statement, Block, If, While, Print, Assign, Store}
 use Rattle.mj_tree.specs.Views.{statements_of}
-use Rattle.mj_parser.specs.Expressions.{any_tier}
+use Rattle.mj_expressions.specs.Expressions.{any_tier}
 use Rattle.mj_parser.specs.Statements.{opens_print}
-use Rattle.mj_parser.specs.Steps.{◌>>=◌, when, PartParser, items_from}
-use Rattle.mj_parser.specs.ExpressionReading.{exp_at}
+use Rattle.mj_expressions.specs.Steps.{◌>>=◌, when, PartParser, items_from}
+use Rattle.mj_expressions.specs.ExpressionReading.{exp_at}
 
 -- statements up to a closing brace
 abbrev pub not_brace : List Token → ℕ → Bool

@@ -2,9 +2,9 @@
 use Rattle.std.specs.Prelude.{◌≡◌, ℕ, ◌+◌, max, Bool, true, ◌&&◌, List, [], ◌∷◌, Some, codes, if◌then◌else◌}
 use Rattle.mj_lexer.specs.declared.token.Token.{Token}
 use Rattle.mj_lexer.specs.declared.token.Terminal.TheVariants as terminals
-use Rattle.mj_parser.specs.Tokens.{has, Stands, says, name_at, first_wrong}
+use Rattle.mj_expressions.specs.Tokens.{has, Stands, says, name_at, first_wrong}
 use Rattle.mj_tree.specs.Trees.{Statement, Statements, Block, If, While, Print, Assign, Store, done, next}
-use Rattle.mj_parser.specs.Expressions.{any_tier, size, height, IsExp}
+use Rattle.mj_expressions.specs.Expressions.{any_tier, size, height, IsExp}
 
 -- how many tokens a statement has
 abbrev mutual

@@ -2,16 +2,16 @@
 ghost use Rattle.std.specs.Prelude.{◌≡◌, ℕ, ◌+◌, ◌<◌, ◌≤◌, suc, length, map, [], ◌∷◌, ◌++◌, Some, IfOk, IfErr, IsTrue};
 ghost use Rattle.mj_tree.specs.Views.{stmt_view, method_view};
 ghost use Rattle.mj_tree.specs.Limits.{most_levels};
-ghost use Rattle.mj_parser.specs.Steps.{Finds, items_from, listed_at, more_listed};
-ghost use Rattle.mj_parser.specs.declared.fault.ParseFault.TheVariants.{OutOfMemory};
+ghost use Rattle.mj_expressions.specs.Steps.{Finds, items_from, listed_at, more_listed};
+ghost use Rattle.mj_expressions.specs.declared.fault.ParseFault.TheVariants.{OutOfMemory};
 ghost use Rattle.mj_parser.specs.StatementReading.{stmt_at};
 ghost use Rattle.mj_parser.specs.FileReading as reading;
 ghost use Rattle.mj_parser.specs.FileReading.{type_at, variable_at, local_at, begins_local, signature_view, signature_of, signature_at, not_return, method_at};
 
-use crate::expressions::{ANY_TIER, read};
-use crate::fault::ParseFault;
 use crate::statements::statement;
-use crate::tokens::{Part, expect, expect_name, expect_two, followed, has, name};
+use mj_expressions::{
+    ANY_TIER, ParseFault, Part, expect, expect_name, expect_two, followed, has, name, read,
+};
 use mj_lexer::{Name, Terminal, Token};
 use mj_tree::{MOST_LEVELS, MethodTree, Stmt, Ty, Variable};
 use std::alloc::Global;
@@ -140,7 +140,7 @@ fn formals_from(
 }
 
 /// Formals between commas, up to the parenthesis that closes them.
-#[tactic(auto, unfolding(crate::specs::Steps::listed_at))]
+#[tactic(auto, unfolding(mj_expressions::specs::Steps::listed_at))]
 fn formals(alloc: Global, tokens: &[Token], at: usize) -> Result<Part<Vec<Variable>>, ParseFault>
     requires { at ≤ length tokens.now }
     ensures exact { Finds (λ x. (x.tree.items, x.after)) result

@@ -2,16 +2,17 @@
 ghost use Rattle.std.specs.Prelude.{◌≡◌, ℕ, ◌+◌, ◌<◌, ◌≤◌, ◌&&◌, codes, suc, length, drop, map, option_map, true, false, IfOk, IfErr, IsTrue};
 ghost use Rattle.mj_tree.specs.Views.{stmt_view, method_view, main_view, class_view, file_view};
 ghost use Rattle.mj_lexer.specs.declared.token.Terminal.TheVariants as terminals;
-ghost use Rattle.mj_parser.specs.Tokens.{has, says};
+ghost use Rattle.mj_expressions.specs.Tokens.{has, says};
 ghost use Rattle.mj_parser.specs.Declarations.{main_head, main_head_fault, main_parameter, main_parameter_fault};
-ghost use Rattle.mj_parser.specs.Steps.{Finds, items_from};
+ghost use Rattle.mj_expressions.specs.Steps.{Finds, items_from};
 ghost use Rattle.mj_parser.specs.FileReading.{field_at, begins_type, method_from, at_public, superclass_at, class_at, begins_main, main_method_at, main_from, main_at, main_part_at, before_end, tree_of};
-ghost use Rattle.mj_parser.specs.declared.fault.ParseFault.TheVariants.{NotAFile};
+ghost use Rattle.mj_expressions.specs.declared.fault.ParseFault.TheVariants.{NotAFile};
 
 use crate::declarations::{local, method};
-use crate::fault::ParseFault;
 use crate::statements::statement;
-use crate::tokens::{Part, expect, expect_name, expect_two, expect_word_and, has, name};
+use mj_expressions::{
+    ParseFault, Part, expect, expect_name, expect_two, expect_word_and, has, name,
+};
 use mj_lexer::{Name, Terminal, Token};
 use mj_tree::{ClassTree, Field, FileTree, MOST_LEVELS, MainTree, MethodTree, Stmt};
 use std::alloc::Global;

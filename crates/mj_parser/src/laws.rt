@@ -1,5 +1,6 @@
 //! Laws of the grammar.
-ghost use Rattle.mj_parser.specs.Laws.{GrammarLaws, StandsLaw, MarkLaws};
+ghost use Rattle.mj_expressions.specs.Tokens.{StandsLaw};
+ghost use Rattle.mj_parser.specs.Laws.{GrammarLaws, MarkLaws};
 
 /// A list of tokens is a file exactly where reading it finds that file; reading tests what stands at a place.
 pub fn grammar_laws()

@@ -2,7 +2,7 @@
 ghost use Rattle.std.specs.Prelude.{◌≡◌, ◌<◌, ◌≤◌, ◌+◌, length, IfSome, slice_get};
 ghost use Rattle.mj_parser.specs.Locations.{all_of, existing, class_start, class_end, class_name, field_name, method_name, method_start, name_of_method, token_of};
 
-use crate::tokens::{has, name};
+use mj_expressions::{has, name};
 use mj_lexer::{Name, Terminal, Token};
 use mj_tree::Place;
 

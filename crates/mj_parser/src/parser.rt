@@ -3,10 +3,10 @@ ghost use Rattle.std.specs.Prelude.{◌≡◌, IfOk, MatchResult};
 ghost use Rattle.mj_tree.specs.Trees.{File};
 ghost use Rattle.mj_tree.specs.Views.{file_view};
 ghost use Rattle.mj_parser.specs.Declarations.{Derives};
-ghost use Rattle.mj_parser.specs.declared.fault.ParseFault.TheVariants.{OutOfMemory};
+ghost use Rattle.mj_expressions.specs.declared.fault.ParseFault.TheVariants.{OutOfMemory};
 
-use crate::fault::ParseFault;
 use crate::files::file;
+use mj_expressions::ParseFault;
 use mj_lexer::Token;
 use mj_tree::FileTree;
 use std::alloc::Global;

@@ -1,23 +1,22 @@
 //! Reading a statement from left to right.
 ghost use Rattle.std.specs.Prelude.{◌≡◌, ℕ, ◌+◌, ◌^◌, ◌<◌, ◌≤◌, ◌||◌, suc, length, map, not, codes, true, false, Some, None, ◌≢◌, IfOk, IfErr, IsTrue};
-ghost use Rattle.mj_parser.specs.Tokens.{has, says, name_at};
+ghost use Rattle.mj_expressions.specs.Tokens.{has, says, name_at};
 ghost use Rattle.mj_tree.specs.Views.{exp_view, stmt_view};
 ghost use Rattle.mj_tree.specs.Limits.{most_levels};
-ghost use Rattle.mj_parser.specs.Expressions.{any_tier};
+ghost use Rattle.mj_expressions.specs.Expressions.{any_tier};
 ghost use Rattle.mj_parser.specs.Statements.{opens_print, print_fault};
-ghost use Rattle.mj_parser.specs.Steps.{Finds, items_from, when};
+ghost use Rattle.mj_expressions.specs.Steps.{Finds, items_from, when};
 ghost use Rattle.mj_lexer.specs.declared.token.Terminal.TheVariants as terminals;
 ghost use Rattle.mj_tree.specs.Trees.{Statement, If, While, Assign, Store};
-ghost use Rattle.mj_parser.specs.ExpressionReading.{exp_at};
+ghost use Rattle.mj_expressions.specs.ExpressionReading.{exp_at};
 ghost use Rattle.mj_parser.specs.StatementReading.{not_brace, block_at, condition_at, if_at, while_at, print_at, assign_at, store_at, named_at, stmt_of, stmt_at};
-ghost use Rattle.mj_parser.specs.declared.fault.ParseFault.{ParseFault};
-ghost use Rattle.mj_parser.specs.declared.fault.ParseFault.TheVariants.{NotAFile, OutOfMemory};
+ghost use Rattle.mj_expressions.specs.declared.fault.ParseFault.{ParseFault};
+ghost use Rattle.mj_expressions.specs.declared.fault.ParseFault.TheVariants.{NotAFile, OutOfMemory};
 
-use crate::expressions::{ANY_TIER, ExpPart, closed, read};
-use crate::fault::ParseFault;
 use crate::nodes;
-use crate::tokens::{
-    Part, expect, expect_name, expect_two, expect_word_and, followed, has, name, says,
+use mj_expressions::{
+    ANY_TIER, ExpPart, ParseFault, Part, closed, expect, expect_name, expect_two, expect_word_and,
+    followed, has, name, read, says,
 };
 use mj_lexer::{Name, Terminal, Token};
 use mj_tree::Stmt;

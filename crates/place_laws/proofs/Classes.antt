@@ -5,12 +5,12 @@ use Rattle.mj_lexer.specs.declared.token.Terminal.{Terminal}
 use Rattle.mj_lexer.specs.declared.token.Terminal.TheVariants as terminals
 use Rattle.mj_tree.specs.declared.tree.Field.{Field}
 use Rattle.mj_tree.specs.Trees.{Name, Method, Class}
-use Rattle.mj_parser.specs.Tokens.{has}
-use Rattle.mj_parser.specs.Expressions.{any_tier, size}
+use Rattle.mj_expressions.specs.Tokens.{has}
+use Rattle.mj_expressions.specs.Expressions.{any_tier, size}
 use Rattle.mj_parser.specs.Rows.{row_size}
 use Rattle.mj_parser.specs.Declarations.{type_size, formals_size, formals_place, locals_place, body_place, return_place, method_size, IsMethod, field_size, IsField, IsMethodAt, superclass_size, IsSuperclass, head_size, class_size, IsClass}
-use Rattle.mj_parser.proofs.Marks.{has_other}
-use Rattle.mj_parser.proofs.Stands.{has_is}
+use Rattle.mj_expressions.proofs.Marks.{has_other}
+use Rattle.mj_expressions.proofs.Stands.{has_is}
 use Rattle.place_laws.specs.Parts.{field_parts, method_parts}
 use Rattle.place_laws.proofs.Runs.{Along, along_none, along_one, along_map, along_drop, upto, join, row_along, run, run_join, Lacks, lacks_run, front_run, row_run, has_drop}
 use Rattle.place_laws.proofs.Quiet.{IsPlain, Quiet, sign, word, expression_quiet, statements_quiet, plain_sign, plain_word, plain_quiet, type_plain, locals_quiet, formals_quiet}

@@ -6,11 +6,11 @@ use Rattle.mj_lexer.specs.declared.token.Token.{Token}
 use Rattle.mj_lexer.specs.declared.token.Terminal.TheVariants as terminals
 use Rattle.mj_tree.specs.declared.place.Place.TheVariants as place
 use Rattle.mj_tree.specs.Trees.{Name, Main, Class, File}
-use Rattle.mj_parser.specs.Steps.{◌>>=◌}
+use Rattle.mj_expressions.specs.Steps.{◌>>=◌}
 use Rattle.mj_parser.specs.Rows.{InRow, row_size}
 use Rattle.mj_parser.specs.Declarations.{class_size, IsClass, IsMain, main_size, IsMainPart, main_part_size, Derives}
 use Rattle.mj_parser.specs.Locations.{all_of, existing, class_start, class_end, method_name, token_of}
-use Rattle.mj_parser.proofs.Binds.{some_is}
+use Rattle.mj_expressions.proofs.Binds.{some_is}
 use Rattle.place_laws.specs.Parts.{Part, row_parts, class_parts, class_number}
 use Rattle.place_laws.specs.Laws.{MainTokens, FileTokens}
 use Rattle.place_laws.proofs.Runs.{upto, run, all_run, run_join, Lacks, lacks_run, row_run}

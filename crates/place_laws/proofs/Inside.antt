@@ -6,12 +6,12 @@ use Rattle.mj_lexer.specs.declared.token.Token.{Token}
 use Rattle.mj_lexer.specs.declared.token.Terminal.TheVariants as terminals
 use Rattle.mj_tree.specs.declared.tree.Variable.{Variable}
 use Rattle.mj_tree.specs.Trees.{Expression, Expressions, Binary, Index, Length, Call, Literal, Boolean, Named, This, NewArray, NewObject, Not, Parenthesized, none, more, Statement, Statements, Block, If, While, Print, Assign, Store, done, next, Method, Main}
-use Rattle.mj_parser.specs.Expressions.{any_tier, size, sizes, sizes_more, IsExp, AreArguments, AreMore}
+use Rattle.mj_expressions.specs.Expressions.{any_tier, size, sizes, sizes_more, IsExp, AreArguments, AreMore}
 use Rattle.mj_parser.specs.Statements.{stmt_size, stmts_size, IsStmt, AreStmts}
 use Rattle.mj_parser.specs.Rows.{InRow, row_size}
 use Rattle.mj_parser.specs.Declarations.{IsVariable, variable_size, IsMoreFormal, more_formal_size, formals_size, AreFormals, IsLocal, local_size, method_size, formals_place, locals_place, body_place, return_place, IsMethod, IsMethodAt, IsMain}
 use Rattle.mj_parser.specs.MarkBounds.{ExpMarksBelow, ExpsMarksBelow, StmtMarksBelow, StmtsMarksBelow, VariableBelow, MethodMarksBelow}
-use Rattle.mj_parser.proofs.Stands.{stands_within}
+use Rattle.mj_expressions.proofs.Stands.{stands_within}
 use Rattle.place_laws.specs.Parts.{Part}
 use Rattle.place_laws.specs.Laws.{MethodTokens}
 

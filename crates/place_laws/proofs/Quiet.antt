@@ -9,13 +9,13 @@ use Rattle.mj_tree.specs.declared.tree.Ty.{Ty}
 use Rattle.mj_tree.specs.declared.tree.Ty.TheVariants as types
 use Rattle.mj_tree.specs.declared.tree.Variable.{Variable}
 use Rattle.mj_tree.specs.Trees.{Name, Expression, Expressions, Binary, Index, Length, Call, Literal, Boolean, Named, This, NewArray, NewObject, Not, Parenthesized, none, more, Statement, Statements, Block, If, While, Print, Assign, Store, done, next}
-use Rattle.mj_parser.specs.Tokens.{same_terminal, has, Stands, says, name_at, value_at}
-use Rattle.mj_parser.specs.Expressions.{terminal_of, terminal_of_bool, size, sizes, sizes_more, IsExp, AreArguments, AreMore}
+use Rattle.mj_expressions.specs.Tokens.{same_terminal, has, Stands, says, name_at, value_at}
+use Rattle.mj_expressions.specs.Expressions.{terminal_of, terminal_of_bool, size, sizes, sizes_more, IsExp, AreArguments, AreMore}
 use Rattle.mj_parser.specs.Statements.{stmt_size, stmts_size, opens_print, IsStmt, AreStmts}
 use Rattle.mj_parser.specs.Rows.{InRow, row_size}
 use Rattle.mj_parser.specs.Declarations.{type_size, IsType, IsVariable, variable_size, IsMoreFormal, more_formal_size, formals_size, AreFormals, IsLocal, local_size}
-use Rattle.mj_parser.proofs.Marks.{has_other, has_named, has_valued, says_name}
-use Rattle.mj_parser.proofs.Stands.{has_is, stands}
+use Rattle.mj_expressions.proofs.Marks.{has_other, has_named, has_valued, says_name}
+use Rattle.mj_expressions.proofs.Stands.{has_is, stands}
 use Rattle.place_laws.proofs.Runs.{Along, along_none, along_one, along_map, upto, join, row_along}
 
 -- neither `class` nor `public` stands at a place

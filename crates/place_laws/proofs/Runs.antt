@@ -5,7 +5,7 @@ use Rattle.std.proofs.lemmas.Bool.{cases_lt}
 use Rattle.std.proofs.lemmas.List.Elements.{filter-append}
 use Rattle.mj_lexer.specs.declared.token.Token.{Token}
 use Rattle.mj_lexer.specs.declared.token.Terminal.{Terminal}
-use Rattle.mj_parser.specs.Tokens.{token_kind, kind_at, has, name_at}
+use Rattle.mj_expressions.specs.Tokens.{token_kind, kind_at, has, name_at}
 use Rattle.mj_parser.specs.Rows.{row_size, InRow}
 use Rattle.mj_parser.specs.Locations.{all_of}
 use Rattle.place_laws.specs.Parts.{row_parts}

@@ -5,8 +5,8 @@ use Rattle.mj_lexer.specs.declared.token.Token.{Token}
 use Rattle.mj_tree.specs.declared.tree.Field.{Field}
 use Rattle.mj_tree.specs.declared.place.Place.TheVariants as place
 use Rattle.mj_tree.specs.Trees.{Name, Method, Main, Class, File}
-use Rattle.mj_parser.specs.Steps.{◌>>=◌}
-use Rattle.mj_parser.specs.Tokens.{name_at}
+use Rattle.mj_expressions.specs.Steps.{◌>>=◌}
+use Rattle.mj_expressions.specs.Tokens.{name_at}
 use Rattle.mj_parser.specs.Statements.{stmt_size}
 use Rattle.mj_parser.specs.Declarations.{method_size, IsClass, Derives}
 use Rattle.mj_parser.specs.MarkBounds.{StmtMarksBelow, MethodMarksBelow}

@@ -2,7 +2,7 @@
 use Rattle.std.proofs.Common.{ℕ, ◌<◌, ◌≤◌, List, [], ◌∷◌, length, arith}
 use Rattle.mj_tree.specs.declared.tree.Variable.{Variable}
 use Rattle.mj_tree.specs.Trees.{Expression, Expressions, Binary, Index, Length, Call, Literal, Boolean, Named, This, NewArray, NewObject, Not, Parenthesized, none, more, Statement, Statements, Block, If, While, Print, Assign, Store, done, next}
-use Rattle.mj_parser.specs.Expressions.{size, sizes, sizes_more, height}
+use Rattle.mj_expressions.specs.Expressions.{size, sizes, sizes_more, height}
 use Rattle.mj_parser.specs.Statements.{stmt_size, stmts_size, stmt_height}
 use Rattle.mj_parser.specs.Rows.{row_size}
 use Rattle.mj_parser.specs.Declarations.{formals_size, more_formal_size}

@@ -17,13 +17,13 @@ use Rattle.mj_tree.specs.declared.tree.Field.{Field}
 use Rattle.mj_tree.specs.declared.tree.Variable.{Variable}
 use Rattle.mj_tree.specs.Limits.{most_levels}
 use Rattle.mj_tree.specs.Trees.{Name, Expression, Expressions, Binary, Index, Length, Call, Literal, Boolean, Named, This, NewArray, NewObject, Not, Parenthesized, none, more, Statement, Statements, Block, If, While, Print, Assign, Store, done, next, Method, Main, Class, File}
-use Rattle.mj_parser.specs.Tokens.{token_kind, name_of, value_of, name_at, value_at}
-use Rattle.mj_parser.specs.Expressions.{terminal_of, terminal_of_bool, any_tier, height, heights, sizes, IsExp, AreArguments, AreMore}
+use Rattle.mj_expressions.specs.Tokens.{token_kind, name_of, value_of, name_at, value_at}
+use Rattle.mj_expressions.specs.Expressions.{terminal_of, terminal_of_bool, any_tier, height, heights, sizes, IsExp, AreArguments, AreMore}
 use Rattle.mj_parser.specs.Statements.{stmt_height, stmts_height, stmts_size, IsStmt, AreStmts}
 use Rattle.mj_parser.specs.Rows.{InRow, row_size, row_height}
 use Rattle.mj_parser.specs.Declarations.{type_size, IsType, IsVariable, variable_size, IsMoreFormal, more_formal_size, formals_size, AreFormals, IsLocal, local_size, field_size, IsField, IsSuperclass, head_size, method_size, method_height, formals_place, locals_place, body_place, return_place, IsMethod, IsMethodAt, class_size, class_height, IsClass, IsMainPart, main_part_size, main_part_height, Derives}
-use Rattle.mj_parser.proofs.Marks.{name_within, says_name}
-use Rattle.mj_parser.proofs.Stands.{stands_within}
+use Rattle.mj_expressions.proofs.Marks.{name_within, says_name}
+use Rattle.mj_expressions.proofs.Stands.{stands_within}
 use Rattle.mj_parser.proofs.StatementAgain.{print_name}
 use Rattle.byte_readers.specs.Names.{IsName}
 use Rattle.tree_bytes.specs.Storable.{TyFits, FieldFits, VariableFits, ExpFits, ExpsFit, StmtFits, StmtsFit, TopStmtFits, TopStmtsFit, TopExpFits, MethodFits, MainFits, ClassFits, FileFits}

@@ -1,6 +1,6 @@
 use Rattle.std.proofs.Common.{◌≡◌, ◌∙◌, ℕ, cond, List, [], ◌∷◌, ◌++◌, sym, ap}
 use Rattle.std.proofs.lemmas.List.{append-nil}
-use Rattle.mj_parser.specs.Tokens.{has}
+use Rattle.mj_expressions.specs.Tokens.{has}
 use Rattle.mj_parser.specs.Locations.{all_of}
 use Rattle.file_index.proofs.Positions.{one_place_more}
 use Rattle.file_index.proofs.terminals.find_terminals.Goals as goal

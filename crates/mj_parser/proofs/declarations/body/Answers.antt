@@ -4,7 +4,7 @@ use Rattle.std.proofs.lemmas.Result.{err_from_is_err_and}
 use Rattle.mj_tree.specs.Views.{stmt_view}
 use Rattle.mj_parser.specs.FileReading.{not_return}
 use Rattle.mj_parser.specs.StatementReading.{stmt_at}
-use Rattle.mj_parser.proofs.Items.{items_begin, items_end, items_fail, items_go_on, fails_on}
+use Rattle.mj_expressions.proofs.Items.{items_begin, items_end, items_fail, items_go_on, fails_on}
 use Rattle.mj_parser.proofs.declarations.body.Goals as goal
 
 pub items-init : goal.items-init

@@ -1,10 +1,10 @@
 use Rattle.std.proofs.Common.{◌≡◌, ℕ, suc, Option, List, ◌-◌, ◌≤◌, length, map}
 use Rattle.mj_tree.specs.Trees.{Statement}
 use Rattle.mj_tree.specs.Views.{stmt_view}
-use Rattle.mj_parser.specs.Steps.{items_from}
+use Rattle.mj_expressions.specs.Steps.{items_from}
 use Rattle.mj_parser.specs.FileReading.{not_return}
 use Rattle.mj_parser.specs.StatementReading.{stmt_at}
-use Rattle.mj_parser.proofs.Items.{ItemsLead}
+use Rattle.mj_expressions.proofs.Items.{ItemsLead}
 use Rattle.mj_parser.proofs.declarations.body.Given as goal
 
 abbrev pub invariant-items : goal.invariant-items

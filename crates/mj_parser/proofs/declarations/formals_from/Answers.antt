@@ -1,7 +1,7 @@
 use Rattle.std.proofs.Common.{sym, ◌∙◌, ◌≤◌, length, None, Some, arith}
 use Rattle.std.proofs.lemmas.Result.{err_from_is_err_and}
 use Rattle.mj_parser.specs.FileReading.{variable_at}
-use Rattle.mj_parser.proofs.Items.{list_from, list_end, list_fail, list_go_on, list_ends, fails_on}
+use Rattle.mj_expressions.proofs.Items.{list_from, list_end, list_fail, list_go_on, list_ends, fails_on}
 use Rattle.mj_parser.proofs.declarations.formals_from.Goals as goal
 
 pub returns-in_err-next-clause-exact : goal.returns-in_err-next-clause-exact

@@ -1,7 +1,7 @@
 use Rattle.std.proofs.Common.{ℕ, Option, List, ◌-◌, ◌≤◌, length}
 use Rattle.mj_tree.specs.declared.tree.Variable.{Variable}
 use Rattle.mj_parser.specs.FileReading.{variable_at}
-use Rattle.mj_parser.proofs.Items.{ListLeads}
+use Rattle.mj_expressions.proofs.Items.{ListLeads}
 use Rattle.mj_parser.proofs.declarations.formals_from.Given as goal
 
 abbrev pub invariant-list : goal.invariant-list

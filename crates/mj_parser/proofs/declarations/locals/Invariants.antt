@@ -1,8 +1,8 @@
 use Rattle.std.proofs.Common.{◌≡◌, ℕ, suc, Option, List, ◌-◌, ◌≤◌, length}
 use Rattle.mj_tree.specs.declared.tree.Variable.{Variable}
-use Rattle.mj_parser.specs.Steps.{items_from}
+use Rattle.mj_expressions.specs.Steps.{items_from}
 use Rattle.mj_parser.specs.FileReading.{local_at, begins_local}
-use Rattle.mj_parser.proofs.Items.{ItemsLead}
+use Rattle.mj_expressions.proofs.Items.{ItemsLead}
 use Rattle.mj_parser.proofs.declarations.locals.Given as goal
 
 abbrev pub invariant-items : goal.invariant-items

@@ -4,7 +4,7 @@ use Rattle.std.proofs.lemmas.Bool.{lt-ltb, le-ltb}
 use Rattle.std.proofs.lemmas.Result.{err_from_is_err_and}
 use Rattle.mj_tree.specs.Views.{class_view}
 use Rattle.mj_parser.specs.FileReading.{class_at, before_end}
-use Rattle.mj_parser.proofs.Items.{items_begin, items_end, items_fail, items_go_on, fails_on}
+use Rattle.mj_expressions.proofs.Items.{items_begin, items_end, items_fail, items_go_on, fails_on}
 use Rattle.mj_parser.proofs.files.classes.Goals as goal
 
 pub items-init : goal.items-init

@@ -1,9 +1,9 @@
 use Rattle.std.proofs.Common.{◌≡◌, ℕ, suc, Option, List, ◌-◌, ◌≤◌, length, map}
 use Rattle.mj_tree.specs.Trees.{Class}
 use Rattle.mj_tree.specs.Views.{class_view}
-use Rattle.mj_parser.specs.Steps.{items_from}
+use Rattle.mj_expressions.specs.Steps.{items_from}
 use Rattle.mj_parser.specs.FileReading.{class_at, before_end}
-use Rattle.mj_parser.proofs.Items.{ItemsLead}
+use Rattle.mj_expressions.proofs.Items.{ItemsLead}
 use Rattle.mj_parser.proofs.files.classes.Given as goal
 
 abbrev pub invariant-items : goal.invariant-items

@@ -1,7 +1,7 @@
 use Rattle.std.proofs.Common.{sym, ◌∙◌, None, Some, arith, length}
 use Rattle.std.proofs.lemmas.Result.{err_from_is_err_and}
 use Rattle.mj_parser.specs.FileReading.{field_at, begins_type}
-use Rattle.mj_parser.proofs.Items.{items_begin, items_end, items_fail, items_go_on, fails_on}
+use Rattle.mj_expressions.proofs.Items.{items_begin, items_end, items_fail, items_go_on, fails_on}
 use Rattle.mj_parser.proofs.files.fields.Goals as goal
 
 pub items-init : goal.items-init

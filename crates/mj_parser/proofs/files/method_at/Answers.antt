@@ -1,7 +1,7 @@
 use Rattle.std.proofs.Common.{drop, refl}
 use Rattle.std.proofs.lemmas.List.{take_rest}
 use Rattle.mj_parser.specs.FileReading.{method_from, method_at}
-use Rattle.mj_parser.proofs.Items.{fails_behind}
+use Rattle.mj_expressions.proofs.Items.{fails_behind}
 use Rattle.mj_parser.proofs.files.method_at.Goals as goal
 
 pub returns-in-Ok-clause-exact : goal.returns-in-Ok-clause-exact

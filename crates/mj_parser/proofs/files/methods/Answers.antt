@@ -3,7 +3,7 @@ use Rattle.std.proofs.lemmas.List.{map-append}
 use Rattle.std.proofs.lemmas.Result.{err_from_is_err_and}
 use Rattle.mj_tree.specs.Views.{method_view}
 use Rattle.mj_parser.specs.FileReading.{method_from, at_public}
-use Rattle.mj_parser.proofs.Items.{items_begin, items_end, items_fail, items_go_on, fails_on}
+use Rattle.mj_expressions.proofs.Items.{items_begin, items_end, items_fail, items_go_on, fails_on}
 use Rattle.mj_parser.proofs.files.methods.Goals as goal
 
 pub items-init : goal.items-init

@@ -1,6 +1,6 @@
 use Rattle.mj_parser.proofs.FileFound.{file_found}
 use Rattle.mj_parser.proofs.FileAgain.{file_again}
-use Rattle.mj_parser.proofs.Stands.{stands_law}
+use Rattle.mj_expressions.proofs.Stands.{stands_law}
 use Rattle.mj_parser.proofs.laws.grammar_laws.Goals as goal
 
 pub returns : goal.returns

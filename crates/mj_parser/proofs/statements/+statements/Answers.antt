@@ -3,7 +3,7 @@ use Rattle.std.proofs.lemmas.List.{map-append}
 use Rattle.std.proofs.lemmas.Result.{err_from_is_err_and}
 use Rattle.mj_tree.specs.Views.{stmt_view}
 use Rattle.mj_parser.specs.StatementReading.{not_brace, stmt_at}
-use Rattle.mj_parser.proofs.Items.{items_begin, items_end, items_fail, items_go_on, fails_on}
+use Rattle.mj_expressions.proofs.Items.{items_begin, items_end, items_fail, items_go_on, fails_on}
 use Rattle.mj_parser.proofs.statements.+statements.Goals as goal
 
 pub read_block-items-init : goal.read_block-items-init

@@ -1,9 +1,9 @@
 use Rattle.std.proofs.Common.{◌≡◌, ℕ, suc, Option, List, ◌+◌, ◌-◌, ◌*◌, ◌≤◌, length, map}
 use Rattle.mj_tree.specs.Trees.{Statement}
 use Rattle.mj_tree.specs.Views.{stmt_view}
-use Rattle.mj_parser.specs.Steps.{items_from}
+use Rattle.mj_expressions.specs.Steps.{items_from}
 use Rattle.mj_parser.specs.StatementReading.{not_brace, stmt_at}
-use Rattle.mj_parser.proofs.Items.{ItemsLead}
+use Rattle.mj_expressions.proofs.Items.{ItemsLead}
 use Rattle.mj_parser.proofs.statements.+statements.Given as goal
 
 abbrev pub decreases-statement : goal.decreases-statement

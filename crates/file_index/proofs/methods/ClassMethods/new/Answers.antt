@@ -1,6 +1,6 @@
 use Rattle.std.proofs.Common.{◌∙◌, ◌-◌, find, sym, ap}
 use Rattle.mj_lexer.specs.declared.token.Terminal.TheVariants as terminals
-use Rattle.mj_parser.specs.Tokens.{has}
+use Rattle.mj_expressions.specs.Tokens.{has}
 use Rattle.mj_parser.specs.Locations.{class_end}
 use Rattle.file_index.specs.Standing.{is_named}
 use Rattle.file_index.proofs.Positions.{find_both}

@@ -1,6 +1,6 @@
 use Rattle.std.proofs.Common.{◌≡◌, ◌∙◌, length, nat_le, ap}
 use Rattle.std.specs.List.{filter}
-use Rattle.mj_parser.specs.Tokens.{has}
+use Rattle.mj_expressions.specs.Tokens.{has}
 use Rattle.mj_parser.specs.Locations.{all_of}
 use Rattle.file_index.proofs.Positions.{places_ascend, places_below, places_from, within_is}
 use Rattle.file_index.proofs.terminals.TerminalPlaces.within.Goals as goal

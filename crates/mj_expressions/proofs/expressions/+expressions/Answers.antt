@@ -3,10 +3,10 @@ use Rattle.mj_tree.specs.declared.tree.Exp.{Exp}
 use Rattle.std.proofs.lemmas.List.{map-append}
 use Rattle.std.proofs.lemmas.Result.{err_from_is_err_and}
 use Rattle.mj_tree.specs.Views.{exp_view}
-use Rattle.mj_parser.specs.ExpressionReading.{exp_at}
-use Rattle.mj_parser.proofs.Items.{list_empty, list_no_first, list_begins, list_end, list_fail, list_go_on, list_ends, fails_on}
-use Rattle.mj_parser.proofs.Loops.{chain_ends, chain_too_deep, chain_no_part, chain_goes_on, post_ends, index_too_deep, no_index, index_goes_on, member_too_deep, no_member, member_goes_on, heights_push}
-use Rattle.mj_parser.proofs.expressions.+expressions.Goals as goal
+use Rattle.mj_expressions.specs.ExpressionReading.{exp_at}
+use Rattle.mj_expressions.proofs.Items.{list_empty, list_no_first, list_begins, list_end, list_fail, list_go_on, list_ends, fails_on}
+use Rattle.mj_expressions.proofs.Loops.{chain_ends, chain_too_deep, chain_no_part, chain_goes_on, post_ends, index_too_deep, no_index, index_goes_on, member_too_deep, no_member, member_goes_on, heights_push}
+use Rattle.mj_expressions.proofs.expressions.+expressions.Goals as goal
 
 pub chain-returns-then-left-room-clause-exact : goal.chain-returns-then-left-room-clause-exact
 chain-returns-then-left-room-clause-exact t c = c.chain.invariant.so_far None (chain_too_deep _ _ _ _ _ _ c.chain.invariant.within c.in-Some.operator (sym c.in-Some.ensures.value) (omega arith))

@@ -2,9 +2,9 @@
 use Rattle.std.specs.Prelude.{◌≡◌, ℕ, zero, suc, ◌+◌, Bool, List, [], ◌∷◌, length, Option, Some, None, option_and_then, if◌then◌else◌, Result, Ok, Err}
 use Rattle.mj_lexer.specs.declared.token.Token.{Token}
 use Rattle.mj_lexer.specs.declared.token.Terminal.TheVariants as terminals
-use Rattle.mj_parser.specs.declared.fault.ParseFault.{ParseFault}
-use Rattle.mj_parser.specs.declared.fault.ParseFault.TheVariants.{NotAFile, TooDeep, OutOfMemory}
-use Rattle.mj_parser.specs.Tokens.{has}
+use Rattle.mj_expressions.specs.declared.fault.ParseFault.{ParseFault}
+use Rattle.mj_expressions.specs.declared.fault.ParseFault.TheVariants.{NotAFile, TooDeep, OutOfMemory}
+use Rattle.mj_expressions.specs.Tokens.{has}
 
 infixl 10 ◌>>=◌
 abbrev pub ◌>>=◌ : {A B : Type 0} → Option A → (A → Option B) → Option B

@@ -8,11 +8,11 @@ use Rattle.mj_lexer.specs.declared.token.Kind.{Kind}
 use Rattle.mj_lexer.specs.declared.token.Kind.TheVariants as kinds
 use Rattle.mj_tree.specs.declared.tree.Operator.{Operator}
 use Rattle.mj_tree.specs.declared.tree.Operator.TheVariants.{And, Less, Plus, Minus, Times}
-use Rattle.mj_parser.specs.Tokens.{kind_at, has, says, name_at}
+use Rattle.mj_expressions.specs.Tokens.{kind_at, has, says, name_at}
 use Rattle.mj_tree.specs.Trees.{Expression, Binary, Index, Length, Call, Literal, Boolean, Named, This, NewArray, NewObject, Not, Parenthesized}
 use Rattle.mj_tree.specs.Views.{expressions_of}
-use Rattle.mj_parser.specs.Expressions.{any_tier, unary_tier, tier_of, height, is_new_array}
-use Rattle.mj_parser.specs.Steps.{◌>>=◌, when, listed_at}
+use Rattle.mj_expressions.specs.Expressions.{any_tier, unary_tier, tier_of, height, is_new_array}
+use Rattle.mj_expressions.specs.Steps.{◌>>=◌, when, listed_at}
 
 -- an expression, and the place after it
 abbrev pub Reading : Type 0

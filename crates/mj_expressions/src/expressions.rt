@@ -1,14 +1,14 @@
 //! Reading an expression from left to right.
 ghost use Rattle.std.specs.Prelude.{◌≡◌, ℕ, ◌+◌, ◌^◌, ◌<◌, ◌≤◌, ◌++◌, max, codes, length, map, [], ◌∷◌, true, false, Some, IfOk, IfErr, IsSome, IsTrue};
-ghost use Rattle.mj_parser.specs.Tokens.{has, says};
+ghost use Rattle.mj_expressions.specs.Tokens.{has, says};
 ghost use Rattle.mj_lexer.specs.declared.token.Terminal.TheVariants as terminals;
 ghost use Rattle.mj_tree.specs.Trees.{Expression, Binary, Index, Length, Call, NewArray, NewObject, Not, Parenthesized};
-ghost use Rattle.mj_parser.specs.declared.fault.ParseFault.TheVariants.{NotAFile, OutOfMemory};
+ghost use Rattle.mj_expressions.specs.declared.fault.ParseFault.TheVariants.{NotAFile, OutOfMemory};
 ghost use Rattle.mj_tree.specs.Views.{exp_view, exps_view};
 ghost use Rattle.mj_tree.specs.Limits.{most_levels};
-ghost use Rattle.mj_parser.specs.Expressions.{any_tier, height, heights, is_new_array, tier_of};
-ghost use Rattle.mj_parser.specs.Steps.{Finds, when, listed_at};
-ghost use Rattle.mj_parser.specs.ExpressionReading.{close, object_at, new_at, prim_at, takes_index, index_at, member_at, post_from, post_at, operator_here, operator_at, binary_from, tier_at, exp_at};
+ghost use Rattle.mj_expressions.specs.Expressions.{any_tier, height, heights, is_new_array, tier_of};
+ghost use Rattle.mj_expressions.specs.Steps.{Finds, when, listed_at};
+ghost use Rattle.mj_expressions.specs.ExpressionReading.{close, object_at, new_at, prim_at, takes_index, index_at, member_at, post_from, post_at, operator_here, operator_at, binary_from, tier_at, exp_at};
 
 use crate::fault::ParseFault;
 use crate::nodes;

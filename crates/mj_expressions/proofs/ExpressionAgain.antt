@@ -9,15 +9,15 @@ use Rattle.mj_lexer.specs.declared.token.Kind.TheVariants as kinds
 use Rattle.std.proofs.lemmas.Bool.{cases_lt}
 use Rattle.mj_tree.specs.declared.tree.Operator.{Operator}
 use Rattle.mj_tree.specs.declared.tree.Operator.TheVariants.{And, Less, Plus, Minus, Times}
-use Rattle.mj_parser.specs.Tokens.{same_terminal, is_terminal, name_of, value_of, kind_at, has, name_at, value_at, says}
+use Rattle.mj_expressions.specs.Tokens.{same_terminal, is_terminal, name_of, value_of, kind_at, has, name_at, value_at, says}
 use Rattle.mj_tree.specs.Trees.{Expression, Expressions, Binary, Index, Length, Call, Literal, Boolean, Named, This, NewArray, NewObject, Not, Parenthesized, none, more}
-use Rattle.mj_parser.specs.Expressions.{tier_of, terminal_of, size, sizes, sizes_more, height, heights, IsExp, AreArguments, AreMore}
-use Rattle.mj_parser.specs.ExpressionReading.{Reading, TierParser, operator_at, takes_index, new_at, terminal_at, prim_of, prim_at, index_at, member_at, post_at, tier_at, exp_at}
-use Rattle.mj_parser.proofs.Loops.{ChainLeads, PostLeads, chain_ends, chain_goes_on, post_ends, index_goes_on, member_goes_on}
-use Rattle.mj_parser.specs.Steps.{items_from, behind_comma, at_comma, listed_at}
-use Rattle.mj_parser.proofs.Lists.{exps_list, list_exps}
-use Rattle.mj_parser.proofs.Marks.{says_name, has_other, has_named, has_valued, has_within, IsCloser, Stops, stops_closer, at_is, stops_operator}
-use Rattle.mj_parser.proofs.Stands.{has_is}
+use Rattle.mj_expressions.specs.Expressions.{tier_of, terminal_of, size, sizes, sizes_more, height, heights, IsExp, AreArguments, AreMore}
+use Rattle.mj_expressions.specs.ExpressionReading.{Reading, TierParser, operator_at, takes_index, new_at, terminal_at, prim_of, prim_at, index_at, member_at, post_at, tier_at, exp_at}
+use Rattle.mj_expressions.proofs.Loops.{ChainLeads, PostLeads, chain_ends, chain_goes_on, post_ends, index_goes_on, member_goes_on}
+use Rattle.mj_expressions.specs.Steps.{items_from, behind_comma, at_comma, listed_at}
+use Rattle.mj_expressions.proofs.Lists.{exps_list, list_exps}
+use Rattle.mj_expressions.proofs.Marks.{says_name, has_other, has_named, has_valued, has_within, IsCloser, Stops, stops_closer, at_is, stops_operator}
+use Rattle.mj_expressions.proofs.Stands.{has_is}
 
 -- ---- what begins an expression
 

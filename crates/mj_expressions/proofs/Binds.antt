@@ -1,7 +1,7 @@
 -- What a step that found something was.
 use Rattle.std.proofs.Common.{◌≡◌, Bool, true, false, not, ◌&&◌, Option, Some, None, refl, ◌⊎◌, inl, inr}
 use Rattle.std.specs.Prelude.{if◌then◌else◌}
-use Rattle.mj_parser.specs.Steps.{◌>>=◌, when}
+use Rattle.mj_expressions.specs.Steps.{◌>>=◌, when}
 
 pub bind_some : {A B : Type 0} (o : Option A) (f : A → Option B) (y : B) → (o >>= f) ≡ Some y → (x : A) × (o ≡ Some x) × (f x ≡ Some y)
 bind_some None f y e = absurd cc

@@ -5,7 +5,7 @@ use Rattle.mj_lexer.specs.declared.token.Terminal.{Terminal}
 use Rattle.mj_lexer.specs.declared.token.Terminal.TheVariants as terminals
 use Rattle.mj_tree.specs.declared.tree.Operator.{Operator}
 use Rattle.mj_tree.specs.declared.tree.Operator.TheVariants.{And, Less, Plus, Minus, Times}
-use Rattle.mj_parser.specs.Tokens.{Stands, says, name_at, value_at}
+use Rattle.mj_expressions.specs.Tokens.{Stands, says, name_at, value_at}
 use Rattle.mj_tree.specs.Trees.{Expression, Expressions, Binary, Index, Length, Call, Literal, Boolean, Named, This, NewArray, NewObject, Not, Parenthesized, none, more}
 
 -- The tiers of expressions: a primary with what follows it, a unary, and any expression.

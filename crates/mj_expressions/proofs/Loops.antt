@@ -5,11 +5,11 @@ use Rattle.mj_lexer.specs.declared.token.Token.{Token}
 use Rattle.mj_lexer.specs.declared.token.Terminal.TheVariants as terminals
 use Rattle.mj_tree.specs.declared.tree.Exp.{Exp}
 use Rattle.mj_tree.specs.declared.tree.Operator.{Operator}
-use Rattle.mj_parser.specs.Tokens.{has}
+use Rattle.mj_expressions.specs.Tokens.{has}
 use Rattle.mj_tree.specs.Trees.{Expression, Binary}
 use Rattle.mj_tree.specs.Views.{exp_view, exps_view}
-use Rattle.mj_parser.specs.Expressions.{height, heights}
-use Rattle.mj_parser.specs.ExpressionReading.{Reading, TierParser, operator_at, binary_from, takes_index, post_from, index_at, member_at, exp_at}
+use Rattle.mj_expressions.specs.Expressions.{height, heights}
+use Rattle.mj_expressions.specs.ExpressionReading.{Reading, TierParser, operator_at, binary_from, takes_index, post_from, index_at, member_at, exp_at}
 
 -- no expression has no levels
 pub no_room : (ts : List Token) (room d i : ℕ) → room ≡ 0 → exp_at room ts d i ≡ None

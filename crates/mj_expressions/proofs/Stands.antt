@@ -7,11 +7,10 @@ use Rattle.mj_lexer.specs.declared.token.Terminal.{Terminal}
 use Rattle.mj_lexer.specs.declared.token.Terminal.TheVariants.{LeftBrace, RightBrace, LeftParenthesis, RightParenthesis, LeftBracket, RightBracket, Semicolon, Comma, Dot, Assign, And, Less, Plus, Minus, Times, Not, Class, Public, Static, Void, Extends, Return, Int, Boolean, If, Else, While, True, False, This, New}
 use Rattle.mj_lexer.specs.declared.token.Kind.{Kind}
 use Rattle.mj_lexer.specs.declared.token.Kind.TheVariants as kinds
-use Rattle.mj_parser.specs.Tokens.{terminal_number, same_terminal, is_terminal, kind_at, has, Stands}
-use Rattle.mj_parser.specs.Steps.{when}
-use Rattle.mj_parser.specs.Laws.{StandsLaw}
-use Rattle.mj_parser.proofs.Binds.{if_some, when_some, and_both}
-use Rattle.mj_parser.proofs.Marks.{has_within}
+use Rattle.mj_expressions.specs.Tokens.{terminal_number, same_terminal, is_terminal, kind_at, has, Stands, StandsLaw}
+use Rattle.mj_expressions.specs.Steps.{when}
+use Rattle.mj_expressions.proofs.Binds.{if_some, when_some, and_both}
+use Rattle.mj_expressions.proofs.Marks.{has_within}
 
 -- the terminals by their numbers
 abbrev all_terminals : List Terminal

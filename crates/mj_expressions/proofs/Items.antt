@@ -3,10 +3,10 @@ use Rattle.std.proofs.Common.{◌≡◌, ◌↔◌, ℕ, zero, suc, ◌+◌, ◌
 use Rattle.std.specs.Prelude.{IfOk, IfErr}
 use Rattle.mj_lexer.specs.declared.token.Token.{Token}
 use Rattle.mj_lexer.specs.declared.token.Terminal.TheVariants as terminals
-use Rattle.mj_parser.specs.declared.fault.ParseFault.{ParseFault}
-use Rattle.mj_parser.specs.declared.fault.ParseFault.TheVariants.{NotAFile, TooDeep, OutOfMemory}
-use Rattle.mj_parser.specs.Tokens.{has}
-use Rattle.mj_parser.specs.Steps.{◌>>=◌, when, PartParser, items_from, behind_comma, at_comma, more_listed, listed_at, Fails, Finds}
+use Rattle.mj_expressions.specs.declared.fault.ParseFault.{ParseFault}
+use Rattle.mj_expressions.specs.declared.fault.ParseFault.TheVariants.{NotAFile, TooDeep, OutOfMemory}
+use Rattle.mj_expressions.specs.Tokens.{has}
+use Rattle.mj_expressions.specs.Steps.{◌>>=◌, when, PartParser, items_from, behind_comma, at_comma, more_listed, listed_at, Fails, Finds}
 
 -- these items before those that are still read
 abbrev pub with_front : {A : Type 0} → List A → Option (List A × ℕ) → Option (List A × ℕ)

@@ -12,9 +12,9 @@ use Rattle.mj_lexer.specs.declared.token.Kind.{Kind}
 use Rattle.mj_lexer.specs.declared.token.Kind.TheVariants as kinds
 use Rattle.mj_tree.specs.declared.tree.Operator.{Operator}
 use Rattle.mj_tree.specs.declared.tree.Operator.TheVariants.{And, Less, Plus, Minus, Times}
-use Rattle.mj_parser.specs.Tokens.{terminal_number, same_terminal, is_terminal, is_word, name_of, value_of, token_kind, kind_at, has, name_at, value_at, says}
-use Rattle.mj_parser.specs.Expressions.{tier_of, terminal_of}
-use Rattle.mj_parser.specs.ExpressionReading.{operator_here, operator_at, of_tier}
+use Rattle.mj_expressions.specs.Tokens.{terminal_number, same_terminal, is_terminal, is_word, name_of, value_of, token_kind, kind_at, has, name_at, value_at, says}
+use Rattle.mj_expressions.specs.Expressions.{tier_of, terminal_of}
+use Rattle.mj_expressions.specs.ExpressionReading.{operator_here, operator_at, of_tier}
 
 eqb_flip : (a b : ℕ) → eqb a b ≡ false → eqb b a ≡ false
 eqb_flip a b h = ne_eqb b a (λ e. eqb-false a b h (sym e))

@@ -35,7 +35,7 @@ impl ParseFault {
 }
 
 impl From<AllocError> for ParseFault {
-    ghost use Rattle.mj_parser.specs.declared.fault.ParseFault.TheVariants.{OutOfMemory};
+    ghost use Rattle.mj_expressions.specs.declared.fault.ParseFault.TheVariants.{OutOfMemory};
 
     ghost from_gives = { λ _ e. e ≡ OutOfMemory };
 
@@ -45,7 +45,7 @@ impl From<AllocError> for ParseFault {
 }
 
 impl<T: Drop> From<AllocFailed<T>> for ParseFault {
-    ghost use Rattle.mj_parser.specs.declared.fault.ParseFault.TheVariants.{OutOfMemory};
+    ghost use Rattle.mj_expressions.specs.declared.fault.ParseFault.TheVariants.{OutOfMemory};
 
     ghost from_gives = { λ _ e. e ≡ OutOfMemory };
 

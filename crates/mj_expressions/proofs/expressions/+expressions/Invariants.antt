@@ -1,12 +1,12 @@
 use Rattle.std.proofs.Common.{◌≡◌, ℕ, Option, List, ◌<◌, ◌+◌, ◌-◌, ◌*◌, ◌≤◌, length, map}
 use Rattle.mj_tree.specs.Trees.{Expression}
 use Rattle.mj_tree.specs.Views.{exp_view, exps_view}
-use Rattle.mj_parser.specs.Expressions.{height, heights}
-use Rattle.mj_parser.specs.Steps.{listed_at}
-use Rattle.mj_parser.specs.ExpressionReading.{Reading, exp_at}
-use Rattle.mj_parser.proofs.Items.{ListLeads, closed_list}
-use Rattle.mj_parser.proofs.Loops.{ChainLeads, PostLeads}
-use Rattle.mj_parser.proofs.expressions.+expressions.Given as goal
+use Rattle.mj_expressions.specs.Expressions.{height, heights}
+use Rattle.mj_expressions.specs.Steps.{listed_at}
+use Rattle.mj_expressions.specs.ExpressionReading.{Reading, exp_at}
+use Rattle.mj_expressions.proofs.Items.{ListLeads, closed_list}
+use Rattle.mj_expressions.proofs.Loops.{ChainLeads, PostLeads}
+use Rattle.mj_expressions.proofs.expressions.+expressions.Given as goal
 
 abbrev pub decreases-read : goal.decreases-read
 decreases-read l = 16 * l.room + 8 + l.tier

@@ -1,5 +1,5 @@
 -- Tokens by their places.
-use Rattle.std.specs.Prelude.{◌≡◌, ℕ, ◌+◌, Bool, false, ◌==◌, List, [], ◌∷◌, Option, Some, None, slice_get, if◌then◌else◌}
+use Rattle.std.specs.Prelude.{◌≡◌, ◌↔◌, ℕ, ◌+◌, Bool, true, false, ◌==◌, List, [], ◌∷◌, Option, Some, None, slice_get, if◌then◌else◌}
 use Rattle.std.specs.Str.{bytes_eq}
 use Rattle.mj_lexer.specs.declared.token.Token.{Token}
 use Rattle.mj_lexer.specs.declared.token.Kind.{Kind}
@@ -65,6 +65,11 @@ has ts i terminal = is_terminal terminal (kind_at ts i)
 -- this symbol or reserved word stands at a place
 unfoldable pub Stands : List Token → ℕ → Terminal → Type 0
 Stands ts i terminal = kind_at ts i ≡ Some (kinds.Terminal terminal)
+
+-- Reading tests what stands at a place.
+abbrev pub StandsLaw : Type 0
+StandsLaw = (ts : List Token) (i : ℕ) (terminal : Terminal)
+    → Stands ts i terminal ↔ (has ts i terminal ≡ true)
 
 abbrev pub name_of : Option Kind → Option Name
 name_of None = None

@@ -1,7 +1,7 @@
 //! Tokens by their places.
 ghost use Rattle.std.specs.Prelude.{◌≡◌, ◌+◌, ◌<◌, ◌≤◌, ◌↔◌, ◌^◌, ◌&&◌, if◌then◌else◌, IsTrue, IsSome, IfOk, IfErr, MatchOption, length, true, false, Some, None};
-ghost use Rattle.mj_parser.specs.Tokens.{same_terminal, kind_at, has, name_at, says};
-ghost use Rattle.mj_parser.specs.declared.fault.ParseFault.TheVariants.{NotAFile};
+ghost use Rattle.mj_expressions.specs.Tokens.{same_terminal, kind_at, has, name_at, says};
+ghost use Rattle.mj_expressions.specs.declared.fault.ParseFault.TheVariants.{NotAFile};
 
 use crate::fault::ParseFault;
 use mj_lexer::{Kind, Name, Terminal, Token};

@@ -8,14 +8,14 @@ use Rattle.mj_lexer.specs.declared.token.Terminal.TheVariants as terminals
 use Rattle.mj_lexer.specs.declared.token.Kind.{Kind}
 use Rattle.mj_lexer.specs.declared.token.Kind.TheVariants as kinds
 use Rattle.mj_tree.specs.declared.tree.Operator.{Operator}
-use Rattle.mj_parser.specs.Tokens.{Stands, name_of, value_of, kind_at, has, name_at, value_at, says}
+use Rattle.mj_expressions.specs.Tokens.{Stands, name_of, value_of, kind_at, has, name_at, value_at, says}
 use Rattle.mj_tree.specs.Trees.{Expression, Binary, Index, Length, Call, Literal, Boolean, Named, This, NewArray, NewObject, Not, Parenthesized}
-use Rattle.mj_parser.specs.Expressions.{tier_of, terminal_of, size, sizes, sizes_more, height, heights, is_new_array, IsExp, AreArguments, AreMore}
+use Rattle.mj_expressions.specs.Expressions.{tier_of, terminal_of, size, sizes, sizes_more, height, heights, is_new_array, IsExp, AreArguments, AreMore}
 use Rattle.mj_tree.specs.Views.{expressions_of}
-use Rattle.mj_parser.specs.Steps.{◌>>=◌, items_from, behind_comma, at_comma, listed_at}
-use Rattle.mj_parser.proofs.Binds.{bind_some, when_some, if_some, some_or_none, some_is, and_both, not_false}
-use Rattle.mj_parser.specs.ExpressionReading.{TierParser, close, operator_here, of_tier, operator_at, takes_index, new_at, terminal_at, prim_of, prim_at, index_at, member_at, post_from, post_at, binary_from, tier_at, exp_at}
-use Rattle.mj_parser.proofs.Stands.{stands, when_stands, if_stands, both_stand}
+use Rattle.mj_expressions.specs.Steps.{◌>>=◌, items_from, behind_comma, at_comma, listed_at}
+use Rattle.mj_expressions.proofs.Binds.{bind_some, when_some, if_some, some_or_none, some_is, and_both, not_false}
+use Rattle.mj_expressions.specs.ExpressionReading.{TierParser, close, operator_here, of_tier, operator_at, takes_index, new_at, terminal_at, prim_of, prim_at, index_at, member_at, post_from, post_at, binary_from, tier_at, exp_at}
+use Rattle.mj_expressions.proofs.Stands.{stands, when_stands, if_stands, both_stand}
 
 -- a tree that was read up to a place
 pub record Sound (ts : List Token) (d i room : ℕ) (x : Expression × ℕ) : Type 0 where

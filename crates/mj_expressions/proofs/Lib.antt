@@ -1,0 +1,9 @@
+pub mod Items
+pub mod Loops
+pub mod Binds
+pub mod Lists
+pub mod Marks
+pub mod Stands
+pub mod ExpressionFound
+pub mod ExpressionAgain
+pub mod ExpressionLaw
