@@ -125,6 +125,12 @@ main_parameter_fault ts =
     ∷ has ts 7 terminals.RightBracket ∷ is_some (name_at ts 8)
     ∷ has ts 9 terminals.RightParenthesis ∷ has ts 10 terminals.LeftBrace ∷ [])
 
+-- Of `class id {`, with which the main class begins, the first place where it isn't as it has to be.
+abbrev pub main_opening_fault : List Token → ℕ
+main_opening_fault ts =
+    first_wrong 0 (has ts 0 terminals.Class ∷ is_some (name_at ts 1)
+    ∷ has ts 2 terminals.LeftBrace ∷ [])
+
 -- ---- classes
 
 abbrev pub field_size : Field → ℕ

@@ -154,11 +154,14 @@ main_method_at ts =
 unfoldable pub main_from : List Token → Option (Statement × ℕ)
 main_from ts = main_method_at (drop 3 ts) >>= λ s. Some (s.0, 3 + s.1)
 
+-- the main class of a name
+abbrev pub main_named : List Token → Name → Option (Main × ℕ)
+main_named ts name = main_from ts >>= λ s. Some (record { name = name; statement = s.0 }, s.1)
+
 unfoldable pub main_at : List Token → Option (Main × ℕ)
 main_at ts =
     when (has ts 0 terminals.Class)
-    (name_at ts 1 >>= λ name. when (has ts 2 terminals.LeftBrace)
-    (main_from ts >>= λ s. Some (record { name = name; statement = s.0 }, s.1)))
+    (name_at ts 1 >>= λ name. when (has ts 2 terminals.LeftBrace) (main_named ts name))
 
 unfoldable pub main_part_at : List Token → Option (Option Main × ℕ)
 main_part_at ts =

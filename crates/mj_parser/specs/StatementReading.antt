@@ -25,13 +25,17 @@ condition_at exp ts i =
     when (has ts i terminals.LeftParenthesis)
     (exp (i + 1) >>= λ c. when (has ts c.1 terminals.RightParenthesis) (Some (c.0, c.1 + 1)))
 
+-- the second statement of a choice
+abbrev pub else_at : PartParser Statement → ℕ → Expression → Statement → PartParser Statement
+else_at part i condition then_branch j =
+    part j >>= λ else_branch. Some (If i condition then_branch else_branch.0, else_branch.1)
+
 unfoldable pub if_at : PartParser Expression → PartParser Statement → List Token → ℕ
     → Option (Statement × ℕ)
 if_at exp part ts i =
     condition_at exp ts (i + 1) >>= λ c. part c.1
     >>= λ then_branch. when (has ts then_branch.1 terminals.Else)
-    (part (then_branch.1 + 1) >>= λ else_branch. Some
-    (If i c.0 then_branch.0 else_branch.0, else_branch.1))
+    (else_at part i c.0 then_branch.0 (then_branch.1 + 1))
 
 unfoldable pub while_at : PartParser Expression → PartParser Statement → List Token → ℕ
     → Option (Statement × ℕ)
@@ -44,17 +48,20 @@ print_at exp ts i =
     >>= λ v. when (has ts v.1 terminals.RightParenthesis && has ts (v.1 + 1) terminals.Semicolon)
     (Some (Print i v.0, v.1 + 2)))
 
+-- the value that is assigned, and the semicolon
+abbrev pub assigned_at : PartParser Expression → List Token → (Expression → Statement)
+    → PartParser Statement
+assigned_at exp ts make j =
+    exp j >>= λ v. when (has ts v.1 terminals.Semicolon) (Some (make v.0, v.1 + 1))
+
 unfoldable pub assign_at : PartParser Expression → List Token → Name → ℕ → Option (Statement × ℕ)
-assign_at exp ts name i =
-    exp (i + 2) >>= λ v. when (has ts v.1 terminals.Semicolon)
-    (Some (Assign (i + 1) name i v.0, v.1 + 1))
+assign_at exp ts name i = assigned_at exp ts (Assign (i + 1) name i) (i + 2)
 
 unfoldable pub store_at : PartParser Expression → List Token → Name → ℕ → Option (Statement × ℕ)
 store_at exp ts name i =
     exp (i + 2) >>= λ index. when (has ts index.1 terminals.RightBracket
     && has ts (index.1 + 1) terminals.Assign)
-    (exp (index.1 + 2) >>= λ v. when (has ts v.1 terminals.Semicolon)
-    (Some (Store (index.1 + 1) name i index.0 v.0, v.1 + 1)))
+    (assigned_at exp ts (Store (index.1 + 1) name i index.0) (index.1 + 2))
 
 -- a statement that begins with a name
 unfoldable pub named_at : PartParser Expression → List Token → ℕ → Option (Statement × ℕ)

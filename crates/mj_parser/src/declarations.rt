@@ -6,7 +6,7 @@ ghost use Rattle.mj_expressions.specs.Steps.{Finds, items_from, listed_at, more_
 ghost use Rattle.mj_expressions.specs.declared.fault.ParseFault.TheVariants.{OutOfMemory};
 ghost use Rattle.mj_parser.specs.StatementReading.{stmt_at};
 ghost use Rattle.mj_parser.specs.FileReading as reading;
-ghost use Rattle.mj_parser.specs.FileReading.{type_at, variable_at, local_at, begins_local, signature_view, signature_of, signature_at, not_return, method_at};
+ghost use Rattle.mj_parser.specs.FileReading.{type_at, variable_at, local_at, begins_local, signature_view, signature_of, signature_at, not_return, method_of, method_at};
 
 use crate::statements::statement;
 use mj_expressions::{
@@ -255,15 +255,21 @@ fn read_signature(alloc: Global, tokens: &[Token]) -> Result<Part<Signature>, Pa
     signature_of(alloc, tokens, name, returns.tree, after)
 }
 
-/// The method that the tokens begin with.
-#[tactic(auto, unfolding(crate::specs::FileReading::method_at, crate::specs::FileReading::method_of))]
-pub fn method(alloc: Global, tokens: &[Token]) -> Result<Part<MethodTree>, ParseFault>
-    ensures exact { Finds (λ x. (method_view x.tree, x.after)) result (method_at tokens.now) }
+/// The method with this signature, these locals and this body, behind which its `return` stands.
+#[tactic(auto, unfolding(crate::specs::FileReading::method_of))]
+fn method_of(
+    alloc: Global,
+    tokens: &[Token],
+    signature: Signature,
+    locals: Vec<Variable>,
+    body: Part<Vec<Stmt>>,
+) -> Result<Part<MethodTree>, ParseFault>
+    requires { body.after < length tokens.now }
+    ensures exact { Finds (λ x. (method_view x.tree, x.after)) result
+        (method_of tokens.now (signature_view signature) locals.items
+        (map stmt_view body.tree.items, body.after)) }
     ensures within { IfOk result (λ x. (0 < x.after) × (x.after ≤ length tokens.now)) }
 {
-    let signature = read_signature(alloc, tokens)?;
-    let locals = locals(alloc, tokens, signature.after)?;
-    let body = body(alloc, tokens, locals.after)?;
     let returned = read(alloc, tokens, body.after + 1, MOST_LEVELS, ANY_TIER)?;
     let after = expect_two(
         tokens,
@@ -273,14 +279,26 @@ pub fn method(alloc: Global, tokens: &[Token]) -> Result<Part<MethodTree>, Parse
     )?;
     Ok(Part {
         tree: MethodTree {
-            name: signature.tree.name,
-            returns: signature.tree.returns,
-            formals: signature.tree.formals,
-            locals: locals.tree,
+            name: signature.name,
+            returns: signature.returns,
+            formals: signature.formals,
+            locals,
             body: body.tree,
             returned: returned.exp,
             return_mark: body.after,
         },
         after,
     })
+}
+
+/// The method that the tokens begin with.
+#[tactic(auto, unfolding(crate::specs::FileReading::method_at))]
+pub fn method(alloc: Global, tokens: &[Token]) -> Result<Part<MethodTree>, ParseFault>
+    ensures exact { Finds (λ x. (method_view x.tree, x.after)) result (method_at tokens.now) }
+    ensures within { IfOk result (λ x. (0 < x.after) × (x.after ≤ length tokens.now)) }
+{
+    let signature = read_signature(alloc, tokens)?;
+    let locals = locals(alloc, tokens, signature.after)?;
+    let body = body(alloc, tokens, locals.after)?;
+    method_of(alloc, tokens, signature.tree, locals.tree, body)
 }

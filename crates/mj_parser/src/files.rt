@@ -1,11 +1,12 @@
 //! Reading classes and the whole file.
-ghost use Rattle.std.specs.Prelude.{◌≡◌, ℕ, ◌+◌, ◌<◌, ◌≤◌, ◌&&◌, codes, suc, length, drop, map, option_map, true, false, IfOk, IfErr, IsTrue};
+ghost use Rattle.std.specs.Prelude.{◌≡◌, ℕ, ◌+◌, ◌<◌, ◌≤◌, ◌&&◌, codes, suc, length, drop, map, option_map, true, false, Some, None, IfOk, IfErr, IsTrue};
 ghost use Rattle.mj_tree.specs.Views.{stmt_view, method_view, main_view, class_view, file_view};
 ghost use Rattle.mj_lexer.specs.declared.token.Terminal.TheVariants as terminals;
 ghost use Rattle.mj_expressions.specs.Tokens.{has, says};
-ghost use Rattle.mj_parser.specs.Declarations.{main_head, main_head_fault, main_parameter, main_parameter_fault};
+ghost use Rattle.mj_parser.specs.Declarations.{main_head, main_head_fault, main_opening_fault, main_parameter, main_parameter_fault};
+ghost use Rattle.mj_tree.specs.Trees.{Main};
 ghost use Rattle.mj_expressions.specs.Steps.{Finds, items_from};
-ghost use Rattle.mj_parser.specs.FileReading.{field_at, begins_type, method_from, at_public, superclass_at, class_at, begins_main, main_method_at, main_from, main_at, main_part_at, before_end, tree_of};
+ghost use Rattle.mj_parser.specs.FileReading.{field_at, begins_type, method_from, at_public, superclass_at, class_at, begins_main, main_method_at, main_from, main_named, main_at, main_part_at, before_end, tree_of};
 ghost use Rattle.mj_expressions.specs.declared.fault.ParseFault.TheVariants.{NotAFile};
 
 use crate::declarations::{local, method};
@@ -228,15 +229,33 @@ fn main_statement(alloc: Global, tokens: &[Token]) -> Result<Part<Stmt>, ParseFa
     }
 }
 
+/// The name between the main class's `class` and its brace.
 #[tactic(auto, unfolding(crate::specs::FileReading::main_at))]
-fn main_class(alloc: Global, tokens: &[Token]) -> Result<Part<MainTree>, ParseFault>
-    ensures exact { Finds (λ x. (main_view x.tree, x.after)) result (main_at tokens.now) }
-    ensures within { IfOk result (λ x. x.after ≤ length tokens.now) }
+fn expect_main_name(tokens: &[Token]) -> Result<&Name, ParseFault>
+    ensures found { IfOk result (λ n.
+        (main_at tokens.now ≡ main_named tokens.now n.now) × (3 ≤ length tokens.now)) }
+    ensures fault { IfErr result (λ e.
+        (main_at tokens.now ≡ None) × (e ≡ NotAFile (main_opening_fault tokens.now))) }
 {
     let after = expect(tokens, 0, Terminal::Class)?;
     let name = expect_name(tokens, after)?;
     expect(tokens, 2, Terminal::LeftBrace)?;
-    let statement = main_statement(alloc, tokens)?;
+    Ok(name)
+}
+
+/// The main class of this name, with its statement.
+fn make_main(
+    alloc: Global,
+    name: &Name,
+    statement: Part<Stmt>,
+) -> Result<Part<MainTree>, ParseFault>
+    ensures exact { Finds {A = Main × ℕ} (λ x. (main_view x.tree, x.after)) result
+        (Some (
+          record { name = name.now; statement = stmt_view statement.tree },
+          statement.after,
+        )) }
+    ensures place { IfOk result (λ x. x.after ≡ statement.after) }
+{
     Ok(Part {
         tree: MainTree {
             name: name.copy(alloc)?,
@@ -244,6 +263,15 @@ fn main_class(alloc: Global, tokens: &[Token]) -> Result<Part<MainTree>, ParseFa
         },
         after: statement.after,
     })
+}
+
+fn main_class(alloc: Global, tokens: &[Token]) -> Result<Part<MainTree>, ParseFault>
+    ensures exact { Finds (λ x. (main_view x.tree, x.after)) result (main_at tokens.now) }
+    ensures within { IfOk result (λ x. x.after ≤ length tokens.now) }
+{
+    let name = expect_main_name(tokens)?;
+    let statement = main_statement(alloc, tokens)?;
+    make_main(alloc, name, statement)
 }
 
 /// Whether the first class is the main class.

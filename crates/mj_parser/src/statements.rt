@@ -9,7 +9,7 @@ ghost use Rattle.mj_expressions.specs.Steps.{Finds, items_from, when};
 ghost use Rattle.mj_lexer.specs.declared.token.Terminal.TheVariants as terminals;
 ghost use Rattle.mj_tree.specs.Trees.{Statement, If, While, Assign, Store};
 ghost use Rattle.mj_expressions.specs.ExpressionReading.{exp_at};
-ghost use Rattle.mj_parser.specs.StatementReading.{not_brace, block_at, condition_at, if_at, while_at, print_at, assign_at, store_at, named_at, stmt_of, stmt_at};
+ghost use Rattle.mj_parser.specs.StatementReading.{not_brace, block_at, condition_at, else_at, if_at, while_at, print_at, assign_at, assigned_at, store_at, named_at, stmt_of, stmt_at};
 ghost use Rattle.mj_expressions.specs.declared.fault.ParseFault.{ParseFault};
 ghost use Rattle.mj_expressions.specs.declared.fault.ParseFault.TheVariants.{NotAFile, OutOfMemory};
 
@@ -178,6 +178,26 @@ fn store(
         Terminal::RightBracket,
         Terminal::Assign,
     )?;
+    store_with(alloc, tokens, name, at, index, inside, room)
+}
+
+/// The assignment to the element of this index, whose value begins at a place.
+fn store_with(
+    alloc: Global,
+    tokens: &[Token],
+    name: &Name,
+    at: usize,
+    index: ExpPart,
+    inside: usize,
+    room: usize,
+) -> Result<Part<Stmt>, ParseFault>
+    requires deep { room ≤ most_levels }
+    requires within { (at < index.after) × (index.after < inside) × (inside ≤ length tokens.now) }
+    ensures exact { Finds (λ x. (stmt_view x.tree, x.after)) result
+        (assigned_at (exp_at room tokens.now any_tier) tokens.now
+        (Store (index.after + 1) name.now at (exp_view index.exp)) inside) }
+    ensures within { IfOk result (λ x. (at < x.after) × (x.after ≤ length tokens.now)) }
+{
     let value = read(alloc, tokens, inside, room, ANY_TIER)?;
     stored(alloc, tokens, name, at, index, value)
 }
@@ -327,6 +347,27 @@ fn choice(alloc: Global, tokens: &[Token], at: usize, room: usize) -> Result<Par
     let condition = condition(alloc, tokens, at + 1, room)?;
     let first = statement(alloc, tokens, condition.after, room)?;
     let first = followed(tokens, first, Terminal::Else)?;
+    choice_with(alloc, tokens, at, condition, first, room)
+}
+
+/// The choice whose second statement begins behind the first.
+#[cycle(statements)]
+#[inline(never)]
+fn choice_with(
+    alloc: Global,
+    tokens: &[Token],
+    at: usize,
+    condition: ExpPart,
+    first: Part<Stmt>,
+    room: usize,
+) -> Result<Part<Stmt>, ParseFault>
+    requires deep { room ≤ most_levels }
+    requires within { first.after ≤ length tokens.now }
+    ensures exact { Finds (λ x. (stmt_view x.tree, x.after)) result
+        (else_at (stmt_at room tokens.now) at (exp_view condition.exp) (stmt_view first.tree)
+        first.after) }
+    ensures within { IfOk result (λ x. (first.after < x.after) × (x.after ≤ length tokens.now)) }
+{
     let second = statement(alloc, tokens, first.after, room)?;
     chosen(alloc, at, condition, first, second)
 }

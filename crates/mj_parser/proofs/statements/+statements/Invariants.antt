@@ -10,7 +10,10 @@ abbrev pub decreases-statement : goal.decreases-statement
 decreases-statement l = 4 * l.room
 
 abbrev pub decreases-choice : goal.decreases-choice
-decreases-choice l = 4 * l.room + 1
+decreases-choice l = 4 * l.room + 2
+
+abbrev pub decreases-choice_with : goal.decreases-choice_with
+decreases-choice_with l = 4 * l.room + 1
 
 abbrev pub decreases-repetition : goal.decreases-repetition
 decreases-repetition l = 4 * l.room + 1
