@@ -12,7 +12,7 @@ use Rattle.mj_expressions.specs.Steps.{PartParser, items_from}
 use Rattle.mj_expressions.specs.ExpressionReading.{exp_at}
 use Rattle.mj_parser.specs.StatementReading.{not_brace, block_at, condition_at, if_at, while_at, print_at, assign_at, store_at, named_at, stmt_of, stmt_at}
 use Rattle.mj_parser.proofs.Lists.{stmts_list, list_stmts}
-use Rattle.mj_expressions.proofs.Marks.{has_other, has_named, has_within, says_name, IsCloser, stops_closer}
+use Rattle.mj_expressions.proofs.Marks.{has_other, has_named, has_within, says_name}
 use Rattle.mj_expressions.proofs.ExpressionLaw.{exp_before}
 use Rattle.mj_expressions.proofs.ExpressionAgain.{closer_paren, closer_bracket, closer_semicolon}
 use Rattle.mj_expressions.proofs.Stands.{has_is}
