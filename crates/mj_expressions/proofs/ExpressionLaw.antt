@@ -1,10 +1,10 @@
 -- Reading finds just the expressions that are closed.
-use Rattle.std.proofs.Common.{◌≡◌, ℕ, ◌+◌, ◌≤◌, true, List, Some, refl, arith, inl, inr}
+use Rattle.std.proofs.Common.{◌≡◌, ℕ, ◌+◌, ◌≤◌, true, List, Some, arith, inl, inr}
 use Rattle.mj_lexer.specs.declared.token.Token.{Token}
 use Rattle.mj_lexer.specs.declared.token.Terminal.{Terminal}
 use Rattle.mj_lexer.specs.declared.token.Terminal.TheVariants as terminals
 use Rattle.mj_tree.specs.Trees.{Expression}
-use Rattle.mj_expressions.specs.Tokens.{Stands, has}
+use Rattle.mj_expressions.specs.Tokens.{has}
 use Rattle.mj_expressions.specs.Expressions.{size, height, IsExp}
 use Rattle.mj_expressions.specs.ExpressionReading.{exp_at}
 use Rattle.mj_expressions.specs.Laws.{ClosesAt, ExpressionLaw}
