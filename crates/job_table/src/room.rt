@@ -87,11 +87,28 @@ pub fn room_for_mark<R: Runner>(
     ensures room { IfSome result (λ _. vec_len history.new + 1 < vec_capacity history.new) }
 {
     history.reserve(2).ok()?;
-    let sealed = Arc::try_clone(had.sealed()).ok()?;
-    let answer = Arc::try_clone(had.sealed()).ok()?;
-    let edges = edge_keys(alloc, past, had.edges()).ok()?;
-    let noted = key.copy(alloc).ok()?;
-    Some(MarkParts {
+    mark_parts(alloc, key, past, had).ok()
+}
+
+/// What a key needs that is marked which had this record in the past.
+fn mark_parts(
+    alloc: Global,
+    key: &Key,
+    past: &Session,
+    had: &Record,
+) -> Result<MarkParts, AllocError>
+    requires { AreInside past.now.records had.now.edges }
+    ensures key { IfOk result (λ parts. parts.noted ≡ key.now) }
+    ensures edges { IfOk result (λ parts. parts.edges.items
+        ≡ map (key_at past.now.records) had.now.edges) }
+    ensures results { IfOk result (λ parts. (arc_value parts.sealed ≡ had.now.value)
+        × (arc_value parts.answer ≡ had.now.value)) }
+{
+    let sealed = Arc::try_clone(had.sealed())?;
+    let answer = Arc::try_clone(had.sealed())?;
+    let edges = edge_keys(alloc, past, had.edges())?;
+    let noted = key.copy(alloc)?;
+    Ok(MarkParts {
         noted,
         edges,
         sealed,
