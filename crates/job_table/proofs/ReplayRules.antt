@@ -1,19 +1,25 @@
--- Events in turn.
+-- Events in turn, and what calls say of them.
 use Rattle.std.proofs.Common.{◌≡◌, ◌<◌, ℕ, List, [], ◌∷◌, ◌++◌, take, drop, map, length, get_or, suc, zero, ap, subst, refl, Bool, true, false, arith}
-use Rattle.std.specs.Prelude.{Result, Ok, Err}
+use Rattle.std.specs.Prelude.{Result, Ok, Err, Option, Some, None}
+use Rattle.std.specs.declared.alloc.Global.{Global}
+use Rattle.std.specs.declared.sync.Arc.{Arc}
+use Rattle.std.specs.Arc.{arc_value}
+use Rattle.item_ids.specs.declared.key.Key.{Key}
+use Rattle.result_bytes.specs.declared.value.Value.{Value}
 use Rattle.recorder.specs.Projects.{Project}
 use Rattle.recorder.specs.Backed.{ReadValue}
 use Rattle.recorder.specs.Runs.{OutcomeValue}
 use Rattle.sessions.specs.Sessions.{SessionValue, past_entry}
-use Rattle.graph_rules.specs.Steps.{State, Event, Finish, Fail, AreHeld, Legal}
+use Rattle.graph_rules.specs.Steps.{Status, State, Event, Claim, MarkGreen, Begin, Finish, Fail, Walk, AllUnchanged, OpenAt, ChangedAt, IsDoneWith, MayRun, AreHeld, Legal}
 use Rattle.job_table.specs.declared.event.Event.{Event as StoredEvent}
+use Rattle.job_table.specs.declared.fault.Asked.{Asked}
+use Rattle.job_table.specs.declared.fault.Asked.TheVariants as asked
 use Rattle.job_table.specs.declared.fault.TableFault.{TableFault}
 use Rattle.job_table.specs.declared.fault.TableFault.TheVariants as fault
 use Rattle.job_table.specs.Kept.{event_of}
 use Rattle.job_table.specs.Tables.{TableValue, state_of, IsStep}
-use Rattle.job_table.specs.Calls.{FinishGives, FailGives, IsFirstStale}
-use Rattle.job_table.specs.Replays.{StepGives, step_of_call, IsFirstIllegal}
-use Rattle.std.specs.Prelude.{Option}
+use Rattle.job_table.specs.Calls.{AskGives, MarkGives, BeginGives, FinishGives, FailGives, IsFirstStale}
+use Rattle.job_table.specs.Replays.{StepGives, step_of_ask, step_of_mark, step_of_call, IsFirstIllegal}
 
 -- a list of events is those before a place, the one there, and the others
 pub split_events : {R : Type 0} (es : List (StoredEvent R)) (i : ℕ) (e : StoredEvent R) → i < length es → e ≡ get_or es i e
@@ -48,6 +54,57 @@ stale_not s (r ∷ rs) (suc i) h a = stale_not s rs i h.1 a.1
 
 not_both : (b : Bool) → b ≡ true → b ≡ false → ⊥
 not_both b t f = cc
+
+-- what an answer of ask says of its event
+pub ask_step : (t u : TableValue) (w : ℕ) (q : Key) (r : Result Asked TableFault) → AskGives t w q r u → StepGives t (Claim w q) (step_of_ask r) u
+ask_step t u w q (Ok asked.Yours) h = h
+ask_step t u w q (Ok (asked.Done v)) h = ((λ m. subst (λ (x : Status). IsDoneWith (arc_value v) x) m.1 h.1), h.2)
+ask_step t u w q (Ok asked.Busy) h = ((λ m. h.2 m.1), h.3)
+ask_step t u w q (Ok asked.Stopped) h = ((λ m. not_both _ h.0 m.0), h.1)
+ask_step t u w q (Err fault.OutOfRank) h = ((λ m. h.1 m.2), h.2)
+ask_step t u w q (Err fault.OutOfMemory) h = h.2
+ask_step t u w q (Err fault.NotYours) h = absurd h
+ask_step t u w q (Err fault.NotInPast) h = absurd h
+ask_step t u w q (Err fault.NothingChanged) h = absurd h
+ask_step t u w q (Err fault.Failed) h = absurd h
+ask_step t u w q (Err (fault.EdgeOpen i)) h = absurd h
+ask_step t u w q (Err (fault.EdgeChanged i)) h = absurd h
+ask_step t u w q (Err (fault.StaleRead i)) h = absurd h
+
+none_not : (o : Option Walk) → o ≡ None → o ≡ Some AllUnchanged → ⊥
+none_not o n a = cc
+
+open_not : (o : Option Walk) (i : ℕ) → o ≡ Some (OpenAt i) → o ≡ Some AllUnchanged → ⊥
+open_not o i n a = cc
+
+changed_not : (o : Option Walk) (i : ℕ) → o ≡ Some (ChangedAt i) → o ≡ Some AllUnchanged → ⊥
+changed_not o i n a = cc
+
+-- what an answer of mark says of its event
+pub mark_step : (t u : TableValue) (w : ℕ) (q : Key) (r : Result (Arc Value Global) TableFault) → MarkGives t w q r u → StepGives t (MarkGreen w q) (step_of_mark r) u
+mark_step t u w q (Ok v) h = (h.0, h.1)
+mark_step t u w q (Err fault.Failed) h = ((λ m. not_both _ h.0 m.0), h.1)
+mark_step t u w q (Err fault.NotYours) h = ((λ m. h.1 m.1), h.2)
+mark_step t u w q (Err fault.NotInPast) h = ((λ m. none_not _ h.1 m.2), h.2)
+mark_step t u w q (Err (fault.EdgeOpen i)) h = ((λ m. open_not _ i h.1 m.2), h.2)
+mark_step t u w q (Err (fault.EdgeChanged i)) h = ((λ m. changed_not _ i h.1 m.2), h.2)
+mark_step t u w q (Err fault.OutOfMemory) h = h.1
+mark_step t u w q (Err fault.OutOfRank) h = absurd h
+mark_step t u w q (Err fault.NothingChanged) h = absurd h
+mark_step t u w q (Err (fault.StaleRead i)) h = absurd h
+
+-- what an answer of begin_run says of its event
+pub begin_step : (t u : TableValue) (w : ℕ) (q : Key) (r : Result (Unit {0}) TableFault) → BeginGives t w q r u → StepGives t (Begin w q) (step_of_call r) u
+begin_step t u w q (Ok x) h = h
+begin_step t u w q (Err fault.Failed) h = ((λ m. not_both _ h.0 m.0), h.1)
+begin_step t u w q (Err fault.NotYours) h = ((λ m. h.1 m.1), h.2)
+begin_step t u w q (Err (fault.EdgeOpen i)) h = ((λ m. subst MayRun h.1 m.2), h.2)
+begin_step t u w q (Err fault.NothingChanged) h = ((λ m. subst MayRun h.1 m.2), h.2)
+begin_step t u w q (Err fault.OutOfMemory) h = h.1
+begin_step t u w q (Err fault.OutOfRank) h = absurd h
+begin_step t u w q (Err fault.NotInPast) h = absurd h
+begin_step t u w q (Err (fault.EdgeChanged i)) h = absurd h
+begin_step t u w q (Err (fault.StaleRead i)) h = absurd h
 
 -- what an answer of finish says of its event
 pub finish_step : (t u : TableValue) (w : ℕ) (o : OutcomeValue) (r : Result (Unit {0}) TableFault) → FinishGives t w o r u → StepGives t (Finish w o) (step_of_call r) u

@@ -150,8 +150,9 @@ fn record_of(
 {
     let entry = entry_of(inputs, nodes, key);
     let edges = places_of(alloc, keys, entry.edges)?;
+    let sealed = Arc::try_clone(entry.sealed)?;
     let own = key.copy(alloc)?;
-    let record = Record::new(own, entry.mark, edges, Arc::try_clone(entry.sealed)?);
+    let record = Record::new(own, entry.mark, edges, sealed);
     check_kept(&record);
     Ok(record)
 }

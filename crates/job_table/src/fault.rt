@@ -78,7 +78,7 @@ pub enum CloseFault {
 }
 
 /// Why an event isn't done.
-#[derive(Clone, Copy, Debug, PartialEq, Eq)]
+#[derive(Clone, Copy)]
 pub(crate) enum StepFault {
     /// It is no step.
     NoStep,

@@ -1,7 +1,8 @@
 //! The keys that were asked for, in the order of their claims, each found by its place.
-ghost use Rattle.std.specs.Prelude.{◌≡◌, ◌↔◌, ◌==◌, ◌<◌, [], Option, ℕ, IfSome, IfNone, IsTrue, OnOk, OnErr, filter, length, not, if◌then◌else◌};
+ghost use Rattle.std.specs.Prelude.{◌≡◌, ◌↔◌, ◌==◌, ◌<◌, [], Option, Some, ℕ, IfSome, IfNone, IsTrue, IfOk, OnOk, OnErr, filter, length, not, if◌then◌else◌, vec_len, vec_capacity};
 ghost use Rattle.std.specs.List.{AllByRecursion};
 ghost use Rattle.std.specs.BTreeMap.{get};
+ghost use Rattle.std.specs.Ordering.{is_eq};
 ghost use Rattle.item_ids.specs.declared.key.Key.{Key as KeyValue};
 ghost use Rattle.item_ids.specs.Keys.{key_cmp};
 ghost use Rattle.item_ids.specs.Places.{ArePlaces};
@@ -191,13 +192,52 @@ fn add_node(
         ≡ (if same_key key.now k then status_of standing else status_in nodes.old.items k)) }
     ensures err { OnErr result (nodes.new.items ≡ nodes.old.items) }
 {
-    let own = key.copy(alloc)?;
-    let known = key.copy(alloc)?;
+    let own = room_for_node(alloc, nodes, places, pending, key)?;
+    let at = nodes.len();
+    pending.push_reserved(at);
+    nodes.push_reserved(Node { key: own, standing });
+    Ok(())
+}
+
+/// Room for one more node, whose place its key then has, and a copy of the key.
+fn room_for_node(
+    alloc: Global,
+    nodes: &mut Vec<Node>,
+    places: &mut BTreeMap<Key, usize>,
+    pending: &mut Vec<usize>,
+    key: &Key,
+) -> Result<Key, AllocError>
+    ensures nodes { nodes.new.items ≡ nodes.old.items }
+    ensures pending { pending.new.items ≡ pending.old.items }
+    ensures node_room { OnOk result (vec_len nodes.new < vec_capacity nodes.new) }
+    ensures pending_room { OnOk result (vec_len pending.new < vec_capacity pending.new) }
+    ensures own { IfOk result (λ own. own ≡ key.now) }
+    ensures ok { OnOk result ((q : KeyValue) → get key_cmp places.new q
+        ≡ (if is_eq (key_cmp key.now q) then Some (length nodes.old.items)
+        else get key_cmp places.old q)) }
+    ensures err { OnErr result ((q : KeyValue) →
+        get key_cmp places.new q ≡ get key_cmp places.old q) }
+{
     let at = nodes.len();
     nodes.reserve(1)?;
     pending.reserve(1)?;
-    places.insert(known, at)?;
-    pending.push_reserved(at);
-    nodes.push_reserved(Node { key: own, standing });
+    let own = key.copy(alloc)?;
+    note_place(alloc, places, key, at)?;
+    Ok(own)
+}
+
+/// Notes the place of a key.
+fn note_place(
+    alloc: Global,
+    places: &mut BTreeMap<Key, usize>,
+    key: &Key,
+    at: usize,
+) -> Result<(), AllocError>
+    ensures ok { OnOk result ((q : KeyValue) → get key_cmp places.new q
+        ≡ (if is_eq (key_cmp key.now q) then Some at else get key_cmp places.old q)) }
+    ensures err { OnErr result ((q : KeyValue) →
+        get key_cmp places.new q ≡ get key_cmp places.old q) }
+{
+    places.insert(key.copy(alloc)?, at)?;
     Ok(())
 }

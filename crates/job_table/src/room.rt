@@ -36,10 +36,9 @@ pub fn room_for_opening<R: Runner>(
     ensures inputs { IfSome result (λ r. (r.0 ≡ project.now) × IsProject r.0) }
     ensures history { IfSome result (λ r. (r.1.items ≡ []) × (vec_len r.1 < vec_capacity r.1)) }
 {
+    let history = Vec::with_capacity(alloc, 1).ok()?;
     let inputs = Inputs::new(alloc, project).ok()?;
     inputs.project();
-    let mut history = Vec::new(alloc);
-    history.reserve(1).ok()?;
     Some((inputs, history))
 }
 
@@ -55,9 +54,8 @@ pub fn room_for_event<R: Runner>(
     ensures key { IfSome result (λ k. k ≡ key.now) }
     ensures room { IfSome result (λ _. vec_len history.new + 1 < vec_capacity history.new) }
 {
-    let noted = key.copy(alloc).ok()?;
     history.reserve(2).ok()?;
-    Some(noted)
+    key.copy(alloc).ok()
 }
 
 /// What a key needs that is marked: a copy of it, the keys of its past edges, and its past result twice.
@@ -88,12 +86,29 @@ pub fn room_for_mark<R: Runner>(
         × (arc_value parts.answer ≡ had.now.value)) }
     ensures room { IfSome result (λ _. vec_len history.new + 1 < vec_capacity history.new) }
 {
-    let noted = key.copy(alloc).ok()?;
-    let edges = edge_keys(alloc, past, had.edges()).ok()?;
-    let sealed = Arc::try_clone(had.sealed()).ok()?;
-    let answer = Arc::try_clone(had.sealed()).ok()?;
     history.reserve(2).ok()?;
-    Some(MarkParts {
+    mark_parts(alloc, key, past, had).ok()
+}
+
+/// What a key needs that is marked which had this record in the past.
+fn mark_parts(
+    alloc: Global,
+    key: &Key,
+    past: &Session,
+    had: &Record,
+) -> Result<MarkParts, AllocError>
+    requires { AreInside past.now.records had.now.edges }
+    ensures key { IfOk result (λ parts. parts.noted ≡ key.now) }
+    ensures edges { IfOk result (λ parts. parts.edges.items
+        ≡ map (key_at past.now.records) had.now.edges) }
+    ensures results { IfOk result (λ parts. (arc_value parts.sealed ≡ had.now.value)
+        × (arc_value parts.answer ≡ had.now.value)) }
+{
+    let sealed = Arc::try_clone(had.sealed())?;
+    let answer = Arc::try_clone(had.sealed())?;
+    let edges = edge_keys(alloc, past, had.edges())?;
+    let noted = key.copy(alloc)?;
+    Ok(MarkParts {
         noted,
         edges,
         sealed,
@@ -136,9 +151,9 @@ pub fn room_for_finish<R: Runner>(
     ensures room { IfSome result (λ _. vec_len history.new + 1 < vec_capacity history.new) }
 {
     let result = outcome.sealed();
-    let edges = read_keys(alloc, outcome.reads()).ok()?;
-    let sealed = Arc::try_clone(result).ok()?;
     history.reserve(2).ok()?;
+    let sealed = Arc::try_clone(result).ok()?;
+    let edges = read_keys(alloc, outcome.reads()).ok()?;
     Some(FinishParts { edges, sealed })
 }
 

@@ -1,6 +1,5 @@
-use Rattle.std.proofs.Common.{◌≡◌, ◌∙◌, ◌++◌, ◌∷◌, [], ℕ, length, ap, arith, refl, Some, if◌then◌else◌}
+use Rattle.std.proofs.Common.{◌≡◌, ◌++◌, ◌∷◌, [], length, ap, arith, refl}
 use Rattle.std.specs.BTreeMap.{get}
-use Rattle.std.specs.Ordering.{is_eq}
 use Rattle.item_ids.specs.declared.key.Key.{Key as KeyValue}
 use Rattle.item_ids.specs.Keys.{key_cmp}
 use Rattle.item_ids.specs.Places.{with_place}
@@ -17,23 +16,21 @@ abbrev added : After-push_reserved-2 → Node
 added c = record { key = c.args.key.now; standing = c.args.standing }
 
 nodes_after : (c : After-push_reserved-2) → c.push_reserved-2.new.self.items ≡ c.args.nodes.now.items ++ added c ∷ []
-nodes_after c = rw (c.push_reserved-2.ensures.items, c.in_ok-reserve.ensures.items, c.in_ok-own.ensures) refl
+nodes_after c = rw (c.push_reserved-2.ensures.items, c.room_for_node.ensures.nodes, c.in_ok-own.ensures.own) refl
 
 last_place : (c : After-push_reserved-2) → c.len-at.result ≡ length c.args.nodes.now.items
-last_place c = let l = c.args.nodes.now.ok in omega (arith, c.len-at.ensures, l)
+last_place c = let l = c.room_for_node.new.nodes.ok in omega (arith, c.len-at.ensures, l, ap length c.room_for_node.ensures.nodes)
 
 pending_after : (c : After-push_reserved-2) → c.push_reserved.new.self.items ≡ c.args.pending.now.items ++ length c.args.nodes.now.items ∷ []
-pending_after c = rw (c.push_reserved.ensures.items, c.in_ok-reserve-2.ensures.items, last_place c) refl
+pending_after c = rw (c.push_reserved.ensures.items, c.room_for_node.ensures.pending, last_place c) refl
 
-places_after : (c : After-push_reserved-2) (q : KeyValue) → get key_cmp c.insert.new.self q ≡ with_place (get key_cmp c.args.places.now) c.args.key.now (length c.args.nodes.now.items) q
-places_after c = place_added (get key_cmp c.args.places.now) (get key_cmp c.insert.new.self) c.args.key.now (length c.args.nodes.now.items)
+places_after : (c : After-push_reserved-2) (q : KeyValue) → get key_cmp c.room_for_node.new.places q ≡ with_place (get key_cmp c.args.places.now) c.args.key.now (length c.args.nodes.now.items) q
+places_after c = place_added (get key_cmp c.args.places.now) (get key_cmp c.room_for_node.new.places) c.args.key.now (length c.args.nodes.now.items)
     (no_place c.args.nodes.now.items (get key_cmp c.args.places.now) c.args.key.now c.requires.places c.requires.apart c.requires.unknown)
-    (λ q. c.in_ok-insert.ensures.updates.0 q
-    ∙ ap (λ (k : KeyValue). if is_eq (key_cmp k q) then Some c.len-at.result else get key_cmp c.args.places.now q) c.in_ok-known.ensures
-    ∙ ap (λ (i : ℕ). if is_eq (key_cmp c.args.key.now q) then Some i else get key_cmp c.args.places.now q) (last_place c))
+    c.in_ok-own.ensures.ok
 
 pub returns-clause-places : goal.returns-clause-places
-returns-clause-places c = rw (nodes_after c) (places_more (λ (n : Node). n.key) c.args.nodes.now.items (added c) (get key_cmp c.args.places.now) (get key_cmp c.insert.new.self) c.requires.places (places_after c))
+returns-clause-places c = rw (nodes_after c) (places_more (λ (n : Node). n.key) c.args.nodes.now.items (added c) (get key_cmp c.args.places.now) (get key_cmp c.room_for_node.new.places) c.requires.places (places_after c))
 
 pub returns-clause-apart : goal.returns-clause-apart
 returns-clause-apart c = rw (nodes_after c) (apart_last c.args.nodes.now.items (added c) c.requires.apart (unknown_absent c.args.nodes.now.items c.args.key.now c.requires.unknown))

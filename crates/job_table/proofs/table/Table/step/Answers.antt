@@ -1,6 +1,21 @@
 use Rattle.std.specs.Arc.{arc_value}
-use Rattle.job_table.proofs.ReplayRules.{finish_step, fail_step}
+use Rattle.job_table.proofs.ReplayRules.{ask_step, mark_step, begin_step, finish_step, fail_step}
 use Rattle.job_table.proofs.table.Table.step.Goals as goal
+
+pub returns-in-Claim : goal.returns-in-Claim
+returns-in-Claim g c =
+    let f = ask_step c.args.self.now c.ask.new.self c.in-Claim.w _ c.ask.result c.ask.ensures in
+    rw (c.in-Claim.is, c.by_ask.ensures) f
+
+pub returns-in-Mark : goal.returns-in-Mark
+returns-in-Mark g c =
+    let f = mark_step c.args.self.now c.mark.new.self c.in-Mark.w _ c.mark.result c.mark.ensures in
+    rw (c.in-Mark.is, c.by_mark.ensures) f
+
+pub returns-in-Begin : goal.returns-in-Begin
+returns-in-Begin g c =
+    let f = begin_step c.args.self.now c.begin_run.new.self c.in-Begin.w _ c.begin_run.result c.begin_run.ensures in
+    rw (c.in-Begin.is, c.by_call.ensures) f
 
 pub returns-in-Ok : goal.returns-in-Ok
 returns-in-Ok g c =
