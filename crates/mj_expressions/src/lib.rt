@@ -11,5 +11,6 @@ pub use expressions::{ANY_TIER, ExpPart, closed, read};
 pub use fault::ParseFault;
 pub use laws::expression_laws;
 pub use tokens::{
-    Part, expect, expect_name, expect_two, expect_word_and, followed, has, name, says,
+    Part, expect, expect_name, expect_two, expect_word_and, followed, followed_by_two, has, name,
+    says,
 };

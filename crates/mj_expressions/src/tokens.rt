@@ -154,6 +154,28 @@ pub fn followed<T: Drop>(
     })
 }
 
+/// The part, behind which two symbols have to stand, and the place after them.
+pub fn followed_by_two<T: Drop>(
+    tokens: &[Token],
+    part: Part<T>,
+    first: Terminal,
+    second: Terminal,
+) -> Result<Part<T>, ParseFault>
+    requires { part.after < 2 ^ 62 }
+    ensures found { IfOk result (λ x.
+        ((has tokens.now part.after first && has tokens.now (part.after + 1) second) ≡ true)
+        × (x.tree ≡ part.tree) × (x.after ≡ part.after + 2) × (x.after ≤ length tokens.now)) }
+    ensures fault { IfErr result (λ e.
+        (e ≡ NotAFile (if has tokens.now part.after first then part.after + 1 else part.after))
+        × ((has tokens.now part.after first && has tokens.now (part.after + 1) second) ≡ false)) }
+{
+    let after = expect_two(tokens, part.after, first, second)?;
+    Ok(Part {
+        tree: part.tree,
+        after,
+    })
+}
+
 /// The name that has to stand here.
 pub fn expect_name(tokens: &[Token], at: usize) -> Result<&Name, ParseFault>
     ensures found { IfOk result (λ n.

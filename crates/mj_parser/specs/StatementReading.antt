@@ -25,17 +25,13 @@ condition_at exp ts i =
     when (has ts i terminals.LeftParenthesis)
     (exp (i + 1) >>= λ c. when (has ts c.1 terminals.RightParenthesis) (Some (c.0, c.1 + 1)))
 
--- the second statement of a choice
-abbrev pub else_at : PartParser Statement → ℕ → Expression → Statement → PartParser Statement
-else_at part i condition then_branch j =
-    part j >>= λ else_branch. Some (If i condition then_branch else_branch.0, else_branch.1)
-
 unfoldable pub if_at : PartParser Expression → PartParser Statement → List Token → ℕ
     → Option (Statement × ℕ)
 if_at exp part ts i =
     condition_at exp ts (i + 1) >>= λ c. part c.1
     >>= λ then_branch. when (has ts then_branch.1 terminals.Else)
-    (else_at part i c.0 then_branch.0 (then_branch.1 + 1))
+    (part (then_branch.1 + 1) >>= λ else_branch. Some
+    (If i c.0 then_branch.0 else_branch.0, else_branch.1))
 
 unfoldable pub while_at : PartParser Expression → PartParser Statement → List Token → ℕ
     → Option (Statement × ℕ)

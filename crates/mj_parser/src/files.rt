@@ -4,7 +4,6 @@ ghost use Rattle.mj_tree.specs.Views.{stmt_view, method_view, main_view, class_v
 ghost use Rattle.mj_lexer.specs.declared.token.Terminal.TheVariants as terminals;
 ghost use Rattle.mj_expressions.specs.Tokens.{has, says};
 ghost use Rattle.mj_parser.specs.Declarations.{main_head, main_head_fault, main_opening_fault, main_parameter, main_parameter_fault};
-ghost use Rattle.mj_tree.specs.Trees.{Main};
 ghost use Rattle.mj_expressions.specs.Steps.{Finds, items_from};
 ghost use Rattle.mj_parser.specs.FileReading.{field_at, begins_type, method_from, at_public, superclass_at, class_at, begins_main, main_method_at, main_from, main_named, main_at, main_part_at, before_end, tree_of};
 ghost use Rattle.mj_expressions.specs.declared.fault.ParseFault.TheVariants.{NotAFile};
@@ -12,7 +11,7 @@ ghost use Rattle.mj_expressions.specs.declared.fault.ParseFault.TheVariants.{Not
 use crate::declarations::{local, method};
 use crate::statements::statement;
 use mj_expressions::{
-    ParseFault, Part, expect, expect_name, expect_two, expect_word_and, has, name,
+    ParseFault, Part, expect, expect_name, expect_two, expect_word_and, followed_by_two, has, name,
 };
 use mj_lexer::{Name, Terminal, Token};
 use mj_tree::{ClassTree, Field, FileTree, MOST_LEVELS, MainTree, MethodTree, Stmt};
@@ -202,16 +201,12 @@ fn main_method(alloc: Global, tokens: &[Token]) -> Result<Part<Stmt>, ParseFault
     expect_main_head(tokens)?;
     let inside = expect_main_parameter(tokens)?;
     let statement = statement(alloc, tokens, inside, MOST_LEVELS)?;
-    let after = expect_two(
+    followed_by_two(
         tokens,
-        statement.after,
+        statement,
         Terminal::RightBrace,
         Terminal::RightBrace,
-    )?;
-    Ok(Part {
-        tree: statement.tree,
-        after,
-    })
+    )
 }
 
 /// The statement of a main class whose `main` begins at place 3.
@@ -243,35 +238,19 @@ fn expect_main_name(tokens: &[Token]) -> Result<&Name, ParseFault>
     Ok(name)
 }
 
-/// The main class of this name, with its statement.
-fn make_main(
-    alloc: Global,
-    name: &Name,
-    statement: Part<Stmt>,
-) -> Result<Part<MainTree>, ParseFault>
-    ensures exact { Finds {A = Main × ℕ} (λ x. (main_view x.tree, x.after)) result
-        (Some (
-          record { name = name.now; statement = stmt_view statement.tree },
-          statement.after,
-        )) }
-    ensures place { IfOk result (λ x. x.after ≡ statement.after) }
-{
-    Ok(Part {
-        tree: MainTree {
-            name: name.copy(alloc)?,
-            statement: statement.tree,
-        },
-        after: statement.after,
-    })
-}
-
 fn main_class(alloc: Global, tokens: &[Token]) -> Result<Part<MainTree>, ParseFault>
     ensures exact { Finds (λ x. (main_view x.tree, x.after)) result (main_at tokens.now) }
     ensures within { IfOk result (λ x. x.after ≤ length tokens.now) }
 {
-    let name = expect_main_name(tokens)?;
+    let name = expect_main_name(tokens)?.copy(alloc)?;
     let statement = main_statement(alloc, tokens)?;
-    make_main(alloc, name, statement)
+    Ok(Part {
+        tree: MainTree {
+            name,
+            statement: statement.tree,
+        },
+        after: statement.after,
+    })
 }
 
 /// Whether the first class is the main class.

@@ -13,57 +13,27 @@ pub fn block(mark: usize, body: Vec<Stmt>) -> Stmt
     Stmt::Block { mark, body }
 }
 
-/// A choice, whose first branch stands in a box.
-fn choice_of(
-    alloc: Global,
-    mark: usize,
-    condition: Exp,
-    then_branch: Box<Stmt>,
-    else_branch: Stmt,
-) -> Result<Stmt, AllocError>
-    ensures { IfOk result (λ s.
-        stmt_view s
+pub fn choice(mark: usize, condition: Exp, then_branch: Box<Stmt>, else_branch: Box<Stmt>) -> Stmt
+    ensures { stmt_view result
         ≡ trees.If mark (exp_view condition) (stmt_view then_branch.value)
-        (stmt_view else_branch)) }
+        (stmt_view else_branch.value) }
 {
-    Ok(Stmt::If {
+    Stmt::If {
         mark,
         condition,
         then_branch,
-        else_branch: Box::new(alloc, else_branch)?,
-    })
+        else_branch,
+    }
 }
 
-pub fn choice(
-    alloc: Global,
-    mark: usize,
-    condition: Exp,
-    then_branch: Stmt,
-    else_branch: Stmt,
-) -> Result<Stmt, AllocError>
-    ensures { IfOk result (λ s.
-        stmt_view s
-        ≡ trees.If mark (exp_view condition) (stmt_view then_branch)
-        (stmt_view else_branch)) }
+pub fn repetition(mark: usize, condition: Exp, body: Box<Stmt>) -> Stmt
+    ensures { stmt_view result ≡ trees.While mark (exp_view condition) (stmt_view body.value) }
 {
-    let then_branch = Box::new(alloc, then_branch)?;
-    choice_of(alloc, mark, condition, then_branch, else_branch)
-}
-
-pub fn repetition(
-    alloc: Global,
-    mark: usize,
-    condition: Exp,
-    body: Stmt,
-) -> Result<Stmt, AllocError>
-    ensures { IfOk result (λ s.
-        stmt_view s ≡ trees.While mark (exp_view condition) (stmt_view body)) }
-{
-    Ok(Stmt::While {
+    Stmt::While {
         mark,
         condition,
-        body: Box::new(alloc, body)?,
-    })
+        body,
+    }
 }
 
 pub fn print(mark: usize, value: Exp) -> Stmt

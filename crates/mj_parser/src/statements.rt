@@ -7,9 +7,9 @@ ghost use Rattle.mj_expressions.specs.Expressions.{any_tier};
 ghost use Rattle.mj_parser.specs.Statements.{opens_print, print_fault};
 ghost use Rattle.mj_expressions.specs.Steps.{Finds, items_from, when};
 ghost use Rattle.mj_lexer.specs.declared.token.Terminal.TheVariants as terminals;
-ghost use Rattle.mj_tree.specs.Trees.{Statement, If, While, Assign, Store};
+ghost use Rattle.mj_tree.specs.Trees.{Statement, Assign, Store};
 ghost use Rattle.mj_expressions.specs.ExpressionReading.{exp_at};
-ghost use Rattle.mj_parser.specs.StatementReading.{not_brace, block_at, condition_at, else_at, if_at, while_at, print_at, assign_at, assigned_at, store_at, named_at, stmt_of, stmt_at};
+ghost use Rattle.mj_parser.specs.StatementReading.{not_brace, block_at, condition_at, if_at, while_at, print_at, assign_at, assigned_at, store_at, named_at, stmt_of, stmt_at};
 ghost use Rattle.mj_expressions.specs.declared.fault.ParseFault.{ParseFault};
 ghost use Rattle.mj_expressions.specs.declared.fault.ParseFault.TheVariants.{NotAFile, OutOfMemory};
 
@@ -253,42 +253,34 @@ fn lacks_levels(tokens: &[Token], at: usize, room: usize) -> bool
     room == 0 || (room == 1 && !has(tokens, at, Terminal::LeftBrace))
 }
 
-/// The choice between two statements.
-fn chosen(
-    alloc: Global,
-    at: usize,
-    condition: ExpPart,
-    first: Part<Stmt>,
-    second: Part<Stmt>,
-) -> Result<Part<Stmt>, ParseFault>
-    ensures exact { Finds {A = Statement × ℕ} (λ x. (stmt_view x.tree, x.after)) result
-        (Some (
-          If at (exp_view condition.exp) (stmt_view first.tree) (stmt_view second.tree),
-          second.after,
-        )) }
-    ensures place { IfOk result (λ x. x.after ≡ second.after) }
+/// The statement in a box.
+fn boxed(alloc: Global, read: Part<Stmt>) -> Result<Part<Box<Stmt>>, ParseFault>
+    ensures found { IfOk result (λ x. (x.tree.value ≡ read.tree) × (x.after ≡ read.after)) }
+    ensures fault { IfErr result (λ e. e ≡ OutOfMemory) }
 {
     Ok(Part {
-        tree: nodes::choice(alloc, at, condition.exp, first.tree, second.tree)?,
-        after: second.after,
+        tree: Box::new(alloc, read.tree)?,
+        after: read.after,
     })
 }
 
-/// The repetition of a statement.
-fn repeated(
+/// A statement inside another one, of no more than so many levels.
+#[cycle(statements)]
+#[inline(never)]
+fn branch(
     alloc: Global,
+    tokens: &[Token],
     at: usize,
-    condition: ExpPart,
-    body: Part<Stmt>,
-) -> Result<Part<Stmt>, ParseFault>
-    ensures exact { Finds {A = Statement × ℕ} (λ x. (stmt_view x.tree, x.after)) result
-        (Some (While at (exp_view condition.exp) (stmt_view body.tree), body.after)) }
-    ensures place { IfOk result (λ x. x.after ≡ body.after) }
+    room: usize,
+) -> Result<Part<Box<Stmt>>, ParseFault>
+    requires deep { room ≤ most_levels }
+    requires within { at ≤ length tokens.now }
+    ensures exact { Finds (λ x. (stmt_view x.tree.value, x.after)) result
+        (stmt_at room tokens.now at) }
+    ensures within { IfOk result (λ x. (at < x.after) × (x.after ≤ length tokens.now)) }
 {
-    Ok(Part {
-        tree: nodes::repetition(alloc, at, condition.exp, body.tree)?,
-        after: body.after,
-    })
+    let read = statement(alloc, tokens, at, room)?;
+    boxed(alloc, read)
 }
 
 /// Statements up to a closing brace.
@@ -345,31 +337,13 @@ fn choice(alloc: Global, tokens: &[Token], at: usize, room: usize) -> Result<Par
     ensures within { IfOk result (λ x. (at < x.after) × (x.after ≤ length tokens.now)) }
 {
     let condition = condition(alloc, tokens, at + 1, room)?;
-    let first = statement(alloc, tokens, condition.after, room)?;
+    let first = branch(alloc, tokens, condition.after, room)?;
     let first = followed(tokens, first, Terminal::Else)?;
-    choice_with(alloc, tokens, at, condition, first, room)
-}
-
-/// The choice whose second statement begins behind the first.
-#[cycle(statements)]
-#[inline(never)]
-fn choice_with(
-    alloc: Global,
-    tokens: &[Token],
-    at: usize,
-    condition: ExpPart,
-    first: Part<Stmt>,
-    room: usize,
-) -> Result<Part<Stmt>, ParseFault>
-    requires deep { room ≤ most_levels }
-    requires within { first.after ≤ length tokens.now }
-    ensures exact { Finds (λ x. (stmt_view x.tree, x.after)) result
-        (else_at (stmt_at room tokens.now) at (exp_view condition.exp) (stmt_view first.tree)
-        first.after) }
-    ensures within { IfOk result (λ x. (first.after < x.after) × (x.after ≤ length tokens.now)) }
-{
-    let second = statement(alloc, tokens, first.after, room)?;
-    chosen(alloc, at, condition, first, second)
+    let second = branch(alloc, tokens, first.after, room)?;
+    Ok(Part {
+        tree: nodes::choice(at, condition.exp, first.tree, second.tree),
+        after: second.after,
+    })
 }
 
 #[cycle(statements)]
@@ -388,8 +362,11 @@ fn repetition(
     ensures within { IfOk result (λ x. (at < x.after) × (x.after ≤ length tokens.now)) }
 {
     let condition = condition(alloc, tokens, at + 1, room)?;
-    let body = statement(alloc, tokens, condition.after, room)?;
-    repeated(alloc, at, condition, body)
+    let body = branch(alloc, tokens, condition.after, room)?;
+    Ok(Part {
+        tree: nodes::repetition(at, condition.exp, body.tree),
+        after: body.after,
+    })
 }
 
 /// A statement of no more than so many levels.

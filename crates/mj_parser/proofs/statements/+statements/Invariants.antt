@@ -12,11 +12,11 @@ decreases-statement l = 4 * l.room
 abbrev pub decreases-choice : goal.decreases-choice
 decreases-choice l = 4 * l.room + 2
 
-abbrev pub decreases-choice_with : goal.decreases-choice_with
-decreases-choice_with l = 4 * l.room + 1
+abbrev pub decreases-branch : goal.decreases-branch
+decreases-branch l = 4 * l.room + 1
 
 abbrev pub decreases-repetition : goal.decreases-repetition
-decreases-repetition l = 4 * l.room + 1
+decreases-repetition l = 4 * l.room + 2
 
 abbrev pub decreases-read_block : goal.decreases-read_block
 decreases-read_block l = 4 * l.room + 1
