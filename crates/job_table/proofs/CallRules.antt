@@ -10,7 +10,7 @@ use Rattle.sessions.specs.Sessions.{Entry, SessionValue, past_entry}
 use Rattle.sessions.specs.declared.mark.Mark.TheVariants.{Green, Executed}
 use Rattle.graph_rules.specs.Keys.{same_key, input_of}
 use Rattle.graph_rules.specs.Pasts.{Past}
-use Rattle.graph_rules.specs.Steps.{Status, Claimed, Running, Done, State, Event, MarkGreen, Begin, Finish, with_status, IsNotDone, IsDoneWith, MayStep, MayRun, AllUnchanged, walk, past_walk, AreHeld, green, state_after}
+use Rattle.graph_rules.specs.Steps.{Walk, Status, Claimed, Running, Done, State, Event, MarkGreen, Begin, Finish, with_status, IsNotDone, IsDoneWith, MayStep, MayRun, AllUnchanged, walk, past_walk, AreHeld, green, state_after}
 use Rattle.job_table.specs.declared.nodes.Node.{Node}
 use Rattle.job_table.specs.declared.fault.TableFault.{TableFault}
 use Rattle.job_table.specs.declared.fault.TableFault.TheVariants as fault
@@ -18,7 +18,7 @@ use Rattle.job_table.specs.Nodes.{status_in, unless_input, state_of_nodes, KeysS
 use Rattle.job_table.specs.Kept.{IsKept}
 use Rattle.job_table.specs.Tables.{TableValue, state_of, IsStep, adds}
 use Rattle.job_table.specs.Walks.{IsWhyNot}
-use Rattle.job_table.specs.Calls.{BeginGives, FinishGives, IsFirstStale}
+use Rattle.job_table.specs.Calls.{IsClaimed, walk_in, BeginGives, FinishGives, IsFirstStale}
 use Rattle.job_table.proofs.StepRules.{is_standing, is_walk, are_held, kept_put, at_written, past_walk_same}
 
 -- ---- keys that a worker hasn't
@@ -49,6 +49,30 @@ mark_kept past p ns ms b h kept q w r x found nf stands all xis apart put =
     kept_put past p ns b h kept ms (MarkGreen w q) q x (mark_may past p ns b h kept q w r found nf stands all)
     (λ st. ap (λ (y : Status). with_status st q y) (ap green found ∙ sym xis))
     (is_standing past p ns b h kept q (Claimed w) stands (λ e. cc)).0 apart put
+
+-- what mark tells of its event, where the table before is this
+pub mark_at : (so : Option SessionValue) (p : Project) (ns : List Node) (b : Bool) (h : List Event) → IsKept (past_entry so) p ns b h → (q : Key) (w : ℕ) (r : Entry)
+    → past_entry so q ≡ Some r → b ≡ false → status_in ns q ≡ Claimed w → AllUnchanged ≡ walk (past_entry so) (state_of_nodes p ns false) r.reads
+    → (t : TableValue) → record { past = so; project = p; history = h } ≡ t → IsStep t (MarkGreen w q)
+mark_at so p ns b h kept q w r found nf stands all t te = subst (λ (u : TableValue). IsStep u (MarkGreen w q)) te (mark_may (past_entry so) p ns b h kept q w r found nf stands all)
+
+-- a claimed key that isn't marked, by how the walk over its past edges ends
+pub mark_refused : (so : Option SessionValue) (p : Project) (ns : List Node) (b : Bool) (h : List Event) → IsKept (past_entry so) p ns b h → (q : Key) (w : ℕ) (o : Option Walk)
+    → b ≡ false → status_in ns q ≡ Claimed w → past_walk (past_entry so) (state_of_nodes p ns false) q ≡ o
+    → (t : TableValue) → record { past = so; project = p; history = h } ≡ t → IsClaimed t w q × (walk_in t q ≡ o) × (t ≡ t)
+mark_refused so p ns b h kept q w o nf stands is t te =
+    subst (λ (u : TableValue). IsClaimed u w q × (walk_in u q ≡ o) × (u ≡ u)) te (
+      (sym kept.failed_is ∙ nf, (is_standing (past_entry so) p ns b h kept q (Claimed w) stands (λ e. cc)).1),
+      sym (past_walk_same (past_entry so) (state_of_nodes p ns false) (state_after (past_entry so) p h) kept.status q) ∙ is,
+      refl,
+    )
+
+-- a key that the past hasn't, or of which it has this
+pub walk_none : (past : Past) (s : State) (q : Key) → past q ≡ None → past_walk past s q ≡ None
+walk_none past s q none = ap (option_map (λ (x : Entry). walk past s x.reads)) none
+
+pub walk_some : (past : Past) (s : State) (q : Key) (r : Entry) (x : Walk) → past q ≡ Some r → x ≡ walk past s r.reads → past_walk past s q ≡ Some x
+walk_some past s q r x found is = ap (option_map (λ (y : Entry). walk past s y.reads)) found ∙ ap Some (sym is)
 
 -- what mark tells, where the tables before and after are these
 pub mark_gives : (so : Option SessionValue) (p : Project) (ns : List Node) (b : Bool) (h : List Event) → IsKept (past_entry so) p ns b h → (q : Key) (w : ℕ) (r : Entry)

@@ -1,5 +1,6 @@
 -- Events in turn, and what calls say of them.
-use Rattle.std.proofs.Common.{◌≡◌, ◌<◌, ℕ, List, [], ◌∷◌, ◌++◌, take, drop, map, length, get_or, suc, zero, ap, subst, refl, Bool, true, false, arith}
+use Rattle.std.proofs.Common.{◌≡◌, ◌<◌, ℕ, List, [], ◌∷◌, ◌++◌, take, drop, map, length, get_or, suc, zero, ap, sym, ◌∙◌, ◌+◌, subst, refl, Bool, true, false, arith}
+use Rattle.std.proofs.lemmas.List.{take_more}
 use Rattle.std.specs.Prelude.{Result, Ok, Err, Option, Some, None}
 use Rattle.std.specs.declared.alloc.Global.{Global}
 use Rattle.std.specs.declared.sync.Arc.{Arc}
@@ -17,8 +18,10 @@ use Rattle.job_table.specs.declared.fault.Asked.TheVariants as asked
 use Rattle.job_table.specs.declared.fault.TableFault.{TableFault}
 use Rattle.job_table.specs.declared.fault.TableFault.TheVariants as fault
 use Rattle.job_table.specs.Kept.{event_of}
-use Rattle.job_table.specs.Tables.{TableValue, state_of, IsStep}
+use Rattle.job_table.specs.Tables.{TableValue, state_of, IsStep, adds}
 use Rattle.job_table.specs.Calls.{AskGives, MarkGives, BeginGives, FinishGives, FailGives, IsFirstStale}
+use Rattle.job_table.proofs.EventRules.{events_last}
+use Rattle.job_table.proofs.StepRules.{legal_last}
 use Rattle.job_table.specs.Replays.{StepGives, step_of_ask, step_of_mark, step_of_call, IsFirstIllegal}
 
 -- a list of events is those before a place, the one there, and the others
@@ -32,6 +35,26 @@ pub length_front : {R : Type 0} (es : List (StoredEvent R)) (i : ℕ) → i < le
 length_front [] i lt = absurd (omega arith)
 length_front (x ∷ es) zero lt = refl
 length_front (x ∷ es) (suc i) lt = ap suc (length_front es i (omega arith))
+
+-- a list of events as far as a place, and the event there, are those before the next place
+events_front : {R : Type 0} (es : List (StoredEvent R)) (i : ℕ) (e : StoredEvent R) → i < length es → e ≡ get_or es i e
+    → map event_of (take i es) ++ event_of e ∷ [] ≡ map event_of (take (i + 1) es)
+events_front {R} es i e lt is = sym (ap (map event_of) front ∙ events_last (take i es) e)
+  where
+    front : take (i + 1) es ≡ take i es ++ e ∷ []
+    front = take_more es i e lt ∙ ap (λ (y : StoredEvent R). take i es ++ y ∷ []) (sym is)
+
+abbrev table_of : Option SessionValue → Project → List Event → TableValue
+table_of so p h = record { past = so; project = p; history = h }
+
+-- the table behind one more event, which is a step
+module _ {R : Type 0} (so : Option SessionValue) (p : Project) (es : List (StoredEvent R)) (i : ℕ) (e : StoredEvent R) (t : TableValue) (lt : i < length es) (is : e ≡ get_or es i e) (te : t ≡ record { past = so; project = p; history = map event_of (take i es) }) where
+  pub table_after : (u : TableValue) → u ≡ adds t (event_of e) → u ≡ record { past = so; project = p; history = map event_of (take (i + 1) es) }
+  table_after u ue = ue ∙ (ap (λ (x : TableValue). adds x (event_of e)) te ∙ ap (table_of so p) (events_front es i e lt is))
+
+  pub legal_after : Legal (past_entry so) p (map event_of (take i es)) → IsStep t (event_of e) → Legal (past_entry so) p (map event_of (take (i + 1) es))
+  legal_after legal step = subst (λ (h : List Event). Legal (past_entry so) p h) (events_front es i e lt is)
+      (legal_last (past_entry so) p (map event_of (take i es)) (event_of e) legal (subst (λ (x : TableValue). IsStep x (event_of e)) te step))
 
 -- the event behind a legal front that is no step is the first one
 pub first_illegal : (so : Option SessionValue) (p : Project) (events front : List Event) (e : Event) (rest : List Event) (i : ℕ) (t : TableValue)

@@ -45,7 +45,7 @@ backed_last mean reads (x ∷ h) e all one = (all.0, backed_last mean reads h e 
 pub replayed_last : (past : Past) (p : Project) (h : List Event) (e : Event) → state_after past p (h ++ e ∷ []) ≡ after past (state_after past p h) e
 replayed_last past p h e = after_all_append past (opening p) h (e ∷ [])
 
-legal_last : (past : Past) (p : Project) (h : List Event) (e : Event) → Legal past p h → MayStep past (state_after past p h) e → Legal past p (h ++ e ∷ [])
+pub legal_last : (past : Past) (p : Project) (h : List Event) (e : Event) → Legal past p h → MayStep past (state_after past p h) e → Legal past p (h ++ e ∷ [])
 legal_last past p h e legal may = steps_append past (opening p) h (e ∷ []) legal (may, tt)
 
 -- how a key stands after one is written, in a table and in a state

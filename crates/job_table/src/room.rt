@@ -150,11 +150,19 @@ pub fn room_for_finish<R: Runner>(
     ensures outcome { IsOutcome R.mean R.reads outcome.now }
     ensures room { IfSome result (λ _. vec_len history.new + 1 < vec_capacity history.new) }
 {
-    let result = outcome.sealed();
+    let _result = outcome.sealed();
     history.reserve(2).ok()?;
-    let sealed = Arc::try_clone(result).ok()?;
-    let edges = read_keys(alloc, outcome.reads()).ok()?;
-    Some(FinishParts { edges, sealed })
+    finish_parts(alloc, outcome).ok()
+}
+
+/// What a key needs that was run.
+fn finish_parts<R: Runner>(alloc: Global, outcome: &Outcome<R>) -> Result<FinishParts, AllocError>
+    ensures edges { IfOk result (λ parts. parts.edges.items ≡ keys outcome.now.told) }
+    ensures value { IfOk result (λ parts. arc_value parts.sealed ≡ outcome.now.value) }
+{
+    let sealed = Arc::try_clone(outcome.sealed())?;
+    let edges = read_keys(alloc, outcome.reads())?;
+    Ok(FinishParts { edges, sealed })
 }
 
 /// The keys that were read.

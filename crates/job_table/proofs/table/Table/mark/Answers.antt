@@ -1,11 +1,11 @@
-use Rattle.std.proofs.Common.{◌≡◌, [], ◌∷◌, ◌++◌, map, false, arith, sym, ◌∙◌, refl, Some}
+use Rattle.std.proofs.Common.{◌≡◌, [], ◌∷◌, ◌++◌, map, false, arith, sym, ◌∙◌, refl, Some, None}
 use Rattle.std.specs.Arc.{arc_value}
 use Rattle.sessions.specs.Sessions.{Entry, entry_of, entry_at}
 use Rattle.graph_rules.specs.Steps.{Claimed, MarkGreen, AllUnchanged, walk}
 use Rattle.job_table.specs.Nodes.{state_of_nodes}
 use Rattle.job_table.specs.Kept.{event_of}
 use Rattle.job_table.proofs.StepRules.{backed_last}
-use Rattle.job_table.proofs.CallRules.{not_standing, mark_gives, mark_kept}
+use Rattle.job_table.proofs.CallRules.{not_standing, mark_at, mark_refused, walk_none, walk_some, mark_gives, mark_kept}
 use Rattle.job_table.proofs.table.Table.mark.Given.{Over}
 use Rattle.job_table.proofs.table.Table.mark.Goals as goal
 use Rattle.job_table.proofs.table.Table.mark.Goals.{After-note}
@@ -18,6 +18,50 @@ returns-in_default g c =
       not_standing _ _ _ _ _ kept c.args.key.now (Claimed c.args.w) tt c.in_default.ensures.none,
       refl,
     )
+
+pub returns-in_default-past : goal.returns-in_default-past
+returns-in_default-past g c =
+    let kept = rw c.in_default-past.is at c.self.invariant.0 in
+    let te = rw c.in_default-past.is at c.self.view_is in
+    mark_refused None _ _ _ _ kept c.args.key.now c.args.w None c.if-self.false c.in-Some.ensures.claimed refl _ te
+
+pub returns-in_default-find : goal.returns-in_default-find
+returns-in_default-find g c =
+    let kept = rw c.in-Some-past.is at c.self.invariant.0 in
+    let te = rw c.in-Some-past.is at c.self.view_is in
+    let none = rw c.deref.ensures at c.in_default-find.ensures.found in
+    mark_refused (Some (arc_value c.in-Some-past.past)) _ _ _ _ kept c.args.key.now c.args.w None c.if-self.false c.in-Some.ensures.claimed (walk_none (entry_at (arc_value c.in-Some-past.past)) (state_of_nodes c.self.inside.inputs c.self.inside.nodes false) c.args.key.now none) _ te
+
+pub returns-in-Open : goal.returns-in-Open
+returns-in-Open g c =
+    let kept = rw c.in-Some-past.is at c.self.invariant.0 in
+    let te = rw c.in-Some-past.is at c.self.view_is in
+    let has = rw c.deref.ensures at c.in-Some-find.ensures.found in
+    let walked = rw (c.deref-2.ensures, c.edges.ensures) at c.in-Open.ensures in
+    mark_refused (Some (arc_value c.in-Some-past.past)) _ _ _ _ kept c.args.key.now c.args.w _ c.if-self.false c.in-Some.ensures.claimed (walk_some (entry_at (arc_value c.in-Some-past.past)) (state_of_nodes c.self.inside.inputs c.self.inside.nodes false) c.args.key.now _ _ has walked) _ te
+
+pub returns-in-Changed : goal.returns-in-Changed
+returns-in-Changed g c =
+    let kept = rw c.in-Some-past.is at c.self.invariant.0 in
+    let te = rw c.in-Some-past.is at c.self.view_is in
+    let has = rw c.deref.ensures at c.in-Some-find.ensures.found in
+    let walked = rw (c.deref-2.ensures, c.edges.ensures) at c.in-Changed.ensures in
+    mark_refused (Some (arc_value c.in-Some-past.past)) _ _ _ _ kept c.args.key.now c.args.w _ c.if-self.false c.in-Some.ensures.claimed (walk_some (entry_at (arc_value c.in-Some-past.past)) (state_of_nodes c.self.inside.inputs c.self.inside.nodes false) c.args.key.now _ _ has walked) _ te
+
+pub returns-in_default-room_for_mark : goal.returns-in_default-room_for_mark
+returns-in_default-room_for_mark g c =
+    let kept = rw c.in-Some-past.is at c.self.invariant.0 in
+    let te = rw c.in-Some-past.is at c.self.view_is in
+    let has = rw c.deref.ensures at c.in-Some-find.ensures.found in
+    let walked = rw (c.deref-2.ensures, c.edges.ensures) at c.in-AllUnchanged.ensures in (
+      mark_at (Some (arc_value c.in-Some-past.past)) _ _ _ _ kept c.args.key.now c.args.w _ has c.if-self.false c.in-Some.ensures.claimed walked _ te,
+      rw (← c.self.view_is, c.room_for_mark.ensures.history.0) refl,
+    )
+
+pub returns-then-self : goal.returns-then-self
+returns-then-self g c =
+    let kept = c.self.invariant.0 in
+    rw (← c.self.view_is) (sym kept.failed_is ∙ c.if-self.true, refl)
 
 -- the history after the event
 events_after : (g : Over) (c : After-note g) → map event_of c.note.new.history.items ≡ map event_of c.self.inside.history.items ++ MarkGreen c.args.w c.args.key.now ∷ []

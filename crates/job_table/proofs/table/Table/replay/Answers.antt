@@ -1,7 +1,26 @@
 use Rattle.std.proofs.Common.{◌<◌, length, arith}
+use Rattle.std.proofs.lemmas.List.{take_all}
 use Rattle.job_table.specs.Kept.{event_of}
-use Rattle.job_table.proofs.ReplayRules.{split_events, length_front, first_illegal}
+use Rattle.job_table.proofs.ReplayRules.{split_events, length_front, first_illegal, table_after, legal_after}
 use Rattle.job_table.proofs.table.Table.replay.Goals as goal
+
+pub loop-i-init : goal.loop-i-init
+loop-i-init g c = record { done = c.in-Ok.ensures.1; legal = tt }
+
+pub loop-i-preserved : goal.loop-i-preserved
+loop-i-preserved g c =
+    let lt : c.loop-i.i < length c.args.events.now = omega arith in
+    record {
+      done = table_after _ _ c.args.events.now c.loop-i.i c.index-events-i.result c.loop-i.table lt c.index-events-i.is c.loop-i.invariant.done c.step.new.self c.in-Ok-step.ensures.1;
+      legal = legal_after _ _ c.args.events.now c.loop-i.i c.index-events-i.result c.loop-i.table lt c.index-events-i.is c.loop-i.invariant.done c.loop-i.invariant.legal c.in-Ok-step.ensures.0;
+    }
+
+pub returns : goal.returns
+returns g c =
+    let all = take_all c.loop-i.i c.args.events.now c.loop-i-test.false in
+    let legal = rw all at c.loop-i.invariant.legal in
+    let done = rw all at c.loop-i.invariant.done in
+    (c.in-Ok.ensures.0, legal, done)
 
 pub returns-in-Err-NoStep : goal.returns-in-Err-NoStep
 returns-in-Err-NoStep g c =
