@@ -1,4 +1,5 @@
-//! Reading classes and files.
+//! Reading classes and files. Where the classes fail, the main class is dropped by a call of `drop`: left to its scope,
+//! the drops of all forms of its statement would be written out at the exit.
 ghost use Rattle.std.specs.Prelude.{◌≡◌};
 ghost use Rattle.mj_tree.specs.Views.{main_view, class_view, file_view};
 ghost use Rattle.byte_readers.specs.Reading.{Decodes};
@@ -47,6 +48,11 @@ pub fn read_file(alloc: Global, bytes: &[u8]) -> Result<(FileTree, &[u8]), ReadE
     ensures { Decodes file_view result (file_at bytes.now) }
 {
     let (main, rest) = read_option::<MainFormat>(alloc, bytes)?;
-    let (classes, rest) = read_list::<ClassTreeFormat>(alloc, rest)?;
-    Ok((FileTree { main, classes }, rest))
+    match read_list::<ClassTreeFormat>(alloc, rest) {
+        Ok((classes, rest)) => Ok((FileTree { main, classes }, rest)),
+        Err(error) => {
+            drop(main);
+            Err(error)
+        }
+    }
 }

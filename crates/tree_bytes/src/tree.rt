@@ -37,13 +37,19 @@ impl Model for Tree {
 }
 
 impl Tree {
-    /// The tree with this root.
+    /// The tree with this root, which a call drops where memory runs out: left to its scope, the drops of all its parts
+    /// would be written out here.
     pub fn new(alloc: Global, root: FileTree) -> Result<Self, AllocError>
         requires { FileFits (file_view root) }
         ensures { IfOk result (λ tree. tree ≡ file_view root) }
     {
-        let index = ClassIndex::new(alloc, &root.classes)?;
-        Ok(Tree { root, index })
+        match ClassIndex::new(alloc, &root.classes) {
+            Ok(index) => Ok(Tree { root, index }),
+            Err(error) => {
+                drop(root);
+                Err(error)
+            }
+        }
     }
 
     /// The root.
