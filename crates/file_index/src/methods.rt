@@ -11,8 +11,8 @@ ghost use Rattle.mj_parser.specs.Locations.{all_in_class};
 ghost use Rattle.file_index.specs.Standing.{standing, is_named, first_method, class_at, classes_of};
 
 use crate::terminals::TerminalPlaces;
-use mj_lexer::{Name, Token};
 use mj_expressions::name;
+use mj_lexer::{Name, Token};
 use mj_parser::method_name;
 use std::alloc::{AllocError, Global};
 use std::collections::BTreeMap;

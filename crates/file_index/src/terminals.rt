@@ -5,8 +5,8 @@ ghost use Rattle.mj_parser.specs.Locations.{all_of};
 ghost use Rattle.file_index.specs.Standing.{Standing};
 
 use crate::places::{before, from};
-use mj_lexer::{Terminal, Token};
 use mj_expressions::has;
+use mj_lexer::{Terminal, Token};
 use std::alloc::{AllocError, Global};
 use std::marker::Model;
 
