@@ -1,14 +1,14 @@
-//! The tables, checks and faults of classes, and the answer of a project.
+//! The chains, members, checks and faults of classes, and the answer of a project. More rows of each kind, those of the
+//! main class among them, stand with the queries of whole projects.
 
 use crate::answers::{
-    ANSWER_OF_ONE, BODY_MAIN, CLASS_M, CLASS_Z, DIAGS_M, DIAGS_Z, FILE_A, FILES, HEADER_M,
-    HEADER_Z, INDEX_OF_ONE, MEMBERS_M, MEMBERS_Z, NO_HEADER_A, NO_HEADER_B, NO_TREE, SIG_F,
-    SUPERS_B, SUPERS_M, SUPERS_Z, TREE_OF_ONE,
+    FILE_A, HEADER_Z, INDEX_OF_ONE, NO_HEADER_A, NO_HEADER_B, NO_TREE, SIG_F, SUPERS_B, SUPERS_Z,
 };
-use answer_samples::Asked;
+use answer_samples::{Asked, Unfit};
 use item_ids::Kind;
 use query_samples::{Row, is_right};
 use run_samples::Given;
+use std::alloc::Global;
 use std::test::*;
 
 const HEADER_B: Given<'static> = Given(
@@ -58,18 +58,9 @@ const MEMBERS_WITH_FIELD: Given<'static> = Given(
     "08010000000000000001017801410000000000000000020166014100000000000000000001670141000000000000000000",
 );
 
-// In order: the chains of the main class, of a class that isn't declared, of one below another, of one that extends a
-// class which isn't declared, and of one that extends itself; the members of the main class, of a class that isn't
-// declared, and of one that overrides a method; the checks of the main class, of a class that isn't declared, of one that
-// overrides rightly, of one with another type, of one above which none is declared, of one that extends itself, and of one
-// with a field whose class isn't declared and a second field of that name; the faults of the main class, of a class that
-// isn't declared, of one with faults of both kinds, and of one with two methods of a name; the answers for a main class
-// alone, and for a file that is no sentence.
-static TABLE: [Row; 21] = [
-    Row {
-        query: SUPERS_M,
-        reads: &[INDEX_OF_ONE, HEADER_M],
-    },
+// In order: the chains of a class that isn't declared, of one below another, of one that extends a class which isn't
+// declared, and of one that extends itself; the members of one that overrides a method.
+static CHAINS_AND_MEMBERS: [Row; 5] = [
     Row {
         query: SUPERS_Z,
         reads: &[INDEX_OF_ONE],
@@ -97,14 +88,6 @@ static TABLE: [Row; 21] = [
         ],
     },
     Row {
-        query: MEMBERS_M,
-        reads: &[SUPERS_M, HEADER_M],
-    },
-    Row {
-        query: MEMBERS_Z,
-        reads: &[SUPERS_Z],
-    },
-    Row {
         query: MEMBERS_B,
         reads: &[
             SUPERS_B,
@@ -114,14 +97,11 @@ static TABLE: [Row; 21] = [
             Given(Asked(Kind::Sig, "B", "g"), "0601000000000000000000"),
         ],
     },
-    Row {
-        query: CLASS_M,
-        reads: &[HEADER_M, SUPERS_M],
-    },
-    Row {
-        query: CLASS_Z,
-        reads: &[HEADER_Z],
-    },
+];
+
+// In order: the checks of a class that overrides rightly, of one with another type, of one above which none is declared, of
+// one that extends itself, and of one with a field whose class isn't declared and a second field of that name.
+static CHECKS: [Row; 5] = [
     Row {
         query: Given(Asked(Kind::CheckClass, "B", ""), "090000000000000000"),
         reads: &[HEADER_B, SUPERS_B, MEMBERS_B, MEMBERS_WITH_FIELD],
@@ -160,14 +140,11 @@ static TABLE: [Row; 21] = [
             HEADER_Z,
         ],
     },
-    Row {
-        query: DIAGS_M,
-        reads: &[HEADER_M, CLASS_M, BODY_MAIN],
-    },
-    Row {
-        query: DIAGS_Z,
-        reads: &[HEADER_Z],
-    },
+];
+
+// In order: the faults of a class with faults of both kinds, and of one with two methods of a name; the answer for a file
+// that is no sentence.
+static FAULTS: [Row; 3] = [
     Row {
         query: Given(
             Asked(Kind::Diags, "B", ""),
@@ -198,10 +175,6 @@ static TABLE: [Row; 21] = [
             ),
             Given(Asked(Kind::CheckBody, "G", "f"), "0a0000000000000000"),
         ],
-    },
-    Row {
-        query: ANSWER_OF_ONE,
-        reads: &[FILES, TREE_OF_ONE, INDEX_OF_ONE, MEMBERS_M, DIAGS_M],
     },
     Row {
         query: Given(
@@ -258,10 +231,36 @@ static OF_NO_PROJECT: [Row; 4] = [
     },
 ];
 
-#[test]
-fn values_of_classes_and_projects(rt: HostRuntime) -> Result<(), Fail> {
-    for row in TABLE.iter().chain(&OF_NO_PROJECT) {
-        assert!(rt; is_right(rt.alloc(), *row)?);
+/// Whether each of the rows is right.
+fn are_right(alloc: Global, rows: &[Row]) -> Result<bool, Unfit> {
+    for row in rows {
+        if !is_right(alloc, *row)? {
+            return Ok(false);
+        }
     }
+    Ok(true)
+}
+
+#[test]
+fn chains_and_members(rt: HostRuntime) -> Result<(), Fail> {
+    assert!(rt; are_right(rt.alloc(), &CHAINS_AND_MEMBERS)?);
+    Ok(())
+}
+
+#[test]
+fn checks_of_classes(rt: HostRuntime) -> Result<(), Fail> {
+    assert!(rt; are_right(rt.alloc(), &CHECKS)?);
+    Ok(())
+}
+
+#[test]
+fn faults_and_the_answer_of_no_sentence(rt: HostRuntime) -> Result<(), Fail> {
+    assert!(rt; are_right(rt.alloc(), &FAULTS)?);
+    Ok(())
+}
+
+#[test]
+fn values_that_no_project_gives(rt: HostRuntime) -> Result<(), Fail> {
+    assert!(rt; are_right(rt.alloc(), &OF_NO_PROJECT)?);
     Ok(())
 }

@@ -1,9 +1,6 @@
 //! The queries that read texts and trees.
 
-use crate::answers::{
-    FILE_A, FILES, HEADER_M, INDEX_OF_ONE, MAIN_OF_ONE, NO_HEADER_A, NO_HEADER_B, NO_TREE,
-    SIG_MAIN, TREE_OF_ONE,
-};
+use crate::answers::{FILE_A, NO_HEADER_A, NO_HEADER_B, NO_TREE};
 use answer_samples::Asked;
 use item_ids::Kind;
 use query_samples::{Row, is_lacking, is_right};
@@ -26,10 +23,11 @@ const METHOD_OF_A: Given<'static> = Given(
 );
 
 // In order: a sentence, a text that is none, and a file that isn't there; classes of three files, of which one is no
-// sentence, with names that repeat, and a main class; the header of a class, of the first of two of a name, of the main
-// class, and of a class that isn't declared; a method, one that isn't there, one of no class, and `main`; the types of
-// a method, of `main`, and of none; last, what no project gives: a class that the index has in a file without tree.
-static TABLE: [Row; 17] = [
+// sentence, with names that repeat; the header of a class, of the first of two of a name, and of a class that isn't
+// declared; a method, one that isn't there, and one of no class; the types of a method, and of none; last, what no project
+// gives: a class that the index has in a file without tree. The same of the main class and of `main` stands with the
+// queries of whole projects.
+static TABLE: [Row; 13] = [
     Row {
         query: TREE_OF_A,
         reads: &[Given(
@@ -67,10 +65,6 @@ static TABLE: [Row; 17] = [
         ],
     },
     Row {
-        query: INDEX_OF_ONE,
-        reads: &[FILES, TREE_OF_ONE],
-    },
-    Row {
         query: Given(
             Asked(Kind::Header, "A", ""),
             "040100010142000000000000000101790000000000000000010166",
@@ -91,10 +85,6 @@ static TABLE: [Row; 17] = [
         ],
     },
     Row {
-        query: HEADER_M,
-        reads: &[INDEX_OF_ONE, TREE_OF_ONE],
-    },
-    Row {
         query: NO_HEADER_B,
         reads: &[INDEX_OF_A],
     },
@@ -111,16 +101,8 @@ static TABLE: [Row; 17] = [
         reads: &[INDEX_OF_A],
     },
     Row {
-        query: MAIN_OF_ONE,
-        reads: &[INDEX_OF_ONE, TREE_OF_ONE],
-    },
-    Row {
         query: Given(Asked(Kind::Sig, "A", "f"), "06010000000000000002020100"),
         reads: &[METHOD_OF_A],
-    },
-    Row {
-        query: SIG_MAIN,
-        reads: &[MAIN_OF_ONE],
     },
     Row {
         query: Given(Asked(Kind::Sig, "A", "g"), "0600"),
