@@ -1,8 +1,10 @@
-//! Answers that rows of several topics tell.
+//! Answers that rows tell by name, most of them those of a main class alone, and whether rows are right.
 
-use answer_samples::Asked;
+use answer_samples::{Asked, Unfit};
 use item_ids::Kind;
+use query_samples::{Row, is_right};
 use run_samples::Given;
+use std::alloc::Global;
 
 pub const FILE_A: Given<'static> = Given(Asked(Kind::Files, "", ""), "0000000000000000010161");
 
@@ -98,3 +100,13 @@ pub const ANSWER_OF_ONE: Given<'static> = Given(
     Asked(Kind::Answer, "", ""),
     "0c00000000000000000000000000000001014d000000000000000000000000000000000000000000000000",
 );
+
+/// Whether each of the rows is right.
+pub fn are_right(alloc: Global, rows: &[Row]) -> Result<bool, Unfit> {
+    for row in rows {
+        if !is_right(alloc, *row)? {
+            return Ok(false);
+        }
+    }
+    Ok(true)
+}

@@ -1,11 +1,11 @@
-//! The checks of bodies. One that calls a method which is there stands with the queries of whole projects.
+//! The checks of bodies. One that calls a method which is there, and what is kept where a read of it is refused, stand with
+//! the queries of whole projects.
 
-use crate::answers::{BODY_F, BODY_H, HEADER_A, HEADER_Z, METHOD_MAIN, NO_HEADER_A, SUPERS_B};
+use crate::answers::{BODY_F, BODY_H, HEADER_Z, NO_HEADER_A, SUPERS_B, are_right};
 use answer_samples::Asked;
 use item_ids::Kind;
-use query_samples::{Row, is_lacking, is_right};
-use recorder::ReadFault;
-use run_samples::{Given, Kept};
+use query_samples::Row;
+use run_samples::Given;
 use std::test::*;
 
 const BARE_HEADER_B: Given<'static> = Given(
@@ -149,29 +149,12 @@ static AT_FAULT: [Row; 4] = [
 
 #[test]
 fn bodies_that_are_well(rt: HostRuntime) -> Result<(), Fail> {
-    for row in &WELL {
-        assert!(rt; is_right(rt.alloc(), *row)?);
-    }
+    assert!(rt; are_right(rt.alloc(), &WELL)?);
     Ok(())
 }
 
 #[test]
 fn bodies_at_fault(rt: HostRuntime) -> Result<(), Fail> {
-    for row in &AT_FAULT {
-        assert!(rt; is_right(rt.alloc(), *row)?);
-    }
-    Ok(())
-}
-
-// What is kept where a body calls a method, and the members of the class are lacking.
-const LACKING: Kept = Kept {
-    reads: &[METHOD_MAIN, HEADER_A],
-    fault: Some(ReadFault::NotHeld),
-    refused: Some(Asked(Kind::Members, "A", "")),
-};
-
-#[test]
-fn a_read_that_is_refused(rt: HostRuntime) -> Result<(), Fail> {
-    assert!(rt; is_lacking(rt.alloc(), Asked(Kind::CheckBody, "M", "main"), LACKING)?);
+    assert!(rt; are_right(rt.alloc(), &AT_FAULT)?);
     Ok(())
 }

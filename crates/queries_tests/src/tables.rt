@@ -3,12 +3,12 @@
 
 use crate::answers::{
     FILE_A, HEADER_Z, INDEX_OF_ONE, NO_HEADER_A, NO_HEADER_B, NO_TREE, SIG_F, SUPERS_B, SUPERS_Z,
+    are_right,
 };
-use answer_samples::{Asked, Unfit};
+use answer_samples::Asked;
 use item_ids::Kind;
-use query_samples::{Row, is_right};
+use query_samples::Row;
 use run_samples::Given;
-use std::alloc::Global;
 use std::test::*;
 
 const HEADER_B: Given<'static> = Given(
@@ -230,16 +230,6 @@ static OF_NO_PROJECT: [Row; 4] = [
         ],
     },
 ];
-
-/// Whether each of the rows is right.
-fn are_right(alloc: Global, rows: &[Row]) -> Result<bool, Unfit> {
-    for row in rows {
-        if !is_right(alloc, *row)? {
-            return Ok(false);
-        }
-    }
-    Ok(true)
-}
 
 #[test]
 fn chains_and_members(rt: HostRuntime) -> Result<(), Fail> {

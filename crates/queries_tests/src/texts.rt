@@ -1,9 +1,9 @@
 //! The queries that read texts and trees.
 
-use crate::answers::{FILE_A, NO_HEADER_A, NO_HEADER_B, NO_TREE};
+use crate::answers::{FILE_A, NO_HEADER_A, NO_HEADER_B, NO_TREE, are_right};
 use answer_samples::Asked;
 use item_ids::Kind;
-use query_samples::{Row, is_lacking, is_right};
+use query_samples::{Row, is_lacking};
 use recorder::ReadFault;
 use run_samples::{Given, Kept};
 use std::test::*;
@@ -116,9 +116,7 @@ static TABLE: [Row; 13] = [
 
 #[test]
 fn values_of_texts_and_trees(rt: HostRuntime) -> Result<(), Fail> {
-    for row in &TABLE {
-        assert!(rt; is_right(rt.alloc(), *row)?);
-    }
+    assert!(rt; are_right(rt.alloc(), &TABLE)?);
     Ok(())
 }
 
