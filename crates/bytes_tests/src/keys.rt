@@ -1,5 +1,6 @@
-use answer_samples::{Asked, Unfit, is_copy, is_less, is_made, is_named};
-use item_ids::{Kind, rank};
+use answer_samples::{Asked, Unfit, is_copy, is_less, is_made, is_named, key_of};
+use indexmap::IndexMap;
+use item_ids::{Key, Kind, rank};
 use std::alloc::Global;
 use std::test::*;
 
@@ -85,5 +86,52 @@ fn names_that_fit_no_kind(rt: HostRuntime) -> Result<(), Fail> {
     for asked in UNFIT {
         assert!(rt; !is_made(rt.alloc(), *asked)?, "{asked:?}");
     }
+    Ok(())
+}
+
+// Keys that are told apart by kind, by class, by method and by where a name ends.
+const MAPPED: &[Asked] = &[
+    Asked(Kind::Files, "", ""),
+    Asked(Kind::Header, "A", ""),
+    Asked(Kind::Supers, "A", ""),
+    Asked(Kind::Header, "B", ""),
+    Asked(Kind::Method, "A", "f"),
+    Asked(Kind::Method, "A", "g"),
+    Asked(Kind::Sig, "Ab", "c"),
+    Asked(Kind::Sig, "A", "bc"),
+];
+
+/// Puts a key into a map with its place.
+fn put(
+    alloc: Global,
+    map: &mut IndexMap<Key, usize>,
+    asked: Asked,
+    at: usize,
+) -> Result<(), Unfit> {
+    let key = key_of(alloc, asked)?;
+    match map.insert(key, at) {
+        Ok(_) => Ok(()),
+        Err(_) => Err(Unfit),
+    }
+}
+
+/// Whether a map of the keys, in their order, finds each at its place.
+fn are_found(alloc: Global, keys: &[Asked]) -> Result<bool, Unfit> {
+    let mut map = IndexMap::new(alloc);
+    for (i, asked) in keys.iter().enumerate() {
+        put(alloc, &mut map, *asked, i)?;
+    }
+    for (i, asked) in keys.iter().enumerate() {
+        let key = key_of(alloc, *asked)?;
+        if map.get_index_of(&key) != Some(i) {
+            return Ok(false);
+        }
+    }
+    Ok(map.len() == keys.len())
+}
+
+#[test]
+fn keys_of_a_map(rt: HostRuntime) -> Result<(), Fail> {
+    assert!(rt; are_found(rt.alloc(), MAPPED)?);
     Ok(())
 }

@@ -23,7 +23,7 @@ use std::sync::Arc;
 pub fn answer(alloc: Global, project: &Project) -> io::Result<Arc<Sealed>>
     ensures { IfOk result (λ sealed. arc_value sealed ≡ mean project.now Answer) }
 {
-    let inputs = Inputs::new(alloc, project)?;
+    let inputs = Inputs::new(alloc, &None, project)?;
     let mut driver = Driver::new(alloc, inputs, MiniJava::new(alloc));
     match driver.answer() {
         Ok(sealed) => Ok(sealed),

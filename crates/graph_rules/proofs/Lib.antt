@@ -4,3 +4,4 @@ pub mod Orders
 pub mod NextRules
 pub mod OneNext
 pub mod SessionRules
+pub mod KeySets

@@ -1,3 +1,4 @@
 pub mod Kinds
 pub mod Keys
 pub mod Places
+pub mod Hashes

@@ -7,6 +7,7 @@ use crate::kind::Kind;
 use mj_lexer::Name;
 use std::alloc::{AllocError, Global};
 use std::cmp::Ordering;
+use std::hash::{Hash, Hasher};
 
 /// The key of a query, with the names that its kind has: a file, a class, or a class and one of its methods.
 /// Keys are ordered by the number of their kind, then by file or class, then by method, names by their bytes.
@@ -198,5 +199,22 @@ impl Ord for Key {
             .cmp(&other.kind().number())
             .then_with(|| text(self.class()).cmp(text(other.class())))
             .then_with(|| text(self.member()).cmp(text(other.member())))
+    }
+}
+
+impl Hash for Key {
+    ghost use Rattle.std.specs.Prelude.{◌++◌, ◌∷◌, []};
+    ghost use Rattle.std.specs.Hash as writes;
+    ghost use Rattle.item_ids.specs.Keys.{number, class_text, member_text};
+    ghost use Rattle.item_ids.specs.Hashes.{alike};
+
+    ghost hash_input = { λ key. writes.u8 (number key) ++ class_text key ∷ member_text key ∷ [] };
+
+    ghost respects_eq = { alike };
+
+    fn hash<H: Hasher>(&self, state: &mut H) {
+        state.write_u8(self.kind().number());
+        state.write(text(self.class()));
+        state.write(text(self.member()));
     }
 }

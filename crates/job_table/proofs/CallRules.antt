@@ -11,15 +11,14 @@ use Rattle.sessions.specs.declared.mark.Mark.TheVariants.{Green, Executed}
 use Rattle.graph_rules.specs.Keys.{same_key, input_of}
 use Rattle.graph_rules.specs.Pasts.{Past}
 use Rattle.graph_rules.specs.Steps.{Walk, Status, Claimed, Running, Done, State, Event, MarkGreen, Begin, Finish, with_status, IsNotDone, IsDoneWith, MayStep, MayRun, AllUnchanged, walk, past_walk, AreHeld, green, state_after}
-use Rattle.job_table.specs.declared.nodes.Node.{Node}
 use Rattle.job_table.specs.declared.fault.TableFault.{TableFault}
 use Rattle.job_table.specs.declared.fault.TableFault.TheVariants as fault
-use Rattle.job_table.specs.Nodes.{status_in, unless_input, state_of_nodes, KeysStandOnce}
+use Rattle.job_table.specs.Nodes.{Node, status_in, unless_input, state_of_nodes, KeysStandOnce}
 use Rattle.job_table.specs.Kept.{IsKept}
 use Rattle.job_table.specs.Tables.{TableValue, state_of, IsStep, adds}
 use Rattle.job_table.specs.Walks.{IsWhyNot}
 use Rattle.job_table.specs.Calls.{IsClaimed, walk_in, BeginGives, FinishGives, IsFirstStale}
-use Rattle.job_table.proofs.StepRules.{is_standing, is_walk, are_held, kept_put, at_written, past_walk_same}
+use Rattle.job_table.proofs.StepRules.{is_standing, is_walk, are_held, held_nodes, kept_put, at_written, past_walk_same}
 
 -- ---- keys that a worker hasn't
 
@@ -37,7 +36,7 @@ pub mark_may : (past : Past) (p : Project) (ns : List Node) (b : Bool) (h : List
     → MayStep past (state_after past p h) (MarkGreen w q)
 mark_may past p ns b h kept q w r found nf stands all = (
   sym kept.failed_is ∙ nf,
-  (is_standing past p ns b h kept q (Claimed w) stands (λ e. cc)).1,
+  (is_standing past p ns b h kept q (Claimed w) stands (λ e. cc) tt).1,
   ap (option_map (λ (x : Entry). walk past (state_after past p h) x.reads)) found ∙ ap Some (sym (all ∙ is_walk past p ns b h kept false r.reads)),
 )
 
@@ -48,7 +47,7 @@ pub mark_kept : (past : Past) (p : Project) (ns ms : List Node) (b : Bool) (h : 
 mark_kept past p ns ms b h kept q w r x found nf stands all xis apart put =
     kept_put past p ns b h kept ms (MarkGreen w q) q x (mark_may past p ns b h kept q w r found nf stands all)
     (λ st. ap (λ (y : Status). with_status st q y) (ap green found ∙ sym xis))
-    (is_standing past p ns b h kept q (Claimed w) stands (λ e. cc)).0 apart put
+    (is_standing past p ns b h kept q (Claimed w) stands (λ e. cc) tt).0 apart put
 
 -- what mark tells of its event, where the table before is this
 pub mark_at : (so : Option SessionValue) (p : Project) (ns : List Node) (b : Bool) (h : List Event) → IsKept (past_entry so) p ns b h → (q : Key) (w : ℕ) (r : Entry)
@@ -62,7 +61,7 @@ pub mark_refused : (so : Option SessionValue) (p : Project) (ns : List Node) (b 
     → (t : TableValue) → record { past = so; project = p; history = h } ≡ t → IsClaimed t w q × (walk_in t q ≡ o) × (t ≡ t)
 mark_refused so p ns b h kept q w o nf stands is t te =
     subst (λ (u : TableValue). IsClaimed u w q × (walk_in u q ≡ o) × (u ≡ u)) te (
-      (sym kept.failed_is ∙ nf, (is_standing (past_entry so) p ns b h kept q (Claimed w) stands (λ e. cc)).1),
+      (sym kept.failed_is ∙ nf, (is_standing (past_entry so) p ns b h kept q (Claimed w) stands (λ e. cc) tt).1),
       sym (past_walk_same (past_entry so) (state_of_nodes p ns false) (state_after (past_entry so) p h) kept.status q) ∙ is,
       refl,
     )
@@ -94,7 +93,7 @@ mark_gives so p ns b h kept q w r found nf stands all t u v te ue ve =
 pub begin_may : (past : Past) (p : Project) (ns : List Node) (b : Bool) (h : List Event) → IsKept past p ns b h → (q : Key) (w : ℕ)
     → b ≡ false → status_in ns q ≡ Claimed w → MayRun (past_walk past (state_of_nodes p ns false) q) → MayStep past (state_after past p h) (Begin w q)
 begin_may past p ns b h kept q w nf stands may =
-    (sym kept.failed_is ∙ nf, (is_standing past p ns b h kept q (Claimed w) stands (λ e. cc)).1, subst MayRun (past_walk_same past (state_of_nodes p ns false) (state_after past p h) kept.status q) may)
+    (sym kept.failed_is ∙ nf, (is_standing past p ns b h kept q (Claimed w) stands (λ e. cc) tt).1, subst MayRun (past_walk_same past (state_of_nodes p ns false) (state_after past p h) kept.status q) may)
 
 pub begin_kept : (past : Past) (p : Project) (ns ms : List Node) (b : Bool) (h : List Event) → IsKept past p ns b h → (q : Key) (w : ℕ)
     → b ≡ false → status_in ns q ≡ Claimed w → MayRun (past_walk past (state_of_nodes p ns false) q)
@@ -102,7 +101,7 @@ pub begin_kept : (past : Past) (p : Project) (ns ms : List Node) (b : Bool) (h :
     → IsKept past p ms b (h ++ Begin w q ∷ [])
 begin_kept past p ns ms b h kept q w nf stands may apart put =
     kept_put past p ns b h kept ms (Begin w q) q (Running w) (begin_may past p ns b h kept q w nf stands may) (λ s. refl)
-    (is_standing past p ns b h kept q (Claimed w) stands (λ e. cc)).0 apart put
+    (is_standing past p ns b h kept q (Claimed w) stands (λ e. cc) tt).0 apart put
 
 -- what begin_run tells of its event, where the table before is this
 pub begin_at : (so : Option SessionValue) (p : Project) (ns : List Node) (b : Bool) (h : List Event) → IsKept (past_entry so) p ns b h → (q : Key) (w : ℕ)
@@ -118,7 +117,7 @@ begin_refused so p ns b h kept q w f nf stands why t te =
     subst (λ (u : TableValue). BeginGives u w q (Err f) u) te (go f why)
   where
     at : (state_after (past_entry so) p h).at q ≡ Claimed w
-    at = (is_standing (past_entry so) p ns b h kept q (Claimed w) stands (λ e. cc)).1
+    at = (is_standing (past_entry so) p ns b h kept q (Claimed w) stands (λ e. cc) tt).1
 
     same : past_walk (past_entry so) (state_of_nodes p ns false) q ≡ past_walk (past_entry so) (state_after (past_entry so) p h) q
     same = past_walk_same (past_entry so) (state_of_nodes p ns false) (state_after (past_entry so) p h) kept.status q
@@ -139,7 +138,7 @@ begin_refused so p ns b h kept q w f nf stands why t te =
 pub finish_may : (past : Past) (p : Project) (ns : List Node) (b : Bool) (h : List Event) → IsKept past p ns b h → (o : OutcomeValue) (w : ℕ)
     → b ≡ false → status_in ns o.key ≡ Running w → AreHeld (state_of_nodes p ns false) o.told → MayStep past (state_after past p h) (Finish w o)
 finish_may past p ns b h kept o w nf stands all =
-    (sym kept.failed_is ∙ nf, (is_standing past p ns b h kept o.key (Running w) stands (λ e. cc)).1, are_held past p ns b h kept false o.told all)
+    (sym kept.failed_is ∙ nf, (is_standing past p ns b h kept o.key (Running w) stands (λ e. cc) tt).1, are_held past p ns b h kept false o.told all)
 
 pub finish_kept : (past : Past) (p : Project) (ns ms : List Node) (b : Bool) (h : List Event) → IsKept past p ns b h → (o : OutcomeValue) (w : ℕ) (x : Status)
     → b ≡ false → status_in ns o.key ≡ Running w → AreHeld (state_of_nodes p ns false) o.told
@@ -148,7 +147,16 @@ pub finish_kept : (past : Past) (p : Project) (ns ms : List Node) (b : Bool) (h 
 finish_kept past p ns ms b h kept o w x nf stands all xis apart put =
     kept_put past p ns b h kept ms (Finish w o) o.key x (finish_may past p ns b h kept o w nf stands all)
     (λ st. ap (λ (y : Status). with_status st o.key y) (sym xis))
-    (is_standing past p ns b h kept o.key (Running w) stands (λ e. cc)).0 apart put
+    (is_standing past p ns b h kept o.key (Running w) stands (λ e. cc) tt).0 apart put
+
+-- all reads are held in the nodes where they are in the table, and the other way round
+pub held_at : (so : Option SessionValue) (p : Project) (ns : List Node) (b : Bool) (h : List Event) → IsKept (past_entry so) p ns b h → (rs : List ReadValue)
+    → (t : TableValue) → record { past = so; project = p; history = h } ≡ t → AreHeld (state_of t) rs → AreHeld (state_of_nodes p ns false) rs
+held_at so p ns b h kept rs t te all = held_nodes (past_entry so) p ns b h kept false rs (subst (λ (u : TableValue). AreHeld (state_of u) rs) (sym te) all)
+
+pub held_in : (so : Option SessionValue) (p : Project) (ns : List Node) (b : Bool) (h : List Event) → IsKept (past_entry so) p ns b h → (rs : List ReadValue)
+    → (t : TableValue) → record { past = so; project = p; history = h } ≡ t → AreHeld (state_of_nodes p ns false) rs → AreHeld (state_of t) rs
+held_in so p ns b h kept rs t te all = subst (λ (u : TableValue). AreHeld (state_of u) rs) te (are_held (past_entry so) p ns b h kept false rs all)
 
 pub finish_at : (so : Option SessionValue) (p : Project) (ns : List Node) (b : Bool) (h : List Event) → IsKept (past_entry so) p ns b h → (o : OutcomeValue) (w : ℕ)
     → b ≡ false → status_in ns o.key ≡ Running w → AreHeld (state_of_nodes p ns false) o.told
@@ -166,7 +174,7 @@ pub finish_stale : (so : Option SessionValue) (p : Project) (ns : List Node) (b 
     → (t : TableValue) → record { past = so; project = p; history = h } ≡ t → FinishGives t w o (Err (fault.StaleRead i)) t
 finish_stale so p ns b h kept o w i nf stands stale t te =
     subst (λ (u : TableValue). FinishGives u w o (Err (fault.StaleRead i)) u) te (
-      (sym kept.failed_is ∙ nf, (is_standing (past_entry so) p ns b h kept o.key (Running w) stands (λ e. cc)).1),
+      (sym kept.failed_is ∙ nf, (is_standing (past_entry so) p ns b h kept o.key (Running w) stands (λ e. cc) tt).1),
       stale_same (state_of_nodes p ns false) (state_after (past_entry so) p h) kept.status o.told i stale,
       refl,
     )

@@ -1,5 +1,5 @@
 -- What close says of the table.
-use Rattle.std.proofs.Common.{◌≡◌, List, [], ◌∷◌, refl, sym, ◌∙◌, subst, Bool, true, false, Option, Some, None}
+use Rattle.std.proofs.Common.{◌≡◌, inl, inr, List, [], ◌∷◌, refl, sym, ◌∙◌, subst, Bool, true, false, Option, Some, None}
 use Rattle.std.specs.Prelude.{if◌then◌else◌, Ok, Err}
 use Rattle.std.specs.List.{AllByRecursion}
 use Rattle.item_ids.specs.declared.key.Key.{Key}
@@ -16,9 +16,8 @@ use Rattle.graph_rules.specs.Graphs.{IsRoot, answer, files, source, IsReached, e
 use Rattle.graph_rules.specs.Graphs.IsReached.{root as starts}
 use Rattle.graph_rules.proofs.KeyRules.{same_is, same_refl}
 use Rattle.graph_rules.proofs.Keeping.{sound_history, in_order}
-use Rattle.job_table.specs.declared.nodes.Node.{Node}
 use Rattle.job_table.specs.declared.fault.CloseFault.TheVariants as fault
-use Rattle.job_table.specs.Nodes.{status_of, status_in, status_at, unless_input, state_of_nodes, has_key, KeysStandOnce}
+use Rattle.job_table.specs.Nodes.{Node, IsInputIn, status_of, status_in, status_at, unless_input, state_of_nodes, has_key, KeysStandOnce}
 use Rattle.job_table.specs.Kept.{IsKept}
 use Rattle.job_table.specs.Tables.{TableValue}
 use Rattle.job_table.specs.Closes.{IsQuiet, AreQuiet, IsClosing, CloseGives}
@@ -29,33 +28,36 @@ use Rattle.job_table.proofs.StepRules.{is_not_done}
 
 quiet_at : (ns : List Node) (q : Key) → AllQuiet ns → IsQuiet (status_in ns q)
 quiet_at [] q a = tt
-quiet_at (n ∷ ns) q a = elim (same_key n.key q) as (λ b. IsQuiet (if b then status_of n.standing else status_in ns q)) [ true ↦ a.0 | false ↦ quiet_at ns q a.1 ]
+quiet_at (n ∷ ns) q a = elim (same_key n.0 q) as (λ b. IsQuiet (if b then status_of n.1 else status_in ns q)) [ true ↦ a.0 | false ↦ quiet_at ns q a.1 ]
 
 absent_unknown : (ns : List Node) (q : Key) → has_key q ns ≡ false → status_in ns q ≡ Unknown
 absent_unknown [] q e = refl
 absent_unknown (m ∷ ns) q e =
-    (elim (same_key m.key q) as (λ b. (if b then true else has_key q ns) ≡ false → (if b then status_of m.standing else status_in ns q) ≡ Unknown) [
+    (elim (same_key m.0 q) as (λ b. (if b then true else has_key q ns) ≡ false → (if b then status_of m.1 else status_in ns q) ≡ Unknown) [
       | true ↦ λ h. absurd (cc)
       | false ↦ λ h. absent_unknown ns q h
     ]) e
 
-quiet_rest : (ns : List Node) (n : Node) (q : Key) → has_key n.key ns ≡ false → IsQuiet (status_in (n ∷ ns) q) → IsQuiet (status_in ns q)
+quiet_rest : (ns : List Node) (n : Node) (q : Key) → has_key n.0 ns ≡ false → IsQuiet (status_in (n ∷ ns) q) → IsQuiet (status_in ns q)
 quiet_rest ns n q absent h =
-    (elim (same_key n.key q) as (λ b. same_key n.key q ≡ b → IsQuiet (if b then status_of n.standing else status_in ns q) → IsQuiet (status_in ns q)) [
-      | true ↦ λ is k. let e : status_in ns q ≡ Unknown = absent_unknown ns q (subst (λ (x : Key). has_key x ns ≡ false) (same_is n.key q is) absent) in rw e tt
+    (elim (same_key n.0 q) as (λ b. same_key n.0 q ≡ b → IsQuiet (if b then status_of n.1 else status_in ns q) → IsQuiet (status_in ns q)) [
+      | true ↦ λ is k. let e : status_in ns q ≡ Unknown = absent_unknown ns q (subst (λ (x : Key). has_key x ns ≡ false) (same_is n.0 q is) absent) in rw e tt
       | false ↦ λ is k. k
     ]) refl h
 
 all_quiet : (ns : List Node) → KeysStandOnce ns → ((q : Key) → IsQuiet (status_in ns q)) → AllQuiet ns
 all_quiet [] apart h = tt
-all_quiet (n ∷ ns) apart h = (rw (same_refl n.key) at (h n.key), all_quiet ns apart.1 (λ q. quiet_rest ns n q apart.0 (h q)))
+all_quiet (n ∷ ns) apart h = (rw (same_refl n.0) at (h n.0), all_quiet ns apart.1 (λ q. quiet_rest ns n q apart.0 (h q)))
 
 quiet_out : (o : Option Value) (x : Status) → IsQuiet x → IsQuiet (unless_input o x)
 quiet_out (Some v) x h = tt
 quiet_out None x h = h
 
-quiet_in : (o : Option Value) (x : Status) → ((v : Value) → o ≡ Some v → x ≡ Unknown) → IsQuiet (unless_input o x) → IsQuiet x
-quiet_in (Some v) x inner h = let e : x ≡ Unknown = inner v refl in rw e tt
+quiet_in : (o : Option Value) (x : Status) → ((v : Value) → o ≡ Some v → IsInputIn v x) → IsQuiet (unless_input o x) → IsQuiet x
+quiet_in (Some v) x inner h = elim (inner v refl) [
+  | inl unknown ↦ rw unknown tt
+  | inr done ↦ rw done tt
+]
 quiet_in None x inner h = h
 
 -- ---- states that agree

@@ -7,5 +7,6 @@ pub mod CallRules
 pub mod ReplayRules
 pub mod StaleRules
 pub mod ReachRules
+pub mod SetRules
 pub mod RecordRules
 pub mod CloseRules

@@ -1,13 +1,10 @@
 -- Keys that edges lead to.
-use Rattle.std.proofs.Common.{◌≡◌, ◌↔◌, ◌⊎◌, inl, inr, ℕ, zero, suc, ◌+◌, ◌<◌, ◌≤◌, List, [], ◌∷◌, ◌++◌, map, take, length, get_or, refl, sym, ap, ◌∙◌, subst, append-nil, eq-or-lt_of_le, true, arith}
-use Rattle.std.specs.Prelude.{Contains, Bool, false, if◌then◌else◌}
-use Rattle.std.specs.Ordering.{is_eq}
+use Rattle.std.proofs.Common.{◌≡◌, ◌↔◌, ◌⊎◌, inl, inr, ℕ, zero, suc, ◌+◌, ◌<◌, ◌≤◌, List, [], ◌∷◌, ◌++◌, map, take, length, get_or, refl, sym, ap, ◌∙◌, subst, append-nil, eq-or-lt_of_le, arith}
+use Rattle.std.specs.Prelude.{Contains}
 use Rattle.std.proofs.lemmas.List.{take_more, append_assoc, get_or_append_left, get_or_default}
 use Rattle.std.proofs.lemmas.List.Elements.{All-contains, All-from_recursion, Contains-get_or, Contains-push, Contains-push_cases, Contains-append_left, Contains-append_right, Contains-append_cases}
 use Rattle.item_ids.specs.declared.key.Key.{Key}
 use Rattle.item_ids.specs.declared.key.Key.TheVariants.{Files, Source, Answer}
-use Rattle.item_ids.specs.Keys.{key_cmp}
-use Rattle.item_ids.proofs.Apart.{test_same}
 use Rattle.result_bytes.specs.declared.value.Value.{Value}
 use Rattle.mj_project.specs.Projects.{SourceFile}
 use Rattle.recorder.specs.Projects.{Project}
@@ -16,7 +13,7 @@ use Rattle.graph_rules.specs.Steps.{Status, Done, State, IsDone}
 use Rattle.graph_rules.specs.Sound.{IsDoneInOrder, IsInOrderAt, IsInOrder}
 use Rattle.graph_rules.specs.Graphs.{IsRoot, answer, files, source, IsReached, edge}
 use Rattle.graph_rules.specs.Graphs.IsReached.{root as starts}
-use Rattle.job_table.specs.Reached.{key_in, AreRoots, AreReached, HasEdges, Spreads, AreAmong, Adds}
+use Rattle.job_table.specs.Reached.{key_in, AreRoots, AreReached, HasEdges, Spreads, Adds}
 
 -- ---- the roots
 
@@ -66,15 +63,6 @@ adds_none old = record {
   only = λ q h. h;
   has = λ q h. absurd (let b = h.1 in omega arith);
 }
-
--- the set with a key that the list got too
-pub among_more : (test new : Key → Bool) (found : List Key) (x : Key) → AreAmong test found → ((q : Key) → new q ≡ (if is_eq (key_cmp x q) then true else test q))
-    → AreAmong new (found ++ x ∷ [])
-among_more test new found x among is q h = go (is_eq (key_cmp x q)) refl (sym (is q) ∙ h)
-  where
-    go : (b : Bool) → is_eq (key_cmp x q) ≡ b → (if b then true else test q) ≡ true → Contains (found ++ x ∷ []) q
-    go true same t = subst (λ (k : Key). Contains (found ++ x ∷ []) k) (test_same x q same) (Contains-push found x)
-    go false same t = Contains-append_left found (x ∷ []) q (among q t)
 
 -- a key that was there
 pub adds_old : (found : List Key) (x : Key) → Contains found x → Adds found (x ∷ []) found

@@ -1,25 +1,21 @@
 -- The records of keys in order make a session.
 use Rattle.std.proofs.Common.{◌≡◌, ◌≢◌, inl, inr, ℕ, zero, suc, ◌+◌, ◌<◌, ◌≤◌, List, [], ◌∷◌, ◌++◌, map, take, length, get_or, refl, sym, ap, ◌∙◌, subst, eq-or-lt_of_le, arith}
-use Rattle.std.specs.Prelude.{Contains, HoldsAt}
+use Rattle.std.specs.Prelude.{Contains}
 use Rattle.std.specs.List.{AllByRecursion}
-use Rattle.std.specs.List.Sorted.{IsNonDecreasingBy, IsPartitionPoint, IsStrictlySortedBy}
-use Rattle.std.specs.Ordering.{ordering_index}
-use Rattle.std.specs.declared.cmp.Ordering.TheVariants.{Less, Equal, Greater}
+use Rattle.std.specs.declared.cmp.Ordering.TheVariants.{Less}
 use Rattle.std.proofs.lemmas.Bool.{cases_lt}
 use Rattle.std.proofs.lemmas.List.{get_or-map, get_or-take, length-take-le, length-map, map-append, take_more}
 use Rattle.std.proofs.lemmas.List.Elements.{All-contains, All-from_recursion}
 use Rattle.item_ids.specs.declared.key.Key.{Key}
 use Rattle.item_ids.specs.declared.key.Key.TheVariants.{Files}
 use Rattle.item_ids.specs.Keys.{key_cmp, key_total}
-use Rattle.item_ids.proofs.Apart.{key_exact, key_itself}
+use Rattle.item_ids.proofs.Apart.{key_itself}
 use Rattle.mj_answer.specs.Order.{IsAscendingBy}
-use Rattle.mj_answer.proofs.Compared.{ascends}
 use Rattle.result_bytes.specs.declared.value.Value.{Value}
 use Rattle.recorder.specs.Projects.{Project}
 use Rattle.recorder.specs.Backed.{AreLower, NoneTwice}
 use Rattle.sessions.specs.declared.mark.Mark.{Mark}
 use Rattle.sessions.specs.Sessions.{RecordValue, Entry, rank, key_at, entry_of, IsAbove, IsEdge, AreDistinct, AreRecords}
-use Rattle.sessions.proofs.EntryRules.{rises}
 use Rattle.graph_rules.specs.Steps.{Status, Done, State}
 use Rattle.graph_rules.specs.Sound.{IsDoneInOrder, IsInOrderAt, IsInOrder}
 use Rattle.graph_rules.specs.Graphs.{IsReached, KeyBefore, AreAscending, IsEntryOf, AreClosed}
@@ -37,28 +33,6 @@ before_place [] i j d up below lt = absurd (omega arith)
 before_place (k ∷ ks) i zero d up below lt = absurd (omega arith)
 before_place (k ∷ ks) zero (suc j) d up below lt = before_all k ks j d up.0 (omega arith)
 before_place (k ∷ ks) (suc i) (suc j) d up below lt = before_place ks i j d up.1 (omega arith) (omega arith)
-
-pub sorted_ascend : (ks : List Key) → IsStrictlySortedBy key_cmp ks → Ascend ks
-sorted_ascend ks h = ascends key_cmp KeyBefore (λ a b e. e) ks h
-
-pub keys_rise : (ks : List Key) (q : Key) → Ascend ks → IsNonDecreasingBy (λ k. ordering_index (key_cmp k q)) ks
-keys_rise ks q up i j d le lt =
-    elim (cases_lt i j) [
-      | inl below ↦ rises (get_or ks i d) (get_or ks j d) q (before_place ks i j d up below lt)
-      | inr above ↦ let e : i ≡ j = omega (arith, le, above) in rw e (omega arith)
-    ]
-
--- a key that is there isn't between two neighbours
-pub not_between : (ks : List Key) (q : Key) (i : ℕ) → IsPartitionPoint (λ k. key_cmp k q ≡ Less) (λ k. key_cmp k q ≡ Greater) ks i → Contains ks q → ⊥
-not_between ks q i parted has =
-    let same : key_cmp (get_or ks has.0 q) q ≡ Equal = key_itself (get_or ks has.0 q) q has.2 in
-    elim (cases_lt has.0 i) [
-      | inl below ↦ let less = parted.0 has.0 q (omega arith) below in absurd cc
-      | inr above ↦ let greater = parted.1 has.0 q above has.1 in absurd cc
-    ]
-
-pub equal_place : (ks : List Key) (q : Key) (i : ℕ) → HoldsAt (λ k. key_cmp k q ≡ Equal) ks i → key_in ks i ≡ q
-equal_place ks q i equal = key_exact (key_in ks i) q (equal Files)
 
 -- ---- records behind one another
 

@@ -1,5 +1,5 @@
 -- What a change of the nodes is in the state, and what each call says of the table.
-use Rattle.std.proofs.Common.{◌≡◌, ℕ, List, [], ◌∷◌, ◌++◌, refl, sym, ap, ◌∙◌, subst, Bool, true, false, Option, Some, None, option_map}
+use Rattle.std.proofs.Common.{◌≡◌, inl, inr, ℕ, List, [], ◌∷◌, ◌++◌, refl, sym, ap, ◌∙◌, subst, Bool, true, false, Option, Some, None, option_map}
 use Rattle.std.specs.Prelude.{if◌then◌else◌}
 use Rattle.std.proofs.lemmas.Option.{none-some}
 use Rattle.item_ids.specs.declared.key.Key.{Key}
@@ -14,25 +14,24 @@ use Rattle.graph_rules.specs.Steps.{Status, Unknown, Claimed, State, Event, Clai
 use Rattle.graph_rules.specs.Sound.{IsBacked, AreBacked}
 use Rattle.graph_rules.proofs.KeyRules.{same_refl, same_is}
 use Rattle.graph_rules.proofs.Orders.{after_all_append, steps_append}
-use Rattle.job_table.specs.declared.nodes.Node.{Node}
-use Rattle.job_table.specs.Nodes.{status_in, status_at, unless_input, state_of_nodes, KeysStandOnce, IsFirst, AllAbove}
+use Rattle.job_table.specs.Nodes.{Node, IsInputIn, AreOpened, status_in, status_at, unless_input, state_of_nodes, KeysStandOnce, IsFirst, AllAbove}
 use Rattle.job_table.specs.Kept.{IsKept}
 use Rattle.job_table.proofs.NodeRules.{above_held, held_above, first_known}
 
 -- ---- opening
 
-opening_status : (o : Option Value) → unless_input o Unknown ≡ at_opening o
-opening_status (Some v) = refl
-opening_status None = refl
+opened_status : (o : Option Value) (x : Status) → ((v : Value) → o ≡ Some v → IsInputIn v x) → (o ≡ None → x ≡ Unknown) → unless_input o x ≡ at_opening o
+opened_status (Some v) x inner others = refl
+opened_status None x inner others = others refl
 
-pub kept_opening : (past : Past) (p : Project) → IsProject p → IsKept past p [] false []
-kept_opening past p project = record {
+pub kept_opening : (past : Past) (p : Project) (ns : List Node) → IsProject p → KeysStandOnce ns → AreOpened p ns → IsKept past p ns false []
+kept_opening past p ns project apart opened = record {
   project = project;
   legal = tt;
-  status = λ q. opening_status (input_of p q);
+  status = λ q. opened_status (input_of p q) (status_in ns q) (opened.inputs q) (opened.others q);
   failed_is = refl;
-  apart = tt;
-  inner = λ q v is. refl;
+  apart = apart;
+  inner = opened.inputs;
 }
 
 -- ---- steps
@@ -57,9 +56,9 @@ put_at p x y q k none =
       | false ↦ λ is. refl
     ]) refl
 
-put_inner : (p : Project) (x y : Status) (q k : Key) (v : Value) → input_of p q ≡ None → input_of p k ≡ Some v → y ≡ Unknown → (if same_key q k then x else y) ≡ Unknown
+put_inner : (p : Project) (x y : Status) (q k : Key) (v : Value) → input_of p q ≡ None → input_of p k ≡ Some v → IsInputIn v y → IsInputIn v (if same_key q k then x else y)
 put_inner p x y q k v none some unknown =
-    (elim (same_key q k) as (λ b. same_key q k ≡ b → (if b then x else y) ≡ Unknown) [
+    (elim (same_key q k) as (λ b. same_key q k ≡ b → IsInputIn v (if b then x else y)) [
       | true ↦ λ is. absurd (none-some v (sym (subst (λ (u : Key). input_of p u ≡ None) (same_is q k is) none) ∙ some))
       | false ↦ λ is. unknown
     ]) refl
@@ -81,7 +80,7 @@ kept_step past p ns ms b h e q x kept may is none apart put =
           ∙ ap (λ (s : State). s.at k) (sym last)));
       failed_is = kept.failed_is ∙ ap (λ (s : State). s.failed) (sym last);
       apart = apart;
-      inner = λ k v some. put k ∙ put_inner p x (status_in ns k) q k v none some (kept.inner k v some);
+      inner = λ k v some. subst (λ (y : Status). IsInputIn v y) (sym (put k)) (put_inner p x (status_in ns k) q k v none some (kept.inner k v some));
     }
 
 -- a table in which a worker failed
@@ -101,17 +100,23 @@ held_in_at : (w : ℕ) (o : Option Value) (x : Status) → IsHeldBy w (unless_in
 held_in_at w (Some v) x h = elim h [ ]
 held_in_at w None x h = h
 
-held_out_at : (w : ℕ) (o : Option Value) (x : Status) → ((v : Value) → o ≡ Some v → x ≡ Unknown) → IsHeldBy w x → IsHeldBy w (unless_input o x)
-held_out_at w (Some v) x inner h = let f = rw (inner v refl) at h in f
+held_out_at : (w : ℕ) (o : Option Value) (x : Status) → ((v : Value) → o ≡ Some v → IsInputIn v x) → IsHeldBy w x → IsHeldBy w (unless_input o x)
+held_out_at w (Some v) x inner h = elim (inner v refl) [
+  | inl unknown ↦ let f = rw unknown at h in f
+  | inr done ↦ let f = rw done at h in f
+]
 held_out_at w None x inner h = h
 
 not_done_at : (o : Option Value) (x : Status) → IsNotDone (unless_input o x) → unless_input o x ≡ x
 not_done_at (Some v) x h = elim h [ ]
 not_done_at None x h = refl
 
-none_at : (o : Option Value) (x : Status) → ((v : Value) → o ≡ Some v → x ≡ Unknown) → (x ≡ Unknown → ⊥) → o ≡ None
-none_at (Some v) x inner known = absurd (known (inner v refl))
-none_at None x inner known = refl
+none_at : (o : Option Value) (x : Status) → ((v : Value) → o ≡ Some v → IsInputIn v x) → (x ≡ Unknown → ⊥) → IsNotDone x → o ≡ None
+none_at (Some v) x inner known open_still = elim (inner v refl) [
+  | inl unknown ↦ absurd (known unknown)
+  | inr done ↦ absurd (subst (λ (y : Status). IsNotDone y) done open_still)
+]
+none_at None x inner known open_still = refl
 
 walk_same : (past : Past) (s t : State) → ((k : Key) → s.at k ≡ t.at k) → (es : List Key) → walk past s es ≡ walk past t es
 walk_same past s t e [] = refl
@@ -171,13 +176,16 @@ module _ (past : Past) (p : Project) (ns : List Node) (b : Bool) (h : List Event
       (unknown_none (input_of p q) (status_in ns q) (kept.status q ∙ may.1))
       apart put
 
-  pub is_standing : (q : Key) (x : Status) → status_in ns q ≡ x → (x ≡ Unknown → ⊥) → (input_of p q ≡ None) × ((state_after past p h).at q ≡ x)
-  is_standing q x is known =
-      let none : input_of p q ≡ None = none_at (input_of p q) (status_in ns q) (kept.inner q) (λ u. known (sym is ∙ u)) in
+  pub is_standing : (q : Key) (x : Status) → status_in ns q ≡ x → (x ≡ Unknown → ⊥) → IsNotDone x → (input_of p q ≡ None) × ((state_after past p h).at q ≡ x)
+  is_standing q x is known still =
+      let none : input_of p q ≡ None = none_at (input_of p q) (status_in ns q) (kept.inner q) (λ u. known (sym is ∙ u)) (subst (λ (y : Status). IsNotDone y) (sym is) still) in
       (none, sym (kept.status q) ∙ (ap (λ o. unless_input o (status_in ns q)) none ∙ is))
 
   pub are_held : (c : Bool) (rs : List ReadValue) → AreHeld (state_of_nodes p ns c) rs → AreHeld (state_after past p h) rs
   are_held c rs all = held_same (state_of_nodes p ns c) (state_after past p h) kept.status rs all
+
+  pub held_nodes : (c : Bool) (rs : List ReadValue) → AreHeld (state_after past p h) rs → AreHeld (state_of_nodes p ns c) rs
+  held_nodes c rs all = held_same (state_after past p h) (state_of_nodes p ns c) (λ q. sym (kept.status q)) rs all
 
   pub is_walk : (c : Bool) (es : List Key) → walk past (state_of_nodes p ns c) es ≡ walk past (state_after past p h) es
   is_walk c es = walk_same past (state_of_nodes p ns c) (state_after past p h) kept.status es

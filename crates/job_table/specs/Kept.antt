@@ -1,15 +1,12 @@
 -- What a table keeps.
-use Rattle.std.specs.Prelude.{◌≡◌, Bool, List, Some}
+use Rattle.std.specs.Prelude.{◌≡◌, Bool, List}
 use Rattle.std.specs.Arc.{arc_value}
 use Rattle.item_ids.specs.declared.key.Key.{Key}
-use Rattle.result_bytes.specs.declared.value.Value.{Value}
 use Rattle.mj_project.specs.Projects.{IsProject}
 use Rattle.recorder.specs.Projects.{Project}
-use Rattle.graph_rules.specs.Keys.{input_of}
 use Rattle.graph_rules.specs.Pasts.{Past}
-use Rattle.graph_rules.specs.Steps.{Unknown, Event, Claim, MarkGreen, Begin, Finish, Fail, Legal, state_after}
-use Rattle.job_table.specs.declared.nodes.Node.{Node}
-use Rattle.job_table.specs.Nodes.{status_at, status_in, KeysStandOnce}
+use Rattle.graph_rules.specs.Steps.{Event, Claim, MarkGreen, Begin, Finish, Fail, Legal, state_after}
+use Rattle.job_table.specs.Nodes.{Node, status_at, AreInputs, KeysStandOnce}
 use Rattle.job_table.specs.declared.event.Event.{Event as StoredEvent}
 use Rattle.job_table.specs.declared.event.Event.TheVariants as stored
 
@@ -21,8 +18,8 @@ event_of (stored.Begin w q) = Begin w q
 event_of (stored.Finish w o) = Finish w (arc_value o)
 event_of (stored.Fail w) = Fail w
 
--- The history is legal, and inputs and nodes stand as it leads to. No key has two nodes, and no
--- input has one.
+-- The history is legal, and inputs and nodes stand as it leads to. No key has two nodes, and inputs that
+-- have one are done.
 pub record IsKept (past : Past) (p : Project) (ns : List Node) (failed : Bool)
     (history : List Event) : Type 0 where
   pub project : IsProject p
@@ -30,4 +27,4 @@ pub record IsKept (past : Past) (p : Project) (ns : List Node) (failed : Bool)
   pub status : (q : Key) → status_at p ns q ≡ (state_after past p history).at q
   pub failed_is : failed ≡ (state_after past p history).failed
   pub apart : KeysStandOnce ns
-  pub inner : (q : Key) (v : Value) → input_of p q ≡ Some v → status_in ns q ≡ Unknown
+  pub inner : AreInputs p ns

@@ -1,5 +1,5 @@
 -- How a closing table finds the keys that it keeps, and what their records are.
-use Rattle.std.specs.Prelude.{◌≡◌, ◌↔◌, ℕ, ◌<◌, Bool, true, List, ◌++◌, map, length, Contains, slice_index_or}
+use Rattle.std.specs.Prelude.{◌≡◌, ◌↔◌, ℕ, ◌<◌, List, ◌++◌, map, length, Contains, slice_index_or}
 use Rattle.std.specs.List.{AllByRecursion}
 use Rattle.item_ids.specs.declared.key.Key.{Key}
 use Rattle.item_ids.specs.declared.key.Key.TheVariants.{Files}
@@ -10,13 +10,12 @@ use Rattle.sessions.specs.declared.mark.Mark.{Mark}
 use Rattle.sessions.specs.Sessions.{RecordValue, IsRecord}
 use Rattle.graph_rules.specs.Steps.{Done, State}
 use Rattle.graph_rules.specs.Graphs.{IsRoot, IsReached, KeyBefore}
-use Rattle.job_table.specs.declared.nodes.Node.{Node}
-use Rattle.job_table.specs.Nodes.{status_of}
+use Rattle.job_table.specs.Nodes.{Node, status_of}
 use Rattle.job_table.specs.Closes.{IsQuiet}
 
 -- no node is claimed or running
 abbrev pub AllQuiet : List Node → Type 0
-AllQuiet ns = AllByRecursion (λ n. IsQuiet (status_of n.standing)) ns
+AllQuiet ns = AllByRecursion (λ n. IsQuiet (status_of n.1)) ns
 
 -- the keys are in order, and none is there twice
 abbrev pub Ascend : List Key → Type 0
@@ -45,10 +44,6 @@ pub record Spreads (p : Project) (s : State) (ks : List Key) (i : ℕ) : Type 0 
   pub roots : (q : Key) → IsRoot p q → Contains ks q
   pub only : (q : Key) → Contains ks q → IsReached p s q
   pub closed : (j : ℕ) → j < i → HasEdges s ks (key_in ks j)
-
--- each key that passes the test is in the list
-abbrev pub AreAmong : (Key → Bool) → List Key → Type 0
-AreAmong test ks = (q : Key) → test q ≡ true → Contains ks q
 
 -- the list with those of the edges behind it that it hadn't
 pub record Adds (old edges new : List Key) : Type 0 where

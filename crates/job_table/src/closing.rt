@@ -1,8 +1,6 @@
 //! What a table closes with.
-ghost use Rattle.std.specs.Prelude.{◌≡◌, ◌<◌, ◌≤◌, [], ◌∷◌, false, map, length, IfOk, OnOk, Contains};
+ghost use Rattle.std.specs.Prelude.{◌≡◌, ◌↔◌, ◌<◌, ◌≤◌, [], ◌∷◌, false, map, length, IfOk, OnOk, Contains};
 ghost use Rattle.std.specs.List.{AllByRecursion};
-ghost use Rattle.std.specs.BTreeSet.{contains};
-ghost use Rattle.item_ids.specs.Keys.{key_cmp};
 ghost use Rattle.item_ids.specs.declared.key.Key.{Key as KeyValue};
 ghost use Rattle.item_ids.specs.declared.key.Key.TheVariants.{Answer};
 ghost use Rattle.sessions.specs.Sessions.{most_number, past_entry};
@@ -10,19 +8,18 @@ ghost use Rattle.graph_rules.specs.Pasts.{IsGraph};
 ghost use Rattle.graph_rules.specs.Steps.{IsDone};
 ghost use Rattle.graph_rules.specs.Sound.{IsInOrder};
 ghost use Rattle.job_table.specs.Tables.{session_in, IsFull};
-ghost use Rattle.job_table.specs.Nodes.{status_at, state_of_nodes};
+ghost use Rattle.job_table.specs.Nodes.{status_at, state_of_nodes, AreInputs};
 ghost use Rattle.job_table.specs.Closes.{next_number, next_link, IsClosing};
-ghost use Rattle.job_table.specs.Reached.{Ascend, key_in, AreRoots, AreReached, HasEdges, AreAmong, Adds, IsRecordOf, AreRecordsOf};
+ghost use Rattle.job_table.specs.Reached.{Ascend, key_in, AreRoots, AreReached, HasEdges, Adds, IsRecordOf, AreRecordsOf};
 
-use crate::node_list::NodeList;
+use crate::node_map::NodeMap;
 use crate::nodes::entry_of;
+use indexmap::IndexSet;
 use item_ids::{Key, ranks_in_order};
-use mj_answer::ascending;
 use project_inputs::Inputs;
 use session_file::digest;
 use sessions::{Record, Session, check_kept};
 use std::alloc::{AllocError, Global};
-use std::collections::BTreeSet;
 use std::sync::Arc;
 
 /// The session behind the past, of the keys that the inputs and Answer lead to.
@@ -30,40 +27,53 @@ pub fn session_of(
     alloc: Global,
     past: &Option<Arc<Session>>,
     inputs: &Inputs,
-    nodes: &NodeList,
+    nodes: &NodeMap,
 ) -> Result<Session, AllocError>
+    requires inputs { AreInputs inputs.now nodes.now }
     requires room { ¬ IsFull (session_in past.now) }
     requires order { IsInOrder (state_of_nodes inputs.now nodes.now false) }
     requires answer { IsDone (status_at inputs.now nodes.now Answer) }
     ensures { IfOk result (IsClosing (session_in past.now) inputs.now
         (state_of_nodes inputs.now nodes.now false)) }
 {
-    let found = reach(alloc, inputs, nodes)?;
-    let keys = ascending(found);
+    let mut keys = reach(alloc, inputs, nodes)?;
+    sort(&mut keys)?;
     ranks_in_order();
     let records = records_of(alloc, inputs, nodes, &keys)?;
     Ok(Session::of(number_behind(past), link_behind(past), records))
 }
 
 /// Just the keys that the inputs and Answer lead to.
-fn reach(alloc: Global, inputs: &Inputs, nodes: &NodeList) -> Result<Vec<Key>, AllocError>
+fn reach(alloc: Global, inputs: &Inputs, nodes: &NodeMap) -> Result<IndexSet<Key>, AllocError>
+    requires inputs { AreInputs inputs.now nodes.now }
     requires order { IsInOrder (state_of_nodes inputs.now nodes.now false) }
     requires answer { IsDone (status_at inputs.now nodes.now Answer) }
-    ensures { IfOk result (λ v. AreReached inputs.now
-        (state_of_nodes inputs.now nodes.now false) v.items) }
+    ensures { IfOk result (λ set. AreReached inputs.now
+        (state_of_nodes inputs.now nodes.now false) set.keys) }
 {
     let first = roots(alloc, inputs)?;
-    let mut found = Vec::new(alloc);
-    let mut seen = BTreeSet::new(alloc);
-    add(alloc, &mut found, &mut seen, &first)?;
+    let mut found = IndexSet::new(alloc);
+    add(alloc, &mut found, &first)?;
     for i in 0..usize::MAX {
-        if i >= found.len() {
+        let Some(key) = found.get_index(i) else {
             return Ok(found);
-        }
-        let entry = entry_of(inputs, nodes, &found[i]);
-        add(alloc, &mut found, &mut seen, entry.edges)?;
+        };
+        let entry = entry_of(inputs, nodes, key);
+        add(alloc, &mut found, entry.edges)?;
     }
+    // No set is as long as that.
+    let _len = found.len();
     Ok(found)
+}
+
+/// Puts the keys in order.
+fn sort(keys: &mut IndexSet<Key>) -> Result<(), AllocError>
+    ensures ascend { OnOk result (Ascend keys.new.keys) }
+    ensures same { OnOk result ((q : KeyValue) → Contains keys.new.keys q
+        ↔ Contains keys.old.keys q) }
+{
+    keys.sort()?;
+    Ok(())
 }
 
 /// The keys of the inputs, and Answer.
@@ -76,38 +86,23 @@ fn roots(alloc: Global, inputs: &Inputs) -> Result<Vec<Key>, AllocError>
 }
 
 /// Adds those of the edges that the set hasn't.
-fn add(
-    alloc: Global,
-    found: &mut Vec<Key>,
-    seen: &mut BTreeSet<Key>,
-    edges: &[Key],
-) -> Result<(), AllocError>
-    requires seen { AreAmong (contains key_cmp seen.old) found.old.items }
-    ensures seen { OnOk result (AreAmong (contains key_cmp seen.new) found.new.items) }
-    ensures added { OnOk result (Adds found.old.items edges.now found.new.items) }
+fn add(alloc: Global, found: &mut IndexSet<Key>, edges: &[Key]) -> Result<(), AllocError>
+    ensures { OnOk result (Adds found.old.keys edges.now found.new.keys) }
 {
     for key in edges {
-        add_key(alloc, found, seen, key)?;
+        add_key(alloc, found, key)?;
     }
     Ok(())
 }
 
-/// Adds a key to the list and the set, unless the set has it.
-fn add_key(
-    alloc: Global,
-    found: &mut Vec<Key>,
-    seen: &mut BTreeSet<Key>,
-    key: &Key,
-) -> Result<(), AllocError>
-    requires seen { AreAmong (contains key_cmp seen.old) found.old.items }
-    ensures seen { OnOk result (AreAmong (contains key_cmp seen.new) found.new.items) }
-    ensures added { OnOk result (Adds found.old.items (key.now ∷ []) found.new.items) }
+/// Adds a key, unless the set has it.
+fn add_key(alloc: Global, found: &mut IndexSet<Key>, key: &Key) -> Result<(), AllocError>
+    ensures { OnOk result (Adds found.old.keys (key.now ∷ []) found.new.keys) }
 {
-    if seen.contains(key) {
+    if found.contains(key) {
         return Ok(());
     }
-    found.push(key.copy(alloc)?)?;
-    seen.insert(key.copy(alloc)?)?;
+    found.insert(key.copy(alloc)?)?;
     Ok(())
 }
 
@@ -115,19 +110,19 @@ fn add_key(
 fn records_of(
     alloc: Global,
     inputs: &Inputs,
-    nodes: &NodeList,
-    keys: &[Key],
+    nodes: &NodeMap,
+    keys: &IndexSet<Key>,
 ) -> Result<Vec<Record>, AllocError>
-    requires ascend { Ascend keys.now }
-    requires done { (q : KeyValue) → Contains keys.now q
+    requires inputs { AreInputs inputs.now nodes.now }
+    requires done { (q : KeyValue) → Contains keys.now.keys q
         → IsDone (status_at inputs.now nodes.now q) }
-    requires edges { (q : KeyValue) → Contains keys.now q
-        → HasEdges (state_of_nodes inputs.now nodes.now false) keys.now q }
+    requires edges { (q : KeyValue) → Contains keys.now.keys q
+        → HasEdges (state_of_nodes inputs.now nodes.now false) keys.now.keys q }
     ensures { IfOk result (λ v. AreRecordsOf (state_of_nodes inputs.now nodes.now false)
-        keys.now v.items) }
+        keys.now.keys v.items) }
 {
     let mut records = Vec::new(alloc);
-    for key in keys {
+    for key in keys.as_slice() {
         records.push(record_of(alloc, inputs, nodes, keys, key)?)?;
     }
     Ok(records)
@@ -137,16 +132,16 @@ fn records_of(
 fn record_of(
     alloc: Global,
     inputs: &Inputs,
-    nodes: &NodeList,
-    keys: &[Key],
+    nodes: &NodeMap,
+    keys: &IndexSet<Key>,
     key: &Key,
 ) -> Result<Record, AllocError>
-    requires ascend { Ascend keys.now }
+    requires inputs { AreInputs inputs.now nodes.now }
     requires done { IsDone (status_at inputs.now nodes.now key.now) }
-    requires edges { HasEdges (state_of_nodes inputs.now nodes.now false) keys.now key.now }
+    requires edges { HasEdges (state_of_nodes inputs.now nodes.now false) keys.now.keys key.now }
     ensures key { IfOk result (λ r. r.key ≡ key.now) }
     ensures entry { IfOk result (IsRecordOf (state_of_nodes inputs.now nodes.now false)
-        keys.now) }
+        keys.now.keys) }
 {
     let entry = entry_of(inputs, nodes, key);
     let edges = places_of(alloc, keys, entry.edges)?;
@@ -158,11 +153,10 @@ fn record_of(
 }
 
 /// The places of the edges.
-fn places_of(alloc: Global, keys: &[Key], edges: &[Key]) -> Result<Vec<usize>, AllocError>
-    requires ascend { Ascend keys.now }
-    requires found { (q : KeyValue) → Contains edges.now q → Contains keys.now q }
-    ensures same { IfOk result (λ v. map (key_in keys.now) v.items ≡ edges.now) }
-    ensures inside { IfOk result (λ v. AllByRecursion (λ e. e < length keys.now) v.items) }
+fn places_of(alloc: Global, keys: &IndexSet<Key>, edges: &[Key]) -> Result<Vec<usize>, AllocError>
+    requires { (q : KeyValue) → Contains edges.now q → Contains keys.now.keys q }
+    ensures same { IfOk result (λ v. map (key_in keys.now.keys) v.items ≡ edges.now) }
+    ensures inside { IfOk result (λ v. AllByRecursion (λ e. e < length keys.now.keys) v.items) }
 {
     let mut places = Vec::new(alloc);
     for edge in edges {
@@ -171,16 +165,15 @@ fn places_of(alloc: Global, keys: &[Key], edges: &[Key]) -> Result<Vec<usize>, A
     Ok(places)
 }
 
-/// The place of a key that is there, by halves, since the keys ascend.
-fn place_of(keys: &[Key], key: &Key) -> usize
-    requires ascend { Ascend keys.now }
-    requires found { Contains keys.now key.now }
-    ensures same { key_in keys.now result ≡ key.now }
-    ensures inside { result < length keys.now }
+/// The place of a key that is there.
+fn place_of(keys: &IndexSet<Key>, key: &Key) -> usize
+    requires { Contains keys.now.keys key.now }
+    ensures same { key_in keys.now.keys result ≡ key.now }
+    ensures inside { result < length keys.now.keys }
 {
-    match keys.binary_search(key) {
-        Ok(at) => at,
-        Err(_) => unreachable!(),
+    match keys.get_index_of(key) {
+        Some(at) => at,
+        None => unreachable!(),
     }
 }
 

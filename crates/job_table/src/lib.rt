@@ -4,7 +4,7 @@
 mod closing;
 mod event;
 mod fault;
-mod node_list;
+mod node_map;
 mod nodes;
 mod reads;
 mod replay;

@@ -1,12 +1,12 @@
 //! How each key stands that was asked for.
 ghost use Rattle.std.specs.Prelude.{◌≡◌, ◌↔◌, ◌<◌, length, IsTrue, IfSome, IfNone};
 ghost use Rattle.std.specs.Arc.{arc_value};
-ghost use Rattle.graph_rules.specs.Steps.{Claimed, Running, Done, IsHeldBy, IsDone, IsDoneWith, IsNotDone};
-ghost use Rattle.job_table.specs.Nodes.{status_of, status_in, status_at, IsFirst};
+ghost use Rattle.graph_rules.specs.Steps.{Claimed, Running, Done, IsHeldBy, IsDone, IsDoneWith, IsNotDone, at_opening};
+ghost use Rattle.graph_rules.specs.Keys.{input_of};
+ghost use Rattle.job_table.specs.Nodes.{status_of, status_in, status_at, AreInputs, IsFirst};
 ghost use Rattle.job_table.specs.Closes.{IsQuiet};
-ghost use Rattle.job_table.specs.Reached.{AllQuiet};
 
-use crate::node_list::NodeList;
+use crate::node_map::NodeMap;
 use fingerprint::Sealed;
 use item_ids::Key;
 use project_inputs::Inputs;
@@ -21,18 +21,11 @@ pub enum Standing {
     Done(Arc<Sealed>, Vec<Key>, Mark),
 }
 
-/// A key that was asked for.
-#[derive(Drop)]
-pub struct Node {
-    pub key: Key,
-    pub standing: Standing,
-}
-
 /// Whether the worker has claimed the key or runs it.
-pub fn is_held_by(node: &Node, w: u32) -> bool
-    ensures { IsTrue result ↔ IsHeldBy w (status_of node.now.standing) }
+pub fn is_held_by(standing: &Standing, w: u32) -> bool
+    ensures { IsTrue result ↔ IsHeldBy w (status_of standing.now) }
 {
-    match &node.standing {
+    match standing {
         Standing::Claimed(by) => *by == w,
         Standing::Running(by) => *by == w,
         Standing::Done(_, _, _) => false,
@@ -40,16 +33,16 @@ pub fn is_held_by(node: &Node, w: u32) -> bool
 }
 
 /// The result of a key that is done.
-pub fn result_of<'a>(inputs: &'a Inputs, nodes: &'a NodeList, key: &Key) -> Option<&'a Arc<Sealed>>
+pub fn result_of<'a>(inputs: &'a Inputs, nodes: &'a NodeMap, key: &Key) -> Option<&'a Arc<Sealed>>
+    requires { AreInputs inputs.now nodes.now }
     ensures none { IfNone result (IsNotDone (status_at inputs.now nodes.now key.now)) }
     ensures some { IfSome result (λ a. IsDoneWith (arc_value a.now)
         (status_at inputs.now nodes.now key.now)) }
 {
-    if let Some(sealed) = inputs.get(key) {
-        return Some(sealed);
-    }
-    let at = nodes.find(key)?;
-    match &nodes.as_slice()[at].standing {
+    let Some((_, standing)) = nodes.find(key) else {
+        return inputs.get(key);
+    };
+    match standing {
         Standing::Done(sealed, _, _) => Some(sealed),
         Standing::Claimed(_) => None,
         Standing::Running(_) => None,
@@ -65,22 +58,16 @@ pub struct Entry<'a> {
 }
 
 /// How a key is done.
-pub fn entry_of<'a>(inputs: &'a Inputs, nodes: &'a NodeList, key: &Key) -> Entry<'a>
-    requires { IsDone (status_at inputs.now nodes.now key.now) }
+pub fn entry_of<'a>(inputs: &'a Inputs, nodes: &'a NodeMap, key: &Key) -> Entry<'a>
+    requires inputs { AreInputs inputs.now nodes.now }
+    requires done { IsDone (status_at inputs.now nodes.now key.now) }
     ensures { status_at inputs.now nodes.now key.now
         ≡ Done (arc_value result.sealed.now) result.edges.now result.mark }
 {
-    if let Some(sealed) = inputs.get(key) {
-        return Entry {
-            sealed,
-            edges: &[],
-            mark: Mark::Input,
-        };
-    }
-    let Some(at) = nodes.find(key) else {
-        unreachable!();
+    let Some((_, standing)) = nodes.find(key) else {
+        return input_entry(inputs, key);
     };
-    match &nodes.as_slice()[at].standing {
+    match standing {
         Standing::Done(sealed, edges, mark) => Entry {
             sealed,
             edges: edges.as_slice(),
@@ -91,11 +78,20 @@ pub fn entry_of<'a>(inputs: &'a Inputs, nodes: &'a NodeList, key: &Key) -> Entry
     }
 }
 
-/// Whether no node is claimed or running.
-pub fn are_quiet(nodes: &NodeList) -> bool
-    ensures { IsTrue result ↔ AllQuiet nodes.now }
+/// How an input is done that isn't among the nodes.
+fn input_entry<'a>(inputs: &'a Inputs, key: &Key) -> Entry<'a>
+    requires { IsDone (at_opening (input_of inputs.now key.now)) }
+    ensures { at_opening (input_of inputs.now key.now)
+        ≡ Done (arc_value result.sealed.now) result.edges.now result.mark }
 {
-    nodes.as_slice().iter().all(|node| is_quiet(&node.standing))
+    let Some(sealed) = inputs.get(key) else {
+        unreachable!();
+    };
+    Entry {
+        sealed,
+        edges: &[],
+        mark: Mark::Input,
+    }
 }
 
 /// Whether a key that stands so is neither claimed nor running.
@@ -110,24 +106,24 @@ pub fn is_quiet(standing: &Standing) -> bool
 }
 
 /// Where a key is that the worker has claimed.
-pub fn find_claimed(nodes: &NodeList, w: u32, key: &Key) -> Option<usize>
+pub fn find_claimed(nodes: &NodeMap, w: u32, key: &Key) -> Option<usize>
     ensures none { IfNone result (status_in nodes.now key.now ≡ Claimed w → ⊥) }
     ensures some { IfSome result (λ i. IsFirst nodes.now key.now i
         × (i < length nodes.now)) }
     ensures claimed { IfSome result (λ _. status_in nodes.now key.now ≡ Claimed w) }
 {
-    let at = nodes.find(key)?;
-    if is_claimed(&nodes.as_slice()[at], w) {
+    let (at, standing) = nodes.find(key)?;
+    if is_claimed(standing, w) {
         Some(at)
     } else {
         None
     }
 }
 
-fn is_claimed(node: &Node, w: u32) -> bool
-    ensures { IsTrue result ↔ (status_of node.now.standing ≡ Claimed w) }
+fn is_claimed(standing: &Standing, w: u32) -> bool
+    ensures { IsTrue result ↔ (status_of standing.now ≡ Claimed w) }
 {
-    match &node.standing {
+    match standing {
         Standing::Claimed(by) => *by == w,
         Standing::Running(_) => false,
         Standing::Done(_, _, _) => false,
@@ -135,24 +131,24 @@ fn is_claimed(node: &Node, w: u32) -> bool
 }
 
 /// Where a key is that the worker runs.
-pub fn find_running(nodes: &NodeList, w: u32, key: &Key) -> Option<usize>
+pub fn find_running(nodes: &NodeMap, w: u32, key: &Key) -> Option<usize>
     ensures none { IfNone result (status_in nodes.now key.now ≡ Running w → ⊥) }
     ensures some { IfSome result (λ i. IsFirst nodes.now key.now i
         × (i < length nodes.now)) }
     ensures running { IfSome result (λ _. status_in nodes.now key.now ≡ Running w) }
 {
-    let at = nodes.find(key)?;
-    if is_running(&nodes.as_slice()[at], w) {
+    let (at, standing) = nodes.find(key)?;
+    if is_running(standing, w) {
         Some(at)
     } else {
         None
     }
 }
 
-fn is_running(node: &Node, w: u32) -> bool
-    ensures { IsTrue result ↔ (status_of node.now.standing ≡ Running w) }
+fn is_running(standing: &Standing, w: u32) -> bool
+    ensures { IsTrue result ↔ (status_of standing.now ≡ Running w) }
 {
-    match &node.standing {
+    match standing {
         Standing::Claimed(_) => false,
         Standing::Running(by) => *by == w,
         Standing::Done(_, _, _) => false,

@@ -1,16 +1,17 @@
 //! Reads of an outcome, compared with the table.
 ghost use Rattle.std.specs.Prelude.{◌↔◌, false, IsTrue, MatchOption};
 ghost use Rattle.graph_rules.specs.Steps.{IsDoneWith, AreHeld};
-ghost use Rattle.job_table.specs.Nodes.{status_at, state_of_nodes};
+ghost use Rattle.job_table.specs.Nodes.{status_at, state_of_nodes, AreInputs};
 ghost use Rattle.job_table.specs.Calls.{IsFirstStale};
 
-use crate::node_list::NodeList;
+use crate::node_map::NodeMap;
 use crate::nodes::result_of;
 use project_inputs::Inputs;
 use recorder::Read;
 
 /// The place of the first read whose key isn't done with the result that was read.
-pub fn first_stale(inputs: &Inputs, nodes: &NodeList, reads: &[Read]) -> Option<usize>
+pub fn first_stale(inputs: &Inputs, nodes: &NodeMap, reads: &[Read]) -> Option<usize>
+    requires { AreInputs inputs.now nodes.now }
     ensures { MatchOption result
         (AreHeld (state_of_nodes inputs.now nodes.now false) reads.now)
         (IsFirstStale (state_of_nodes inputs.now nodes.now false) reads.now) }
@@ -24,7 +25,8 @@ pub fn first_stale(inputs: &Inputs, nodes: &NodeList, reads: &[Read]) -> Option<
 }
 
 /// Whether the key of a read is done with the result that was read.
-fn is_held(inputs: &Inputs, nodes: &NodeList, read: &Read) -> bool
+fn is_held(inputs: &Inputs, nodes: &NodeMap, read: &Read) -> bool
+    requires { AreInputs inputs.now nodes.now }
     ensures { IsTrue result ↔ IsDoneWith read.now.value
         (status_at inputs.now nodes.now read.now.key) }
 {

@@ -31,13 +31,14 @@ pub fn note<R: Runner>(history: &mut Vec<Event<R>>, event: Event<R>)
 /// The inputs of a project, and a history with room for one event.
 pub fn room_for_opening<R: Runner>(
     alloc: Global,
+    past: &Option<Arc<Session>>,
     project: &Project,
 ) -> Option<(Inputs, Vec<Event<R>>)>
     ensures inputs { IfSome result (λ r. (r.0 ≡ project.now) × IsProject r.0) }
     ensures history { IfSome result (λ r. (r.1.items ≡ []) × (vec_len r.1 < vec_capacity r.1)) }
 {
     let history = Vec::with_capacity(alloc, 1).ok()?;
-    let inputs = Inputs::new(alloc, project).ok()?;
+    let inputs = Inputs::new(alloc, past, project).ok()?;
     inputs.project();
     Some((inputs, history))
 }

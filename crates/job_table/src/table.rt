@@ -7,8 +7,8 @@ ghost use Rattle.job_table.specs.Kept.{event_of};
 use crate::closing::{check_past, session_of};
 use crate::event::Event;
 use crate::fault::{Asked, CloseFault, OpenFault, TableFault};
-use crate::node_list::NodeList;
-use crate::nodes::{Standing, are_quiet, find_claimed, find_running, result_of};
+use crate::node_map::NodeMap;
+use crate::nodes::{Standing, find_claimed, find_running, result_of};
 use crate::reads::first_stale;
 use crate::room::{
     FinishParts, MarkParts, note, room_for_event, room_for_finish, room_for_mark, room_for_opening,
@@ -31,7 +31,7 @@ pub struct Table<R: Runner> {
     alloc: Global,
     past: Option<Arc<Session>>,
     inputs: Inputs,
-    nodes: NodeList,
+    nodes: NodeMap,
     history: Vec<Event<R>>,
     failed: bool,
 }
@@ -64,10 +64,10 @@ impl<R: Runner> Model for Table<R> {
 }
 
 impl<R: Runner> Table<R> {
-    ghost use Rattle.graph_rules.specs.Steps.{Legal};
+    ghost use Rattle.graph_rules.specs.Steps.{Legal, AreHeld};
     ghost use Rattle.graph_rules.specs.Sound.{AreBacked};
     ghost use Rattle.mj_project.specs.Projects.{IsProject};
-    ghost use Rattle.job_table.specs.Tables.{past_of};
+    ghost use Rattle.job_table.specs.Tables.{past_of, state_of};
     ghost use Rattle.job_table.specs.Calls.{OpenGives, AskGives, MarkGives, BeginGives, FinishGives, FailGives};
     ghost use Rattle.job_table.specs.Closes.{CloseGives};
 
@@ -82,14 +82,17 @@ impl<R: Runner> Table<R> {
         if is_full(&past) {
             return Err(OpenFault::ChainFull);
         }
-        let Some((inputs, history)) = room_for_opening(alloc, project) else {
+        let Some((inputs, history)) = room_for_opening(alloc, &past, project) else {
+            return Err(OpenFault::OutOfMemory);
+        };
+        let Ok(nodes) = NodeMap::of_inputs(alloc, &inputs) else {
             return Err(OpenFault::OutOfMemory);
         };
         Ok(Table {
             alloc,
             past,
             inputs,
-            nodes: NodeList::new(alloc),
+            nodes,
             history,
             failed: false,
         })
@@ -188,6 +191,24 @@ impl<R: Runner> Table<R> {
     pub fn finish(&mut self, w: u32, outcome: Arc<Outcome<R>>) -> Result<(), TableFault>
         ensures { FinishGives self.old w (arc_value outcome) result self.new }
     {
+        if self.failed {
+            return Err(TableFault::Failed);
+        }
+        let Some(_) = find_running(&self.nodes, w, outcome.key()) else {
+            return Err(TableFault::NotYours);
+        };
+        if let Some(i) = first_stale(&self.inputs, &self.nodes, outcome.reads()) {
+            return Err(TableFault::StaleRead(i));
+        }
+        self.finish_held(w, outcome)
+    }
+
+    /// Ends the run of a key by its outcome, as `finish` does, for a caller who knows that all that was read is so in the
+    /// table, so that no result has to be compared.
+    pub fn finish_held(&mut self, w: u32, outcome: Arc<Outcome<R>>) -> Result<(), TableFault>
+        requires { AreHeld (state_of self.old) (arc_value outcome).told }
+        ensures { FinishGives self.old w (arc_value outcome) result self.new }
+    {
         let stopped = self.failed;
         if stopped {
             return Err(TableFault::Failed);
@@ -195,9 +216,6 @@ impl<R: Runner> Table<R> {
         let Some(at) = find_running(&self.nodes, w, outcome.key()) else {
             return Err(TableFault::NotYours);
         };
-        if let Some(i) = first_stale(&self.inputs, &self.nodes, outcome.reads()) {
-            return Err(TableFault::StaleRead(i));
-        }
         let Some(FinishParts { edges, sealed }) = room_for_finish(
             self.alloc,
             &mut self.history,
@@ -230,7 +248,7 @@ impl<R: Runner> Table<R> {
         if self.failed {
             return Err(CloseFault::Failed);
         }
-        if !are_quiet(&self.nodes) {
+        if !self.nodes.is_quiet() {
             return Err(CloseFault::StillRunning);
         }
         let Some(_) = result_of(&self.inputs, &self.nodes, &Key::Answer) else {

@@ -4,11 +4,11 @@ ghost use Rattle.sessions.specs.Sessions.{AreInside, key_at, past_entry};
 ghost use Rattle.graph_rules.specs.Pasts.{print_in};
 ghost use Rattle.graph_rules.specs.Steps.{edge_at, walk, past_walk, AllUnchanged};
 ghost use Rattle.job_table.specs.Tables.{session_in};
-ghost use Rattle.job_table.specs.Nodes.{status_at, state_of_nodes};
+ghost use Rattle.job_table.specs.Nodes.{status_at, state_of_nodes, AreInputs};
 ghost use Rattle.job_table.specs.Walks.{edge_of, walk_of, IsWhyNot};
 
 use crate::fault::TableFault;
-use crate::node_list::NodeList;
+use crate::node_map::NodeMap;
 use crate::nodes::result_of;
 use item_ids::Key;
 use project_inputs::Inputs;
@@ -32,8 +32,9 @@ pub enum WalkEnd {
 }
 
 /// How the past edge stands that leads to a record.
-fn past_edge(inputs: &Inputs, nodes: &NodeList, past: &Session, at: usize) -> Edge
-    requires { at < length past.now.records }
+fn past_edge(inputs: &Inputs, nodes: &NodeMap, past: &Session, at: usize) -> Edge
+    requires inputs { AreInputs inputs.now nodes.now }
+    requires place { at < length past.now.records }
     ensures { edge_of result ≡ edge_at
         (print_in (past_entry (Some past.now)) (key_at past.now.records at))
         (status_at inputs.now nodes.now (key_at past.now.records at)) }
@@ -50,8 +51,9 @@ fn past_edge(inputs: &Inputs, nodes: &NodeList, past: &Session, at: usize) -> Ed
 }
 
 /// How the walk over past edges ends.
-pub fn walk_edges(inputs: &Inputs, nodes: &NodeList, past: &Session, edges: &[usize]) -> WalkEnd
-    requires { AreInside past.now.records edges.now }
+pub fn walk_edges(inputs: &Inputs, nodes: &NodeMap, past: &Session, edges: &[usize]) -> WalkEnd
+    requires inputs { AreInputs inputs.now nodes.now }
+    requires inside { AreInside past.now.records edges.now }
     ensures { walk_of result ≡ walk (past_entry (Some past.now))
         (state_of_nodes inputs.now nodes.now false)
         (map (key_at past.now.records) edges.now) }
@@ -69,10 +71,11 @@ pub fn walk_edges(inputs: &Inputs, nodes: &NodeList, past: &Session, edges: &[us
 /// How the walk over a key's past edges ends, where the past has the key.
 fn walk_past(
     inputs: &Inputs,
-    nodes: &NodeList,
+    nodes: &NodeMap,
     past: &Option<Arc<Session>>,
     key: &Key,
 ) -> Option<WalkEnd>
+    requires { AreInputs inputs.now nodes.now }
     ensures { option_map walk_of result
         ≡ past_walk (past_entry (session_in past.now))
         (state_of_nodes inputs.now nodes.now false) key.now }
@@ -89,10 +92,11 @@ fn walk_past(
 /// Why a key that the worker has claimed may not run.
 pub fn why_not(
     inputs: &Inputs,
-    nodes: &NodeList,
+    nodes: &NodeMap,
     past: &Option<Arc<Session>>,
     key: &Key,
 ) -> Option<TableFault>
+    requires { AreInputs inputs.now nodes.now }
     ensures { IsWhyNot (past_walk (past_entry (session_in past.now))
         (state_of_nodes inputs.now nodes.now false) key.now) result }
 {

@@ -6,3 +6,4 @@ pub mod Asks
 pub mod Once
 pub mod Turning
 pub mod Working
+pub mod Held

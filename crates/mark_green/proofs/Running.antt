@@ -186,7 +186,7 @@ fetched_at w q k (Err f) held t v st may h o ok err =
     let g : IsGivenUp t w f v = gives_up_on t (adds t (Claim w k)) v w f c.goes_on (changed_others t (adds t (Claim w k)) w k (Claimed w) c refl) h in
     subst (λ (y : Result (Option OutcomeValue) Fault). TurnGives t w q y held v) (sym (err f refl)) g
 
-claimed_stands : (w : ℕ) (q k : Key) (t : TableValue) → (state_of t).failed ≡ false → IsStep t (Claim w k) → HasStatus (Claimed w) w k (adds t (Claim w k))
+pub claimed_stands : (w : ℕ) (q k : Key) (t : TableValue) → (state_of t).failed ≡ false → IsStep t (Claim w k) → HasStatus (Claimed w) w k (adds t (Claim w k))
 claimed_stands w q k t nf may = changed_stands t (adds t (Claim w k)) w k (Claimed w) (claim_changes t w k may) nf refl (λ j n h. may.2 j h)
 
 pub fetched : (w : ℕ) (q k : Key) (r : Result (Unit {0}) Fault) (old held : List ReadValue) (o : Result (Option OutcomeValue) Fault)

@@ -80,6 +80,11 @@ TurnGives t w q (Ok (Some o)) held u = Leaves t u × AreHeld (state_of u) o.told
 TurnGives t w q (Ok None) held u = Leaves t u × AreHeld (state_of u) held
 TurnGives t w q (Err f) held u = IsGivenUp t w f u
 
+-- what was read in a run, or else what is held for the next one
+abbrev pub told_or : Option OutcomeValue → List ReadValue → List ReadValue
+told_or (Some o) held = o.told
+told_or None held = held
+
 -- runs, until one has an outcome
 abbrev pub RunGives : TableValue → ℕ → Result OutcomeValue Fault → TableValue → Type 0
 RunGives t w (Ok o) u = Leaves t u × AreHeld (state_of u) o.told

@@ -6,8 +6,8 @@ ghost use Rattle.sessions.specs.Sessions.{key_at};
 ghost use Rattle.graph_rules.specs.Steps.{Claimed, Running, MayRun, AreHeld};
 ghost use Rattle.job_table.specs.Tables.{session_in, state_of};
 ghost use Rattle.job_table.specs.Calls.{walk_in};
-ghost use Rattle.mark_green.specs.Leaves.{Tells, HasStatus};
-ghost use Rattle.mark_green.specs.Ensures.{EnsureGives, WorkGives, EdgeGives, WalkGives, FetchGives, TurnGives, RunGives, IsRecordUnder, ShowsOutcomes};
+ghost use Rattle.mark_green.specs.Leaves.{Knows, Tells, HasStatus};
+ghost use Rattle.mark_green.specs.Ensures.{EnsureGives, WorkGives, EdgeGives, WalkGives, FetchGives, TurnGives, RunGives, told_or, IsRecordUnder, ShowsOutcomes};
 
 use crate::asking::Stop;
 use crate::edges::{is_same, past_edges};
@@ -201,6 +201,7 @@ fn turns<S: Store<Out = Arc<Outcome<R>>>, R: Runner>(
     requires rank { 0 < rank_of_key key.now }
     requires none_held { held.old ≡ [] }
     ensures key { IfOk result (λ o. o.key ≡ key.now) }
+    ensures held { IfOk result (λ o. Knows (λ t. AreHeld (state_of t) o.told) (S.table store.new)) }
     ensures gives { Tells (λ t u. HasStatus (Running w) w key.now t → RunGives t w result u)
         (S.table store.old) (S.table store.new) }
 {
@@ -227,6 +228,8 @@ fn turn<S: Store<Out = Arc<Outcome<R>>>, R: Runner>(
     requires shows { ShowsOutcomes S.outcome_in }
     requires rank { 0 < rank_of_key key.now }
     ensures key { IfOk result (λ ran. IfSome ran (λ o. o.key ≡ key.now)) }
+    ensures held { IfOk result (λ ran. Knows (λ t. AreHeld (state_of t) held.old) (S.table store.old)
+        → Knows (λ t. AreHeld (state_of t) (told_or ran held.new)) (S.table store.new)) }
     ensures gives { Tells (λ t u. HasStatus (Running w) w key.now t → AreHeld (state_of t) held.old
         → TurnGives t w key.now result held.new u) (S.table store.old) (S.table store.new) }
 {

@@ -4,7 +4,7 @@ ghost use Rattle.std.specs.Arc.{arc_value};
 ghost use Rattle.graph_rules.specs.Steps.{Claimed, Running, AllUnchanged, AreHeld};
 ghost use Rattle.job_table.specs.Tables.{state_of};
 ghost use Rattle.job_table.specs.Calls.{walk_in};
-ghost use Rattle.mark_green.specs.Leaves.{Tells, HasStatus};
+ghost use Rattle.mark_green.specs.Leaves.{Knows, Tells, HasStatus};
 ghost use Rattle.mark_green.specs.Ensures.{WorkGives, ShowsOutcomes};
 
 use crate::fault::Fault;
@@ -50,6 +50,7 @@ pub(crate) fn end_run<S: Store<Out = Arc<Outcome<R>>>, R: Runner>(
 ) -> Result<Arc<Sealed>, Fault>
     requires shows { ShowsOutcomes S.outcome_in }
     requires key { outcome.key ≡ key.now }
+    requires held { Knows (λ t. AreHeld (state_of t) outcome.told) (S.table store.old) }
     ensures { Tells (λ t u. HasStatus (Running w) w key.now t → AreHeld (state_of t) outcome.told
         → WorkGives t w key.now result u) (S.table store.old) (S.table store.new) }
 {

@@ -1,6 +1,7 @@
 //! What a worker does with a table.
 ghost use Rattle.std.specs.Prelude.{◌≡◌, IfOk, Option};
-ghost use Rattle.job_table.specs.Tables.{session_in};
+ghost use Rattle.graph_rules.specs.Steps.{AreHeld};
+ghost use Rattle.job_table.specs.Tables.{session_in, state_of};
 ghost use Rattle.job_table.specs.Calls.{AskGives, MarkGives, BeginGives, FinishGives, FailGives};
 ghost use Rattle.mark_green.specs.Leaves.{Knows, Tells};
 
@@ -39,8 +40,10 @@ pub trait Store {
         ensures { Tells (λ t u. BeginGives t w key.now result u) (table self.old)
             (table self.new) };
 
-    /// Ends the run of a key by its outcome.
+    /// Ends the run of a key by its outcome. Where the table is known, so is it that all that was read is so there; a store
+    /// that says nothing of its table has to see to it.
     fn finish(&mut self, w: u32, outcome: Self::Out) -> Result<(), TableFault>
+        requires { Knows (λ t. AreHeld (state_of t) (outcome_in outcome).told) (table self.old) }
         ensures { Tells (λ t u. FinishGives t w (outcome_in outcome) result u) (table self.old)
             (table self.new) };
 

@@ -1,7 +1,8 @@
 -- The names of a project's files.
-use Rattle.std.proofs.Common.{◌≡◌, ℕ, suc, zero, ◌<◌, List, [], ◌∷◌, map, take, length, get_or, slice_get, Some, Contains, refl, sym, ap, subst, string_bytes, String, Vec, arith}
+use Rattle.std.proofs.Common.{◌≡◌, ℕ, suc, zero, ◌<◌, List, [], ◌∷◌, map, take, length, get_or, slice_get, Some, Contains, refl, sym, ap, ◌∙◌, subst, string_bytes, String, Vec, arith}
 use Rattle.std.specs.declared.alloc.Global.{Global}
 use Rattle.std.proofs.lemmas.List.Elements.{Contains-append_left, Contains-append_right, Contains-push}
+use Rattle.std.proofs.lemmas.Option.{slice_get-get_or}
 use Rattle.result_bytes.specs.Storable.{AreDistinct}
 use Rattle.mj_project.specs.Projects.{SourceFile, source_view, names_of, IsFileName, IsProject}
 use Rattle.mj_project.proofs.Listed.{place_of}
@@ -37,3 +38,16 @@ pub good_name : (files : List (String Global × Vec ℕ Global)) → IsProject (
 good_name files project i f lt is =
     let l : i < length (names_of (map source_view files)) = let e = length_names files in omega arith in
     subst IsFileName (name_at files i f lt is []) (project.names i [] l)
+
+names_before : (files : List (String Global × Vec ℕ Global)) (i : ℕ) → names_of (map source_view (take i files)) ≡ take i (names_of (map source_view files))
+names_before files zero = refl
+names_before [] (suc i) = refl
+names_before (f ∷ files) (suc i) = ap (λ (ns : List (List ℕ)). string_bytes f.0 ∷ ns) (names_before files i)
+
+-- no file before has the name of this one
+pub new_name : (files : List (String Global × Vec ℕ Global)) → IsProject (map source_view files) → (i : ℕ) (f : String Global × Vec ℕ Global) → i < length files → f ≡ get_or files i f
+    → Contains (names_of (map source_view (take i files))) (string_bytes f.0) → ⊥
+new_name files project i f lt is has =
+    let names = names_of (map source_view files) in
+    let l : i < length (names_of (map source_view files)) = let e = length_names files in omega arith in
+    project.distinct i (string_bytes f.0) (slice_get-get_or names i [] l ∙ ap Some (name_at files i f lt is [])) (subst (λ (ns : List (List ℕ)). Contains ns (string_bytes f.0)) (names_before files i) has)

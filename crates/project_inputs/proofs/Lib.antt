@@ -1,1 +1,2 @@
 pub mod InputRules
+pub mod SourceRules

@@ -1,102 +1,65 @@
 //! The results of the keys that are inputs.
-ghost use Rattle.std.specs.Prelude.{◌≡◌, ◌<◌, ◌≤◌, ◌∷◌, IfOk, Some, None, MatchOption, length, map, find, bytes_eq};
-ghost use Rattle.std.specs.Option.{option_copied};
+ghost use Rattle.std.specs.Prelude.{◌≡◌, ◌<◌, ◌≤◌, [], ◌∷◌, ◌++◌, IfOk, IfSome, OnOk, Some, None, MatchOption, Contains, length, map};
+ghost use Rattle.std.specs.List.{AllByRecursion};
 ghost use Rattle.std.specs.Arc.{arc_value};
 ghost use Rattle.item_ids.specs.declared.key.Key.TheVariants as keys;
 ghost use Rattle.result_bytes.specs.declared.value.Value.TheVariants as values;
-ghost use Rattle.mj_project.specs.Projects.{SourceFile, IsProject, names_of, source_view};
+ghost use Rattle.mj_project.specs.Projects.{IsProject, names_of, source_view};
 ghost use Rattle.recorder.specs.Projects.{bytes_at};
 ghost use Rattle.graph_rules.specs.Keys.{input_of};
+ghost use Rattle.project_inputs.specs.Inputs.{file_of, IsSource};
 
 use fingerprint::{Sealed, seal};
+use indexmap::IndexMap;
 use item_ids::Key;
 use mj_lexer::Name;
 use mj_project::Project;
 use result_bytes::{FileNames, Text, Value};
+use sessions::Session;
 use std::alloc::{AllocError, Global};
 use std::marker::Model;
 use std::sync::Arc;
 
-/// A file's name, and the sealed result of its source. Contracts see the file.
-#[derive(Drop)]
-struct Source {
-    name: Name,
-    sealed: Arc<Sealed>,
-}
-
-impl Model for Source {
-    ghost use Rattle.std.specs.Prelude.{◌≡◌, Some};
-    ghost use Rattle.std.specs.Arc.{arc_value};
-    ghost use Rattle.result_bytes.specs.declared.value.Value.TheVariants as values;
-    ghost use Rattle.mj_project.specs.Projects.{SourceFile};
-    ghost use Rattle.project_inputs.specs.Inputs.{bytes_in};
-
-    ghost Value = { SourceFile };
-
-    ghost view = { λ s. record { name = s.name; bytes = bytes_in (arc_value s.sealed) } };
-
-    ghost invariant = { λ s. arc_value s.sealed
-        ≡ values.Source (Some (bytes_in (arc_value s.sealed))) };
-}
-
-impl Source {
-    /// The source of a file, whose bytes are copied.
-    fn new(alloc: Global, name: &str, bytes: &[u8]) -> Result<Self, AllocError>
-        requires some { 0 < length name.now }
-        requires short { length name.now ≤ 255 }
-        ensures { IfOk result (λ s. s ≡ record { name = name.now; bytes = bytes.now }) }
-    {
-        let name = Name::new(alloc, name)?;
-        let text = Text::new(bytes.to_vec(alloc)?);
-        let sealed = seal_to_share(alloc, Value::Source(Some(text)))?;
-        Ok(Source { name, sealed })
-    }
-
-    fn is_of(&self, name: &Name) -> bool
-        ensures { result ≡ bytes_eq self.now.name name.now }
-    {
-        self.name.bytes() == name.bytes()
-    }
-
-    fn sealed(&self) -> &Arc<Sealed>
-        ensures { arc_value result.now ≡ values.Source (Some self.now.bytes) }
-    {
-        &self.sealed
-    }
-}
-
-/// The sealed results of the inputs of a project. Contracts see the project.
+/// The sealed results of the inputs of a project, each source found by its file's name. Contracts see the project.
 #[derive(Drop)]
 pub struct Inputs {
     files: Arc<Sealed>,
-    sources: Vec<Source>,
+    sources: IndexMap<Name, Arc<Sealed>>,
     missing: Arc<Sealed>,
 }
 
 impl Model for Inputs {
-    ghost use Rattle.std.specs.Prelude.{◌≡◌, None};
+    ghost use Rattle.std.specs.Prelude.{◌≡◌, None, map};
     ghost use Rattle.std.specs.Arc.{arc_value};
+    ghost use Rattle.std.specs.List.{AllByRecursion};
     ghost use Rattle.result_bytes.specs.declared.value.Value.TheVariants as values;
     ghost use Rattle.mj_project.specs.Projects.{IsProject, names_of};
     ghost use Rattle.recorder.specs.Projects.{Project};
+    ghost use Rattle.project_inputs.specs.Inputs.{file_of, IsSource};
 
     ghost Value = { Project };
 
-    ghost view = { λ i. i.sources.items };
+    ghost view = { λ i. map file_of i.sources.entries };
 
-    ghost invariant = { λ i. (arc_value i.files ≡ values.Files (names_of i.sources.items))
-        × (arc_value i.missing ≡ values.Source None) × IsProject i.sources.items };
+    ghost invariant = { λ i. (arc_value i.files ≡ values.Files (names_of (map file_of i.sources.entries)))
+        × (arc_value i.missing ≡ values.Source None)
+        × AllByRecursion IsSource i.sources.entries
+        × IsProject (map file_of i.sources.entries) };
 }
 
 impl Inputs {
-    /// Seals the inputs of a project.
-    pub fn new(alloc: Global, project: &Project) -> Result<Self, AllocError>
+    /// Seals the inputs of a project. A source that the past has with the same bytes is the past's result.
+    pub fn new(
+        alloc: Global,
+        past: &Option<Arc<Session>>,
+        project: &Project,
+    ) -> Result<Self, AllocError>
         ensures { IfOk result (λ i. i ≡ project.now) }
     {
         let files = project.files();
         Ok(Inputs {
             files: files_result(alloc, project)?,
-            sources: sources_of(alloc, files)?,
+            sources: sources_of(alloc, past, files)?,
             missing: seal_to_share(alloc, Value::Source(None))?,
         })
     }
@@ -117,8 +80,8 @@ impl Inputs {
     fn source(&self, name: &Name) -> &Arc<Sealed>
         ensures { arc_value result.now ≡ values.Source (bytes_at self.now name.now) }
     {
-        match find_source(&self.sources, name) {
-            Some(source) => source.sealed(),
+        match self.sources.get(name) {
+            Some(sealed) => sealed,
             None => &self.missing,
         }
     }
@@ -138,22 +101,18 @@ impl Inputs {
     }
 }
 
-/// The source of a file of this name.
-fn find_source<'a>(sources: &'a Vec<Source>, name: &Name) -> Option<&'a Source>
-    ensures { option_copied result ≡ find (λ f. bytes_eq f.name name.now) sources.now.items }
-{
-    sources.iter().find(|source| source.is_of(name))
-}
-
 /// The key of all files, and of each of these.
-fn keys_of(alloc: Global, sources: &Vec<Source>) -> Result<Vec<Key>, AllocError>
+fn keys_of(alloc: Global, sources: &IndexMap<Name, Arc<Sealed>>) -> Result<Vec<Key>, AllocError>
     ensures { IfOk result (λ v. v.items
-        ≡ keys.Files ∷ map (λ f. keys.Source f.name) sources.now.items) }
+        ≡ keys.Files ∷ map (λ f. keys.Source f.name) (map file_of sources.now.entries)) }
 {
     let mut keys = Vec::new(alloc);
     keys.push(Key::Files)?;
-    for source in sources {
-        keys.push(Key::Source(source.name.copy(alloc)?))?;
+    for at in 0..sources.len() {
+        let Some((name, _)) = sources.get_index(at) else {
+            unreachable!();
+        };
+        keys.push(Key::Source(name.copy(alloc)?))?;
     }
     Ok(keys)
 }
@@ -166,15 +125,75 @@ fn seal_to_share(alloc: Global, value: Value) -> Result<Arc<Sealed>, AllocError>
 }
 
 /// The sources of the files.
-fn sources_of(alloc: Global, files: &[(String, Vec<u8>)]) -> Result<Vec<Source>, AllocError>
+fn sources_of(
+    alloc: Global,
+    past: &Option<Arc<Session>>,
+    files: &[(String, Vec<u8>)],
+) -> Result<IndexMap<Name, Arc<Sealed>>, AllocError>
     requires { IsProject (map source_view files.now) }
-    ensures { IfOk result (λ v. v.items ≡ map source_view files.now) }
+    ensures files { IfOk result (λ m. map file_of m.entries ≡ map source_view files.now) }
+    ensures sources { IfOk result (λ m. AllByRecursion IsSource m.entries) }
 {
-    let mut sources = Vec::new(alloc);
+    let mut sources = IndexMap::new(alloc);
     for (name, bytes) in files {
-        sources.push(Source::new(alloc, name.as_str(), bytes.as_slice())?)?;
+        add_source(alloc, &mut sources, past, name.as_str(), bytes.as_slice())?;
     }
     Ok(sources)
+}
+
+/// Adds the source of one more file.
+fn add_source(
+    alloc: Global,
+    sources: &mut IndexMap<Name, Arc<Sealed>>,
+    past: &Option<Arc<Session>>,
+    name: &str,
+    bytes: &[u8],
+) -> Result<(), AllocError>
+    requires some { 0 < length name.now }
+    requires short { length name.now ≤ 255 }
+    requires new { Contains (names_of (map file_of sources.old.entries)) name.now → ⊥ }
+    requires sources { AllByRecursion IsSource sources.old.entries }
+    ensures files { OnOk result (map file_of sources.new.entries
+        ≡ map file_of sources.old.entries
+        ++ record { name = name.now; bytes = bytes.now } ∷ []) }
+    ensures sources { OnOk result (AllByRecursion IsSource sources.new.entries) }
+{
+    let sealed = source_result(alloc, past, name, bytes)?;
+    let own = Name::new(alloc, name)?;
+    sources.insert(own, sealed)?;
+    Ok(())
+}
+
+/// The result of a file's source: the past's, where that has the same bytes, else one whose bytes are copied.
+fn source_result(
+    alloc: Global,
+    past: &Option<Arc<Session>>,
+    name: &str,
+    bytes: &[u8],
+) -> Result<Arc<Sealed>, AllocError>
+    requires some { 0 < length name.now }
+    requires short { length name.now ≤ 255 }
+    ensures { IfOk result (λ a. arc_value a ≡ values.Source (Some bytes.now)) }
+{
+    if let Some(past) = past {
+        let key = Key::Source(Name::new(alloc, name)?);
+        if let Some(sealed) = same_source(past, &key, bytes) {
+            return Ok(Arc::try_clone(sealed)?);
+        }
+    }
+    let text = Text::new(bytes.to_vec(alloc)?);
+    seal_to_share(alloc, Value::Source(Some(text)))
+}
+
+/// The past's result of a key, where it is a source with these bytes.
+fn same_source<'a>(past: &'a Session, key: &Key, bytes: &[u8]) -> Option<&'a Arc<Sealed>>
+    ensures { IfSome result (λ a. arc_value a.now ≡ values.Source (Some bytes.now)) }
+{
+    let sealed = past.find(key)?.sealed();
+    match sealed.value() {
+        Value::Source(Some(text)) if text.bytes() == bytes => Some(sealed),
+        _ => None,
+    }
 }
 
 /// The names of the files.

@@ -16,7 +16,7 @@ fn driver_of(alloc: Global, text: &str) -> Result<Driver<MiniJava>, Unfit>
     ensures { IfOk result (λ driver. driver ≡ one_file text.now) }
 {
     let project = project_of(alloc, text)?;
-    let inputs = Inputs::new(alloc, &project)?;
+    let inputs = Inputs::new(alloc, &None, &project)?;
     Ok(Driver::new(alloc, inputs, MiniJava::new(alloc)))
 }
 

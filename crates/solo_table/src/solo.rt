@@ -75,7 +75,7 @@ impl<R: Runner> Store for Solo<R> {
     }
 
     fn finish(&mut self, w: u32, outcome: Arc<Outcome<R>>) -> Result<(), TableFault> {
-        self.table.finish(w, outcome)
+        self.table.finish_held(w, outcome)
     }
 
     fn fail(&mut self, w: u32) -> Result<(), TableFault> {

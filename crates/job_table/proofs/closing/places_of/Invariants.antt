@@ -5,6 +5,6 @@ use Rattle.job_table.proofs.closing.places_of.Given as goal
 
 abbrev pub invariant-loop-edge : goal.invariant-loop-edge
 invariant-loop-edge l = record {
-  same : map (key_in l.keys) l.places.items ≡ take l.edge-index l.edges;
-  inside : AllByRecursion (λ e. e < length l.keys) l.places.items;
+  same : map (key_in l.keys.keys) l.places.items ≡ take l.edge-index l.edges;
+  inside : AllByRecursion (λ e. e < length l.keys.keys) l.places.items;
 }

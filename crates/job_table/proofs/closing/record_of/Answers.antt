@@ -1,7 +1,7 @@
 use Rattle.job_table.proofs.closing.record_of.Goals as goal
 
-pub places_of-requires-clause-found : goal.places_of-requires-clause-found
-places_of-requires-clause-found c = λ q has. c.requires.edges _ _ _ q c.entry_of-entry.ensures has
+pub places_of-requires : goal.places_of-requires
+places_of-requires c = λ q has. c.requires.edges _ _ _ q c.entry_of-entry.ensures has
 
 pub returns-clause-key : goal.returns-clause-key
 returns-clause-key c = rw c.new-record.ensures c.in_ok-own.ensures

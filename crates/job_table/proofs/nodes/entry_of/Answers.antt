@@ -1,21 +1,25 @@
-use Rattle.std.proofs.Common.{ap, ◌∙◌, subst}
+use Rattle.std.proofs.Common.{sym, ap, ◌∙◌, subst}
 use Rattle.graph_rules.specs.Steps.{Status, IsDone}
 use Rattle.job_table.specs.Nodes.{status_of}
-use Rattle.job_table.specs.declared.nodes.Node.{Node}
-use Rattle.job_table.proofs.NodeRules.{first_status, status_not_input}
+use Rattle.job_table.proofs.NodeRules.{status_done, status_held, status_none}
 use Rattle.job_table.proofs.nodes.entry_of.Goals as goal
+
+pub input_entry-requires : goal.input_entry-requires
+input_entry-requires c = subst (λ (x : Status). IsDone x) (status_none c.args.inputs.now c.args.nodes.now c.args.key.now c.in_default.ensures.none) c.requires.done
+
+pub returns-in_default : goal.returns-in_default
+returns-in_default c = status_none c.args.inputs.now c.args.nodes.now c.args.key.now c.in_default.ensures.none ∙ c.input_entry.ensures
 
 pub returns : goal.returns
 returns c =
-    let e = first_status c.args.nodes.now c.args.key.now c.in-Some-find.at c.index-as_slice-at.result c.in-Some-find.ensures.some (rw c.as_slice.ensures at c.index-as_slice-at.is) ∙ ap (λ (x : Node). status_of x.standing) c.index-as_slice-at.is ∙ ap status_of c.in-Done.is in
-    rw c.as_slice-in-Done.ensures.value (status_not_input c.args.inputs.now c.args.nodes.now c.args.key.now c.in_default.ensures ∙ e)
+    rw c.as_slice.ensures.value (status_done c.args.inputs.now c.args.nodes.now c.args.key.now _ _ _ c.requires.inputs (c.in-Some.ensures.stands ∙ ap status_of c.in-Done.is))
 
-pub unreachable-requires-in-Claimed : goal.unreachable-requires-in-Claimed
-unreachable-requires-in-Claimed c =
-    let e = first_status c.args.nodes.now c.args.key.now c.in-Some-find.at c.index-as_slice-at.result c.in-Some-find.ensures.some (rw c.as_slice.ensures at c.index-as_slice-at.is) ∙ ap (λ (x : Node). status_of x.standing) c.index-as_slice-at.is ∙ ap status_of c.in-Claimed.is in
-    subst (λ (x : Status). IsDone x) (status_not_input c.args.inputs.now c.args.nodes.now c.args.key.now c.in_default.ensures ∙ e) c.requires
+pub unreachable-requires : goal.unreachable-requires
+unreachable-requires c =
+    let s = status_held c.args.inputs.now c.args.nodes.now c.args.key.now _ c.requires.inputs (c.in-Some.ensures.stands ∙ ap status_of c.in-Claimed.is) (λ e. cc) tt in
+    subst (λ (x : Status). IsDone x) s c.requires.done
 
 pub unreachable-requires-in-Running : goal.unreachable-requires-in-Running
 unreachable-requires-in-Running c =
-    let e = first_status c.args.nodes.now c.args.key.now c.in-Some-find.at c.index-as_slice-at.result c.in-Some-find.ensures.some (rw c.as_slice.ensures at c.index-as_slice-at.is) ∙ ap (λ (x : Node). status_of x.standing) c.index-as_slice-at.is ∙ ap status_of c.in-Running.is in
-    subst (λ (x : Status). IsDone x) (status_not_input c.args.inputs.now c.args.nodes.now c.args.key.now c.in_default.ensures ∙ e) c.requires
+    let s = status_held c.args.inputs.now c.args.nodes.now c.args.key.now _ c.requires.inputs (c.in-Some.ensures.stands ∙ ap status_of c.in-Running.is) (λ e. cc) tt in
+    subst (λ (x : Status). IsDone x) s c.requires.done

@@ -1,14 +1,11 @@
 use Rattle.std.proofs.Common.{◌≡◌, Bool, true, false, sym, ◌∙◌}
-use Rattle.job_table.proofs.NodeRules.{first_status}
 use Rattle.job_table.proofs.nodes.find_running.Goals as goal
 
 not_both : (b : Bool) → b ≡ true → b ≡ false → ⊥
 not_both b t f = cc
 
 pub returns-then-is_running-clause-running : goal.returns-then-is_running-clause-running
-returns-then-is_running-clause-running c =
-    first_status c.args.nodes.now c.args.key.now c.in_ok-at.at c.index-as_slice-at.result c.in_ok-at.ensures.some (rw c.as_slice.ensures at c.index-as_slice-at.is) ∙ c.is_running.ensures.0 c.if-is_running.true
+returns-then-is_running-clause-running c = c.in_ok-at.ensures.stands ∙ c.is_running.ensures.0 c.if-is_running.true
 
 pub returns-else-is_running-clause-none : goal.returns-else-is_running-clause-none
-returns-else-is_running-clause-none c = λ e.
-    not_both _ (c.is_running.ensures.1 (sym (first_status c.args.nodes.now c.args.key.now c.in_ok-at.at c.index-as_slice-at.result c.in_ok-at.ensures.some (rw c.as_slice.ensures at c.index-as_slice-at.is)) ∙ e)) c.if-is_running.false
+returns-else-is_running-clause-none c = λ e. not_both _ (c.is_running.ensures.1 (sym c.in_ok-at.ensures.stands ∙ e)) c.if-is_running.false

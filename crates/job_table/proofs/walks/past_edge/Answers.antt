@@ -17,7 +17,7 @@ returns-then-same_print c =
     let here = ap print_of (c.deref.ensures ∙ c.sealed.ensures) in
     let there = ap print_of c.deref-2.ensures in
     let status = status_at c.args.inputs.now c.args.nodes.now in
-    edge_with c.args.past.now c.records.ensures.session c.args.at r c.requires is status Unchanged
+    edge_with c.args.past.now c.records.ensures.session c.args.at r c.requires.place is status Unchanged
     (edge_same (print_of r.value) (arc_value c.in-Some.sealed.now) (status r.key) done (sym here ∙ (c.same_print.ensures.0 c.if-same_print.true ∙ there)))
 
 pub returns-else-same_print : goal.returns-else-same_print
@@ -28,5 +28,5 @@ returns-else-same_print c =
     let here = ap print_of (c.deref.ensures ∙ c.sealed.ensures) in
     let there = ap print_of c.deref-2.ensures in
     let status = status_at c.args.inputs.now c.args.nodes.now in
-    edge_with c.args.past.now c.records.ensures.session c.args.at r c.requires is status Changed
+    edge_with c.args.past.now c.records.ensures.session c.args.at r c.requires.place is status Changed
     (edge_other (print_of r.value) (arc_value c.in-Some.sealed.now) (status r.key) done (λ e. not_both _ (c.same_print.ensures.1 (here ∙ (e ∙ sym there))) c.if-same_print.false))

@@ -8,6 +8,7 @@ use Rattle.job_table.specs.declared.fault.TableFault.{TableFault}
 use Rattle.mark_green.specs.declared.asking.Stop.{Stop}
 use Rattle.mark_green.specs.declared.fault.Fault.{Fault}
 use Rattle.mark_green.specs.Moves.{Halts}
+use Rattle.mark_green.proofs.Held.{held_none, held_more}
 use Rattle.mark_green.proofs.Turning.{Fetches, Ends, Begins, fetch_ok, fetch_lost, turn_stopped, turn_more, turn_up, holds_more, ends_ok, ends_up, ends_lost, run_ended, start_run}
 use Rattle.mark_green.proofs.Working.{Edges, Asks, edge_ok, far_more, far_changed, far_up, over_marked_at, over_run_at, ensured_work, ensured_busy}
 use Rattle.mark_green.proofs.bringing.+ensure.Goals as goal
@@ -55,6 +56,12 @@ turn-returns-in-Ok-fetch-clause-gives g t c =
     let f = subst (λ (r : Result (Unit {0}) Fault). Fetches c.args.w c.in-Err-Lacks.lacked r c.args.held.now c.fetch.new.held (g.S.Store.table c.run_once.new.store) (g.S.Store.table c.fetch.new.store)) c.in-Ok-fetch.is c.fetch.ensures in
     turn_more c.args.w c.args.key.now c.args.held.now c.fetch.new.held c.in-Err-Lacks.lacked tt _ _ _ h f
 
+pub turn-returns-in-Ok-fetch-clause-held : goal.turn-returns-in-Ok-fetch-clause-held
+turn-returns-in-Ok-fetch-clause-held g t c =
+    let h = subst (λ (x : Stop). Halts c.args.w (rank c.args.key.now) x (g.S.Store.table c.args.store.now) (g.S.Store.table c.run_once.new.store)) c.in-Err-Lacks.field-0-is c.in-Err-Lacks.ensures.halts in
+    let f = subst (λ (r : Result (Unit {0}) Fault). Fetches c.args.w c.in-Err-Lacks.lacked r c.args.held.now c.fetch.new.held (g.S.Store.table c.run_once.new.store) (g.S.Store.table c.fetch.new.store)) c.in-Ok-fetch.is c.fetch.ensures in
+    held_more c.args.w c.args.key.now c.in-Err-Lacks.lacked c.args.held.now c.fetch.new.held tt _ _ _ h f
+
 pub turn-returns-in-Err-fetch-clause-gives : goal.turn-returns-in-Err-fetch-clause-gives
 turn-returns-in-Err-fetch-clause-gives g t c =
     let h = subst (λ (x : Stop). Halts c.args.w (rank c.args.key.now) x (g.S.Store.table c.args.store.now) (g.S.Store.table c.run_once.new.store)) c.in-Err-Lacks.field-0-is c.in-Err-Lacks.ensures.halts in
@@ -64,27 +71,34 @@ turn-returns-in-Err-fetch-clause-gives g t c =
 pub turn-returns-in-Err : goal.turn-returns-in-Err
 turn-returns-in-Err g t c = record {
   key = tt;
+  held = tt;
   gives = turn_stopped c.args.w c.args.key.now c.args.held.now c.args.held.now c.in-Err.stop c.give_up_run.result c.give_up_run.ensures.fault _ _ _ c.in-Err.ensures.halts c.give_up_run.ensures.stops;
 }
 
 pub turns-returns-in-Ok-Some-clause-gives : goal.turns-returns-in-Ok-Some-clause-gives
 turns-returns-in-Ok-Some-clause-gives g t c =
     let h = rw (c.in-Ok-Some.is, c.in-Ok-Some.field-0-is) at c.turn.ensures.gives in
-    ends_ok c.args.w c.args.key.now c.again.held c.turn.new.held _ _ _ c.again.invariant c.in-Ok-Some.outcome h
+    ends_ok c.args.w c.args.key.now c.again.held c.turn.new.held _ _ _ c.again.invariant.0 c.in-Ok-Some.outcome h
 
 pub turns-returns-in-Err-clause-gives : goal.turns-returns-in-Err-clause-gives
 turns-returns-in-Err-clause-gives g t c =
     let h = rw c.in-Err.is at c.turn.ensures.gives in
-    ends_up c.args.w c.args.key.now c.again.held c.turn.new.held _ _ _ c.again.invariant c.in-Err.fault h
+    ends_up c.args.w c.args.key.now c.again.held c.turn.new.held _ _ _ c.again.invariant.0 c.in-Err.fault h
 
 pub turns-again-preserved : goal.turns-again-preserved
 turns-again-preserved g t c =
     let h = rw (c.in-Ok-None.is, c.in-Ok-None.field-0-is) at c.turn.ensures.gives in
-    holds_more c.args.w c.args.key.now c.again.held c.turn.new.held _ _ _ c.again.invariant h
+    let held = rw (c.in-Ok-None.is, c.in-Ok-None.field-0-is) at c.turn.ensures.held in
+    (holds_more c.args.w c.args.key.now c.again.held c.turn.new.held _ _ _ c.again.invariant.0 h, held c.again.invariant.1)
+
+pub turns-returns-in-Ok-Some-clause-held : goal.turns-returns-in-Ok-Some-clause-held
+turns-returns-in-Ok-Some-clause-held g t c =
+    let held = rw (c.in-Ok-Some.is, c.in-Ok-Some.field-0-is) at c.turn.ensures.held in
+    held c.again.invariant.1
 
 pub turns-returns-clause-gives : goal.turns-returns-clause-gives
 turns-returns-clause-gives g t c =
-    ends_lost c.args.w c.args.key.now c.again.held c.again.held _ _ _ c.again.invariant c.give_up.result c.give_up.ensures.fault c.give_up.ensures.stops
+    ends_lost c.args.w c.args.key.now c.again.held c.again.held _ _ _ c.again.invariant.0 c.give_up.result c.give_up.ensures.fault c.give_up.ensures.stops
 
 pub walk_edges-returns-in-Ok-false : goal.walk_edges-returns-in-Ok-false
 walk_edges-returns-in-Ok-false g t c =

@@ -1,6 +1,7 @@
 use Rattle.std.proofs.Common.{◌+◌, ◌*◌}
 use Rattle.recorder.specs.Backed.{rank}
 use Rattle.sessions.specs.Sessions.{key_at}
+use Rattle.mark_green.proofs.Held.{Held}
 use Rattle.mark_green.proofs.Turning.{Holds}
 use Rattle.mark_green.proofs.Working.{SoFar}
 use Rattle.mark_green.proofs.bringing.+ensure.Given as goal
@@ -39,4 +40,4 @@ abbrev pub invariant-walk_edges-edges : goal.invariant-walk_edges-edges
 invariant-walk_edges-edges g l = SoFar l.past l.w l.key l.edges l.at-index (g.S.Store.table l.fn.store) (g.S.Store.table l.store)
 
 abbrev pub invariant-turns-again : goal.invariant-turns-again
-invariant-turns-again g l = Holds l.w l.key l.held (g.S.Store.table l.fn.store) (g.S.Store.table l.store)
+invariant-turns-again g l = Holds l.w l.key l.held (g.S.Store.table l.fn.store) (g.S.Store.table l.store) × Held l.held (g.S.Store.table l.store)

@@ -6,6 +6,7 @@ use Rattle.job_table.specs.declared.fault.TableFault.{TableFault}
 use Rattle.mark_green.specs.Leaves.{Tells}
 use Rattle.mark_green.proofs.GoingOn.{tells_map, tells_then}
 use Rattle.mark_green.proofs.Calling.{finish_ok, finish_ended, stopped_early}
+use Rattle.mark_green.proofs.Held.{held_shown}
 use Rattle.mark_green.proofs.steps.end_run.Goals as goal
 
 pub returns-in-Ok-finish : goal.returns-in-Ok-finish
@@ -23,3 +24,7 @@ returns-in-Err g c =
 pub returns-in_default : goal.returns-in_default
 returns-in_default g c =
     tells_map _ _ (stopped_early c.args.w c.args.key.now c.args.outcome.told c.give_up.result c.give_up.ensures.fault) _ _ c.give_up.ensures.stops
+
+pub finish-requires : goal.finish-requires
+finish-requires g c =
+    held_shown g.S.Store.outcome_in c.args.outcome c.in-Ok.outcome (g.S.Store.table c.args.store.now) (c.requires.shows c.in-Ok.outcome) c.in-Ok.ensures.outcome c.requires.held

@@ -1,6 +1,8 @@
 use Rattle.std.proofs.Common.{◌≡◌, map, take}
+use Rattle.std.specs.List.{AllByRecursion}
 use Rattle.mj_project.specs.Projects.{source_view}
+use Rattle.project_inputs.specs.Inputs.{file_of, IsSource}
 use Rattle.project_inputs.proofs.inputs.sources_of.Given as goal
 
 abbrev pub invariant-loop-name : goal.invariant-loop-name
-invariant-loop-name l = l.sources.items ≡ map source_view (take l.name-index l.files)
+invariant-loop-name l = (map file_of l.sources.entries ≡ map source_view (take l.name-index l.files)) × AllByRecursion IsSource l.sources.entries

@@ -24,7 +24,7 @@ returns-in-Some-find g c =
     rw (← c.self.view_is) (
       (sym kept.failed_is ∙ c.if-self.false, is_not_done _ _ _ _ _ kept c.args.key.now c.in_default.ensures.none),
       is_below _ _ _ _ _ kept c.args.w c.args.key.now (c.if-not-is_below.ensures.0 refl),
-      is_known _ _ _ _ _ kept c.args.key.now _ c.in_default.ensures.none c.in-Some-find.ensures.some,
+      is_known _ _ _ _ _ kept c.args.key.now _ c.in_default.ensures.none c.in-Some-find.ensures.first,
       refl,
     )
 
@@ -59,3 +59,6 @@ pub returns : goal.returns
 returns g c =
     let may = may_claim _ _ _ _ _ c.self.invariant.0 c.args.w c.args.key.now c.if-self.false c.in_default.ensures.none c.in_default-find.ensures.none (c.if-not-is_below.ensures.0 refl) in
     rw (← c.self.view_is) (may, rw (events_after g c) refl)
+
+pub result_of-requires : goal.result_of-requires
+result_of-requires g c = c.self.invariant.0.inner

@@ -50,3 +50,6 @@ returns g c = (
   begin_at (session_in c.self.inside.past) _ _ _ _ c.self.invariant.0 c.args.key.now c.args.w c.if-self.false c.in-Some.ensures.claimed c.in_default-why_not.ensures _ c.self.view_is,
   rw (← c.self.view_is, events_after g c) refl,
 )
+
+pub why_not-requires : goal.why_not-requires
+why_not-requires g c = c.self.invariant.0.inner

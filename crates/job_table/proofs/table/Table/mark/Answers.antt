@@ -99,3 +99,6 @@ returns g c =
     let te = rw c.in-Some-past.is at c.self.view_is in
     mark_gives (Some (arc_value c.in-Some-past.past)) _ _ _ _ kept c.args.key.now c.args.w (entry_before g c) (past_has_entry g c) c.if-self.false c.in-Some.ensures.claimed (walk_is_unchanged g c) _ _ _ (sym te)
     (rw (c.in-Some-past.is, events_after g c) refl) (sym c.in-Some-room_for_mark.ensures.results.1)
+
+pub walk_edges-requires-clause-inputs : goal.walk_edges-requires-clause-inputs
+walk_edges-requires-clause-inputs g c = c.self.invariant.0.inner
