@@ -7,7 +7,7 @@ use Rattle.std.proofs.lemmas.List.{length-map}
 use Rattle.std.proofs.lemmas.List.Elements.{at_from_Contains, All-from_recursion}
 use Rattle.std.proofs.lemmas.Slice.Eq.{bytes_eq-Decides}
 use Rattle.byte_readers.specs.Names.{IsName}
-use Rattle.item_ids.specs.declared.key.Key.TheVariants.{Files, Source}
+use Rattle.item_ids.specs.declared.key.Key.TheVariants.{Source}
 use Rattle.item_ids.specs.Keys.{kind_of}
 use Rattle.result_bytes.specs.declared.value.Value.{Value}
 use Rattle.result_bytes.specs.declared.value.Value.TheVariants as values

@@ -1,3 +1,4 @@
+pub mod Kept
 pub mod Firsts
 pub mod Chains
 pub mod Sources

@@ -1,9 +1,10 @@
 //! Green records over the session before.
-ghost use Rattle.std.specs.Prelude.{◌≡◌, ◌≢◌, Some, None, MatchBool, MatchOption};
+ghost use Rattle.std.specs.Prelude.{◌≡◌, ◌≢◌, ◌<◌, length, true, Option, Some, None, MatchBool, MatchOption};
 ghost use Rattle.std.specs.Option.{option_copied};
 ghost use Rattle.std.specs.List.{AllByRecursion};
 ghost use Rattle.sessions.specs.declared.mark.Mark.TheVariants.{Green};
-ghost use Rattle.sessions.specs.Sessions.{AreInside, key_at, entry_at, entry_of, past_entry};
+ghost use Rattle.sessions.specs.Sessions.{SessionValue, AreInside, key_at, entry_at, entry_of, past_entry};
+ghost use Rattle.audit_graph.specs.Kept.{IsPastOf, ArePastOf};
 ghost use Rattle.graph_rules.specs.Next.{StandsIn};
 ghost use Rattle.audit_graph.specs.Firsts.{IsFirstWithout};
 ghost use Rattle.audit_graph.specs.Greens.{GreensStand, HasSamePrint, StandsIfGreen, IsLack, keys_at};
@@ -30,9 +31,9 @@ pub enum Lack {
 
 /// The first green record that doesn't stand in the past, and why.
 pub(crate) fn first_lack(past: Option<&Past>, session: &Session) -> Option<(usize, Lack)>
-    ensures { MatchOption result
-        (GreensStand (past_entry (option_copied past.entry)) (entry_at session.now))
-        (λ x. IsFirstLack (option_copied past.entry) session.now x.0 x.1) }
+    ensures { (was : Option SessionValue) → ArePastOf (option_copied past.entry) was
+        → MatchOption result (GreensStand (past_entry was) (entry_at session.now))
+        (λ x. IsFirstLack was session.now x.0 x.1) }
 {
     for (n, item) in session.records().iter().enumerate() {
         if let Some(why) = lack_if_green(past, session, item) {
@@ -45,11 +46,12 @@ pub(crate) fn first_lack(past: Option<&Past>, session: &Session) -> Option<(usiz
 /// Why a record doesn't stand in the past, where it is green.
 fn lack_if_green(past: Option<&Past>, session: &Session, item: &Record) -> Option<Lack>
     requires { AreInside session.now.records item.now.edges }
-    ensures { MatchOption result
-        (StandsIfGreen (past_entry (option_copied past.entry)) (entry_at session.now)
+    ensures { (was : Option SessionValue) → ArePastOf (option_copied past.entry) was
+        → MatchOption result
+        (StandsIfGreen (past_entry was) (entry_at session.now)
         (entry_of session.now.records item.now))
         (λ why. (item.now.mark ≡ Green)
-        × IsLack (past_entry (option_copied past.entry)) (entry_at session.now)
+        × IsLack (past_entry was) (entry_at session.now)
         (entry_of session.now.records item.now) why) }
 {
     match (item.mark(), past) {
@@ -62,11 +64,10 @@ fn lack_if_green(past: Option<&Past>, session: &Session, item: &Record) -> Optio
 /// Why a record doesn't stand in the past.
 fn find_lack(past: &Past, session: &Session, item: &Record) -> Option<Lack>
     requires { AreInside session.now.records item.now.edges }
-    ensures { MatchOption result
-        (StandsIn (entry_at past.now) (entry_at session.now)
-        (entry_of session.now.records item.now))
-        (IsLack (entry_at past.now) (entry_at session.now)
-        (entry_of session.now.records item.now)) }
+    ensures { (was : SessionValue) → IsPastOf past.now was
+        → MatchOption result
+        (StandsIn (entry_at was) (entry_at session.now) (entry_of session.now.records item.now))
+        (IsLack (entry_at was) (entry_at session.now) (entry_of session.now.records item.now)) }
 {
     let Some(at) = past.find(item.key()) else {
         return Some(Lack::WithoutPast);
@@ -86,11 +87,13 @@ fn find_lack(past: &Past, session: &Session, item: &Record) -> Option<Lack>
 
 /// Whether edges of the past and of the session lead to the same keys.
 fn are_same(past: &Past, old: &[usize], session: &Session, edges: &[usize]) -> bool
-    requires old { AreInside past.now.records old.now }
+    requires old { AllByRecursion (λ e. e < length past.now.records) old.now }
     requires edges { AreInside session.now.records edges.now }
-    ensures { MatchBool result
-        (keys_at past.now.records old.now ≡ keys_at session.now.records edges.now)
-        (keys_at past.now.records old.now ≢ keys_at session.now.records edges.now) }
+    ensures same { (was : SessionValue) → IsPastOf past.now was
+        → MatchBool result
+        (keys_at was.records old.now ≡ keys_at session.now.records edges.now)
+        (keys_at was.records old.now ≢ keys_at session.now.records edges.now) }
+    ensures long { result ≡ true → length old.now ≡ length edges.now }
 {
     if old.len() != edges.len() {
         return false;
@@ -105,13 +108,15 @@ fn are_same(past: &Past, old: &[usize], session: &Session, edges: &[usize]) -> b
 
 /// The place of the first edge that has another print in the past.
 fn first_red(past: &Past, old: &[usize], session: &Session, edges: &[usize]) -> Option<usize>
-    requires old { AreInside past.now.records old.now }
+    requires old { AllByRecursion (λ e. e < length past.now.records) old.now }
     requires edges { AreInside session.now.records edges.now }
-    requires same { keys_at past.now.records old.now ≡ keys_at session.now.records edges.now }
-    ensures { MatchOption result
-        (AllByRecursion (HasSamePrint (entry_at past.now) (entry_at session.now))
+    requires long { length old.now ≡ length edges.now }
+    ensures { (was : SessionValue) → IsPastOf past.now was
+        → keys_at was.records old.now ≡ keys_at session.now.records edges.now
+        → MatchOption result
+        (AllByRecursion (HasSamePrint (entry_at was) (entry_at session.now))
         (keys_at session.now.records edges.now))
-        (IsFirstWithout (HasSamePrint (entry_at past.now) (entry_at session.now))
+        (IsFirstWithout (HasSamePrint (entry_at was) (entry_at session.now))
         (keys_at session.now.records edges.now)) }
 {
     for (i, edge) in edges.iter().enumerate() {

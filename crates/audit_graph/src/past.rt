@@ -1,53 +1,77 @@
 //! The session before.
-ghost use Rattle.std.specs.Prelude.{◌≡◌, ◌<◌, None, Some, IfOk, MatchOption, HoldsAt, length};
-ghost use Rattle.std.specs.Arc.{arc_value};
-ghost use Rattle.sessions.specs.Sessions.{AreInside, IsSession, key_at, entry_at, entry_of};
-ghost use Rattle.sessions.specs.Spelling.{digest_of};
+ghost use Rattle.std.specs.Prelude.{◌≡◌, ◌<◌, None, Some, IfOk, IfSome, MatchOption, HoldsAt, length, map};
+ghost use Rattle.std.specs.List.{AllByRecursion};
+ghost use Rattle.sessions.specs.Sessions.{SessionValue, AreRecords, key_at, entry_at, entry_of};
 ghost use Rattle.graph_rules.specs.Pasts.{print_in};
+ghost use Rattle.audit_graph.specs.Kept.{IsPastOf, kept_of};
 
-use crate::places::{edges_of, find, key_of, print_of};
 use fingerprint::Print;
+use indexmap::IndexSet;
 use item_ids::Key;
 use session_file::digest;
-use sessions::Session;
-use std::alloc::AllocError;
+use sessions::{Record, Session};
+use std::alloc::{AllocError, Global};
 use std::marker::Model;
-use std::sync::Arc;
+
+/// What is kept of a record beside its key: its edges and its print.
+#[derive(Drop)]
+struct Kept {
+    edges: Vec<usize>,
+    print: Print,
+}
+
+impl Model for Kept {
+    ghost use Rattle.audit_graph.specs.Kept.{KeptRecord};
+
+    ghost Value = { KeptRecord };
+
+    ghost view = { λ k. record { edges = k.edges.items; print = k.print.0 } };
+}
 
 /// What the session behind asks of a session: its number, the SHA-256 of its file, and the key, edges and print of
-/// each record. Contracts see the session.
+/// each record. It holds no results.
 #[derive(Drop)]
 pub struct Past {
-    session: Arc<Session>,
+    number: u32,
     digest: [u8; 32],
+    keys: IndexSet<Key>,
+    records: Vec<Kept>,
 }
 
 impl Model for Past {
-    ghost use Rattle.std.specs.Prelude.{◌≡◌};
-    ghost use Rattle.std.specs.Arc.{arc_value};
-    ghost use Rattle.std.specs.Coded.{codes};
-    ghost use Rattle.result_bytes.specs.contracts.value.Value as value_contracts;
     ghost use Rattle.sessions.specs.Sessions.{SessionValue};
-    ghost use Rattle.sessions.specs.Spelling.{digest_of};
+    ghost use Rattle.audit_graph.specs.Kept.{KeptSession, IsPastOf};
 
-    ghost Value = { SessionValue };
+    ghost Value = { KeptSession };
 
-    ghost coded = { Prim.hlevel (codes, value_contracts.the_row.coded) };
+    ghost view = { λ p. record {
+      number = p.number;
+      digest = p.digest;
+      keys = p.keys.keys;
+      records = p.records.items;
+    } };
 
-    ghost view = { λ p. arc_value p.session };
-
-    ghost invariant = { λ p. p.digest ≡ digest_of (arc_value p.session) };
+    ghost invariant = { λ p. (was : SessionValue) × IsPastOf (record {
+      number = p.number;
+      digest = p.digest;
+      keys = p.keys.keys;
+      records = p.records.items;
+    })
+        was };
 }
 
 impl Past {
     /// The past that a session is to the one behind it.
-    pub fn of(session: &Arc<Session>) -> Result<Self, AllocError>
-        ensures { IfOk result (λ past. past ≡ arc_value session.now) }
+    pub fn of(alloc: Global, session: &Session) -> Result<Self, AllocError>
+        ensures { IfOk result (λ past. IsPastOf past session.now) }
     {
-        let digest = digest(session);
+        let keys = key_set(alloc, session.records())?;
+        let records = kept_records(alloc, session.records())?;
         Ok(Past {
-            session: Arc::try_clone(session)?,
-            digest,
+            number: session.number(),
+            digest: digest(session),
+            keys,
+            records,
         })
     }
 
@@ -55,12 +79,12 @@ impl Past {
     pub fn number(&self) -> u32
         ensures { result ≡ self.now.number }
     {
-        self.session.number()
+        self.number
     }
 
     /// The SHA-256 of its file.
     pub fn digest(&self) -> &[u8; 32]
-        ensures { result.now ≡ digest_of self.now }
+        ensures { result.now ≡ self.now.digest }
     {
         &self.digest
     }
@@ -68,38 +92,72 @@ impl Past {
     /// The key of the record at an index.
     pub fn key(&self, i: usize) -> &Key
         requires { i < length self.now.records }
-        ensures { result.now ≡ key_at self.now.records i }
+        ensures { (was : SessionValue) → IsPastOf self.now was
+            → result.now ≡ key_at was.records i }
     {
-        key_of(&self.session, i)
+        &self.keys[i]
     }
 
     /// The indices of the records of the keys that the one at an index read, in order.
     pub fn edges(&self, i: usize) -> &[usize]
         requires { i < length self.now.records }
-        ensures edges { HoldsAt (λ r. result.now ≡ r.edges) self.now.records i }
-        ensures inside { AreInside self.now.records result.now }
+        ensures edges { (was : SessionValue) → IsPastOf self.now was
+            → HoldsAt (λ r. result.now ≡ r.edges) was.records i }
+        ensures inside { AllByRecursion (λ e. e < length self.now.records) result.now }
     {
-        edges_of(&self.session, i)
+        self.records[i].edges.as_slice()
     }
 
     /// The print of the result at an index.
     pub fn print(&self, i: usize) -> Print
         requires { i < length self.now.records }
-        ensures { Some result.0 ≡ print_in (entry_at self.now) (key_at self.now.records i) }
+        ensures { (was : SessionValue) → IsPastOf self.now was
+            → Some result.0 ≡ print_in (entry_at was) (key_at was.records i) }
     {
-        print_of(&self.session, i)
+        self.records[i].print
     }
 
-    /// The index of the record of a key, found by search.
+    /// The index of the record of a key.
     pub fn find(&self, key: &Key) -> Option<usize>
-        ensures within { MatchOption result (entry_at self.now key.now ≡ None)
-            (λ i. i < length self.now.records) }
-        ensures found { MatchOption result (entry_at self.now key.now ≡ None)
-            (λ i. HoldsAt
-            (λ r. entry_at self.now key.now ≡ Some (entry_of self.now.records r))
-            self.now.records i) }
-        ensures session { IsSession self.now }
+        ensures within { IfSome result (λ i. i < length self.now.records) }
+        ensures found { (was : SessionValue) → IsPastOf self.now was
+            → MatchOption result (entry_at was key.now ≡ None)
+            (λ i. HoldsAt (λ r. entry_at was key.now ≡ Some (entry_of was.records r))
+            was.records i) }
     {
-        find(&self.session, key)
+        self.keys.get_index_of(key)
     }
+}
+
+/// The keys of the records, in their order.
+fn key_set(alloc: Global, records: &[Record]) -> Result<IndexSet<Key>, AllocError>
+    requires { AreRecords records.now }
+    ensures { IfOk result (λ set. set.keys ≡ map (λ r. r.key) records.now) }
+{
+    let mut keys = IndexSet::with_capacity(alloc, records.len())?;
+    for record in records {
+        keys.insert(record.key().copy(alloc)?)?;
+    }
+    Ok(keys)
+}
+
+/// What is kept of the records beside their keys, in their order.
+fn kept_records(alloc: Global, records: &[Record]) -> Result<Vec<Kept>, AllocError>
+    ensures { IfOk result (λ v. v.items ≡ map kept_of records.now) }
+{
+    let mut kept = Vec::with_capacity(alloc, records.len())?;
+    for record in records {
+        kept.push(kept_record(alloc, record)?)?;
+    }
+    Ok(kept)
+}
+
+/// What is kept of a record.
+fn kept_record(alloc: Global, item: &Record) -> Result<Kept, AllocError>
+    ensures { IfOk result (λ kept. kept ≡ kept_of item.now) }
+{
+    Ok(Kept {
+        edges: item.edges().to_vec(alloc)?,
+        print: item.sealed().print(),
+    })
 }

@@ -1,7 +1,11 @@
 //! The check of one session over the one before.
-ghost use Rattle.std.specs.Prelude.{◌≡◌, ◌↔◌, IsTrue};
+ghost use Rattle.std.specs.Prelude.{◌≡◌, ◌↔◌, IsTrue, IfOk, Option};
+ghost use Rattle.sessions.specs.Sessions.{SessionValue, entry_at};
+ghost use Rattle.audit_graph.specs.Sources.{HasSources};
+ghost use Rattle.audit_graph.specs.Kept.{ArePastOf};
 ghost use Rattle.std.specs.Option.{option_copied};
 ghost use Rattle.audit_graph.specs.Chains.{IsLinked, link_behind};
+ghost use Rattle.audit_graph.specs.Plans.{executed_in};
 ghost use Rattle.audit_graph.specs.Steps.{StepGives, source_fault, green_fault};
 
 use crate::fault::AuditFault;
@@ -20,7 +24,11 @@ pub fn check_step(
     k: usize,
     session: &Session,
 ) -> Result<Plan, AuditFault>
-    ensures { StepGives (option_copied past.entry) k session.now result }
+    ensures gives { (was : Option SessionValue) → ArePastOf (option_copied past.entry) was
+        → StepGives was k session.now result }
+    ensures sources { IfOk result
+        (λ _. (session.now.number ≡ k) × HasSources (entry_at session.now)) }
+    ensures plan { IfOk result (λ plan. plan ≡ executed_in session.now) }
 {
     if !is_linked(past, k, session) {
         return Err(AuditFault::BrokenLink(k));
@@ -39,14 +47,17 @@ pub fn check_step(
 
 /// Whether the session has this number and the link behind the past.
 fn is_linked(past: Option<&Past>, k: usize, session: &Session) -> bool
-    ensures { IsTrue result ↔ IsLinked (option_copied past.entry) k session.now }
+    ensures linked { (was : Option SessionValue) → ArePastOf (option_copied past.entry) was
+        → IsTrue result ↔ IsLinked was k session.now }
+    ensures number { IsTrue result → session.now.number ≡ k }
 {
     session.number() as usize == k && *session.link() == link_behind(past)
 }
 
 /// The link of the session behind the past.
 fn link_behind(past: Option<&Past>) -> [u8; 32]
-    ensures { result ≡ link_behind (option_copied past.entry) }
+    ensures { (was : Option SessionValue) → ArePastOf (option_copied past.entry) was
+        → result ≡ link_behind was }
 {
     match past {
         Some(past) => *past.digest(),

@@ -9,3 +9,4 @@ pub mod EndRules
 pub mod AuditLogs
 pub mod AgainstRules
 pub mod RefusalRules
+pub mod RightRules

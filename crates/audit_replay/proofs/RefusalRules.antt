@@ -69,7 +69,7 @@ module _ (mean : Meaning) (reads : ReadLists) (now : Past) (p : Project) (projec
   }
 
   -- the value and the edges aren't both those of the project
-  differs : (why : Mismatch) → (why ≢ OutOfMemory) → RerunGives mean reads now r (Err why) → r.value ≡ mean p r.key → r.reads ≡ reads p r.key → ⊥
+  pub differs : (why : Mismatch) → (why ≢ OutOfMemory) → RerunGives mean reads now r (Err why) → r.value ≡ mean p r.key → r.reads ≡ reads p r.key → ⊥
   differs (OtherRead i) other h value edges =
       let next = h.next p (gives_first i h.told h.first.edges h.first.held) in
       let many : length (keys h.told) ≡ i = ap length h.first.edges ∙ length-take-le i r.reads h.first.within in

@@ -4,3 +4,4 @@ pub mod Passes
 pub mod Audits
 pub mod Projects
 pub mod Refusals
+pub mod RightChains

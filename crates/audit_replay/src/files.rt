@@ -4,6 +4,7 @@ ghost use Rattle.std.specs.Arc.{arc_value};
 ghost use Rattle.std.specs.Option.{option_copied};
 ghost use Rattle.sessions.specs.Sessions.{IsSession};
 ghost use Rattle.sessions.specs.Spelling.{file_of};
+ghost use Rattle.audit_graph.specs.Kept.{ArePastOf};
 ghost use Rattle.audit_replay.specs.Logs.{LogGives, executed_keys};
 ghost use Rattle.audit_replay.specs.Passes.{PassesFile, FileRefuses, ReadRefuses};
 ghost use Rattle.audit_replay.specs.Audits.{PassesSoFar, IsRefusedBehind, session_in};
@@ -61,7 +62,7 @@ fn audit_file<R: Runner>(
         Ok(session) => session,
         Err(fault) => return Err(fault),
     };
-    let past = match past_of(last) {
+    let past = match past_of(alloc, last) {
         Ok(past) => past,
         Err(_) => return Err(AuditFault::OutOfMemory),
     };
@@ -88,11 +89,11 @@ fn read_file(alloc: Global, k: usize, file: &[u8]) -> Result<Arc<Session>, Audit
 }
 
 /// The past that a session is to the one behind it, where there is one.
-fn past_of(last: Option<&Arc<Session>>) -> Result<Option<Past>, AllocError>
-    ensures { IfOk result (λ past. past ≡ session_in (option_copied last.entry)) }
+fn past_of(alloc: Global, last: Option<&Arc<Session>>) -> Result<Option<Past>, AllocError>
+    ensures { IfOk result (λ past. ArePastOf past (session_in (option_copied last.entry))) }
 {
     match last {
-        Some(session) => Ok(Some(Past::of(session)?)),
+        Some(session) => Ok(Some(Past::of(alloc, session)?)),
         None => Ok(None),
     }
 }

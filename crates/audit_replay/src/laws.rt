@@ -1,5 +1,5 @@
 //! What holds of sessions that passed an audit.
-ghost use Rattle.std.specs.Prelude.{ℕ, List, None};
+ghost use Rattle.std.specs.Prelude.{◌≡◌, ℕ, List, None, map};
 ghost use Rattle.std.specs.List.{AllByRecursion};
 ghost use Rattle.item_ids.specs.declared.key.Key.{Key};
 ghost use Rattle.recorder.specs.Projects.{Project};
@@ -7,7 +7,12 @@ ghost use Rattle.recorder.specs.Backed.{Meaning, ReadLists, RunnerLaws};
 ghost use Rattle.sessions.specs.Sessions.{SessionValue, IsSession};
 ghost use Rattle.graph_rules.specs.Next.{AreSources, AreMeant};
 ghost use Rattle.audit_graph.specs.declared.fault.AuditFault.TheVariants.{OtherRead, UnreadEdges, OtherResult};
-ghost use Rattle.audit_replay.specs.Audits.{ArePassed, AreRight, AreApart, AuditRefuses, last_entry};
+ghost use Rattle.result_bytes.specs.declared.value.Value.{Value};
+ghost use Rattle.sessions.specs.Spelling.{file_of};
+ghost use Rattle.audit_graph.specs.declared.fault.AuditFault.{AuditFault};
+ghost use Rattle.audit_graph.specs.declared.fault.AuditFault.TheVariants.{OutOfMemory};
+ghost use Rattle.audit_replay.specs.Audits.{ArePassed, AreRight, AreApart, AuditRefuses, IsAccepted, last_entry};
+ghost use Rattle.audit_replay.specs.RightChains.{IsRightChain};
 ghost use Rattle.audit_replay.specs.Refusals.{HasFirstWrong};
 
 use item_ids::ranks_in_order;
@@ -47,3 +52,20 @@ pub fn refused_records_are_wrong()
 {
     ranks_in_order();
 }
+
+/// The files of a chain of right sessions, of which the last has an answer, are refused for want of memory alone.
+pub fn right_chains_pass()
+    ensures { (mean : Meaning) (reads : ReadLists) (sessions : List SessionValue)
+        → IsRightChain mean reads sessions
+        → (old new : List Key) (fault : AuditFault)
+        → AuditRefuses mean reads (map file_of sessions) old new fault → fault ≡ OutOfMemory }
+{}
+
+/// Files that are accepted are those of such a chain, unless two different results in them have one print.
+pub fn accepted_are_right_chains()
+    ensures { (mean : Meaning) (reads : ReadLists) (files : List (List ℕ)) (old new : List Key)
+        (project : Project) (answer : Value) (count runs : ℕ)
+        → (accepted : IsAccepted mean reads files old new project answer count runs)
+        → AreApart accepted.sessions
+        → IsRightChain mean reads accepted.sessions }
+{}

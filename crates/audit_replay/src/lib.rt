@@ -16,4 +16,6 @@ mod session;
 
 pub use against::audit_against;
 pub use chain::{Audited, audit};
-pub use laws::{passed_are_right, refused_records_are_wrong};
+pub use laws::{
+    accepted_are_right_chains, passed_are_right, refused_records_are_wrong, right_chains_pass,
+};

@@ -1,5 +1,9 @@
 //! One session over the one before.
+ghost use Rattle.std.specs.Prelude.{◌≡◌, IfOk, Option};
 ghost use Rattle.std.specs.Option.{option_copied};
+ghost use Rattle.sessions.specs.Sessions.{SessionValue, entry_at};
+ghost use Rattle.audit_graph.specs.Kept.{ArePastOf};
+ghost use Rattle.audit_graph.specs.Sources.{HasSources};
 ghost use Rattle.audit_replay.specs.Logs.{LogGives, executed_keys};
 ghost use Rattle.audit_replay.specs.Passes.{SessionGives};
 
@@ -18,7 +22,10 @@ pub(crate) fn audit_session<R: Runner>(
     k: usize,
     session: &Session,
 ) -> Result<usize, AuditFault>
-    ensures gives { SessionGives R.mean R.reads (option_copied past.entry) k session.now result }
+    ensures gives { (was : Option SessionValue) → ArePastOf (option_copied past.entry) was
+        → SessionGives R.mean R.reads was k session.now result }
+    ensures sources { IfOk result
+        (λ _. (session.now.number ≡ k) × HasSources (entry_at session.now)) }
     ensures log { LogGives (executed_keys session.now) (R.log runner.old) (R.log runner.new)
         result }
 {

@@ -1,5 +1,5 @@
 -- Edges: what is read is spelled so, and what is spelled so is read.
-use Rattle.std.proofs.Common.{◌≡◌, ◌≢◌, ℕ, zero, suc, ◌+◌, ◌-◌, ◌<◌, ◌≤◌, ◌^◌, ◌&&◌, ◌||◌, Bool, true, false, not, cond, eqb, ltb, List, [], ◌∷◌, ◌++◌, length, get_or, Result, Ok, Err, refl, sym, ap, subst, ◌∙◌, append_assoc, arith}
+use Rattle.std.proofs.Common.{◌≡◌, ◌≢◌, ℕ, zero, suc, ◌+◌, ◌-◌, ◌<◌, ◌≤◌, ◌^◌, ◌&&◌, ◌||◌, Bool, true, false, not, cond, eqb, ltb, List, [], ◌∷◌, ◌++◌, length, get_or, Ok, Err, refl, sym, ap, subst, ◌∙◌, append_assoc, arith}
 use Rattle.std.specs.Prelude.{◌↔◌, IsTrue}
 use Rattle.std.specs.List.{AllByRecursion, flat_map}
 use Rattle.std.proofs.lemmas.Bool.{eqb-false, ne_eqb, ltb-true, lt-ltb}
@@ -16,9 +16,7 @@ use Rattle.sessions.proofs.Lists.{all_push, all_last, distinct_push, distinct_la
 use Rattle.sessions.proofs.EdgeLaws.{SoFar}
 use Rattle.session_file.specs.declared.fault.FileFault.{FileFault}
 use Rattle.session_file.specs.declared.fault.FileFault.TheVariants.{BadEdge}
-use Rattle.session_file.specs.declared.stop.Stop.{Stop}
-use Rattle.session_file.specs.declared.stop.Stop.TheVariants as stops
-use Rattle.session_file.specs.Reading.{Stops, whole, is_among, is_next_edge, edges_from}
+use Rattle.session_file.specs.Reading.{whole, is_among, is_next_edge, edges_from}
 use Rattle.session_file.proofs.ReadLaws.{done, ok_is, bind_ok, bind_is, guard_so, number_takes, number_again}
 
 both : (a b : Bool) → (a && b) ≡ true → (a ≡ true) × (b ≡ true)
@@ -141,33 +139,26 @@ edges_again front key (e ∷ items) edges rest few are =
 
 -- ---- the loop
 
-pub edges_go_on : (front : List RecordValue) (key : Key) (edges : List ℕ) (count i : ℕ) (bytes : List ℕ) (e : ℕ) (after : List ℕ) (total : Result (List ℕ × List ℕ) FileFault) → i < count → whole (eight_at bytes) ≡ Ok (e, after) → is_next_edge front key edges e ≡ true → edges_from front key edges (count - i) bytes ≡ total
-    → edges_from front key (edges ++ e ∷ []) (count - (i + 1)) after ≡ total
+pub edges_go_on : (front : List RecordValue) (key : Key) (edges : List ℕ) (count i : ℕ) (bytes : List ℕ) (e : ℕ) (after : List ℕ) → i < count → whole (eight_at bytes) ≡ Ok (e, after) → is_next_edge front key edges e ≡ true → edges_from front key edges (count - i) bytes ≡ edges_from front key (edges ++ e ∷ []) (count - (i + 1)) after
 unfolding edges_from
-edges_go_on front key edges count i bytes e after total lt h next so_far =
+edges_go_on front key edges count i bytes e after lt h next =
     let k : count - i ≡ suc (count - (i + 1)) = omega arith in
-    let one : edges_from front key edges (count - i) bytes ≡ edges_from front key (edges ++ e ∷ []) (count - (i + 1)) after = rw (k, h, next) refl in
-    sym one ∙ so_far
+    rw (k, h, next) refl
 
-pub edges_refused : (front : List RecordValue) (key : Key) (edges : List ℕ) (count i : ℕ) (bytes : List ℕ) (e : ℕ) (after : List ℕ) (total : Result (List ℕ × List ℕ) FileFault) → i < count → whole (eight_at bytes) ≡ Ok (e, after) → is_next_edge front key edges e ≡ false → edges_from front key edges (count - i) bytes ≡ total
-    → total ≡ Err (BadEdge (length front) (length edges))
+pub edges_refused : (front : List RecordValue) (key : Key) (edges : List ℕ) (count i : ℕ) (bytes : List ℕ) (e : ℕ) (after : List ℕ) → i < count → whole (eight_at bytes) ≡ Ok (e, after) → is_next_edge front key edges e ≡ false → edges_from front key edges (count - i) bytes ≡ Err (BadEdge (length front) (length edges))
 unfolding edges_from
-edges_refused front key edges count i bytes e after total lt h not_next so_far =
+edges_refused front key edges count i bytes e after lt h not_next =
     let k : count - i ≡ suc (count - (i + 1)) = omega arith in
-    let one : edges_from front key edges (count - i) bytes ≡ Err (BadEdge (length front) (length edges)) = rw (k, h, not_next) refl in
-    sym so_far ∙ one
+    rw (k, h, not_next) refl
 
-pub edges_end : (stop : Stop) (front : List RecordValue) (key : Key) (edges : List ℕ) (count i : ℕ) (bytes : List ℕ) (total : Result (List ℕ × List ℕ) FileFault) → i < count → Stops stop (whole (eight_at bytes)) → edges_from front key edges (count - i) bytes ≡ total → Stops stop total
+pub edges_break : (front : List RecordValue) (key : Key) (edges : List ℕ) (count i : ℕ) (bytes : List ℕ) (fault : FileFault) → i < count → whole (eight_at bytes) ≡ Err fault → edges_from front key edges (count - i) bytes ≡ Err fault
 unfolding edges_from
-edges_end stops.Memory front key edges count i bytes total lt h so_far = tt
-edges_end (stops.Breach fault) front key edges count i bytes total lt h so_far =
+edges_break front key edges count i bytes fault lt h =
     let k : count - i ≡ suc (count - (i + 1)) = omega arith in
-    let one : edges_from front key edges (count - i) bytes ≡ Err fault = rw (k, h) refl in
-    sym so_far ∙ one
+    rw (k, h) refl
 
-pub edges_done : (front : List RecordValue) (key : Key) (edges : List ℕ) (count i : ℕ) (bytes : List ℕ) (total : Result (List ℕ × List ℕ) FileFault) → count ≤ i → edges_from front key edges (count - i) bytes ≡ total → total ≡ Ok (edges, bytes)
+pub edges_done : (front : List RecordValue) (key : Key) (edges : List ℕ) (count i : ℕ) (bytes : List ℕ) → count ≤ i → edges_from front key edges (count - i) bytes ≡ Ok (edges, bytes)
 unfolding edges_from
-edges_done front key edges count i bytes total le so_far =
+edges_done front key edges count i bytes le =
     let k : count - i ≡ 0 = omega arith in
-    let one : edges_from front key edges (count - i) bytes ≡ Ok (edges, bytes) = rw k refl in
-    sym so_far ∙ one
+    rw k refl

@@ -1,9 +1,9 @@
 -- The file: what is read is spelled so, and what is spelled so is read.
-use Rattle.std.proofs.Common.{◌≡◌, ℕ, ◌-◌, ◌<◌, ◌≤◌, ◌^◌, Bool, true, false, cond, eqb, ltb, leb, List, [], ◌++◌, length, take, drop, Ok, Err, refl, sym, ap, subst, ◌∙◌, append_assoc, arith}
+use Rattle.std.proofs.Common.{◌≡◌, ℕ, ◌-◌, ◌<◌, ◌≤◌, ◌^◌, Bool, true, false, cond, eqb, ltb, leb, List, [], ◌++◌, length, take, drop, Result, Ok, Err, refl, sym, ap, subst, ◌∙◌, append_assoc, arith}
 use Rattle.std.specs.Prelude.{bytes_eq}
 use Rattle.std.specs.List.{flat_map}
-use Rattle.std.proofs.lemmas.Bool.{eqb-true, leb-true, le-leb, le-ltb}
-use Rattle.std.proofs.lemmas.List.{append-nil, length-append, take_at, nil_from_length, take-append-drop}
+use Rattle.std.proofs.lemmas.Bool.{eqb-true, leb-true, le-leb, le-ltb, ne_eqb}
+use Rattle.std.proofs.lemmas.List.{length-append, take_at, take-append-drop}
 use Rattle.std.proofs.lemmas.Slice.Eq.{bytes_eq-Decides}
 use Rattle.sha2.specs.Sha256.{sha256}
 use Rattle.sha2.proofs.Facts256.{length-sha256}
@@ -12,11 +12,11 @@ use Rattle.byte_readers.specs.Laws.{IsBytes-drop, Takes-then, lawful_two, lawful
 use Rattle.byte_readers.specs.Spelling.{two, four, eight}
 use Rattle.byte_readers.specs.Reading.{two_at, four_at, eight_at}
 use Rattle.sessions.specs.Sessions.{RecordValue, SessionValue, AreRecords, IsSession}
-use Rattle.sessions.specs.Spelling.{start, record_bytes, head_bytes, body_bytes, file_of, digest_of}
-use Rattle.session_file.specs.declared.fault.FileFault.TheVariants.{BadMagic, Version, Number, BadDigest}
-use Rattle.session_file.specs.Reading.{whole, bytes_at, demand, HeadValue, magic, magic_at, head_at, end_at, records_from, file_at}
+use Rattle.sessions.specs.Spelling.{start, record_bytes, head_bytes, body_bytes, file_of}
+use Rattle.session_file.specs.declared.fault.FileFault.{FileFault}
+use Rattle.session_file.specs.declared.fault.FileFault.TheVariants.{BadMagic, Version, Number, BadDigest, Trailing}
+use Rattle.session_file.specs.Reading.{whole, bytes_at, demand, HeadValue, magic, magic_at, head_at, end_at, records_from, front_at, session_at, file_at, ◌>>=◌}
 use Rattle.session_file.proofs.ReadLaws.{done, ok_is, bind_ok, bind_is, guard_ok, guard_so, tested_ok, tested_is, number_takes, number_again, bytes_takes, bytes_again}
-use Rattle.session_file.proofs.PartLaws.{digest_is}
 use Rattle.session_file.proofs.RecordsReadLaws.{records_take, records_again}
 
 magic_takes : (bytes rest : List ℕ) → IsBytes bytes → magic_at bytes ≡ Ok rest → Takes bytes magic rest
@@ -28,7 +28,7 @@ magic_takes bytes rest fits e =
     let front : take 4 bytes ≡ magic = (bytes_eq-Decides (take 4 bytes) magic).0 b.0 in
     subst (λ (xs : List ℕ). Takes bytes magic xs) is (record { parts = sym (take-append-drop 4 bytes) ∙ ap (λ (xs : List ℕ). xs ++ drop 4 bytes) front; rest_fits = IsBytes-drop 4 bytes fits })
 
-magic_again : (rest : List ℕ) → magic_at (magic ++ rest) ≡ Ok rest
+pub magic_again : (rest : List ℕ) → magic_at (magic ++ rest) ≡ Ok rest
 unfolding magic_at
 magic_again rest =
     let long : ltb (length (magic ++ rest)) 4 ≡ false = le-ltb _ _ (omega arith) in
@@ -91,22 +91,21 @@ head_again h rest fits =
 
 -- ---- the end
 
-pub end_takes : (body bytes : List ℕ) (u : Unit {0}) → IsBytes bytes → end_at body bytes ≡ Ok u → bytes ≡ sha256 body
+pub end_takes : (body bytes : List ℕ) (u : Unit {0}) (rest : List ℕ) → IsBytes bytes → end_at body bytes ≡ Ok (u, rest) → bytes ≡ sha256 body ++ rest
 unfolding end_at
-end_takes body bytes u fits e =
-    let a = bind_ok (bytes_at 32 bytes) _ u e in
-    let b = bind_ok (demand (bytes_eq a.0.0 (sha256 body)) BadDigest) _ u a.2 in
+end_takes body bytes u rest fits e =
+    let a = bind_ok (bytes_at 32 bytes) _ (u, rest) e in
+    let b = bind_ok (demand (bytes_eq a.0.0 (sha256 body)) BadDigest) _ (u, rest) a.2 in
     let t = bytes_takes 32 bytes a.0.0 a.0.1 fits a.1 in
     let digest : a.0.0 ≡ sha256 body = (bytes_eq-Decides a.0.0 (sha256 body)).0 (tested_ok _ _ b.0 b.1) in
-    let none : a.0.1 ≡ [] = nil_from_length a.0.1 (eqb-true _ _ (tested_ok _ _ u b.2)) in
-    t.0.parts ∙ ap (λ (xs : List ℕ). a.0.0 ++ xs) none ∙ append-nil a.0.0 ∙ digest
+    let left : a.0.1 ≡ rest = ap (λ (x : Unit {0} × List ℕ). x.1) (ok_is (tt, a.0.1) (u, rest) b.2) in
+    t.0.parts ∙ ap (λ (xs : List ℕ). xs ++ a.0.1) digest ∙ ap (λ (xs : List ℕ). sha256 body ++ xs) left
 
-pub end_again : (body : List ℕ) → end_at body (sha256 body) ≡ Ok tt
+pub end_again : (body rest : List ℕ) → end_at body (sha256 body ++ rest) ≡ Ok (tt, rest)
 unfolding end_at
-end_again body =
+end_again body rest =
     let same : bytes_eq (sha256 body) (sha256 body) ≡ true = (bytes_eq-Decides (sha256 body) (sha256 body)).1 refl in
-    ap (end_at body) (sym (append-nil (sha256 body)))
-    ∙ bind_is (bytes_at 32 (sha256 body ++ [])) _ (sha256 body, []) (bytes_again 32 (sha256 body) [] (length-sha256 body))
+    bind_is (bytes_at 32 (sha256 body ++ rest)) _ (sha256 body, rest) (bytes_again 32 (sha256 body) rest (length-sha256 body))
     ∙ bind_is (demand (bytes_eq (sha256 body) (sha256 body)) BadDigest) _ tt (tested_is _ _ same)
 
 -- ---- the file
@@ -116,14 +115,14 @@ unfolding body_bytes head_bytes two
 body_parts h records is = ap (λ (n : ℕ). (magic ++ (two 1 ++ (four h.number ++ (h.link ++ eight n)))) ++ flat_map record_bytes records) is
 
 -- what stands in front of the rest
-front_is : (bytes body rest : List ℕ) → bytes ≡ body ++ rest → take (length bytes - length rest) bytes ≡ body
+pub front_is : (bytes body rest : List ℕ) → bytes ≡ body ++ rest → take (length bytes - length rest) bytes ≡ body
 front_is bytes body rest is =
     let n : length bytes - length rest ≡ length body = omega (arith, ap (λ (xs : List ℕ). length xs) is, length-append body rest) in
     ap (λ (k : ℕ). take k bytes) n ∙ ap (λ (xs : List ℕ). take (length body) xs) is ∙ take_at body rest (length body) refl
 
-file_parts : (s : SessionValue) (body rest : List ℕ) → body ≡ body_bytes s → rest ≡ sha256 body → body ++ rest ≡ file_of s
+file_parts : (s : SessionValue) (body rest after : List ℕ) → body ≡ body_bytes s → rest ≡ sha256 body ++ after → body ++ rest ≡ file_of s ++ after
 unfolding file_of
-file_parts s body rest eb er = ap (λ (xs : List ℕ). body ++ xs) er ∙ ap (λ (xs : List ℕ). xs ++ sha256 xs) eb
+file_parts s body rest after eb er = ap (λ (xs : List ℕ). body ++ xs) er ∙ sym (append_assoc body (sha256 body) after) ∙ ap (λ (xs : List ℕ). (xs ++ sha256 xs) ++ after) eb
 
 pub no_records : AreRecords []
 no_records i r lt = absurd (omega (arith, lt))
@@ -148,32 +147,56 @@ front_taken bytes h middle records rest fits eh er =
       front = front_is bytes (body_bytes made) rest all.parts;
     }
 
-pub digest_taken : (bytes rest : List ℕ) (s : SessionValue) (body digest : List ℕ) → FrontIs bytes rest s → body ≡ take (length bytes - length rest) bytes → digest ≡ sha256 (body ++ sha256 body) → digest ≡ digest_of s
-digest_taken bytes rest s body digest front is e =
-    e ∙ ap (λ (xs : List ℕ). sha256 (xs ++ sha256 xs)) (is ∙ front.front) ∙ digest_is s
-
-pub file_takes : (bytes : List ℕ) (s : SessionValue) → IsBytes bytes → file_at bytes ≡ Ok s → IsSession s × (bytes ≡ file_of s)
-unfolding file_at
-file_takes bytes s fits e =
-    let a = bind_ok (head_at bytes) _ s e in
-    let b = bind_ok (records_from [] a.0.0.count a.0.1) _ s a.2 in
-    let d = bind_ok (end_at (take (length bytes - length b.0.1) bytes) b.0.1) _ s b.2 in
+-- what is read from the front is a session, and its file stands there
+pub front_takes : (bytes : List ℕ) (s : SessionValue) (rest : List ℕ) → IsBytes bytes → front_at bytes ≡ Ok (s, rest) → IsSession s × (bytes ≡ file_of s ++ rest)
+unfolding front_at
+front_takes bytes s rest fits e =
+    let a = bind_ok (head_at bytes) _ (s, rest) e in
+    let b = bind_ok (records_from [] a.0.0.count a.0.1) _ (s, rest) a.2 in
+    let d = bind_ok (end_at (take (length bytes - length b.0.1) bytes) b.0.1) _ (s, rest) b.2 in
     let made : SessionValue = record { number = a.0.0.number; link = a.0.0.link; records = b.0.0 } in
     let front = front_taken bytes a.0.0 a.0.1 b.0.0 b.0.1 fits a.1 b.1 in
-    let end = end_takes (take (length bytes - length b.0.1) bytes) b.0.1 d.0 front.takes.rest_fits d.1 in
-    subst (λ (x : SessionValue). IsSession x × (bytes ≡ file_of x)) (ok_is made s d.2)
-    (front.session, front.takes.parts ∙ file_parts made (body_bytes made) b.0.1 refl (end ∙ ap sha256 front.front))
+    let end = end_takes (take (length bytes - length b.0.1) bytes) b.0.1 d.0.0 d.0.1 front.takes.rest_fits d.1 in
+    subst (λ (x : SessionValue × List ℕ). IsSession x.0 × (bytes ≡ file_of x.0 ++ x.1)) (ok_is (made, d.0.1) (s, rest) d.2)
+    (front.session, front.takes.parts ∙ file_parts made (body_bytes made) b.0.1 d.0.1 refl (end ∙ ap (λ (xs : List ℕ). sha256 xs ++ d.0.1) front.front))
 
-pub file_again : (s : SessionValue) → IsSession s → file_at (file_of s) ≡ Ok s
-unfolding file_at file_of
-file_again s h =
+pub front_again : (s : SessionValue) (after : List ℕ) → IsSession s → front_at (file_of s ++ after) ≡ Ok (s, after)
+unfolding front_at file_of
+front_again s after h =
     let head : HeadValue = record { number = s.number; link = s.link; count = length s.records } in
     let records = flat_map record_bytes s.records in
-    let rest = sha256 (body_bytes s) in
+    let rest = sha256 (body_bytes s) ++ after in
     let body : head_of head ++ records ≡ body_bytes s = body_parts head s.records refl in
+    let all : (body_bytes s ++ sha256 (body_bytes s)) ++ after ≡ body_bytes s ++ rest = append_assoc (body_bytes s) (sha256 (body_bytes s)) after in
     let regrouped : body_bytes s ++ rest ≡ head_of head ++ (records ++ rest) = ap (λ (xs : List ℕ). xs ++ rest) (sym body) ∙ append_assoc (head_of head) records rest in
     let front : take (length (body_bytes s ++ rest) - length rest) (body_bytes s ++ rest) ≡ body_bytes s = front_is (body_bytes s ++ rest) (body_bytes s) rest refl in
     let one : head_at (body_bytes s ++ rest) ≡ Ok (head, records ++ rest) = ap head_at regrouped ∙ head_again head (records ++ rest) (record { number = h.number; link = h.link; count = h.few }) in
-    bind_is (head_at (body_bytes s ++ rest)) _ (head, records ++ rest) one
+    ap front_at all
+    ∙ bind_is (head_at (body_bytes s ++ rest)) _ (head, records ++ rest) one
     ∙ bind_is (records_from [] (length s.records) (records ++ rest)) _ (s.records, rest) (records_again s.records [] rest h.few h.records)
-    ∙ bind_is (end_at (take (length (body_bytes s ++ rest) - length rest) (body_bytes s ++ rest)) rest) _ tt (ap (λ (xs : List ℕ). end_at xs rest) front ∙ end_again (body_bytes s))
+    ∙ bind_is (end_at (take (length (body_bytes s ++ rest) - length rest) (body_bytes s ++ rest)) rest) _ (tt, after) (ap (λ (xs : List ℕ). end_at xs rest) front ∙ end_again (body_bytes s) after)
+
+-- ---- what is read where nothing stands behind it
+
+pub file_is_read : (bytes : List ℕ) (s : SessionValue) (rest : List ℕ) → front_at bytes ≡ Ok (s, rest) → rest ≡ [] → file_at bytes ≡ Ok s
+unfolding file_at
+file_is_read bytes s rest e none = rw (e, none) refl
+
+pub file_is_longer : (bytes : List ℕ) (s : SessionValue) (rest : List ℕ) → front_at bytes ≡ Ok (s, rest) → 0 < length rest → file_at bytes ≡ Err Trailing
+unfolding file_at
+file_is_longer bytes s rest e some = rw (e, ne_eqb (length rest) 0 (λ z. omega (arith, some, z))) refl
+
+-- the same breach
+pub file_breaks : (bytes : List ℕ) (fault : FileFault) → session_at bytes ≡ Err fault → file_at bytes ≡ Err fault
+unfolding file_at
+file_breaks bytes fault e = breaks (front_at bytes) e
+  where
+    breaks : (r : Result (SessionValue × List ℕ) FileFault) → (r >>= λ s. Ok s.0) ≡ Err fault → (r >>= λ s. demand (eqb (length s.1) 0) Trailing >>= λ u. Ok s.0) ≡ Err fault
+    breaks (Ok x) e = absurd cc
+    breaks (Err f) e = cc
+
+pub session_is : (bytes : List ℕ) (s : SessionValue) (rest : List ℕ) → front_at bytes ≡ Ok (s, rest) → session_at bytes ≡ Ok s
+session_is bytes s rest e = rw e refl
+
+pub session_breaks : (bytes : List ℕ) (fault : FileFault) → front_at bytes ≡ Err fault → session_at bytes ≡ Err fault
+session_breaks bytes fault e = rw e refl

@@ -7,3 +7,5 @@ pub mod EdgeReadLaws
 pub mod RecordReadLaws
 pub mod RecordsReadLaws
 pub mod FileLaws
+pub mod FeedLaws
+pub mod StepLaws

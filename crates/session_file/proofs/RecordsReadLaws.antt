@@ -1,5 +1,5 @@
 -- Records one after the other, and the file: what is read is spelled so, and what is spelled so is read.
-use Rattle.std.proofs.Common.{◌≡◌, ℕ, zero, suc, ◌+◌, ◌-◌, ◌<◌, ◌≤◌, ◌^◌, inl, inr, List, [], ◌∷◌, ◌++◌, length, take, get_or, Result, Ok, Err, refl, sym, ap, subst, ◌∙◌, append_assoc, arith}
+use Rattle.std.proofs.Common.{◌≡◌, ℕ, zero, suc, ◌+◌, ◌-◌, ◌<◌, ◌≤◌, ◌^◌, inl, inr, List, [], ◌∷◌, ◌++◌, length, take, get_or, Ok, Err, refl, sym, ap, subst, ◌∙◌, append_assoc, arith}
 use Rattle.std.specs.List.{flat_map}
 use Rattle.std.proofs.lemmas.Bool.{cases_eq}
 use Rattle.std.proofs.lemmas.List.{append-nil, length-append, take-append-le, take_at, length_push}
@@ -11,35 +11,29 @@ use Rattle.byte_readers.specs.Laws.{Takes-then}
 use Rattle.sessions.specs.Sessions.{RecordValue, FitsBehind, AreRecords}
 use Rattle.sessions.specs.Spelling.{record_bytes}
 use Rattle.session_file.specs.declared.fault.FileFault.{FileFault}
-use Rattle.session_file.specs.declared.stop.Stop.{Stop}
-use Rattle.session_file.specs.declared.stop.Stop.TheVariants as stops
-use Rattle.session_file.specs.Reading.{Stops, record_at, records_from}
+use Rattle.session_file.specs.Reading.{record_at, records_from}
 use Rattle.session_file.proofs.ReadLaws.{done, ok_is, bind_ok, bind_is}
 use Rattle.session_file.proofs.RecordReadLaws.{record_takes, record_again}
 
 -- ---- the loop
 
-pub records_go_on : (front : List RecordValue) (count i : ℕ) (bytes : List ℕ) (r : RecordValue) (after : List ℕ) (total : Result (List RecordValue × List ℕ) FileFault) → i < count → record_at front bytes ≡ Ok (r, after) → records_from front (count - i) bytes ≡ total → records_from (front ++ r ∷ []) (count - (i + 1)) after ≡ total
+pub records_go_on : (front : List RecordValue) (count i : ℕ) (bytes : List ℕ) (r : RecordValue) (after : List ℕ) → i < count → record_at front bytes ≡ Ok (r, after) → records_from front (count - i) bytes ≡ records_from (front ++ r ∷ []) (count - (i + 1)) after
 unfolding records_from
-records_go_on front count i bytes r after total lt h so_far =
+records_go_on front count i bytes r after lt h =
     let k : count - i ≡ suc (count - (i + 1)) = omega arith in
-    let one : records_from front (count - i) bytes ≡ records_from (front ++ r ∷ []) (count - (i + 1)) after = rw (k, h) refl in
-    sym one ∙ so_far
+    rw (k, h) refl
 
-pub records_end : (stop : Stop) (front : List RecordValue) (count i : ℕ) (bytes : List ℕ) (total : Result (List RecordValue × List ℕ) FileFault) → i < count → Stops stop (record_at front bytes) → records_from front (count - i) bytes ≡ total → Stops stop total
+pub records_break : (front : List RecordValue) (count i : ℕ) (bytes : List ℕ) (fault : FileFault) → i < count → record_at front bytes ≡ Err fault → records_from front (count - i) bytes ≡ Err fault
 unfolding records_from
-records_end stops.Memory front count i bytes total lt h so_far = tt
-records_end (stops.Breach fault) front count i bytes total lt h so_far =
+records_break front count i bytes fault lt h =
     let k : count - i ≡ suc (count - (i + 1)) = omega arith in
-    let one : records_from front (count - i) bytes ≡ Err fault = rw (k, h) refl in
-    sym so_far ∙ one
+    rw (k, h) refl
 
-pub records_done : (front : List RecordValue) (count i : ℕ) (bytes : List ℕ) (total : Result (List RecordValue × List ℕ) FileFault) → count ≤ i → records_from front (count - i) bytes ≡ total → total ≡ Ok (front, bytes)
+pub records_done : (front : List RecordValue) (count i : ℕ) (bytes : List ℕ) → count ≤ i → records_from front (count - i) bytes ≡ Ok (front, bytes)
 unfolding records_from
-records_done front count i bytes total le so_far =
+records_done front count i bytes le =
     let k : count - i ≡ 0 = omega arith in
-    let one : records_from front (count - i) bytes ≡ Ok (front, bytes) = rw k refl in
-    sym so_far ∙ one
+    rw k refl
 
 -- ---- records one after the other
 

@@ -2,3 +2,5 @@ pub mod Devices
 pub mod Parts
 pub mod Keys
 pub mod Reading
+pub mod Feeding
+pub mod Records

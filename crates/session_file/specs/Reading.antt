@@ -15,9 +15,7 @@ use Rattle.sessions.specs.declared.mark.Mark.{Mark}
 use Rattle.sessions.specs.Marks.{is_input, is_input_mark}
 use Rattle.sessions.specs.Sessions.{most_number, RecordValue, SessionValue, rank, key_at}
 use Rattle.session_file.specs.declared.fault.FileFault.{FileFault}
-use Rattle.session_file.specs.declared.fault.FileFault.TheVariants.{BadMagic, Version, Truncated, BadDigest, KeyOrder, BadEdge, Result as BadResult, InputKind, Trailing, BadKey, Number, OutOfMemory}
-use Rattle.session_file.specs.declared.stop.Stop.{Stop}
-use Rattle.session_file.specs.declared.stop.Stop.TheVariants as stops
+use Rattle.session_file.specs.declared.fault.FileFault.TheVariants.{BadMagic, Version, Truncated, BadDigest, KeyOrder, BadEdge, Result as BadResult, InputKind, Trailing, Device, BadKey, Number, OutOfMemory}
 use Rattle.session_file.specs.Keys.{same, key_with, mark_with}
 
 infixl 10 ◌>>=◌
@@ -30,14 +28,11 @@ abbrev pub ◌>>=◌ : {A B : Type 0} → Result A FileFault → (A → Result B
 abbrev pub Parser : Type 0 → Type 0
 Parser A = List ℕ → Result (A × List ℕ) FileFault
 
--- What a function returned, seen by view, is what reading gives, unless memory ran out.
-abbrev pub Stops : {Y : Type 0} → Stop → Result Y FileFault → Type 0
-Stops stops.Memory read = Unit {0}
-Stops (stops.Breach fault) read = read ≡ Err fault
-
-abbrev pub ReadsAs : {X Y : Type 0} → (X → Y) → Result X Stop → Result Y FileFault → Type 0
-ReadsAs view (Ok x) read = read ≡ Ok (view x)
-ReadsAs view (Err stop) read = Stops stop read
+-- the answer, unless memory ran out or the device failed
+abbrev pub IsUnlessStopped : {A : Type 0} → Result A FileFault → Result A FileFault → Type 0
+IsUnlessStopped (Err OutOfMemory) answer = Unit {0}
+IsUnlessStopped (Err Device) answer = Unit {0}
+IsUnlessStopped result answer = result ≡ answer
 
 -- the answer, unless memory ran out
 abbrev pub IsUnlessMemory : {A : Type 0} → Result A FileFault → Result A FileFault → Type 0
@@ -181,6 +176,12 @@ magic_at bytes =
     if nat_lt (length bytes) 4 then Err BadMagic
     else (if bytes_eq (take 4 bytes) magic then Ok (drop 4 bytes) else Err BadMagic)
 
+-- the same as a reader
+abbrev pub start_at : Parser (Unit {0})
+start_at bytes = do
+  rest ← magic_at bytes
+  Ok (tt, rest)
+
 unfoldable pub head_at : Parser HeadValue
 head_at bytes = do
   rest ← magic_at bytes
@@ -192,17 +193,29 @@ head_at bytes = do
   count ← whole (eight_at link.1)
   Ok (record { number = number.0; link = link.0; count = count.0 }, count.1)
 
--- the digest of all before it, and nothing behind
-unfoldable pub end_at : List ℕ → List ℕ → Result (Unit {0}) FileFault
+-- the digest of all before it
+unfoldable pub end_at : List ℕ → Parser (Unit {0})
 end_at body bytes = do
   digest ← bytes_at 32 bytes
   right ← demand (bytes_eq digest.0 (sha256 body)) BadDigest
-  demand (length digest.1 == 0) Trailing
+  Ok (tt, digest.1)
 
--- the session whose file the bytes are, or the first breach
-unfoldable pub file_at : List ℕ → Result SessionValue FileFault
-file_at bytes = do
+-- the session with whose file the bytes begin, or the first breach
+unfoldable pub front_at : Parser SessionValue
+front_at bytes = do
   head ← head_at bytes
   records ← records_from [] head.0.count head.1
   end ← end_at (take (length bytes - length records.1) bytes) records.1
-  Ok (record { number = head.0.number; link = head.0.link; records = records.0 })
+  Ok (record { number = head.0.number; link = head.0.link; records = records.0 }, end.1)
+
+abbrev pub session_at : List ℕ → Result SessionValue FileFault
+session_at bytes = do
+  s ← front_at bytes
+  Ok s.0
+
+-- the session whose file the bytes are, or the first breach; nothing stands behind the file
+unfoldable pub file_at : List ℕ → Result SessionValue FileFault
+file_at bytes = do
+  s ← front_at bytes
+  none ← demand (length s.1 == 0) Trailing
+  Ok s.0

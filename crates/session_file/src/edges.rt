@@ -1,9 +1,12 @@
 //! Edges of records.
 ghost use Rattle.std.specs.Prelude.{◌≡◌, false, List, ℕ, [], length};
 ghost use Rattle.std.specs.List.{AllByRecursion};
-ghost use Rattle.session_file.specs.Reading.{ReadsAs, edges_at, edges_from};
+ghost use Rattle.session_file.specs.Reading.{edges_at, edges_from};
+ghost use Rattle.session_file.specs.Feeding.{CountsStop, Feeds};
 
+use crate::device::Feed;
 use crate::fault::FileFault;
+use crate::hashing::HashingSink;
 use crate::parts::eight;
 use crate::stop::Stop;
 use item_ids::Key;
@@ -11,50 +14,58 @@ use sessions::{Record, SeenEdges};
 use std::alloc::Global;
 
 /// Reads the edges of a key behind the records in front.
-#[tactic(auto, unfolding(crate::specs::Reading::edges_at))]
-pub(crate) fn read_edges<'a>(
+pub(crate) fn read_edges<F: Feed>(
     alloc: Global,
+    feed: &mut F,
+    hash: &mut HashingSink,
     seen: &mut SeenEdges,
     front: &[Record],
     key: &Key,
-    bytes: &'a [u8],
-) -> Result<(Vec<usize>, &'a [u8]), Stop>
+) -> Result<Vec<usize>, Stop>
     requires length { length seen.old ≡ length front.now }
     requires unseen { AllByRecursion (λ b. b ≡ false) seen.old }
-    ensures value { ReadsAs (λ x. (x.0.items, x.1.now)) result
-        (edges_at front.now key.now bytes.now) }
+    ensures value { Feeds (F.holds feed.old) (F.holds feed.new) hash.old hash.new (λ x. x.items)
+        result (edges_at front.now key.now) }
+    ensures counted { CountsStop result (F.failed feed.old) (F.failed feed.new) }
     ensures length { length seen.new ≡ length seen.old }
 {
-    let (count, rest) = eight(bytes)?;
-    read_items(alloc, seen, front, key, count, rest)
+    match eight(feed, hash) {
+        Ok(count) => read_items(alloc, feed, hash, seen, front, key, count),
+        Err(stop) => Err(stop),
+    }
 }
 
-/// Reads so many edges.
-fn read_items<'a>(
+/// Reads so many edges. Memory is taken for those alone that were there.
+fn read_items<F: Feed>(
     alloc: Global,
+    feed: &mut F,
+    hash: &mut HashingSink,
     seen: &mut SeenEdges,
     front: &[Record],
     key: &Key,
     count: u64,
-    bytes: &'a [u8],
-) -> Result<(Vec<usize>, &'a [u8]), Stop>
+) -> Result<Vec<usize>, Stop>
     requires length { length seen.old ≡ length front.now }
     requires unseen { AllByRecursion (λ b. b ≡ false) seen.old }
-    ensures value { ReadsAs (λ x. (x.0.items, x.1.now)) result
-        (edges_from front.now key.now [] count bytes.now) }
+    ensures value { Feeds (F.holds feed.old) (F.holds feed.new) hash.old hash.new (λ x. x.items)
+        result (edges_from front.now key.now [] count) }
+    ensures counted { CountsStop result (F.failed feed.old) (F.failed feed.new) }
     ensures length { length seen.new ≡ length seen.old }
 {
     let mut edges = Vec::new(alloc);
-    let mut rest = bytes;
     for _ in 0..count {
-        let (edge, after) = eight(rest)?;
-        let edge = edge as usize;
+        let edge = match eight(feed, hash) {
+            Ok(edge) => edge as usize,
+            Err(stop) => return Err(stop),
+        };
         let admitted = seen.admit(front, key, edge);
         if !admitted {
             return Err(Stop::Breach(FileFault::BadEdge(front.len(), edges.len())));
         }
-        edges.push(edge)?;
-        rest = after;
+        match edges.push(edge) {
+            Ok(()) => {}
+            Err(_) => return Err(Stop::Memory),
+        }
     }
-    Ok((edges, rest))
+    Ok(edges)
 }

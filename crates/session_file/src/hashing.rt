@@ -31,6 +31,24 @@ impl HashingSink {
         }
     }
 
+    /// Appends the bytes.
+    pub(crate) fn add(&mut self, bytes: &[u8])
+        ensures { (front : List ℕ) → Holds256 self.old.hasher front
+            → Holds256 self.new.hasher (front ++ bytes.now) }
+    {
+        self.hasher.update(bytes);
+    }
+
+    /// The SHA-256 of the bytes that it holds. It goes on holding them.
+    pub(crate) fn so_far(&self) -> [u8; 32]
+        ensures { (bytes : List ℕ) → Holds256 self.now.hasher bytes → result ≡ sha256 bytes }
+    {
+        match self.hasher.clone() {
+            Ok(copy) => copy.finalize(),
+            Err(_) => unreachable!(),
+        }
+    }
+
     /// Appends the SHA-256 of the bytes that it holds, and answers it.
     pub(crate) fn close(&mut self) -> [u8; 32]
         ensures holds { (bytes : List ℕ) → Holds256 self.old.hasher bytes

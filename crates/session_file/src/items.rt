@@ -3,9 +3,12 @@ ghost use Rattle.std.specs.Prelude.{◌≡◌, ◌≤◌, length, IfOk, IfSome, 
 ghost use Rattle.std.specs.Str.{is_utf8};
 ghost use Rattle.mj_lexer.specs.Bytes.{most_name_bytes};
 ghost use Rattle.session_file.specs.Keys.{key_of_kind, key_with, kind_with, mark_with};
-ghost use Rattle.session_file.specs.Reading.{ReadsAs, item_at, item_with};
+ghost use Rattle.session_file.specs.Reading.{item_at, item_with};
+ghost use Rattle.session_file.specs.Feeding.{CountsStop, Feeds};
 
+use crate::device::Feed;
 use crate::fault::FileFault;
+use crate::hashing::HashingSink;
 use crate::parts::{byte, text};
 use crate::stop::Stop;
 use item_ids::{Key, Kind};
@@ -30,17 +33,38 @@ impl Model for Item {
 }
 
 /// Reads the key and the mark of the record at an index.
-#[tactic(auto, unfolding(crate::specs::Reading::item_at))]
-pub(crate) fn read_item(alloc: Global, index: usize, bytes: &[u8]) -> Result<(Item, &[u8]), Stop>
-    ensures { ReadsAs (λ x. (x.0, x.1.now)) result (item_at index bytes.now) }
+pub(crate) fn read_item<F: Feed>(
+    alloc: Global,
+    feed: &mut F,
+    hash: &mut HashingSink,
+    index: usize,
+) -> Result<Item, Stop>
+    ensures value { Feeds (F.holds feed.old) (F.holds feed.new) hash.old hash.new (λ x. x) result
+        (item_at index) }
+    ensures counted { CountsStop result (F.failed feed.old) (F.failed feed.new) }
 {
-    let (kind, rest) = byte(bytes)?;
-    let (class, rest) = text(rest)?;
-    let (member, rest) = text(rest)?;
-    let (mark, rest) = byte(rest)?;
-    match item_of(alloc, kind, class, member, mark)? {
-        Some(item) => Ok((item, rest)),
-        None => Err(Stop::Breach(FileFault::BadKey(index))),
+    let mut class_room = [0; 255];
+    let mut member_room = [0; 255];
+    let kind = match byte(feed, hash) {
+        Ok(kind) => kind,
+        Err(stop) => return Err(stop),
+    };
+    let class = match text(feed, hash, &mut class_room) {
+        Ok(count) => &class_room[..count],
+        Err(stop) => return Err(stop),
+    };
+    let member = match text(feed, hash, &mut member_room) {
+        Ok(count) => &member_room[..count],
+        Err(stop) => return Err(stop),
+    };
+    let mark = match byte(feed, hash) {
+        Ok(mark) => mark,
+        Err(stop) => return Err(stop),
+    };
+    match item_of(alloc, kind, class, member, mark) {
+        Ok(Some(item)) => Ok(item),
+        Ok(None) => Err(Stop::Breach(FileFault::BadKey(index))),
+        Err(_) => Err(Stop::Memory),
     }
 }
 

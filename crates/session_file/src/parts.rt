@@ -1,86 +1,148 @@
 //! Parts of a file that have a length.
-ghost use Rattle.std.specs.Prelude.{◌≡◌, ◌≤◌, length, IfOk};
-ghost use Rattle.mj_lexer.specs.Bytes.{most_name_bytes};
+ghost use Rattle.std.specs.Prelude.{◌≡◌, ◌≤◌, length, take, IfOk};
 ghost use Rattle.byte_readers.specs.Reading.{byte_at, two_at, four_at, eight_at};
-ghost use Rattle.session_file.specs.Reading.{ReadsAs, bytes_at, text_at, demand, whole};
+ghost use Rattle.session_file.specs.Reading.{bytes_at, text_at, whole};
+ghost use Rattle.mj_lexer.specs.Bytes.{most_name_bytes};
+ghost use Rattle.session_file.specs.Feeding.{Appends, CountsStop, Feeds};
 
-use crate::fault::FileFault;
+use crate::device::Feed;
+use crate::feeding::pull;
+use crate::hashing::HashingSink;
 use crate::stop::Stop;
-use byte_readers::{ReadError, read_byte, read_eight, read_four, read_two};
+use std::alloc::Global;
 
-/// One byte.
-pub(crate) fn byte(bytes: &[u8]) -> Result<(u8, &[u8]), Stop>
-    ensures { ReadsAs (λ x. (x.0, x.1.now)) result (whole (byte_at bytes.now)) }
+/// A number of eight bytes.
+pub(crate) fn eight<F: Feed>(feed: &mut F, hash: &mut HashingSink) -> Result<u64, Stop>
+    ensures value { Feeds (F.holds feed.old) (F.holds feed.new) hash.old hash.new (λ x. x) result
+        (λ bytes. whole (eight_at bytes)) }
+    ensures counted { CountsStop result (F.failed feed.old) (F.failed feed.new) }
 {
-    match read_byte(bytes) {
-        Ok(found) => Ok(found),
-        Err(ReadError::Memory) => Err(Stop::Memory),
-        Err(ReadError::Breach(_)) => Err(Stop::Breach(FileFault::Truncated)),
-    }
-}
-
-/// A number of two bytes.
-pub(crate) fn two(bytes: &[u8]) -> Result<(u16, &[u8]), Stop>
-    ensures { ReadsAs (λ x. (x.0, x.1.now)) result (whole (two_at bytes.now)) }
-{
-    match read_two(bytes) {
-        Ok(found) => Ok(found),
-        Err(ReadError::Memory) => Err(Stop::Memory),
-        Err(ReadError::Breach(_)) => Err(Stop::Breach(FileFault::Truncated)),
+    let mut room = [0; 8];
+    match pull(feed, hash, &mut room) {
+        Ok(()) => Ok(u64::from_be_bytes(room)),
+        Err(stop) => Err(stop),
     }
 }
 
 /// A number of four bytes.
-pub(crate) fn four(bytes: &[u8]) -> Result<(u32, &[u8]), Stop>
-    ensures { ReadsAs (λ x. (x.0, x.1.now)) result (whole (four_at bytes.now)) }
+pub(crate) fn four<F: Feed>(feed: &mut F, hash: &mut HashingSink) -> Result<u32, Stop>
+    ensures value { Feeds (F.holds feed.old) (F.holds feed.new) hash.old hash.new (λ x. x) result
+        (λ bytes. whole (four_at bytes)) }
+    ensures counted { CountsStop result (F.failed feed.old) (F.failed feed.new) }
 {
-    match read_four(bytes) {
-        Ok(found) => Ok(found),
-        Err(ReadError::Memory) => Err(Stop::Memory),
-        Err(ReadError::Breach(_)) => Err(Stop::Breach(FileFault::Truncated)),
+    let mut room = [0; 4];
+    match pull(feed, hash, &mut room) {
+        Ok(()) => Ok(u32::from_be_bytes(room)),
+        Err(stop) => Err(stop),
     }
 }
 
-/// A number of eight bytes.
-pub(crate) fn eight(bytes: &[u8]) -> Result<(u64, &[u8]), Stop>
-    ensures { ReadsAs (λ x. (x.0, x.1.now)) result (whole (eight_at bytes.now)) }
+/// A number of two bytes.
+pub(crate) fn two<F: Feed>(feed: &mut F, hash: &mut HashingSink) -> Result<u16, Stop>
+    ensures value { Feeds (F.holds feed.old) (F.holds feed.new) hash.old hash.new (λ x. x) result
+        (λ bytes. whole (two_at bytes)) }
+    ensures counted { CountsStop result (F.failed feed.old) (F.failed feed.new) }
 {
-    match read_eight(bytes) {
-        Ok(found) => Ok(found),
-        Err(ReadError::Memory) => Err(Stop::Memory),
-        Err(ReadError::Breach(_)) => Err(Stop::Breach(FileFault::Truncated)),
+    let mut room = [0; 2];
+    match pull(feed, hash, &mut room) {
+        Ok(()) => Ok(u16::from_be_bytes(room)),
+        Err(stop) => Err(stop),
     }
 }
 
-/// So many bytes.
-#[tactic(auto, unfolding(crate::specs::Reading::bytes_at))]
-pub(crate) fn bytes(count: usize, bytes: &[u8]) -> Result<(&[u8], &[u8]), Stop>
-    ensures value { ReadsAs (λ x. (x.0.now, x.1.now)) result (bytes_at count bytes.now) }
-    ensures count { IfOk result (λ x. length x.0.now ≡ count) }
+/// One byte.
+pub(crate) fn byte<F: Feed>(feed: &mut F, hash: &mut HashingSink) -> Result<u8, Stop>
+    ensures value { Feeds (F.holds feed.old) (F.holds feed.new) hash.old hash.new (λ x. x) result
+        (λ bytes. whole (byte_at bytes)) }
+    ensures counted { CountsStop result (F.failed feed.old) (F.failed feed.new) }
 {
-    if bytes.len() < count {
-        return Err(Stop::Breach(FileFault::Truncated));
+    let mut room = [0; 1];
+    match pull(feed, hash, &mut room) {
+        Ok(()) => Ok(room[0]),
+        Err(stop) => Err(stop),
     }
-    Ok(bytes.split_at(count))
 }
 
-/// One byte of length, and so many bytes.
-#[tactic(auto, unfolding(crate::specs::Reading::text_at))]
-pub(crate) fn text(source: &[u8]) -> Result<(&[u8], &[u8]), Stop>
-    ensures value { ReadsAs (λ x. (x.0.now, x.1.now)) result (text_at source.now) }
-    ensures short { IfOk result (λ x. length x.0.now ≤ most_name_bytes) }
+/// The bytes of a digest.
+pub(crate) fn thirty_two<F: Feed>(feed: &mut F, hash: &mut HashingSink) -> Result<[u8; 32], Stop>
+    ensures value { Feeds (F.holds feed.old) (F.holds feed.new) hash.old hash.new (λ x. x) result
+        (bytes_at 32) }
+    ensures counted { CountsStop result (F.failed feed.old) (F.failed feed.new) }
 {
-    let (count, rest) = byte(source)?;
-    bytes(count as usize, rest)
+    let mut room = [0; 32];
+    match pull(feed, hash, &mut room) {
+        Ok(()) => Ok(room),
+        Err(stop) => Err(stop),
+    }
 }
 
-/// A test, else a fault.
-pub(crate) fn demand(holds: bool, fault: FileFault) -> Result<(), Stop>
-    ensures { ReadsAs (λ x. x) result (demand holds fault) }
+/// One byte of length, and so many bytes, which are moved to the front of the room. Answers how many there are.
+pub(crate) fn text<F: Feed>(
+    feed: &mut F,
+    hash: &mut HashingSink,
+    room: &mut [u8; 255],
+) -> Result<usize, Stop>
+    ensures value { Feeds (F.holds feed.old) (F.holds feed.new) hash.old hash.new
+        (λ count. take count room.new) result text_at }
+    ensures short { IfOk result (λ count. count ≤ most_name_bytes) }
+    ensures counted { CountsStop result (F.failed feed.old) (F.failed feed.new) }
 {
-    if holds {
-        Ok(())
-    } else {
-        Err(Stop::Breach(fault))
+    match byte(feed, hash) {
+        Ok(count) => {
+            let count = count as usize;
+            match pull(feed, hash, &mut room[..count]) {
+                Ok(()) => Ok(count),
+                Err(stop) => Err(stop),
+            }
+        }
+        Err(stop) => Err(stop),
+    }
+}
+
+/// The greatest number of bytes that are taken at a time.
+const PIECE: usize = 1024;
+
+/// So many bytes. Memory is taken for those alone that were there.
+pub(crate) fn bytes<F: Feed>(
+    alloc: Global,
+    feed: &mut F,
+    hash: &mut HashingSink,
+    count: u64,
+) -> Result<Vec<u8>, Stop>
+    ensures value { Feeds (F.holds feed.old) (F.holds feed.new) hash.old hash.new (λ x. x.items) result
+        (bytes_at count) }
+    ensures counted { CountsStop result (F.failed feed.old) (F.failed feed.new) }
+{
+    let mut text = Vec::new(alloc);
+    let mut left = count;
+    while left > 0 {
+        let step = left.min(PIECE as u64);
+        match piece(feed, hash, &mut text, step as usize) {
+            Ok(()) => left -= step,
+            Err(stop) => return Err(stop),
+        }
+    }
+    Ok(text)
+}
+
+/// Takes so many bytes, and appends them to the text.
+fn piece<F: Feed>(
+    feed: &mut F,
+    hash: &mut HashingSink,
+    text: &mut Vec<u8>,
+    count: usize,
+) -> Result<(), Stop>
+    requires { count ≤ 1024 }
+    ensures value { Appends (F.holds feed.old) (F.holds feed.new) hash.old hash.new text.old.items
+        text.new.items count result }
+    ensures counted { CountsStop result (F.failed feed.old) (F.failed feed.new) }
+{
+    let mut room = [0; PIECE];
+    match pull(feed, hash, &mut room[..count]) {
+        Ok(()) => {
+            text.extend_from_slice(&room[..count])?;
+            Ok(())
+        }
+        Err(stop) => Err(stop),
     }
 }

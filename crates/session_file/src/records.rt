@@ -1,14 +1,17 @@
 //! Records from a file.
-ghost use Rattle.std.specs.Prelude.{◌≡◌, false, [], length};
+ghost use Rattle.std.specs.Prelude.{◌≡◌, false, [], length, IfErr, OnOk};
 ghost use Rattle.std.specs.Arc.{arc_value};
 ghost use Rattle.std.specs.List.{AllByRecursion};
 ghost use Rattle.std.specs.Option.{option_copied};
-ghost use Rattle.session_file.specs.Reading.{ReadsAs, is_behind, check_place, record_at, records_from, rest_at};
+ghost use Rattle.session_file.specs.Reading.{is_behind, check_place, record_at, records_from, rest_at};
+ghost use Rattle.session_file.specs.Feeding.{CountsStop, Feeds, is_device};
+ghost use Rattle.session_file.specs.Records.{AppendsRecord};
 
+use crate::device::Feed;
 use crate::edges::read_edges;
 use crate::fault::FileFault;
+use crate::hashing::HashingSink;
 use crate::items::{Item, read_item};
-use crate::parts::demand;
 use crate::results::read_result;
 use crate::stop::Stop;
 use fingerprint::Sealed;
@@ -24,63 +27,96 @@ struct Rest {
     sealed: Arc<Sealed>,
 }
 
-/// Reads so many records.
-pub(crate) fn read_records(
+/// Reads so many records. Memory is taken for those alone that were there.
+pub(crate) fn read_records<F: Feed>(
     alloc: Global,
+    feed: &mut F,
+    hash: &mut HashingSink,
     count: u64,
-    bytes: &[u8],
-) -> Result<(Vec<Record>, &[u8]), Stop>
-    ensures { ReadsAs (λ x. (x.0.items, x.1.now)) result (records_from [] count bytes.now) }
+) -> Result<Vec<Record>, Stop>
+    ensures value { Feeds (F.holds feed.old) (F.holds feed.new) hash.old hash.new (λ x. x.items)
+        result (records_from [] count) }
+    ensures counted { CountsStop result (F.failed feed.old) (F.failed feed.new) }
 {
     let mut seen = SeenEdges::new(alloc);
     let mut records = Vec::new(alloc);
-    let mut rest = bytes;
     for _ in 0..count {
-        let (next, after) = read_record(alloc, &mut seen, &records, rest)?;
-        records.push(next)?;
-        seen.next()?;
-        rest = after;
+        match next_record(alloc, feed, hash, &mut seen, &mut records) {
+            Ok(()) => {}
+            Err(stop) => return Err(stop),
+        }
     }
-    Ok((records, rest))
+    Ok(records)
+}
+
+/// Reads the record behind those in front, and puts it there.
+fn next_record<F: Feed>(
+    alloc: Global,
+    feed: &mut F,
+    hash: &mut HashingSink,
+    seen: &mut SeenEdges,
+    records: &mut Vec<Record>,
+) -> Result<(), Stop>
+    requires length { length seen.old ≡ length records.old.items }
+    requires unseen { AllByRecursion (λ b. b ≡ false) seen.old }
+    ensures value { AppendsRecord (F.holds feed.old) (F.holds feed.new) hash.old hash.new
+        records.old.items records.new.items result }
+    ensures counted { CountsStop result (F.failed feed.old) (F.failed feed.new) }
+    ensures length { OnOk result (length seen.new ≡ length records.new.items) }
+    ensures unseen { OnOk result (AllByRecursion (λ b. b ≡ false) seen.new) }
+{
+    match read_record(alloc, feed, hash, seen, records) {
+        Ok(next) => {
+            records.push(next)?;
+            seen.next()?;
+            Ok(())
+        }
+        Err(stop) => Err(stop),
+    }
 }
 
 /// Reads the record behind those in front.
-#[tactic(auto, unfolding(crate::specs::Reading::record_at))]
-fn read_record<'a>(
+fn read_record<F: Feed>(
     alloc: Global,
+    feed: &mut F,
+    hash: &mut HashingSink,
     seen: &mut SeenEdges,
     front: &[Record],
-    bytes: &'a [u8],
-) -> Result<(Record, &'a [u8]), Stop>
+) -> Result<Record, Stop>
     requires length { length seen.old ≡ length front.now }
     requires unseen { AllByRecursion (λ b. b ≡ false) seen.old }
-    ensures value { ReadsAs (λ x. (x.0, x.1.now)) result (record_at front.now bytes.now) }
+    ensures value { Feeds (F.holds feed.old) (F.holds feed.new) hash.old hash.new (λ x. x) result
+        (record_at front.now) }
+    ensures counted { CountsStop result (F.failed feed.old) (F.failed feed.new) }
     ensures length { length seen.new ≡ length seen.old }
 {
-    let (item, rest) = read_item(alloc, front.len(), bytes)?;
-    check_place(front, &item)?;
-    match read_rest(alloc, seen, front, &item.key, rest) {
-        Ok((rest, after)) => Ok((
-            Record::new(item.key, item.mark, rest.edges, rest.sealed),
-            after,
-        )),
+    let item = match read_item(alloc, feed, hash, front.len()) {
+        Ok(item) => item,
+        Err(stop) => return Err(stop),
+    };
+    match check_place(front, &item) {
+        Ok(()) => {}
+        Err(fault) => return Err(Stop::Breach(fault)),
+    }
+    match read_rest(alloc, feed, hash, seen, front, &item.key) {
+        Ok(rest) => Ok(Record::new(item.key, item.mark, rest.edges, rest.sealed)),
         Err(stop) => Err(stop),
     }
 }
 
 /// The key is greater than the one before, and it is an input just where it is marked so.
 #[tactic(auto, unfolding(crate::specs::Reading::check_place))]
-fn check_place(front: &[Record], item: &Item) -> Result<(), Stop>
-    ensures { ReadsAs (λ x. x) result (check_place front.now item.now) }
+fn check_place(front: &[Record], item: &Item) -> Result<(), FileFault>
+    ensures value { result ≡ check_place front.now item.now }
+    ensures breach { IfErr result (λ fault. is_device fault ≡ false) }
 {
-    demand(
-        is_behind(front.last(), &item.key),
-        FileFault::KeyOrder(front.len()),
-    )?;
-    demand(
-        is_marked(item.mark, item.key.kind()),
-        FileFault::InputKind(front.len()),
-    )
+    if !is_behind(front.last(), &item.key) {
+        return Err(FileFault::KeyOrder(front.len()));
+    }
+    if !is_marked(item.mark, item.key.kind()) {
+        return Err(FileFault::InputKind(front.len()));
+    }
+    Ok(())
 }
 
 /// Whether a key is greater than that of the last record, where there is one.
@@ -94,26 +130,28 @@ fn is_behind(last: Option<&Record>, key: &Key) -> bool
 }
 
 /// Reads what stands behind a key and its mark.
-#[tactic(auto, unfolding(crate::specs::Reading::rest_at))]
-fn read_rest<'a>(
+fn read_rest<F: Feed>(
     alloc: Global,
+    feed: &mut F,
+    hash: &mut HashingSink,
     seen: &mut SeenEdges,
     front: &[Record],
     key: &Key,
-    bytes: &'a [u8],
-) -> Result<(Rest, &'a [u8]), Stop>
+) -> Result<Rest, Stop>
     requires length { length seen.old ≡ length front.now }
     requires unseen { AllByRecursion (λ b. b ≡ false) seen.old }
-    ensures value { ReadsAs (λ x. (
-      record { edges = x.0.edges.items; value = arc_value x.0.sealed },
-      x.1.now,
-    ))
-        result (rest_at front.now key.now bytes.now) }
+    ensures value { Feeds (F.holds feed.old) (F.holds feed.new) hash.old hash.new
+        (λ x. record { edges = x.edges.items; value = arc_value x.sealed }) result
+        (rest_at front.now key.now) }
+    ensures counted { CountsStop result (F.failed feed.old) (F.failed feed.new) }
     ensures length { length seen.new ≡ length seen.old }
 {
-    let (edges, rest) = read_edges(alloc, seen, front, key, bytes)?;
-    match read_result(alloc, front.len(), key.kind(), rest) {
-        Ok((sealed, after)) => Ok((Rest { edges, sealed }, after)),
+    let edges = match read_edges(alloc, feed, hash, seen, front, key) {
+        Ok(edges) => edges,
+        Err(stop) => return Err(stop),
+    };
+    match read_result(alloc, feed, hash, front.len(), key.kind()) {
+        Ok(sealed) => Ok(Rest { edges, sealed }),
         Err(stop) => Err(stop),
     }
 }

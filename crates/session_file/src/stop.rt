@@ -10,6 +10,8 @@ use std::alloc::{AllocError, AllocFailed};
 pub enum Stop {
     /// Memory ran out.
     Memory,
+    /// The device failed.
+    Device,
     /// The bytes have this breach.
     Breach(FileFault),
 }

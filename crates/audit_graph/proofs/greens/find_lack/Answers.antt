@@ -1,37 +1,38 @@
 use Rattle.std.proofs.Common.{◌∙◌, ap}
 use Rattle.fingerprint.specs.Prints.{print_of}
 use Rattle.audit_graph.proofs.GreenRules.{other_edges, same_edges, other_print, stands_there}
+use Rattle.audit_graph.proofs.KeptRules.{long}
 use Rattle.audit_graph.proofs.greens.find_lack.Goals as goal
 
 pub returns-then-not-are_same : goal.returns-then-not-are_same
-returns-then-not-are_same c =
+returns-then-not-are_same c = λ was p.
     let key = c.key.ensures in
-    other_edges c.args.past.now c.args.session.now c.in-Some.ensures.session c.args.item.now c.in-Some.at c.in-Some.ensures.within c.edges-old.result.now
-    (rw key at c.in-Some.ensures.found) c.edges-old.ensures.edges (rw c.edges.ensures at c.if-not-are_same.ensures)
+    other_edges was c.args.session.now p.session c.args.item.now c.in-Some.at (rw (long c.args.past.now was p) at c.in-Some.ensures.within) c.edges-old.result.now
+    (rw key at (c.in-Some.ensures.found was p)) (c.edges-old.ensures.edges was p) (rw c.edges.ensures at (c.if-not-are_same.ensures.same was p))
 
 pub returns-in-Some-first_red : goal.returns-in-Some-first_red
-returns-in-Some-first_red c =
+returns-in-Some-first_red c = λ was p.
     let key = c.key.ensures in (
-      same_edges c.args.past.now c.args.session.now c.in-Some.ensures.session c.args.item.now c.in-Some.at c.in-Some.ensures.within c.edges-old.result.now
-          (rw key at c.in-Some.ensures.found) c.edges-old.ensures.edges (rw c.edges.ensures at c.if-not-are_same.ensures),
-      rw c.edges-2.ensures at c.in-Some-first_red.ensures,
+      same_edges was c.args.session.now p.session c.args.item.now c.in-Some.at (rw (long c.args.past.now was p) at c.in-Some.ensures.within) c.edges-old.result.now
+          (rw key at (c.in-Some.ensures.found was p)) (c.edges-old.ensures.edges was p) (rw c.edges.ensures at (c.if-not-are_same.ensures.same was p)),
+      rw c.edges-2.ensures at (c.in-Some-first_red.ensures was p (rw c.edges-2.ensures (rw c.edges.ensures at (c.if-not-are_same.ensures.same was p)))),
     )
 
 pub returns-then-not-same_print : goal.returns-then-not-same_print
-returns-then-not-same_print c =
+returns-then-not-same_print c = λ was p.
     let key = c.key.ensures in (
-      same_edges c.args.past.now c.args.session.now c.in-Some.ensures.session c.args.item.now c.in-Some.at c.in-Some.ensures.within c.edges-old.result.now
-          (rw key at c.in-Some.ensures.found) c.edges-old.ensures.edges (rw c.edges.ensures at c.if-not-are_same.ensures),
-      rw c.edges-2.ensures at c.in_default-first_red.ensures,
-      other_print c.args.past.now c.args.session.now c.in-Some.ensures.session c.args.item.now c.in-Some.at c.in-Some.ensures.within c.edges-old.result.now
-          (rw key at c.in-Some.ensures.found) c.edges-old.ensures.edges c.print.result.0 c.print-2.result.0 c.print.ensures
+      same_edges was c.args.session.now p.session c.args.item.now c.in-Some.at (rw (long c.args.past.now was p) at c.in-Some.ensures.within) c.edges-old.result.now
+          (rw key at (c.in-Some.ensures.found was p)) (c.edges-old.ensures.edges was p) (rw c.edges.ensures at (c.if-not-are_same.ensures.same was p)),
+      rw c.edges-2.ensures at (c.in_default-first_red.ensures was p (rw c.edges-2.ensures (rw c.edges.ensures at (c.if-not-are_same.ensures.same was p)))),
+      other_print was c.args.session.now p.session c.args.item.now c.in-Some.at (rw (long c.args.past.now was p) at c.in-Some.ensures.within) c.edges-old.result.now
+          (rw key at (c.in-Some.ensures.found was p)) (c.edges-old.ensures.edges was p) c.print.result.0 c.print-2.result.0 (c.print.ensures was p)
           (c.print-2.ensures ∙ ap print_of (c.deref.ensures ∙ c.sealed.ensures)) c.if-not-same_print.ensures,
     )
 
 pub returns : goal.returns
-returns c =
+returns c = λ was p.
     let key = c.key.ensures in
-    stands_there c.args.past.now c.args.session.now c.in-Some.ensures.session c.args.item.now c.in-Some.at c.in-Some.ensures.within c.edges-old.result.now
-    (rw key at c.in-Some.ensures.found) c.edges-old.ensures.edges c.print.result.0 c.print-2.result.0 c.print.ensures
-    (c.print-2.ensures ∙ ap print_of (c.deref.ensures ∙ c.sealed.ensures)) (rw c.edges.ensures at c.if-not-are_same.ensures)
-    (rw c.edges-2.ensures at c.in_default-first_red.ensures) c.if-not-same_print.ensures
+    stands_there was c.args.session.now p.session c.args.item.now c.in-Some.at (rw (long c.args.past.now was p) at c.in-Some.ensures.within) c.edges-old.result.now
+    (rw key at (c.in-Some.ensures.found was p)) (c.edges-old.ensures.edges was p) c.print.result.0 c.print-2.result.0 (c.print.ensures was p)
+    (c.print-2.ensures ∙ ap print_of (c.deref.ensures ∙ c.sealed.ensures)) (rw c.edges.ensures at (c.if-not-are_same.ensures.same was p))
+    (rw c.edges-2.ensures at (c.in_default-first_red.ensures was p (rw c.edges-2.ensures (rw c.edges.ensures at (c.if-not-are_same.ensures.same was p))))) c.if-not-same_print.ensures

@@ -1,16 +1,42 @@
-use Rattle.std.proofs.Common.{rules, ◌≡◌, Ok, Err, sym, ◌∙◌, ap, arith}
-use Rattle.session_file.specs.Reading.{file_at}
-use Rattle.session_file.proofs.FileLaws.{file_takes, file_again}
+use Rattle.std.proofs.Common.{rules, ◌≡◌, ◌<◌, ◌++◌, length, [], List, ℕ, sym, ap, ◌∙◌, arith, Ok}
+use Rattle.std.proofs.lemmas.List.{append-nil, nil_from_length}
+use Rattle.sessions.specs.Spelling.{file_of}
+use Rattle.session_file.specs.Reading.{front_at}
+use Rattle.session_file.proofs.FileLaws.{front_again, file_is_read, file_is_longer}
+use Rattle.session_file.proofs.StepLaws.{front_whole, memory_breach}
 use Rattle.session_file.proofs.files.read.Goals as goal
 
-pub returns-in-Ok-clause-found : goal.returns-in-Ok-clause-found
-returns-in-Ok-clause-found c = file_takes c.args.bytes.now c.in-Ok.session (λ i. omega (arith, c.type_inv.bytes i)) c.in-Ok.ensures
+pub returns-then-is_empty-clause-found : goal.returns-then-is_empty-clause-found
+returns-then-is_empty-clause-found c =
+    let l = c.in-Ok.ensures.found.left c.args.bytes.now c.new-feed.ensures in
+    let len : length c.read_from.new.feed.rest.now ≡ 0 = search rules in
+    let none : c.read_from.new.feed.rest.now ≡ [] = nil_from_length c.read_from.new.feed.rest.now len in
+    (c.in-Ok.ensures.session, l.whole ∙ ap (λ (xs : List ℕ). file_of c.in-Ok.session ++ xs) (sym l.holds ∙ none) ∙ append-nil (file_of c.in-Ok.session))
 
-pub returns-in-Ok-clause-only : goal.returns-in-Ok-clause-only
-returns-in-Ok-clause-only c = λ s h is. sym c.in-Ok.ensures ∙ ap file_at is ∙ file_again s h
+pub returns-then-is_empty-clause-only : goal.returns-then-is_empty-clause-only
+returns-then-is_empty-clause-only c = λ s h is.
+    let l = c.in-Ok.ensures.found.left c.args.bytes.now c.new-feed.ensures in
+    ap (λ x. Ok x) (front_whole c.args.bytes.now c.in-Ok.session l.rest s c.in-Ok.ensures.session l.whole h is).same
 
-pub returns-in-Err-Breach-clause-only : goal.returns-in-Err-Breach-clause-only
-returns-in-Err-Breach-clause-only c = λ s h is.
-    let e : file_at c.args.bytes.now ≡ Err c.in-Err-Breach.fault = search rules in
-    let no : Err c.in-Err-Breach.fault ≡ Ok s = sym e ∙ ap file_at is ∙ file_again s h in
-    absurd cc
+pub returns-then-is_empty-clause-exact : goal.returns-then-is_empty-clause-exact
+returns-then-is_empty-clause-exact c =
+    let l = c.in-Ok.ensures.found.left c.args.bytes.now c.new-feed.ensures in
+    let len : length c.read_from.new.feed.rest.now ≡ 0 = search rules in
+    let none : c.read_from.new.feed.rest.now ≡ [] = nil_from_length c.read_from.new.feed.rest.now len in
+    sym (file_is_read c.args.bytes.now c.in-Ok.session l.rest (ap front_at l.whole ∙ front_again c.in-Ok.session l.rest c.in-Ok.ensures.session) (sym l.holds ∙ none))
+
+pub returns-else-is_empty-clause-only : goal.returns-else-is_empty-clause-only
+returns-else-is_empty-clause-only c = λ s h is.
+    let l = c.in-Ok.ensures.found.left c.args.bytes.now c.new-feed.ensures in
+    let some : 0 < length c.read_from.new.feed.rest.now = search rules in
+    let none = l.holds ∙ (front_whole c.args.bytes.now c.in-Ok.session l.rest s c.in-Ok.ensures.session l.whole h is).none in
+    absurd (omega (arith, some, ap (λ (xs : List ℕ). length xs) none))
+
+pub returns-else-is_empty-clause-exact : goal.returns-else-is_empty-clause-exact
+returns-else-is_empty-clause-exact c =
+    let l = c.in-Ok.ensures.found.left c.args.bytes.now c.new-feed.ensures in
+    let some : 0 < length c.read_from.new.feed.rest.now = search rules in
+    sym (file_is_longer c.args.bytes.now c.in-Ok.session l.rest (ap front_at l.whole ∙ front_again c.in-Ok.session l.rest c.in-Ok.ensures.session) (omega (arith, some, ap (λ (xs : List ℕ). length xs) l.holds)))
+
+pub returns-in-Err-clause-exact : goal.returns-in-Err-clause-exact
+returns-in-Err-clause-exact c = memory_breach c.args.bytes.now c.in-Err.fault c.in-Err.ensures.counted (c.in-Err.ensures.exact c.args.bytes.now c.new-feed.ensures)

@@ -1,20 +1,21 @@
-use Rattle.std.proofs.lemmas.Result.{err_from_is_err_and}
-use Rattle.std.proofs.Common.{arith}
-use Rattle.std.proofs.lemmas.List.{length_push}
-use Rattle.session_file.proofs.RecordsReadLaws.{records_go_on, records_end, records_done}
+use Rattle.std.proofs.Common.{◌++◌, ◌∷◌, [], ◌-◌, ◌+◌, ◌∙◌}
+use Rattle.session_file.specs.Reading.{records_from}
+use Rattle.session_file.proofs.RecordsReadLaws.{records_go_on, records_break, records_done}
+use Rattle.session_file.proofs.FeedLaws.{leads_step, leads_done, leads_halts}
 use Rattle.session_file.proofs.records.read_records.Goals as goal
 
-pub returns-in_err-next : goal.returns-in_err-next
-returns-in_err-next c =
-    let p = err_from_is_err_and c.from_residual.result c.from_residual.ensures.1 in
-    rw (p.1, p.2) (records_end c.in_err-next.field-0.0 c.loop.records.items c.args.count c.loop.counter c.loop.rest.now _ c.loop-test.true (rw c.deref.ensures.value at c.in_err-next.ensures.value) c.loop.invariant.value)
+pub returns-in-Err-clause-value : goal.returns-in-Err-clause-value
+returns-in-Err-clause-value g c = leads_halts c.in-Err.stop c.loop.invariant.lead c.in-Err.ensures.value (λ bytes fault e. records_break c.loop.records.items c.args.count c.loop.counter bytes fault c.loop-test.true e)
 
 pub loop-preserved : goal.loop-preserved
-loop-preserved c = rw c.in_ok-push.ensures.items record {
-  length = omega (arith, c.in_ok-next-2.ensures.length, c.in_ok-next.ensures.length, c.loop.invariant.length, length_push c.loop.records.items c.in_ok-next.next);
-  unseen = c.in_ok-next-2.ensures.unseen;
-  value = records_go_on c.loop.records.items c.args.count c.loop.counter c.loop.rest.now c.in_ok-next.next c.in_ok-next.after.now _ c.loop-test.true (rw c.deref.ensures.value at c.in_ok-next.ensures.value) c.loop.invariant.value;
-}
+loop-preserved g c =
+    let t = c.in-Ok.ensures.value in
+    record {
+      length = c.in-Ok.ensures.length;
+      unseen = c.in-Ok.ensures.unseen;
+      lead = rw t.appended (leads_step (records_from (c.loop.records.items ++ t.next ∷ []) (c.args.count - (c.loop.counter + 1))) c.loop.invariant.lead t.took (λ bytes rest e. records_go_on c.loop.records.items c.args.count c.loop.counter bytes t.next rest c.loop-test.true e));
+      failed = c.in-Ok.ensures.counted ∙ c.loop.invariant.failed;
+    }
 
-pub returns : goal.returns
-returns c = records_done c.loop.records.items c.args.count c.loop.counter c.loop.rest.now _ c.loop-test.false c.loop.invariant.value
+pub returns-clause-value : goal.returns-clause-value
+returns-clause-value g c = leads_done c.loop.records.items c.loop.invariant.lead (λ rest. records_done c.loop.records.items c.args.count c.loop.counter rest c.loop-test.false)

@@ -1,0 +1,299 @@
+-- Chains of right sessions are refused for want of memory alone.
+use Rattle.std.proofs.Common.{◌≡◌, inl, inr, ℕ, suc, zero, ◌+◌, ◌<◌, true, false, cond, List, [], ◌∷◌, ◌++◌, map, find, length, get_or, Option, Some, None, option_map, Ok, Err, refl, sym, ap, ◌∙◌, subst, arith, append-nil, bytes_eq}
+use Rattle.std.specs.Prelude.{◌≢◌, Contains}
+use Rattle.std.specs.List.{AllByRecursion}
+use Rattle.std.proofs.lemmas.Option.{none-some, same_Some, slice_get_within, get_or_from_slice_get}
+use Rattle.std.proofs.lemmas.List.{get_or-map, length-map}
+use Rattle.std.proofs.lemmas.List.Elements.{at_from_Contains}
+use Rattle.std.proofs.lemmas.Slice.Eq.{bytes_eq-Decides}
+use Rattle.item_ids.specs.declared.key.Key.{Key}
+use Rattle.item_ids.specs.declared.key.Key.TheVariants.{Files, Source, Tree, Index, Header, Method, Sig, Supers, Members, CheckClass, CheckBody, Diags, Answer}
+use Rattle.item_ids.specs.declared.kind.Kind.TheVariants as kinds
+use Rattle.item_ids.specs.Keys.{kind_of}
+use Rattle.result_bytes.specs.declared.value.Value.{Value}
+use Rattle.result_bytes.specs.declared.value.Value.TheVariants as values
+use Rattle.mj_project.specs.Projects.{SourceFile, names_of}
+use Rattle.recorder.specs.Projects.{Project, bytes_at}
+use Rattle.recorder.specs.Backed.{Meaning, ReadLists}
+use Rattle.sessions.specs.Sessions.{SessionValue, IsSession, Entry, entry_of, entries, entry_at, past_entry}
+use Rattle.sessions.specs.Spelling.{file_of}
+use Rattle.sessions.proofs.EntryRules.{entry_of_place}
+use Rattle.session_file.specs.Reading.{file_at, front_at}
+use Rattle.session_file.proofs.FileLaws.{front_again, file_is_read}
+use Rattle.graph_rules.specs.Pasts.{Past}
+use Rattle.graph_rules.specs.Next.{AreSources, IsRight}
+use Rattle.audit_graph.specs.Chains.{IsLinked, AreLinked}
+use Rattle.audit_graph.specs.Sources.{HasFiles, HasBytes, source_keys}
+use Rattle.audit_graph.specs.Steps.{IsMissing, IsStray, IsFirstLack, StepGives}
+use Rattle.audit_graph.specs.declared.greens.Lack.{Lack}
+use Rattle.audit_graph.specs.declared.fault.AuditFault.{AuditFault}
+use Rattle.audit_graph.specs.declared.fault.AuditFault.TheVariants as faults
+use Rattle.audit_graph.proofs.Entries.{contains_first, contains_later, contains_cases}
+use Rattle.audit_replay.specs.declared.mismatch.Mismatch.{Mismatch}
+use Rattle.audit_replay.specs.declared.mismatch.Mismatch.TheVariants.{OtherRead, UnreadEdges, OtherResult, OutOfMemory}
+use Rattle.audit_replay.specs.Reruns.{IsFirstMismatch, RefusesPlan}
+use Rattle.audit_replay.specs.Passes.{RunsWithin, SessionRefuses, FileRefuses}
+use Rattle.audit_replay.specs.Audits.{AreRight, AreApart, IsAccepted, IsRefusedBehind, AuditRefuses, last_of, last_entry}
+use Rattle.audit_replay.specs.RightChains.{IsRightChain}
+use Rattle.audit_replay.proofs.Lists.{contains_there}
+use Rattle.audit_replay.proofs.RefusalRules.{differs}
+
+nowhere : {X : Type 0} (x : X) → Contains [] x → ⊥
+nowhere x h = let a = at_from_Contains [] x h in absurd (omega (arith, a.1))
+
+-- ---- the files of a project
+
+bytes_named : (p : Project) (file : List ℕ) → Contains (names_of p) file → (b : List ℕ) × (bytes_at p file ≡ Some b)
+bytes_named [] file c = absurd (nowhere file c)
+bytes_named (f ∷ fs) file c =
+    (elim (bytes_eq f.name file) as (λ b. bytes_eq f.name file ≡ b → (t : List ℕ) × (option_map (λ (g : SourceFile). g.bytes) (cond b (Some f) (find (λ (g : SourceFile). bytes_eq g.name file) fs)) ≡ Some t)) [
+      | true ↦ λ same. (f.bytes, refl)
+      | false ↦ λ other. bytes_named fs file (elim (contains_cases f.name (names_of fs) file c) [
+        | inl same ↦ absurd (let t : true ≡ false = sym ((bytes_eq-Decides f.name file).1 same) ∙ other in cc)
+        | inr later ↦ later
+      ])
+    ]) refl
+
+source_there : (names : List (List ℕ)) (file : List ℕ) → Contains names file → Contains (source_keys names) (Source file)
+source_there [] file c = absurd (nowhere file c)
+source_there (n ∷ ns) file c = elim (contains_cases n ns file c) [
+  | inl same ↦ subst (λ (m : List ℕ). Contains (source_keys (n ∷ ns)) (Source m)) same (contains_first (Source n) (source_keys ns))
+  | inr later ↦ contains_later (Source n) (source_keys ns) (Source file) (source_there ns file later)
+]
+
+source_of : (names : List (List ℕ)) (q : Key) → Contains (source_keys names) q → (file : List ℕ) × Contains names file × (Source file ≡ q)
+source_of [] q c = absurd (nowhere q c)
+source_of (n ∷ ns) q c = elim (contains_cases (Source n) (source_keys ns) q c) [
+  | inl same ↦ (n, contains_first n ns, same)
+  | inr later ↦ (let h = source_of ns q later in (h.0, contains_later n ns h.0 h.1, h.2))
+]
+
+source_key : (k : Key) → kind_of k ≡ kinds.Source → (file : List ℕ) × (k ≡ Source file)
+source_key Files e = absurd (cc)
+source_key (Source file) e = (file, refl)
+source_key (Tree file) e = absurd (cc)
+source_key Index e = absurd (cc)
+source_key (Header c) e = absurd (cc)
+source_key (Method c m) e = absurd (cc)
+source_key (Sig c m) e = absurd (cc)
+source_key (Supers c) e = absurd (cc)
+source_key (Members c) e = absurd (cc)
+source_key (CheckClass c) e = absurd (cc)
+source_key (CheckBody c m) e = absurd (cc)
+source_key (Diags c) e = absurd (cc)
+source_key Answer e = absurd (cc)
+
+module _ (now : Past) (p : Project) (sources : AreSources now p) where
+  has_bytes : (q : Key) → Contains (source_keys (names_of p)) q → HasBytes now q
+  has_bytes q c =
+      let f = source_of (names_of p) q c in
+      let x = sources.each f.0 f.1 in
+      let b = bytes_named p f.0 f.1 in
+      subst (HasBytes now) f.2 (record { entry = x.0; bytes = b.0; has = x.1; value = x.2 ∙ ap (λ (o : Option (List ℕ)). values.Source o) b.1 })
+
+  held_names : (names : List (List ℕ)) → HasFiles now names → names ≡ names_of p
+  held_names names files =
+      let e : files.entry ≡ sources.files.0 = same_Some _ _ (sym files.has ∙ sources.files.1) in
+      let v : values.Files names ≡ values.Files (names_of p) = sym files.value ∙ (ap (λ (x : Entry). x.value) e ∙ sources.files.2) in
+      cc
+
+-- ---- one session
+
+item_at : {X : Type 0} (xs : List X) (i : ℕ) → i < length xs → (x : X) × (get_or xs i x ≡ x)
+item_at [] i lt = absurd (omega arith)
+item_at (x ∷ xs) zero lt = (x, refl)
+item_at (x ∷ xs) (suc i) lt = item_at xs i (omega arith)
+
+-- an entry is what the session tells of its key
+told_of_entry : (s : SessionValue) → IsSession s → (r : Entry) → Contains (entries s) r → entry_at s r.key ≡ Some r
+told_of_entry s session r c =
+    let lt : c.0 < length s.records = let l = c.1 in omega (arith, l, length-map s.records (entry_of s.records)) in
+    let x = item_at s.records c.0 lt in
+    let e : entry_of s.records x.0 ≡ r = ap (entry_of s.records) (sym x.1) ∙ (sym (get_or-map (entry_of s.records) s.records c.0 x.0 r lt) ∙ c.2) in
+    subst (λ (y : Entry). entry_at s y.key ≡ Some y) e (entry_of_place s session c.0 x.0 lt x.1)
+
+module _ (mean : Meaning) (reads : ReadLists) (past : Option SessionValue) (k : ℕ) (s : SessionValue) (session : IsSession s) (linked : IsLinked past k s)
+    (right : IsRight mean reads (past_entry past) (entry_at s)) where
+  abbrev sources : AreSources (entry_at s) right.project
+  sources = right.of_project.sources
+
+  not_missing : (f : ℕ) → IsMissing s f → ⊥
+  not_missing f m =
+      let same = held_names (entry_at s) right.project sources m.names m.files in
+      let c = contains_there (source_keys m.names) f m.first.item m.first.here in
+      m.first.lacks (has_bytes (entry_at s) right.project sources m.first.item (subst (λ (ns : List (List ℕ)). Contains (source_keys ns) m.first.item) same c))
+
+  not_stray : (n : ℕ) → IsStray s n → ⊥
+  not_stray n m =
+      let same = held_names (entry_at s) right.project sources m.names m.files in
+      let c = contains_there (entries s) n m.first.item m.first.here in
+      let has = told_of_entry s session m.first.item c in
+      m.first.lacks (λ kind.
+      let f = source_key m.first.item.key kind in
+      let inn = sources.others f.0 m.first.item (ap (entry_at s) (sym f.1) ∙ has) in
+      subst (Contains (source_keys m.names)) (sym f.1) (source_there m.names f.0 (subst (λ (ns : List (List ℕ)). Contains ns f.0) (sym same) inn)))
+
+  not_lack : (n : ℕ) (why : Lack) → IsFirstLack past s n why → ⊥
+  not_lack n why m =
+      let c = contains_there (entries s) n m.first.item m.first.here in
+      m.first.lacks (right.greens m.first.item.key m.first.item (told_of_entry s session m.first.item c))
+
+  not_step : (fault : AuditFault) → StepGives past k s (Err fault) → fault ≡ faults.OutOfMemory
+  not_step faults.EmptyChain g = absurd g
+  not_step (faults.File j f) g = absurd g
+  not_step (faults.BrokenLink j) g = absurd (g.1 linked)
+  not_step (faults.NoFiles j) g = absurd (none-some sources.files.0 (sym g.2 ∙ sources.files.1))
+  not_step (faults.MissingSource j f) g = absurd (not_missing f g.2)
+  not_step (faults.StraySource j n) g = absurd (not_stray n g.2)
+  not_step (faults.GreenWithoutPast j n) g = absurd (not_lack n _ g.1.first)
+  not_step (faults.OtherEdges j n) g = absurd (not_lack n _ g.1.first)
+  not_step (faults.GreenOverRed j n i) g = absurd (not_lack n _ g.1.first)
+  not_step (faults.GreenPrint j n) g = absurd (not_lack n _ g.1.first)
+  not_step (faults.OtherRead j n i) g = absurd g
+  not_step (faults.UnreadEdges j n) g = absurd g
+  not_step (faults.OtherResult j n) g = absurd g
+  not_step faults.NoAnswer g = absurd g
+  not_step faults.SourcesDiffer g = absurd g
+  not_step faults.OutOfMemory g = refl
+
+  no_mismatch : (n : ℕ) (why : Mismatch) → (why ≢ OutOfMemory) → IsFirstMismatch mean reads s n why → ⊥
+  no_mismatch n why other first =
+      let within = slice_get_within s.records n first.item first.here in
+      let r = entry_of s.records first.item in
+      let has = entry_of_place s session n first.item within (get_or_from_slice_get s.records n first.item first.item first.here) in
+      let m = right.of_project.meant first.item.key r has in
+      differs mean reads (entry_at s) right.project sources.project r (λ e x c is. (right.of_project.meant e x is).0) why other first.differs m.0 m.1
+
+  not_plan : (fault : AuditFault) → RefusesPlan mean reads k s fault → fault ≡ faults.OutOfMemory
+  not_plan faults.EmptyChain g = absurd g
+  not_plan (faults.File j f) g = absurd g
+  not_plan (faults.BrokenLink j) g = absurd g
+  not_plan (faults.NoFiles j) g = absurd g
+  not_plan (faults.MissingSource j f) g = absurd g
+  not_plan (faults.StraySource j n) g = absurd g
+  not_plan (faults.GreenWithoutPast j n) g = absurd g
+  not_plan (faults.OtherEdges j n) g = absurd g
+  not_plan (faults.GreenOverRed j n i) g = absurd g
+  not_plan (faults.GreenPrint j n) g = absurd g
+  not_plan (faults.OtherRead j n i) g = absurd (no_mismatch n (OtherRead i) (λ e. absurd (cc)) g.1)
+  not_plan (faults.UnreadEdges j n) g = absurd (no_mismatch n UnreadEdges (λ e. absurd (cc)) g.1)
+  not_plan (faults.OtherResult j n) g = absurd (no_mismatch n OtherResult (λ e. absurd (cc)) g.1)
+  not_plan faults.NoAnswer g = absurd g
+  not_plan faults.SourcesDiffer g = absurd g
+  not_plan faults.OutOfMemory g = refl
+
+  not_session : (fault : AuditFault) → SessionRefuses mean reads past k s fault → fault ≡ faults.OutOfMemory
+  not_session fault (inl g) = not_step fault g
+  not_session fault (inr g) = not_plan fault g.1
+
+-- ---- files
+
+file_again : (s : SessionValue) → IsSession s → file_at (file_of s) ≡ Ok s
+file_again s h = file_is_read (file_of s) s [] (ap front_at (sym (append-nil (file_of s))) ∙ front_again s [] h) refl
+
+one_session : (s t : SessionValue) → IsSession s → IsSession t → file_of s ≡ file_of t → s ≡ t
+one_session s t a b e = let o : Ok s ≡ Ok t = sym (file_again s a) ∙ (ap file_at e ∙ file_again t b) in cc
+
+module _ (mean : Meaning) (reads : ReadLists) (past : Option SessionValue) (k : ℕ) (s : SessionValue) (session : IsSession s) (linked : IsLinked past k s)
+    (right : IsRight mean reads (past_entry past) (entry_at s)) (file : List ℕ) (spelled : file_of s ≡ file) (old new : List Key) where
+  some_session : (fault : AuditFault) → (t : SessionValue) × RunsWithin file old new t × SessionRefuses mean reads past k t fault → fault ≡ faults.OutOfMemory
+  some_session fault g =
+      let same : g.0 ≡ s = one_session g.0 s g.1.session session (g.1.spelled ∙ sym spelled) in
+      not_session mean reads past k s session linked right fault (subst (λ (x : SessionValue). SessionRefuses mean reads past k x fault) same g.2)
+
+  not_file : (fault : AuditFault) → FileRefuses mean reads past k file old new fault → fault ≡ faults.OutOfMemory
+  not_file (faults.File j f) g = absurd (let o : Ok s ≡ Err f = sym (file_again s session) ∙ (ap file_at spelled ∙ g.1) in cc)
+  not_file faults.OutOfMemory g = refl
+  not_file faults.EmptyChain g = some_session faults.EmptyChain g
+  not_file (faults.BrokenLink j) g = some_session (faults.BrokenLink j) g
+  not_file (faults.NoFiles j) g = some_session (faults.NoFiles j) g
+  not_file (faults.MissingSource j f) g = some_session (faults.MissingSource j f) g
+  not_file (faults.StraySource j n) g = some_session (faults.StraySource j n) g
+  not_file (faults.GreenWithoutPast j n) g = some_session (faults.GreenWithoutPast j n) g
+  not_file (faults.OtherEdges j n) g = some_session (faults.OtherEdges j n) g
+  not_file (faults.GreenOverRed j n i) g = some_session (faults.GreenOverRed j n i) g
+  not_file (faults.GreenPrint j n) g = some_session (faults.GreenPrint j n) g
+  not_file (faults.OtherRead j n i) g = some_session (faults.OtherRead j n i) g
+  not_file (faults.UnreadEdges j n) g = some_session (faults.UnreadEdges j n) g
+  not_file (faults.OtherResult j n) g = some_session (faults.OtherResult j n) g
+  not_file faults.NoAnswer g = some_session faults.NoAnswer g
+  not_file faults.SourcesDiffer g = some_session faults.SourcesDiffer g
+
+-- ---- chains
+
+same_sessions : (a b : List SessionValue) → AllByRecursion IsSession a → AllByRecursion IsSession b → map file_of a ≡ map file_of b → a ≡ b
+same_sessions [] [] ia ib e = refl
+same_sessions [] (t ∷ ts) ia ib e = absurd (let h : [] ≡ (file_of t ∷ map file_of ts) = e in cc)
+same_sessions (s ∷ ss) [] ia ib e = absurd (let h : (file_of s ∷ map file_of ss) ≡ [] = e in cc)
+same_sessions (s ∷ ss) (t ∷ ts) ia ib e =
+    let h : (file_of s ∷ map file_of ss) ≡ (file_of t ∷ map file_of ts) = e in
+    let first : file_of s ≡ file_of t = cc in
+    let rest : map file_of ss ≡ map file_of ts = cc in
+    ap (λ (x : SessionValue). x ∷ ss) (one_session s t ia.0 ib.0 first) ∙ ap (λ (xs : List SessionValue). t ∷ xs) (same_sessions ss ts ia.1 ib.1 rest)
+
+module _ (mean : Meaning) (reads : ReadLists) where
+  -- the file behind the first ones is that of a session which is linked to the last of those and right over it
+  pub record IsRightBehind (past : Option SessionValue) (k : ℕ) (bytes : List ℕ) : Type 0 where
+    pub session : SessionValue
+    pub is : IsSession session
+    pub spelled : file_of session ≡ bytes
+    pub linked : IsLinked past k session
+    pub right : IsRight mean reads (past_entry past) (entry_at session)
+
+  behind : (front : List SessionValue) (bytes : List ℕ) (rest : List (List ℕ)) (ss : List SessionValue) (past : Option SessionValue) (k n : ℕ) → n ≡ k + length front
+      → map file_of front ++ bytes ∷ rest ≡ map file_of ss → AllByRecursion IsSession front → AllByRecursion IsSession ss → AreLinked past k ss → AreRight mean reads past ss
+      → IsRightBehind (last_of past front) n bytes
+  behind [] bytes rest [] past k n many e ia ib linked right = absurd (let h : (bytes ∷ rest) ≡ [] = e in cc)
+  behind [] bytes rest (s ∷ ss) past k n many e ia ib linked right =
+      let h : (bytes ∷ rest) ≡ (file_of s ∷ map file_of ss) = e in
+      let same : k ≡ n = omega (arith, many) in
+      record { session = s; is = ib.0; spelled = cc; linked = subst (λ m. IsLinked past m s) same linked.0; right = right.0 }
+  behind (t ∷ ts) bytes rest [] past k n many e ia ib linked right = absurd (let h : (file_of t ∷ (map file_of ts ++ bytes ∷ rest)) ≡ [] = e in cc)
+  behind (t ∷ ts) bytes rest (s ∷ ss) past k n many e ia ib linked right =
+      let h : (file_of t ∷ (map file_of ts ++ bytes ∷ rest)) ≡ (file_of s ∷ map file_of ss) = e in
+      let first : file_of s ≡ file_of t = cc in
+      let later : map file_of ts ++ bytes ∷ rest ≡ map file_of ss = cc in
+      let same : s ≡ t = one_session s t ib.0 ia.0 first in
+      let next : n ≡ k + 1 + length ts = omega (arith, many) in
+      subst (λ (x : SessionValue). IsRightBehind (last_of (Some x) ts) n bytes) same (behind ts bytes rest ss (Some s) (k + 1) n next later ia.1 ib.1 linked.1 right.1)
+
+  module _ (sessions : List SessionValue) (chain : IsRightChain mean reads sessions) (files : List (List ℕ)) (spelled : map file_of sessions ≡ files) (old new : List Key) where
+    refused_behind : (fault : AuditFault) → IsRefusedBehind mean reads files old new fault → fault ≡ faults.OutOfMemory
+    refused_behind fault r =
+        let n = length r.front in
+        let b = behind r.front r.file_bytes r.rest sessions None 0 n (omega arith) (r.spelled ∙ sym spelled) r.each chain.each chain.chain chain.right in
+        not_file mean reads (last_of None r.front) n b.session b.is b.linked b.right r.file_bytes b.spelled _ new fault r.refused
+
+    none_files : (ss : List SessionValue) → (last_entry ss Answer ≢ None) → map file_of ss ≡ [] → ⊥
+    none_files [] answered e = answered refl
+    none_files (s ∷ ss) answered e = absurd (let h : (file_of s ∷ map file_of ss) ≡ [] = e in cc)
+
+    pub refused : (fault : AuditFault) → AuditRefuses mean reads files old new fault → fault ≡ faults.OutOfMemory
+    refused faults.EmptyChain r = absurd (none_files sessions chain.answered (spelled ∙ r.0))
+    refused faults.NoAnswer r =
+        let same : r.1.sessions ≡ sessions = same_sessions r.1.sessions sessions r.1.passed.each chain.each (r.1.passed.spelled ∙ sym spelled) in
+        absurd (chain.answered (subst (λ (ss : List SessionValue). last_entry ss Answer ≡ None) same r.1.holds))
+    refused faults.SourcesDiffer r = absurd r
+    refused faults.OutOfMemory r = refl
+    refused (faults.File j f) r = refused_behind (faults.File j f) r
+    refused (faults.BrokenLink j) r = refused_behind (faults.BrokenLink j) r
+    refused (faults.NoFiles j) r = refused_behind (faults.NoFiles j) r
+    refused (faults.MissingSource j f) r = refused_behind (faults.MissingSource j f) r
+    refused (faults.StraySource j n) r = refused_behind (faults.StraySource j n) r
+    refused (faults.GreenWithoutPast j n) r = refused_behind (faults.GreenWithoutPast j n) r
+    refused (faults.OtherEdges j n) r = refused_behind (faults.OtherEdges j n) r
+    refused (faults.GreenOverRed j n i) r = refused_behind (faults.GreenOverRed j n i) r
+    refused (faults.GreenPrint j n) r = refused_behind (faults.GreenPrint j n) r
+    refused (faults.OtherRead j n i) r = refused_behind (faults.OtherRead j n i) r
+    refused (faults.UnreadEdges j n) r = refused_behind (faults.UnreadEdges j n) r
+    refused (faults.OtherResult j n) r = refused_behind (faults.OtherResult j n) r
+
+-- an accepted chain
+pub accepted_right : (mean : Meaning) (reads : ReadLists) (files : List (List ℕ)) (old new : List Key) (project : Project) (answer : Value) (count runs : ℕ)
+    → (a : IsAccepted mean reads files old new project answer count runs) → AreApart a.sessions → IsRightChain mean reads a.sessions
+accepted_right mean reads files old new project answer count runs a apart = record {
+  each = a.passed.each;
+  chain = a.chain;
+  right = a.right apart;
+  answered = λ none. none-some a.held.entry (sym none ∙ a.held.has);
+}

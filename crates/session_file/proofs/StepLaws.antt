@@ -1,0 +1,457 @@
+-- The parts of a file, read from a feed one behind the other.
+use Rattle.std.proofs.Common.{◌≡◌, ℕ, ◌<◌, ◌≤◌, Bool, true, false, ltb, List, [], ◌++◌, length, take, Some, None, Result, Ok, Err, refl, sym, ap, subst, ◌∙◌, append_assoc, arith}
+use Rattle.std.specs.Prelude.{bytes_eq}
+use Rattle.std.proofs.lemmas.Bool.{le-ltb, lt-ltb, le-leb, lt-leb, ne_eqb, eq-eqb}
+use Rattle.std.proofs.lemmas.List.{take_at, append-nil, length-append}
+use Rattle.std.proofs.lemmas.Slice.Eq.{bytes_eq-Decides}
+use Rattle.byte_readers.specs.Lawful.{IsBytes}
+use Rattle.sha2.specs.Sha256.{sha256}
+use Rattle.item_ids.specs.declared.key.Key.{Key}
+use Rattle.item_ids.specs.declared.kind.Kind.{Kind}
+use Rattle.item_ids.specs.Keys.{kind_of}
+use Rattle.byte_readers.specs.Reading.{byte_at, two_at, four_at, eight_at}
+use Rattle.result_bytes.specs.declared.value.Value.{Value}
+use Rattle.result_bytes.specs.Values.{decoding}
+use Rattle.sessions.specs.Sessions.{RecordValue, SessionValue, IsSession}
+use Rattle.sessions.specs.Spelling.{file_of, digest_of}
+use Rattle.session_file.specs.declared.fault.FileFault.{FileFault}
+use Rattle.session_file.specs.declared.fault.FileFault.TheVariants.{BadMagic, Version, Truncated, BadDigest, KeyOrder, BadEdge, Result as BadResult, InputKind, Trailing, Device, BadKey, Number, OutOfMemory}
+use Rattle.session_file.specs.declared.hashing.HashingSink.{HashingSink}
+use Rattle.session_file.specs.declared.stop.Stop.{Stop}
+use Rattle.session_file.specs.Keys.{key_with, mark_with}
+use Rattle.session_file.specs.Reading.{◌>>=◌, magic, Parser, whole, bytes_at, text_at, ItemValue, item_with, item_at, check_place, edges_at, edges_from, value_with_print, result_at, RestValue, rest_at, record_at, records_from, HeadValue, start_at, magic_at, head_at, end_at, front_at, session_at, file_at, IsUnlessMemory, IsUnlessStopped}
+use Rattle.session_file.specs.Feeding.{Given, IsShort, Moved, Took, Breaks, Halts, TookFront, Feeds, CountsIf, is_device}
+use Rattle.session_file.proofs.ReadLaws.{done, ok_is}
+use Rattle.session_file.proofs.FeedLaws.{At, moved_then, took_at, stops_by}
+use Rattle.session_file.proofs.FileLaws.{magic_again, front_is, front_takes, front_again, file_breaks}
+
+abbrev broken : {A : Type 0} → FileFault → Result A FileFault
+broken fault = Err fault
+
+abbrev byte : Parser ℕ
+byte bytes = whole (byte_at bytes)
+
+abbrev two : Parser ℕ
+two bytes = whole (two_at bytes)
+
+abbrev four : Parser ℕ
+four bytes = whole (four_at bytes)
+
+abbrev eight : Parser ℕ
+eight bytes = whole (eight_at bytes)
+
+-- ---- a key and its mark
+
+pub item_halts_kind : (a : List ℕ → Type 0) (i : ℕ) (stop : Stop) → Halts a stop byte → Halts a stop (item_at i)
+unfolding item_at
+item_halts_kind a i stop f = stops_by stop f (λ fault s. record { breach = λ bytes has. rw (s.breach bytes has) refl })
+
+pub item_halts_class : {a b : List ℕ → Type 0} {g h : HashingSink} (i : ℕ) (kind : ℕ) (stop : Stop) → Took a b g h byte kind → Halts b stop text_at → Halts a stop (item_at i)
+unfolding item_at
+item_halts_class i kind stop p f = stops_by stop f (λ fault s. record {
+  breach = λ bytes has.
+      let x = took_at p bytes has in
+      rw (x.is, s.breach x.rest x.holds) refl;
+})
+
+pub item_halts_member : {a b c : List ℕ → Type 0} {g h k : HashingSink} (i : ℕ) (kind : ℕ) (class : List ℕ) (stop : Stop) → Took a b g h byte kind → Took b c h k text_at class → Halts c stop text_at → Halts a stop (item_at i)
+unfolding item_at
+item_halts_member i kind class stop p q f = stops_by stop f (λ fault s. record {
+  breach = λ bytes has.
+      let x = took_at p bytes has in
+      let y = took_at q x.rest x.holds in
+      rw (x.is, y.is, s.breach y.rest y.holds) refl;
+})
+
+pub item_halts_mark : {a b c d : List ℕ → Type 0} {g h k l : HashingSink} (i : ℕ) (kind : ℕ) (class member : List ℕ) (stop : Stop) → Took a b g h byte kind → Took b c h k text_at class → Took c d k l text_at member → Halts d stop byte → Halts a stop (item_at i)
+unfolding item_at
+item_halts_mark i kind class member stop p q r f = stops_by stop f (λ fault s. record {
+  breach = λ bytes has.
+      let x = took_at p bytes has in
+      let y = took_at q x.rest x.holds in
+      let z = took_at r y.rest y.holds in
+      rw (x.is, y.is, z.is, s.breach z.rest z.holds) refl;
+})
+
+pub item_breaks : {a b c d e : List ℕ → Type 0} {g h k l m : HashingSink} (i : ℕ) (kind : ℕ) (class member : List ℕ) (mark : ℕ) → Took a b g h byte kind → Took b c h k text_at class → Took c d k l text_at member → Took d e l m byte mark → item_with (key_with kind class member) (mark_with mark) ≡ None → Breaks a (item_at i) (BadKey i)
+unfolding item_at
+item_breaks i kind class member mark p q r s none = record {
+  breach = λ bytes has.
+      let x = took_at p bytes has in
+      let y = took_at q x.rest x.holds in
+      let z = took_at r y.rest y.holds in
+      let w = took_at s z.rest z.holds in
+      rw (x.is, y.is, z.is, w.is, none) refl;
+}
+
+pub item_took : {a b c d e : List ℕ → Type 0} {g h k l m : HashingSink} (i : ℕ) (kind : ℕ) (class member : List ℕ) (mark : ℕ) (item : ItemValue) → Took a b g h byte kind → Took b c h k text_at class → Took c d k l text_at member → Took d e l m byte mark → item_with (key_with kind class member) (mark_with mark) ≡ Some item → Took a e g m (item_at i) item
+unfolding item_at
+item_took i kind class member mark item p q r s is = record {
+  part = p.part ++ (q.part ++ (r.part ++ s.part));
+  moved = moved_then p.moved (moved_then q.moved (moved_then r.moved s.moved));
+  reads = λ rest.
+      let regrouped : (p.part ++ (q.part ++ (r.part ++ s.part))) ++ rest ≡ p.part ++ (q.part ++ (r.part ++ (s.part ++ rest))) = simp append_assoc in
+      rw (regrouped, p.reads (q.part ++ (r.part ++ (s.part ++ rest))), q.reads (r.part ++ (s.part ++ rest)), r.reads (s.part ++ rest), s.reads rest, is) refl;
+}
+    -- ---- a result
+
+pub result_halts_print : (a : List ℕ → Type 0) (i : ℕ) (kind : Kind) (stop : Stop) → Halts a stop (bytes_at 32) → Halts a stop (result_at i kind)
+unfolding result_at
+result_halts_print a i kind stop f = stops_by stop f (λ fault s. record { breach = λ bytes has. rw (s.breach bytes has) refl })
+
+pub result_halts_count : {a b : List ℕ → Type 0} {g h : HashingSink} (i : ℕ) (kind : Kind) (print : List ℕ) (stop : Stop) → Took a b g h (bytes_at 32) print → Halts b stop eight → Halts a stop (result_at i kind)
+unfolding result_at
+result_halts_count i kind print stop p f = stops_by stop f (λ fault s. record {
+  breach = λ bytes has.
+      let x = took_at p bytes has in
+      rw (x.is, s.breach x.rest x.holds) refl;
+})
+
+pub result_halts_text : {a b c : List ℕ → Type 0} {g h k : HashingSink} (i : ℕ) (kind : Kind) (print : List ℕ) (n : ℕ) (stop : Stop) → Took a b g h (bytes_at 32) print → Took b c h k eight n → Halts c stop (bytes_at n) → Halts a stop (result_at i kind)
+unfolding result_at
+result_halts_text i kind print n stop p q f = stops_by stop f (λ fault s. record {
+  breach = λ bytes has.
+      let x = took_at p bytes has in
+      let y = took_at q x.rest x.holds in
+      rw (x.is, y.is, s.breach y.rest y.holds) refl;
+})
+
+pub result_breaks : {a b c d : List ℕ → Type 0} {g h k l : HashingSink} (i : ℕ) (kind : Kind) (print : List ℕ) (n : ℕ) (text : List ℕ) → Took a b g h (bytes_at 32) print → Took b c h k eight n → Took c d k l (bytes_at n) text → value_with_print print (decoding kind text) ≡ None → Breaks a (result_at i kind) (BadResult i)
+unfolding result_at
+result_breaks i kind print n text p q r none = record {
+  breach = λ bytes has.
+      let x = took_at p bytes has in
+      let y = took_at q x.rest x.holds in
+      let z = took_at r y.rest y.holds in
+      rw (x.is, y.is, z.is, none) refl;
+}
+
+pub result_took : {a b c d : List ℕ → Type 0} {g h k l : HashingSink} (i : ℕ) (kind : Kind) (print : List ℕ) (n : ℕ) (text : List ℕ) (v : Value) → Took a b g h (bytes_at 32) print → Took b c h k eight n → Took c d k l (bytes_at n) text → value_with_print print (decoding kind text) ≡ Some v → Took a d g l (result_at i kind) v
+unfolding result_at
+result_took i kind print n text v p q r is = record {
+  part = p.part ++ (q.part ++ r.part);
+  moved = moved_then p.moved (moved_then q.moved r.moved);
+  reads = λ rest.
+      let regrouped : (p.part ++ (q.part ++ r.part)) ++ rest ≡ p.part ++ (q.part ++ (r.part ++ rest)) = simp append_assoc in
+      rw (regrouped, p.reads (q.part ++ (r.part ++ rest)), q.reads (r.part ++ rest), r.reads rest, is) refl;
+}
+    -- ---- edges, and what stands behind a key
+
+pub edges_halt_count : (a : List ℕ → Type 0) (front : List RecordValue) (key : Key) (stop : Stop) → Halts a stop eight → Halts a stop (edges_at front key)
+unfolding edges_at
+edges_halt_count a front key stop f = stops_by stop f (λ fault s. record { breach = λ bytes has. rw (s.breach bytes has) refl })
+
+pub edges_halt : {a b : List ℕ → Type 0} {g h : HashingSink} (front : List RecordValue) (key : Key) (n : ℕ) (stop : Stop) → Took a b g h eight n → Halts b stop (edges_from front key [] n) → Halts a stop (edges_at front key)
+unfolding edges_at
+edges_halt front key n stop p f = stops_by stop f (λ fault s. record {
+  breach = λ bytes has.
+      let x = took_at p bytes has in
+      rw (x.is) (s.breach x.rest x.holds);
+})
+
+pub edges_took : {a b c : List ℕ → Type 0} {g h k : HashingSink} (front : List RecordValue) (key : Key) (n : ℕ) (edges : List ℕ) → Took a b g h eight n → Took b c h k (edges_from front key [] n) edges → Took a c g k (edges_at front key) edges
+unfolding edges_at
+edges_took front key n edges p q = record {
+  part = p.part ++ q.part;
+  moved = moved_then p.moved q.moved;
+  reads = λ rest. rw (append_assoc p.part q.part rest, p.reads (q.part ++ rest)) (q.reads rest);
+}
+
+pub rest_halts_edges : (a : List ℕ → Type 0) (front : List RecordValue) (key : Key) (stop : Stop) → Halts a stop (edges_at front key) → Halts a stop (rest_at front key)
+unfolding rest_at
+rest_halts_edges a front key stop f = stops_by stop f (λ fault s. record { breach = λ bytes has. rw (s.breach bytes has) refl })
+
+pub rest_halts : {a b : List ℕ → Type 0} {g h : HashingSink} (front : List RecordValue) (key : Key) (edges : List ℕ) (stop : Stop) → Took a b g h (edges_at front key) edges → Halts b stop (result_at (length front) (kind_of key)) → Halts a stop (rest_at front key)
+unfolding rest_at
+rest_halts front key edges stop p f = stops_by stop f (λ fault s. record {
+  breach = λ bytes has.
+      let x = took_at p bytes has in
+      rw (x.is, s.breach x.rest x.holds) refl;
+})
+
+pub rest_took : {a b c : List ℕ → Type 0} {g h k : HashingSink} (front : List RecordValue) (key : Key) (edges : List ℕ) (v : Value) → Took a b g h (edges_at front key) edges → Took b c h k (result_at (length front) (kind_of key)) v → Took a c g k (rest_at front key) (record { edges = edges; value = v })
+unfolding rest_at
+rest_took front key edges v p q = record {
+  part = p.part ++ q.part;
+  moved = moved_then p.moved q.moved;
+  reads = λ rest. rw (append_assoc p.part q.part rest, p.reads (q.part ++ rest), q.reads rest) refl;
+}
+    -- ---- a record
+
+pub record_halts_item : (a : List ℕ → Type 0) (front : List RecordValue) (stop : Stop) → Halts a stop (item_at (length front)) → Halts a stop (record_at front)
+unfolding record_at
+record_halts_item a front stop f = stops_by stop f (λ fault s. record { breach = λ bytes has. rw (s.breach bytes has) refl })
+
+pub record_breaks : {a b : List ℕ → Type 0} {g h : HashingSink} (front : List RecordValue) (item : ItemValue) (fault : FileFault) → Took a b g h (item_at (length front)) item → check_place front item ≡ Err fault → Breaks a (record_at front) fault
+unfolding record_at
+record_breaks front item fault p f = record {
+  breach = λ bytes has.
+      let x = took_at p bytes has in
+      rw (x.is, f) refl;
+}
+
+pub record_halts : {a b : List ℕ → Type 0} {g h : HashingSink} (front : List RecordValue) (item : ItemValue) (stop : Stop) → Took a b g h (item_at (length front)) item → check_place front item ≡ Ok tt → Halts b stop (rest_at front item.key) → Halts a stop (record_at front)
+unfolding record_at
+record_halts front item stop p placed f = stops_by stop f (λ fault s. record {
+  breach = λ bytes has.
+      let x = took_at p bytes has in
+      rw (x.is, placed, s.breach x.rest x.holds) refl;
+})
+
+pub record_took : {a b c : List ℕ → Type 0} {g h k : HashingSink} (front : List RecordValue) (item : ItemValue) (r : RestValue) → Took a b g h (item_at (length front)) item → check_place front item ≡ Ok tt → Took b c h k (rest_at front item.key) r → Took a c g k (record_at front) (record { key = item.key; mark = item.mark; edges = r.edges; value = r.value })
+unfolding record_at
+record_took front item r p placed q = record {
+  part = p.part ++ q.part;
+  moved = moved_then p.moved q.moved;
+  reads = λ rest. rw (append_assoc p.part q.part rest, p.reads (q.part ++ rest), placed, q.reads rest) refl;
+}
+
+-- ---- what stands before the records
+
+abbrev started : List ℕ → Result (Unit {0} × List ℕ) FileFault
+started x = Ok (tt, x)
+
+start_is : (r : Result (List ℕ) FileFault) (rest : List ℕ) (u : Unit {0}) → (r >>= λ x. started x) ≡ Ok (u, rest) → r ≡ Ok rest
+start_is (Ok x) rest u e = ap done (ap (λ (y : Unit {0} × List ℕ). y.1) (ok_is (tt, x) (u, rest) e))
+start_is (Err fault) rest u e = absurd cc
+
+start_not : (r : Result (List ℕ) FileFault) (fault : FileFault) → (r >>= λ x. started x) ≡ Err fault → r ≡ Err fault
+start_not (Ok x) fault e = absurd cc
+start_not (Err f) fault e = cc
+
+not_true : (x : Bool) → (x ≡ true → ⊥) → x ≡ false
+not_true true f = absurd (f refl)
+not_true false f = refl
+
+pub start_took : {a b : List ℕ → Type 0} {g h : HashingSink} {part : List ℕ} → Moved a b g h part → part ≡ magic → Took a b g h start_at tt
+unfolding magic_at
+start_took {a} {b} {g} {h} {part} moved is = record {
+  part = magic;
+  moved = subst (Moved a b g h) is moved;
+  reads = λ rest. ap (λ (r : Result (List ℕ) FileFault). r >>= λ x. started x) (magic_again rest);
+}
+
+pub start_breaks : {a b : List ℕ → Type 0} {g h : HashingSink} {part : List ℕ} → Moved a b g h part → length part ≡ 4 → (part ≡ magic → ⊥) → Breaks a start_at BadMagic
+unfolding magic_at
+start_breaks {a} {b} {g} {h} {part} moved len not_magic = record {
+  breach = λ bytes has.
+      let l = moved.given.left bytes has in
+      let long : ltb (length bytes) 4 ≡ false = le-ltb _ _ (omega (arith, ap (λ (xs : List ℕ). length xs) l.whole, length-append part l.rest, len)) in
+      let four : take 4 bytes ≡ part = ap (λ (xs : List ℕ). take 4 xs) l.whole ∙ take_at part l.rest 4 len in
+      let differs : bytes_eq (take 4 bytes) magic ≡ false = not_true _ (λ e. not_magic (sym four ∙ (bytes_eq-Decides (take 4 bytes) magic).0 e)) in
+      rw (long, differs) refl;
+}
+
+pub start_short : {a : List ℕ → Type 0} → IsShort a 4 → Breaks a start_at BadMagic
+unfolding magic_at
+start_short f = record { breach = λ bytes has. rw (lt-ltb _ _ (f.short bytes has)) refl }
+
+pub head_halts_start : (a : List ℕ → Type 0) (stop : Stop) → Halts a stop start_at → Halts a stop head_at
+unfolding head_at
+head_halts_start a stop x = stops_by stop x (λ fault s. record { breach = λ bytes has. rw (start_not (magic_at bytes) fault (s.breach bytes has)) refl })
+
+pub head_halts_version : {a b : List ℕ → Type 0} {g h : HashingSink} (stop : Stop) → Took a b g h start_at tt → Halts b stop two → Halts a stop head_at
+unfolding head_at
+head_halts_version stop p x = stops_by stop x (λ fault s. record {
+  breach = λ bytes has.
+      let u = took_at p bytes has in
+      rw (start_is (magic_at bytes) u.rest tt u.is, s.breach u.rest u.holds) refl;
+})
+
+pub head_other_version : {a b c : List ℕ → Type 0} {g h k : HashingSink} (version : ℕ) → Took a b g h start_at tt → Took b c h k two version → (version ≡ 1 → ⊥) → Breaks a head_at Version
+unfolding head_at
+head_other_version version p q other = record {
+  breach = λ bytes has.
+      let u = took_at p bytes has in
+      let v = took_at q u.rest u.holds in
+      rw (start_is (magic_at bytes) u.rest tt u.is, v.is, ne_eqb version 1 other) refl;
+}
+
+pub head_halts_number : {a b c : List ℕ → Type 0} {g h k : HashingSink} (version : ℕ) (stop : Stop) → Took a b g h start_at tt → Took b c h k two version → version ≡ 1 → Halts c stop four → Halts a stop head_at
+unfolding head_at
+head_halts_number version stop p q known x = stops_by stop x (λ fault s. record {
+  breach = λ bytes has.
+      let u = took_at p bytes has in
+      let v = took_at q u.rest u.holds in
+      rw (start_is (magic_at bytes) u.rest tt u.is, v.is, eq-eqb version 1 known, s.breach v.rest v.holds) refl;
+})
+
+pub head_other_number : {a b c d : List ℕ → Type 0} {g h k l : HashingSink} (version : ℕ) (number : ℕ) → Took a b g h start_at tt → Took b c h k two version → version ≡ 1 → Took c d k l four number → 9999 < number → Breaks a head_at Number
+unfolding head_at
+head_other_number version number p q known r large = record {
+  breach = λ bytes has.
+      let u = took_at p bytes has in
+      let v = took_at q u.rest u.holds in
+      let w = took_at r v.rest v.holds in
+      rw (start_is (magic_at bytes) u.rest tt u.is, v.is, eq-eqb version 1 known, w.is, lt-leb number 9999 large) refl;
+}
+
+pub head_halts_link : {a b c d : List ℕ → Type 0} {g h k l : HashingSink} (version : ℕ) (number : ℕ) (stop : Stop) → Took a b g h start_at tt → Took b c h k two version → version ≡ 1 → Took c d k l four number → number ≤ 9999 → Halts d stop (bytes_at 32) → Halts a stop head_at
+unfolding head_at
+head_halts_link version number stop p q known r small x = stops_by stop x (λ fault s. record {
+  breach = λ bytes has.
+      let u = took_at p bytes has in
+      let v = took_at q u.rest u.holds in
+      let w = took_at r v.rest v.holds in
+      rw (start_is (magic_at bytes) u.rest tt u.is, v.is, eq-eqb version 1 known, w.is, le-leb number 9999 small, s.breach w.rest w.holds) refl;
+})
+
+pub head_halts_count : {a b c d e : List ℕ → Type 0} {g h k l m : HashingSink} (version : ℕ) (number : ℕ) (link : List ℕ) (stop : Stop) → Took a b g h start_at tt → Took b c h k two version → version ≡ 1 → Took c d k l four number → number ≤ 9999 → Took d e l m (bytes_at 32) link → Halts e stop eight → Halts a stop head_at
+unfolding head_at
+head_halts_count version number link stop p q known r small t x = stops_by stop x (λ fault s. record {
+  breach = λ bytes has.
+      let u = took_at p bytes has in
+      let v = took_at q u.rest u.holds in
+      let w = took_at r v.rest v.holds in
+      let z = took_at t w.rest w.holds in
+      rw (start_is (magic_at bytes) u.rest tt u.is, v.is, eq-eqb version 1 known, w.is, le-leb number 9999 small, z.is, s.breach z.rest z.holds) refl;
+})
+
+pub head_took : {a b c d e f : List ℕ → Type 0} {g h k l m o : HashingSink} (version : ℕ) (number : ℕ) (link : List ℕ) (count : ℕ) → Took a b g h start_at tt → Took b c h k two version → version ≡ 1 → Took c d k l four number → number ≤ 9999 → Took d e l m (bytes_at 32) link → Took e f m o eight count → Took a f g o head_at (record { number = number; link = link; count = count })
+unfolding head_at
+head_took version number link count p q known r small t y = record {
+  part = p.part ++ (q.part ++ (r.part ++ (t.part ++ y.part)));
+  moved = moved_then p.moved (moved_then q.moved (moved_then r.moved (moved_then t.moved y.moved)));
+  reads = λ rest.
+      let e4 = y.part ++ rest in
+      let e3 = t.part ++ e4 in
+      let e2 = r.part ++ e3 in
+      let e1 = q.part ++ e2 in
+      let regrouped : (p.part ++ (q.part ++ (r.part ++ (t.part ++ y.part)))) ++ rest ≡ p.part ++ (q.part ++ (r.part ++ (t.part ++ (y.part ++ rest)))) = simp append_assoc in
+      ap head_at regrouped ∙ rw (start_is (magic_at (p.part ++ e1)) e1 tt (p.reads e1), q.reads e2, eq-eqb version 1 known, r.reads e3, le-leb number 9999 small, t.reads e4, y.reads rest) refl;
+}
+
+-- ---- the digest of all before it
+
+pub end_halts : (a : List ℕ → Type 0) (body : List ℕ) (stop : Stop) → Halts a stop (bytes_at 32) → Halts a stop (end_at body)
+unfolding end_at
+end_halts a body stop f = stops_by stop f (λ fault s. record { breach = λ bytes has. rw (s.breach bytes has) refl })
+
+pub end_differs : {a b : List ℕ → Type 0} {g h : HashingSink} (body : List ℕ) (digest : List ℕ) → Took a b g h (bytes_at 32) digest → (digest ≡ sha256 body → ⊥) → Breaks a (end_at body) BadDigest
+unfolding end_at
+end_differs body digest p other = record {
+  breach = λ bytes has.
+      let x = took_at p bytes has in
+      let differs : bytes_eq digest (sha256 body) ≡ false = not_true _ (λ e. other ((bytes_eq-Decides digest (sha256 body)).0 e)) in
+      rw (x.is, differs) refl;
+}
+
+pub end_took : {a b : List ℕ → Type 0} {g h : HashingSink} (body : List ℕ) (digest : List ℕ) → Took a b g h (bytes_at 32) digest → digest ≡ sha256 body → Took a b g h (end_at body) tt
+unfolding end_at
+end_took body digest p is =
+    let same : bytes_eq digest (sha256 body) ≡ true = (bytes_eq-Decides digest (sha256 body)).1 is in
+    record { part = p.part; moved = p.moved; reads = λ rest. rw (p.reads rest, same) refl }
+
+-- ---- the file
+
+pub front_halts_head : (a : List ℕ → Type 0) (stop : Stop) → Halts a stop head_at → Halts a stop front_at
+unfolding front_at
+front_halts_head a stop f = stops_by stop f (λ fault s. record { breach = λ bytes has. rw (s.breach bytes has) refl })
+
+pub front_halts_records : {a b : List ℕ → Type 0} {g h : HashingSink} (head : HeadValue) (stop : Stop) → Took a b g h head_at head → Halts b stop (records_from [] head.count) → Halts a stop front_at
+unfolding front_at
+front_halts_records head stop p f = stops_by stop f (λ fault s. record {
+  breach = λ bytes has.
+      let x = took_at p bytes has in
+      rw (x.is, s.breach x.rest x.holds) refl;
+})
+
+pub front_halts_end : {a b c : List ℕ → Type 0} {g h k : HashingSink} (head : HeadValue) (records : List RecordValue) (stop : Stop) (p : Took a b g h head_at head) (q : Took b c h k (records_from [] head.count) records) → Halts c stop (end_at (p.part ++ q.part)) → Halts a stop front_at
+unfolding front_at
+front_halts_end head records stop p q f = stops_by stop f (λ fault s. record {
+  breach = λ bytes has.
+      let x = p.moved.given.left bytes has in
+      let y = q.moved.given.left x.rest x.holds in
+      let one : head_at bytes ≡ Ok (head, x.rest) = ap head_at x.whole ∙ p.reads x.rest in
+      let two : records_from [] head.count x.rest ≡ Ok (records, y.rest) = ap (records_from [] head.count) y.whole ∙ q.reads y.rest in
+      let all : bytes ≡ (p.part ++ q.part) ++ y.rest = x.whole ∙ ap (λ (xs : List ℕ). p.part ++ xs) y.whole ∙ sym (append_assoc p.part q.part y.rest) in
+      rw (one, two, front_is bytes (p.part ++ q.part) y.rest all, s.breach y.rest y.holds) refl;
+})
+
+pub front_took : {a b c d : List ℕ → Type 0} {g h k l : HashingSink} (head : HeadValue) (records : List RecordValue) (p : Took a b g h head_at head) (q : Took b c h k (records_from [] head.count) records) → Took c d k l (end_at (p.part ++ q.part)) tt → Took a d g l front_at (record { number = head.number; link = head.link; records = records })
+unfolding front_at
+front_took head records p q r = record {
+  part = p.part ++ (q.part ++ r.part);
+  moved = moved_then p.moved (moved_then q.moved r.moved);
+  reads = λ rest.
+      let regrouped : (p.part ++ (q.part ++ r.part)) ++ rest ≡ p.part ++ (q.part ++ (r.part ++ rest)) = simp append_assoc in
+      let all : p.part ++ (q.part ++ (r.part ++ rest)) ≡ (p.part ++ q.part) ++ (r.part ++ rest) = sym (append_assoc p.part q.part (r.part ++ rest)) in
+      ap front_at regrouped ∙ rw (p.reads (q.part ++ (r.part ++ rest)), q.reads (r.part ++ rest), front_is (p.part ++ (q.part ++ (r.part ++ rest))) (p.part ++ q.part) (r.part ++ rest) all, r.reads rest) refl;
+}
+
+pub took_front : {a b : List ℕ → Type 0} {g h : HashingSink} {s : SessionValue} → Took a b g h front_at s → TookFront a b front_at s
+took_front t = record { part = t.part; fits = t.moved.fits; given = t.moved.given; reads = t.reads }
+
+-- what was taken is the file of a session
+pub record IsFile (part : List ℕ) (s : SessionValue) : Type 0 where
+  pub session : IsSession s
+  pub spelled : part ≡ file_of s
+  pub digest : sha256 part ≡ digest_of s
+
+pub front_is_file : (part : List ℕ) (s : SessionValue) → IsBytes part → ((rest : List ℕ) → front_at (part ++ rest) ≡ Ok (s, rest)) → IsFile part s
+unfolding digest_of
+front_is_file part s fits reads =
+    let none : front_at part ≡ Ok (s, []) = ap front_at (sym (append-nil part)) ∙ reads [] in
+    let t = front_takes part s [] fits none in
+    let spelled : part ≡ file_of s = t.1 ∙ append-nil (file_of s) in
+    record { session = t.0; spelled = spelled; digest = ap sha256 spelled }
+
+pub edges_feed : {X : Type 0} {a b : List ℕ → Type 0} (c : List ℕ → Type 0) {g h : HashingSink} (k : HashingSink) (view : X → List ℕ) (front : List RecordValue) (key : Key) (n : ℕ) (result : Result X Stop) → Took a b g h eight n → Feeds b c h k view result (edges_from front key [] n) → Feeds a c g k view result (edges_at front key)
+edges_feed c k view front key n (Ok x) p f = edges_took front key n (view x) p f
+edges_feed c k view front key n (Err stop) p f = edges_halt front key n stop p f
+
+-- ---- what is read of the whole
+
+never : {A : Type 0} (fault : FileFault) (x : A) → broken fault ≡ done x → ⊥
+never fault x e = absurd cc
+
+pub counts_other : (fault : FileFault) (old new : ℕ) → (is_device fault ≡ false) × (new ≡ old) → CountsIf (is_device fault) old new
+counts_other fault old new h = subst (λ (b : Bool). CountsIf b old new) (sym h.0) h.1
+
+module _ {a b : List ℕ → Type 0} {t : SessionValue} where
+  pub front_found : TookFront a b front_at t → IsSession t × Given a b (file_of t)
+  front_found f = let is = front_is_file f.part t f.fits f.reads in (is.session, subst (Given a b) is.spelled f.given)
+
+  -- what the bytes are that were held
+  pub front_left : TookFront a b front_at t → (bytes : List ℕ) → a bytes → At b front_at t bytes
+  front_left f bytes has =
+      let l = f.given.left bytes has in
+      record { rest = l.rest; is = ap front_at l.whole ∙ f.reads l.rest; holds = l.holds }
+
+  pub front_only : TookFront a b front_at t → (s : SessionValue) (rest : List ℕ) → IsSession s → a (file_of s ++ rest) → done t ≡ Ok s
+  front_only f s rest h has =
+      let x = front_left f (file_of s ++ rest) has in
+      ap (λ (y : SessionValue × List ℕ). done y.0) (ok_is (t, x.rest) (s, rest) (sym x.is ∙ front_again s rest h))
+
+pub front_not : {a : List ℕ → Type 0} {fault : FileFault} → Breaks a front_at fault → (s : SessionValue) (rest : List ℕ) → IsSession s → a (file_of s ++ rest) → ⊥
+front_not {a} {fault} f s rest h has =
+    never fault (s, rest) (sym (f.breach (file_of s ++ rest) has) ∙ front_again s rest h)
+
+-- ---- a feed of bytes that are in memory
+
+-- what is read of bytes that are a file
+pub record IsWhole (t s : SessionValue) (rest : List ℕ) : Type 0 where
+  pub same : t ≡ s
+  pub none : rest ≡ []
+
+pub front_whole : (bytes : List ℕ) (t : SessionValue) (rest : List ℕ) (s : SessionValue) → IsSession t → bytes ≡ file_of t ++ rest → IsSession s → bytes ≡ file_of s → IsWhole t s rest
+front_whole bytes t rest s h e k f =
+    let one : front_at bytes ≡ Ok (t, rest) = ap front_at e ∙ front_again t rest h in
+    let two : front_at bytes ≡ Ok (s, []) = ap front_at (f ∙ sym (append-nil (file_of s))) ∙ front_again s [] k in
+    let both = ok_is (t, rest) (s, []) (sym one ∙ two) in
+    record { same = ap (λ (y : SessionValue × List ℕ). y.0) both; none = ap (λ (y : SessionValue × List ℕ). y.1) both }
+
+pub memory_breach : (bytes : List ℕ) (fault : FileFault) → CountsIf (is_device fault) 0 0 → IsUnlessStopped {A = SessionValue} (Err fault) (session_at bytes) → IsUnlessMemory {A = SessionValue} (Err fault) (file_at bytes)
+memory_breach bytes BadMagic c e = sym (file_breaks bytes BadMagic (sym e))
+memory_breach bytes Version c e = sym (file_breaks bytes Version (sym e))
+memory_breach bytes Truncated c e = sym (file_breaks bytes Truncated (sym e))
+memory_breach bytes BadDigest c e = sym (file_breaks bytes BadDigest (sym e))
+memory_breach bytes (KeyOrder i) c e = sym (file_breaks bytes (KeyOrder i) (sym e))
+memory_breach bytes (BadEdge i j) c e = sym (file_breaks bytes (BadEdge i j) (sym e))
+memory_breach bytes (BadResult i) c e = sym (file_breaks bytes (BadResult i) (sym e))
+memory_breach bytes (InputKind i) c e = sym (file_breaks bytes (InputKind i) (sym e))
+memory_breach bytes Trailing c e = sym (file_breaks bytes Trailing (sym e))
+memory_breach bytes Device c e = absurd (omega (arith, c))
+memory_breach bytes (BadKey i) c e = sym (file_breaks bytes (BadKey i) (sym e))
+memory_breach bytes Number c e = sym (file_breaks bytes Number (sym e))
+memory_breach bytes OutOfMemory c e = tt

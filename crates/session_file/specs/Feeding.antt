@@ -1,0 +1,127 @@
+-- Reading from a feed: what was taken from it, and what it still holds.
+use Rattle.std.specs.Prelude.{◌≡◌, ℕ, ◌<◌, Bool, true, false, List, ◌++◌, length, Result, Ok, Err}
+use Rattle.sha2.specs.Hashers.{Holds256}
+use Rattle.byte_readers.specs.Lawful.{IsBytes}
+use Rattle.session_file.specs.Devices.{one_more}
+use Rattle.session_file.specs.Reading.{Parser}
+use Rattle.session_file.specs.declared.fault.FileFault.{FileFault}
+use Rattle.session_file.specs.declared.fault.FileFault.TheVariants.{Device, Truncated}
+use Rattle.session_file.specs.declared.hashing.HashingSink.{HashingSink}
+use Rattle.session_file.specs.declared.stop.Stop.{Stop}
+use Rattle.session_file.specs.declared.stop.Stop.TheVariants as stops
+
+abbrev pub is_device : FileFault → Bool
+is_device Device = true
+is_device _ = false
+
+-- just a failure of the device is counted, and no breach of the bytes is one
+abbrev pub CountsAt : Stop → ℕ → ℕ → Type 0
+CountsAt stops.Memory old new = new ≡ old
+CountsAt stops.Device old new = new ≡ one_more old
+CountsAt (stops.Breach fault) old new = (is_device fault ≡ false) × (new ≡ old)
+
+abbrev pub CountsStop : {A : Type 0} → Result A Stop → ℕ → ℕ → Type 0
+CountsStop (Ok a) old new = new ≡ old
+CountsStop (Err stop) old new = CountsAt stop old new
+
+-- just a failure of the device is counted
+abbrev pub CountsIf : Bool → ℕ → ℕ → Type 0
+CountsIf true old new = new ≡ one_more old
+CountsIf false old new = new ≡ old
+
+abbrev pub CountsDevice : {A : Type 0} → Result A FileFault → ℕ → ℕ → Type 0
+CountsDevice (Ok a) old new = new ≡ old
+CountsDevice (Err fault) old new = CountsIf (is_device fault) old new
+
+-- the bytes begin with the part, and what stands behind it is held from now on
+pub record Left (new : List ℕ → Type 0) (part bytes : List ℕ) : Type 0 where
+  pub rest : List ℕ
+  pub whole : bytes ≡ part ++ rest
+  pub holds : new rest
+
+-- the part was taken from what was held, where that is told
+pub record Given (old new : List ℕ → Type 0) (part : List ℕ) : Type 0 where
+  pub left : (bytes : List ℕ) → old bytes → Left new part bytes
+
+-- what was held, where that is told, is shorter than so many bytes
+pub record IsShort (old : List ℕ → Type 0) (count : ℕ) : Type 0 where
+  pub short : (bytes : List ℕ) → old bytes → length bytes < count
+
+-- the room was filled with what was held, or that is too short
+abbrev pub FillsNot : (List ℕ → Type 0) → ℕ → Stop → Type 0
+FillsNot old count (stops.Breach fault) = (fault ≡ Truncated) × IsShort old count
+FillsNot old count _ = Unit {0}
+
+abbrev pub Fills : {A : Type 0} → (List ℕ → Type 0) → (List ℕ → Type 0) → List ℕ → List ℕ → Result A Stop
+    → Type 0
+Fills old new before after (Ok a) = (length after ≡ length before) × Given old new after
+Fills old new before after (Err stop) = FillsNot old (length before) stop
+
+-- the part was taken, and was put behind what was hashed
+pub record Moved (old new : List ℕ → Type 0) (hash_old hash_new : HashingSink) (part : List ℕ) : Type 0 where
+  pub fits : IsBytes part
+  pub given : Given old new part
+  pub hashed : (front : List ℕ) → Holds256 hash_old.hasher front
+      → Holds256 hash_new.hasher (front ++ part)
+
+abbrev pub Pulls : {A : Type 0} → (List ℕ → Type 0) → (List ℕ → Type 0) → HashingSink → HashingSink
+    → List ℕ → List ℕ → Result A Stop → Type 0
+Pulls old new hash_old hash_new before after (Ok a) =
+    (length after ≡ length before) × Moved old new hash_old hash_new after
+Pulls old new hash_old hash_new before after (Err stop) = FillsNot old (length before) stop
+
+-- the value was read from what was taken
+pub record Took {A : Type 0} (old new : List ℕ → Type 0) (hash_old hash_new : HashingSink)
+    (step : Parser A) (a : A) : Type 0 where
+  pub part : List ℕ
+  pub moved : Moved old new hash_old hash_new part
+  pub reads : (rest : List ℕ) → step (part ++ rest) ≡ Ok (a, rest)
+
+-- what was held, where that is told, has the fault
+pub record Breaks {A : Type 0} (old : List ℕ → Type 0) (step : List ℕ → Result A FileFault)
+    (fault : FileFault) : Type 0 where
+  pub breach : (bytes : List ℕ) → old bytes → step bytes ≡ Err fault
+
+abbrev pub Halts : {A : Type 0} → (List ℕ → Type 0) → Stop → (List ℕ → Result A FileFault) → Type 0
+Halts old (stops.Breach fault) step = Breaks old step fault
+Halts old _ step = Unit {0}
+
+-- What a function returned, seen by view, is what reading from the feed gives, unless memory ran
+-- out or the device failed.
+abbrev pub Feeds : {X Y : Type 0} → (List ℕ → Type 0) → (List ℕ → Type 0) → HashingSink → HashingSink
+    → (X → Y) → Result X Stop → Parser Y → Type 0
+Feeds old new hash_old hash_new view (Ok x) step = Took old new hash_old hash_new step (view x)
+Feeds old new hash_old hash_new view (Err stop) step = Halts old stop step
+
+-- so many bytes were taken, and appended to the text
+pub record Appended (old new : List ℕ → Type 0) (hash_old hash_new : HashingSink)
+    (before after : List ℕ) (count : ℕ) : Type 0 where
+  pub part : List ℕ
+  pub moved : Moved old new hash_old hash_new part
+  pub size : length part ≡ count
+  pub appended : after ≡ before ++ part
+
+abbrev pub Appends : {A : Type 0} → (List ℕ → Type 0) → (List ℕ → Type 0) → HashingSink → HashingSink
+    → List ℕ → List ℕ → ℕ → Result A Stop → Type 0
+Appends old new hash_old hash_new before after count (Ok a) =
+    Appended old new hash_old hash_new before after count
+Appends old new hash_old hash_new before after count (Err stop) = FillsNot old count stop
+
+-- what p reads is what q reads behind what was taken
+pub record Leads {A : Type 0} (old new : List ℕ → Type 0) (hash_old hash_new : HashingSink)
+    (p q : List ℕ → Result A FileFault) : Type 0 where
+  pub part : List ℕ
+  pub moved : Moved old new hash_old hash_new part
+  pub leads : (rest : List ℕ) → p (part ++ rest) ≡ q rest
+
+-- what a function returned that began to hash, and what it took
+pub record TookFront {A : Type 0} (old new : List ℕ → Type 0) (step : Parser A) (a : A) : Type 0 where
+  pub part : List ℕ
+  pub fits : IsBytes part
+  pub given : Given old new part
+  pub reads : (rest : List ℕ) → step (part ++ rest) ≡ Ok (a, rest)
+
+abbrev pub FeedsFront : {X Y : Type 0} → (List ℕ → Type 0) → (List ℕ → Type 0) → (X → Y) → Result X Stop
+    → Parser Y → Type 0
+FeedsFront old new view (Ok x) step = TookFront old new step (view x)
+FeedsFront old new view (Err stop) step = Halts old stop step

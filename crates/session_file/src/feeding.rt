@@ -1,0 +1,42 @@
+//! Taking pieces of a file from a feed, and hashing them.
+ghost use Rattle.session_file.specs.Feeding.{CountsStop, Fills, Pulls};
+
+use crate::device::Feed;
+use crate::fault::FileFault;
+use crate::hashing::HashingSink;
+use crate::stop::Stop;
+
+/// Fills the room with what the feed holds; where that is less, it is a breach.
+fn fill<F: Feed>(feed: &mut F, room: &mut [u8]) -> Result<(), Stop>
+    ensures filled { Fills (F.holds feed.old) (F.holds feed.new) room.old room.new result }
+    ensures counted { CountsStop result (F.failed feed.old) (F.failed feed.new) }
+{
+    let mut at = 0;
+    while at < room.len() {
+        match feed.take(&mut room[at..]) {
+            Ok(0) => return Err(Stop::Breach(FileFault::Truncated)),
+            Ok(count) => at += count,
+            Err(_) => return Err(Stop::Device),
+        }
+    }
+    Ok(())
+}
+
+/// Fills the room with what the feed holds, and hashes it.
+pub(crate) fn pull<F: Feed>(
+    feed: &mut F,
+    hash: &mut HashingSink,
+    room: &mut [u8],
+) -> Result<(), Stop>
+    ensures pulled { Pulls (F.holds feed.old) (F.holds feed.new) hash.old hash.new room.old room.new
+        result }
+    ensures counted { CountsStop result (F.failed feed.old) (F.failed feed.new) }
+{
+    match fill(feed, room) {
+        Ok(()) => {
+            hash.add(room);
+            Ok(())
+        }
+        Err(stop) => Err(stop),
+    }
+}
