@@ -1,0 +1,6 @@
+//! Chains of sessions of MiniJava projects: the next session over an accepted chain is accepted behind it.
+#![tactic(auto)]
+
+mod laws;
+
+pub use laws::{made_is_accepted, next_is_accepted, reads_own_files};

@@ -1,0 +1,2 @@
+pub mod OneSession
+pub mod NextRight

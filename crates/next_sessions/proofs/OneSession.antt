@@ -1,0 +1,121 @@
+-- Entries tell the records that they are of.
+use Rattle.std.proofs.Common.{◌≡◌, ℕ, suc, zero, ◌<◌, List, [], ◌∷◌, map, take, length, get_or, Option, refl, sym, ap, ◌∙◌, subst, inl, inr, arith, slice_index_or}
+use Rattle.std.specs.List.{AllByRecursion}
+use Rattle.std.specs.declared.cmp.Ordering.TheVariants.{Less, Equal}
+use Rattle.std.proofs.lemmas.Bool.{cases_lt}
+use Rattle.std.proofs.lemmas.List.{get_or-map, length-map}
+use Rattle.item_ids.specs.declared.key.Key.{Key}
+use Rattle.item_ids.specs.declared.key.Key.TheVariants.{Files}
+use Rattle.item_ids.specs.Keys.{key_cmp}
+use Rattle.item_ids.proofs.Apart.{key_itself}
+use Rattle.result_bytes.specs.declared.value.Value.{Value}
+use Rattle.sessions.specs.declared.mark.Mark.{Mark}
+use Rattle.sessions.specs.Sessions.{RecordValue, SessionValue, IsSession, FitsBehind, IsAbove, AreInside, Entry, entry_of, entries, key_at, past_entry}
+use Rattle.sessions.proofs.EntryRules.{edges_here}
+use Rattle.recorder.specs.Projects.{Project}
+use Rattle.recorder.specs.Backed.{Meaning, ReadLists}
+use Rattle.graph_rules.proofs.NextRules.{all_from}
+use Rattle.graph_rules.proofs.OneNext.{next_is_one}
+use Rattle.next_sessions.specs.Nexts.{IsNextSession}
+
+keys_of : (rs xs : List RecordValue) → map (λ (e : Entry). e.key) (map (entry_of rs) xs) ≡ map (λ (r : RecordValue). r.key) xs
+keys_of rs [] = refl
+keys_of rs (x ∷ xs) = ap (λ (ks : List Key). x.key ∷ ks) (keys_of rs xs)
+
+-- ---- keys of a session's records differ
+
+above_at : (front : List RecordValue) (key : Key) → IsAbove front key → (n i : ℕ) (rs : List RecordValue) (d : RecordValue) → take n rs ≡ front → i < n → i < length rs → key_cmp (get_or rs i d).key key ≡ Less
+above_at front key above zero i rs d is lt here = absurd (omega arith)
+above_at front key above (suc n) i [] d is lt here = absurd (omega arith)
+above_at [] key above (suc n) i (r ∷ rs) d is lt here = absurd (cc)
+above_at (y ∷ ys) key above (suc n) zero (r ∷ rs) d is lt here = let e : r ≡ y = cc in subst (λ (x : RecordValue). key_cmp x.key key ≡ Less) (sym e) above.0
+above_at (y ∷ ys) key above (suc n) (suc i) (r ∷ rs) d is lt here = let e : take n rs ≡ ys = cc in above_at ys key above.1 n i rs d e (omega arith) (omega arith)
+
+module _ (s : SessionValue) (session : IsSession s) where
+  key_there : (i : ℕ) (d : RecordValue) → i < length s.records → key_at s.records i ≡ (get_or s.records i d).key
+  key_there i d lt = get_or-map (λ (x : RecordValue). x.key) s.records i d Files lt
+
+  some_record : (rs : List RecordValue) (i : ℕ) → i < length rs → RecordValue
+  some_record [] i lt = absurd (omega arith)
+  some_record (r ∷ rs) i lt = r
+
+  rises : (i j : ℕ) → i < j → j < length s.records → key_at s.records i ≡ key_at s.records j → ⊥
+  rises i j below lt same =
+      let d = some_record s.records j lt in
+      let fits : FitsBehind (take j s.records) (get_or s.records j d) = session.records j d lt in
+      let less : key_cmp (get_or s.records i d).key (get_or s.records j d).key ≡ Less = above_at (take j s.records) (get_or s.records j d).key fits.above j i s.records d refl below (omega arith) in
+      let e : (get_or s.records i d).key ≡ (get_or s.records j d).key = sym (key_there i d (omega arith)) ∙ (same ∙ key_there j d lt) in
+      let equal : Less ≡ Equal = sym less ∙ key_itself (get_or s.records i d).key (get_or s.records j d).key e in
+      absurd (cc)
+
+  pub one_place : (i j : ℕ) → i < length s.records → j < length s.records → key_at s.records i ≡ key_at s.records j → i ≡ j
+  one_place i j li lj same =
+      elim (cases_lt i j) [
+        | inl below ↦ absurd (rises i j below lj same)
+        | inr above ↦ elim (cases_lt j i) [
+          | inl below ↦ absurd (rises j i below li (sym same))
+          | inr other ↦ omega (arith, above, other)
+        ]
+      ]
+
+  pub all_inside : AllByRecursion (λ (r : RecordValue). AreInside s.records r.edges) s.records
+  all_inside = all_from (λ (r : RecordValue). AreInside s.records r.edges) s.records (λ r c. edges_here s session c.0 r c.1 (sym c.2))
+
+-- ---- two sessions with the same entries
+
+module _ (a b : SessionValue) (a_is : IsSession a) (b_is : IsSession b) (same : entries a ≡ entries b) where
+  same_keys : map (λ (r : RecordValue). r.key) a.records ≡ map (λ (r : RecordValue). r.key) b.records
+  same_keys = sym (keys_of a.records a.records) ∙ (ap (map (λ (e : Entry). e.key)) same ∙ keys_of b.records b.records)
+
+  same_at : (i : ℕ) → key_at a.records i ≡ key_at b.records i
+  same_at i = ap (λ (ks : List Key). slice_index_or ks i Files) same_keys
+
+  same_length : length a.records ≡ length b.records
+  same_length = sym (length-map a.records (λ (r : RecordValue). r.key)) ∙ (ap length same_keys ∙ length-map b.records (λ (r : RecordValue). r.key))
+
+  same_edges : (es ds : List ℕ) → map (key_at a.records) es ≡ map (key_at b.records) ds → AreInside a.records es → AreInside b.records ds → es ≡ ds
+  same_edges [] [] h ia ib = refl
+  same_edges [] (d ∷ ds) h ia ib = absurd (let t : [] ≡ (key_at b.records d ∷ map (key_at b.records) ds) = h in cc)
+  same_edges (e ∷ es) [] h ia ib = absurd (let t : (key_at a.records e ∷ map (key_at a.records) es) ≡ [] = h in cc)
+  same_edges (e ∷ es) (d ∷ ds) h ia ib =
+      let t : (key_at a.records e ∷ map (key_at a.records) es) ≡ (key_at b.records d ∷ map (key_at b.records) ds) = h in
+      let first : key_at a.records e ≡ key_at b.records d = cc in
+      let rest : map (key_at a.records) es ≡ map (key_at b.records) ds = cc in
+      let within : d < length a.records = let l = ib.0 in omega (arith, l, same_length) in
+      let x : e ≡ d = one_place a a_is e d ia.0 within (first ∙ sym (same_at d)) in
+      ap (λ n. n ∷ es) x ∙ ap (λ ns. d ∷ ns) (same_edges es ds rest ia.1 ib.1)
+
+  abbrev made : Key → Mark → List ℕ → Value → RecordValue
+  made k m es v = record { key = k; mark = m; edges = es; value = v }
+
+  same_record : (x y : RecordValue) → entry_of a.records x ≡ entry_of b.records y → AreInside a.records x.edges → AreInside b.records y.edges → x ≡ y
+  same_record x y h ia ib =
+      let k : x.key ≡ y.key = ap (λ (e : Entry). e.key) h in
+      let m : x.mark ≡ y.mark = ap (λ (e : Entry). e.mark) h in
+      let v : x.value ≡ y.value = ap (λ (e : Entry). e.value) h in
+      let es : x.edges ≡ y.edges = same_edges x.edges y.edges (ap (λ (e : Entry). e.reads) h) ia ib in
+      ap (λ q. made q x.mark x.edges x.value) k ∙ (ap (λ n. made y.key n x.edges x.value) m
+      ∙ (ap (λ ns. made y.key y.mark ns x.value) es ∙ ap (made y.key y.mark y.edges) v))
+
+  same_records : (xs ys : List RecordValue) → map (entry_of a.records) xs ≡ map (entry_of b.records) ys
+      → AllByRecursion (λ (r : RecordValue). AreInside a.records r.edges) xs → AllByRecursion (λ (r : RecordValue). AreInside b.records r.edges) ys → xs ≡ ys
+  same_records [] [] h ia ib = refl
+  same_records [] (y ∷ ys) h ia ib = absurd (let t : [] ≡ (entry_of b.records y ∷ map (entry_of b.records) ys) = h in cc)
+  same_records (x ∷ xs) [] h ia ib = absurd (let t : (entry_of a.records x ∷ map (entry_of a.records) xs) ≡ [] = h in cc)
+  same_records (x ∷ xs) (y ∷ ys) h ia ib =
+      let t : (entry_of a.records x ∷ map (entry_of a.records) xs) ≡ (entry_of b.records y ∷ map (entry_of b.records) ys) = h in
+      let first : entry_of a.records x ≡ entry_of b.records y = cc in
+      let rest : map (entry_of a.records) xs ≡ map (entry_of b.records) ys = cc in
+      ap (λ (z : RecordValue). z ∷ xs) (same_record x y first ia.0 ib.0) ∙ ap (λ (zs : List RecordValue). y ∷ zs) (same_records xs ys rest ia.1 ib.1)
+
+  abbrev session_by : ℕ → List ℕ → List RecordValue → SessionValue
+  session_by n l rs = record { number = n; link = l; records = rs }
+
+  pub one_session : a.number ≡ b.number → a.link ≡ b.link → a ≡ b
+  one_session n l =
+      let rs : a.records ≡ b.records = same_records a.records b.records same (all_inside a a_is) (all_inside b b_is) in
+      ap (λ x. session_by x a.link a.records) n ∙ (ap (λ x. session_by b.number x a.records) l ∙ ap (session_by b.number b.link) rs)
+
+pub one_next : (mean : Meaning) (reads : ReadLists) (past : Option SessionValue) (p : Project) (a b : SessionValue) → IsNextSession mean reads past p a → IsNextSession mean reads past p b → a ≡ b
+one_next mean reads past p a b h k =
+    one_session a b h.session k.session (next_is_one mean reads (past_entry past) p (entries a) (entries b) h.told k.told) (h.number ∙ sym k.number) (h.link ∙ sym k.link)

@@ -1,0 +1,35 @@
+-- The session that a past and a project decide, which knows no event.
+use Rattle.std.specs.Prelude.{◌≡◌, ℕ, List, Option, IfSome, Contains}
+use Rattle.item_ids.specs.declared.key.Key.TheVariants.{Source}
+use Rattle.mj_project.specs.Projects.{names_of}
+use Rattle.recorder.specs.Projects.{Project}
+use Rattle.recorder.specs.Backed.{Meaning, ReadLists}
+use Rattle.sessions.specs.Sessions.{SessionValue, IsSession, entries, entry_at, past_entry}
+use Rattle.graph_rules.specs.Pasts.{Past}
+use Rattle.graph_rules.specs.Next.{IsOfProject, IsReadIn, HasNoClash, AreNext}
+use Rattle.job_table.specs.Closes.{next_number, next_link}
+
+-- a session of some project: it holds its files, and its keys have the project's values and reads
+abbrev pub IsOfSomeProject : Meaning → ReadLists → Past → Type 0
+IsOfSomeProject mean reads now = (p : Project) × IsOfProject mean reads now p
+
+-- The past, where there is one, is a session of some project, and of its values and those of the
+-- next session over p no two that differ have one print.
+pub record DecidesNext (mean : Meaning) (reads : ReadLists) (past : Option SessionValue)
+    (p : Project) : Type 0 where
+  pub past_is : IfSome past (λ s. IsOfSomeProject mean reads (entry_at s))
+  pub apart : HasNoClash mean reads (past_entry past) p
+
+-- The next session of a project over the past: number and link follow the past, and it has just the
+-- inputs and the keys that Answer leads to, by the project's values and reads.
+pub record IsNextSession (mean : Meaning) (reads : ReadLists) (past : Option SessionValue)
+    (p : Project) (s : SessionValue) : Type 0 where
+  pub session : IsSession s
+  pub number : s.number ≡ next_number past
+  pub link : s.link ≡ next_link past
+  pub told : AreNext mean reads (past_entry past) p (entries s)
+
+-- what Answer leads to in the project are sources of its own files only
+abbrev pub ReadsOwnFiles : ReadLists → Project → Type 0
+ReadsOwnFiles reads p =
+    (file : List ℕ) → IsReadIn reads p (Source file) → Contains (names_of p) file

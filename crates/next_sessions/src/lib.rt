@@ -1,0 +1,6 @@
+//! The next session of a project over a past: there is but one, and it is right.
+#![tactic(auto)]
+
+mod laws;
+
+pub use laws::{entries_tell_all, next_is_right, one_next_session};
