@@ -9,10 +9,12 @@ use mini_java_driver::{DriveFault, Open, run_session};
 use mj_project::Project;
 use sessions::Session;
 use std::alloc::{AllocError, Global};
-use std::sync::Arc;
+use std::sync::{Arc, Wait};
+use std::thread::Threads;
 
-/// The session of a project that comes behind the past, made by so many workers.
-pub fn next_session(
+/// The session of a project that comes behind the past, made by so many workers, each in a thread of its own.
+pub fn next_session<T: Threads + Wait + Sync>(
+    rt: &T,
     alloc: Global,
     past: Option<Arc<Session>>,
     project: &Project,
@@ -22,7 +24,7 @@ pub fn next_session(
     requires room { IfSome (session_in past) (λ s. s.number < most) }
     ensures { IfOk result (IsNextSession (session_in past) project.now) }
 {
-    match run_session(alloc, past, project, workers, &Open) {
+    match run_session(rt, alloc, past, project, workers, &Open) {
         Ok((session, _)) => {
             let _records = session.records();
             Ok(session)

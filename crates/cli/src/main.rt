@@ -10,7 +10,7 @@ fn main(rt: HostRuntime) -> ExitCode {
     let mut out = rt.stdout();
     let mut err = rt.stderr();
     let status = match command_words(&rt) {
-        Ok(list) => run(&rt, list, &mut out, &mut err),
+        Ok(list) => run(&rt, &rt, list, &mut out, &mut err),
         Err(error) => no_words(&error, &mut err).number(),
     };
     ExitCode::from(status)

@@ -1,2 +1,3 @@
-pub mod FreeRules
+mod Counts
 pub mod SessionRules
+pub mod NextRules

@@ -1,2 +1,1 @@
 pub mod Sessions
-pub mod Frees

@@ -1,8 +1,11 @@
 -- What one session of a project is, and what is reported of it.
-use Rattle.std.specs.Prelude.{◌≡◌, ℕ, ◌-◌, ◌≤◌, List, ◌∷◌, length, replicate, Option, Result, Ok, Err}
+use Rattle.std.specs.Prelude.{◌≡◌, ℕ, ◌≤◌, List, length, sum, vec_len, Option, Result, Ok, Err}
+use Rattle.std.specs.List.{sum_by}
 use Rattle.recorder.specs.Projects.{Project}
 use Rattle.recorder.specs.Backed.{Meaning, ReadLists}
-use Rattle.sessions.specs.Sessions.{SessionValue, past_entry}
+use Rattle.sessions.specs.declared.mark.Mark.{Mark}
+use Rattle.sessions.specs.declared.mark.Mark.TheVariants.{Input, Green, Executed}
+use Rattle.sessions.specs.Sessions.{RecordValue, SessionValue, past_entry}
 use Rattle.graph_rules.specs.Steps.{Event, Legal, state_after}
 use Rattle.graph_rules.specs.Sound.{AreBacked}
 use Rattle.job_table.specs.Tables.{IsFull}
@@ -24,17 +27,32 @@ pub record AreEventsOf (mean : Meaning) (reads : ReadLists) (past : Option Sessi
   pub may_close : MayClose (state_after (past_entry past) p history)
   pub closing : IsClosing past p (state_after (past_entry past) p history) s
 
--- The reports count the events: for each worker those that it made, the first all of them.
-pub record AreReportsOn (history : List Event) (workers : ℕ) (r : Reports) : Type 0 where
+-- the least number of events by which a key becomes done so: it is claimed and marked, or it is
+-- claimed, and its run begins and ends
+abbrev pub events_for : Mark → ℕ
+events_for Input = 0
+events_for Green = 2
+events_for Executed = 3
+
+-- the least number of events by which the keys of these records become done
+abbrev pub events_needed : List RecordValue → ℕ
+events_needed records = sum_by (λ r. events_for r.mark) records
+
+-- The reports count the events: for each worker those that it made, which are all of them together.
+-- There are enough for the session's records.
+pub record AreReportsOn (history : List Event) (workers : ℕ) (s : SessionValue) (r : Reports)
+    : Type 0 where
   pub history_is : r.history ≡ length history
-  pub first : r.events.items ≡ length history ∷ replicate (workers - 1) 0
+  pub workers_are : vec_len r.events ≡ workers
+  pub sum_is : sum r.events.items ≡ r.history
+  pub enough : events_needed s.records ≤ r.history
 
 -- The session comes of a history, on which these are the reports.
 pub record IsSessionOf (mean : Meaning) (reads : ReadLists) (past : Option SessionValue)
     (p : Project) (workers : ℕ) (s : SessionValue) (r : Reports) : Type 0 where
   pub history : List Event
   pub events : AreEventsOf mean reads past p history s
-  pub reports : AreReportsOn history workers r
+  pub reports : AreReportsOn history workers s r
 
 -- one session, or why there is none: the number of workers comes first, then a past that none can
 -- follow

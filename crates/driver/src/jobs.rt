@@ -1,166 +1,326 @@
-//! The jobs of a session, one after the other.
-ghost use Rattle.std.specs.Prelude.{◌≡◌, ◌<◌, ◌≤◌, IfOk, OnOk, length, map, string_bytes};
-ghost use Rattle.std.specs.Arc.{arc_value};
-ghost use Rattle.item_ids.specs.declared.key.Key.TheVariants.{Answer};
+//! The jobs of a session, by one worker of several.
+ghost use Rattle.std.specs.Prelude.{◌<◌, ◌≤◌, length, map};
 ghost use Rattle.mj_project.specs.Projects.{IsProject, most_name_bytes, source_view};
-ghost use Rattle.driver.specs.Frees.{IsFree, WorksOn, Brings};
+ghost use Rattle.mark_green.specs.Ensures.{ShowsOutcomes};
 
+use crate::lists::{Lists, Pass};
 use fingerprint::Sealed;
 use item_ids::Key;
-use mark_green::Fault;
+use mark_green::{Fault, Store, ensure};
 use mj_lexer::Name;
 use mj_project::Project;
-use recorder::Runner;
+use recorder::{Outcome, Runner};
 use result_bytes::{IndexRow, Value};
-use solo_table::Solo;
 use std::alloc::{AllocError, Global};
 use std::sync::Arc;
 
-/// The worker who does all jobs.
-const WORKER: u32 = 0;
+/// Why a worker stops before all of its jobs are done: memory ran out, or another worker failed.
+struct Undone;
 
-/// Does all jobs: the tree of each file, what each class of the index comes to, and the answer.
-#[tactic(auto, using(crate::proofs::FreeRules::works_on))]
-pub(crate) fn do_jobs<R: Runner>(
+impl From<AllocError> for Undone {
+    fn from(_error: AllocError) -> Undone {
+        Undone
+    }
+}
+
+impl From<Fault> for Undone {
+    fn from(_fault: Fault) -> Undone {
+        Undone
+    }
+}
+
+/// Does a worker's jobs at the store: the trees of the files that it takes, what the classes of the index that it takes come
+/// to, and the answer, which brings all that it reads. A worker who can't do one gives up, so that all others stop.
+pub(crate) fn do_jobs<S: Store<Out = Arc<Outcome<R>>>, R: Runner>(
     alloc: Global,
-    solo: &mut Solo<R>,
+    store: &mut S,
     runner: &mut R,
     project: &Project,
-) -> Result<(), AllocError>
-    requires { IsFree solo.old.table }
-    ensures { OnOk result (Brings solo.old.table Answer solo.new.table) }
+    lists: &Lists,
+    worker: u32,
+)
+    requires shows { ShowsOutcomes S.outcome_in }
 {
-    bring_trees(alloc, solo, runner, project.files())?;
-    let index = bring(alloc, solo, runner, &Key::Index)?;
-    bring_classes(alloc, solo, runner, rows_in(index.value()))?;
-    let _answer = bring(alloc, solo, runner, &Key::Answer)?;
+    if let Err(Undone) = bring_all(alloc, store, runner, project, lists, worker) {
+        let _failed = store.fail(worker);
+    }
+}
+
+/// Brings the trees of the worker's files, what its classes come to, and the answer.
+fn bring_all<S: Store<Out = Arc<Outcome<R>>>, R: Runner>(
+    alloc: Global,
+    store: &mut S,
+    runner: &mut R,
+    project: &Project,
+    lists: &Lists,
+    worker: u32,
+) -> Result<(), Undone>
+    requires shows { ShowsOutcomes S.outcome_in }
+{
+    bring_trees(alloc, store, runner, project, lists, worker)?;
+    let index = bring(alloc, store, runner, worker, &Key::Index)?;
+    bring_classes(alloc, store, runner, rows_in(index.value()), lists, worker)?;
+    bring(alloc, store, runner, worker, &Key::Answer)?;
     Ok(())
 }
 
 /// Brings a key to done.
-fn bring<R: Runner>(
+fn bring<S: Store<Out = Arc<Outcome<R>>>, R: Runner>(
     alloc: Global,
-    solo: &mut Solo<R>,
+    store: &mut S,
     runner: &mut R,
+    worker: u32,
     key: &Key,
-) -> Result<Arc<Sealed>, AllocError>
-    requires { IsFree solo.old.table }
-    ensures { OnOk result (Brings solo.old.table key.now solo.new.table) }
+) -> Result<Arc<Sealed>, Undone>
+    requires shows { ShowsOutcomes S.outcome_in }
 {
-    match solo.ensure(alloc, runner, WORKER, key) {
-        Ok(sealed) => Ok(sealed),
-        Err(Fault::OutOfMemory) => Err(AllocError),
-        Err(Fault::Stopped | Fault::Busy) => unreachable!(),
-    }
+    Ok(ensure(alloc, store, runner, worker, key)?)
 }
 
-/// Brings the tree of each file.
-#[tactic(auto, using(crate::proofs::FreeRules::works_on, crate::proofs::FreeRules::works_none))]
-fn bring_trees<R: Runner>(
+/// Brings the trees of the files that the worker takes.
+fn bring_trees<S: Store<Out = Arc<Outcome<R>>>, R: Runner>(
     alloc: Global,
-    solo: &mut Solo<R>,
+    store: &mut S,
     runner: &mut R,
-    files: &[(String, Vec<u8>)],
-) -> Result<(), AllocError>
-    requires free { IsFree solo.old.table }
-    requires project { IsProject (map source_view files.now) }
-    ensures { OnOk result (WorksOn solo.old.table solo.new.table) }
+    project: &Project,
+    lists: &Lists,
+    worker: u32,
+) -> Result<(), Undone>
+    requires shows { ShowsOutcomes S.outcome_in }
 {
-    for (name, _) in files {
-        bring_tree(alloc, solo, runner, name.as_str())?;
+    let files = project.files();
+    for _ in 0..files.len() {
+        let Some(at) = lists.tree(files.len()) else {
+            return Ok(());
+        };
+        let (name, _) = &files[at];
+        bring_tree(alloc, store, runner, worker, name.as_str())?;
     }
     Ok(())
 }
 
 /// Brings the tree of a file.
-fn bring_tree<R: Runner>(
+fn bring_tree<S: Store<Out = Arc<Outcome<R>>>, R: Runner>(
     alloc: Global,
-    solo: &mut Solo<R>,
+    store: &mut S,
     runner: &mut R,
+    worker: u32,
     file: &str,
-) -> Result<(), AllocError>
-    requires free { IsFree solo.old.table }
+) -> Result<(), Undone>
+    requires shows { ShowsOutcomes S.outcome_in }
     requires some { 0 < length file.now }
     requires short { length file.now ≤ most_name_bytes }
-    ensures { OnOk result (WorksOn solo.old.table solo.new.table) }
 {
     let key = Key::Tree(Name::new(alloc, file)?);
-    bring(alloc, solo, runner, &key)?;
+    bring(alloc, store, runner, worker, &key)?;
     Ok(())
 }
 
-/// Brings what each class comes to.
-#[tactic(auto, using(crate::proofs::FreeRules::works_on, crate::proofs::FreeRules::works_none))]
-fn bring_classes<R: Runner>(
+/// Brings what the classes of the index come to, in passes, so that no run ends for want of what it reads.
+fn bring_classes<S: Store<Out = Arc<Outcome<R>>>, R: Runner>(
     alloc: Global,
-    solo: &mut Solo<R>,
+    store: &mut S,
     runner: &mut R,
     rows: &[IndexRow],
-) -> Result<(), AllocError>
-    requires { IsFree solo.old.table }
-    ensures { OnOk result (WorksOn solo.old.table solo.new.table) }
+    lists: &Lists,
+    worker: u32,
+) -> Result<(), Undone>
+    requires shows { ShowsOutcomes S.outcome_in }
 {
-    for row in rows {
-        bring_class(alloc, solo, runner, &row.class)?;
+    for pass in [
+        Pass::Header,
+        Pass::Methods,
+        Pass::Supers,
+        Pass::Members,
+        Pass::Faults,
+    ] {
+        bring_pass(alloc, store, runner, rows, pass, lists, worker)?;
     }
     Ok(())
 }
 
-/// Brings the members and the faults of a class, which the answer reads. What they read of each of its methods comes
-/// first, so that no run of theirs ends for want of it.
-fn bring_class<R: Runner>(
+/// Brings this of the classes that the worker takes.
+fn bring_pass<S: Store<Out = Arc<Outcome<R>>>, R: Runner>(
     alloc: Global,
-    solo: &mut Solo<R>,
+    store: &mut S,
     runner: &mut R,
-    class: &Name,
-) -> Result<(), AllocError>
-    requires { IsFree solo.old.table }
-    ensures { OnOk result (WorksOn solo.old.table solo.new.table) }
+    rows: &[IndexRow],
+    pass: Pass,
+    lists: &Lists,
+    worker: u32,
+) -> Result<(), Undone>
+    requires shows { ShowsOutcomes S.outcome_in }
 {
-    let header = bring(alloc, solo, runner, &Key::Header(class.copy(alloc)?))?;
-    let methods = methods_in(header.value());
-    bring_methods(alloc, solo, runner, class, methods, Part::Types)?;
-    bring(alloc, solo, runner, &Key::Members(class.copy(alloc)?))?;
-    bring_methods(alloc, solo, runner, class, methods, Part::Faults)?;
-    bring(alloc, solo, runner, &Key::Diags(class.copy(alloc)?))?;
+    for _ in 0..rows.len() {
+        let Some(at) = lists.class(pass, rows.len()) else {
+            return Ok(());
+        };
+        bring_class(alloc, store, runner, worker, &rows[at].class, pass)?;
+    }
     Ok(())
 }
 
-/// What is brought of a method.
+/// Brings this of a class.
+fn bring_class<S: Store<Out = Arc<Outcome<R>>>, R: Runner>(
+    alloc: Global,
+    store: &mut S,
+    runner: &mut R,
+    worker: u32,
+    class: &Name,
+    pass: Pass,
+) -> Result<(), Undone>
+    requires shows { ShowsOutcomes S.outcome_in }
+{
+    match pass {
+        Pass::Header => bring_of(alloc, store, runner, worker, class, Of::Header),
+        Pass::Methods => bring_methods(alloc, store, runner, worker, class, Part::Types),
+        Pass::Supers => bring_of(alloc, store, runner, worker, class, Of::Supers),
+        Pass::Members => bring_of(alloc, store, runner, worker, class, Of::Members),
+        Pass::Faults => bring_faults(alloc, store, runner, worker, class),
+    }
+}
+
+/// Brings the faults of a class: of its declarations, of each of its bodies, and all of them together.
+fn bring_faults<S: Store<Out = Arc<Outcome<R>>>, R: Runner>(
+    alloc: Global,
+    store: &mut S,
+    runner: &mut R,
+    worker: u32,
+    class: &Name,
+) -> Result<(), Undone>
+    requires shows { ShowsOutcomes S.outcome_in }
+{
+    bring_of(alloc, store, runner, worker, class, Of::Declarations)?;
+    bring_methods(alloc, store, runner, worker, class, Part::Faults)?;
+    bring_of(alloc, store, runner, worker, class, Of::Faults)
+}
+
+/// What is brought of a class.
+#[derive(Clone, Copy)]
+enum Of {
+    /// Its header.
+    Header,
+    /// Its superclasses.
+    Supers,
+    /// Its members.
+    Members,
+    /// The faults of its declarations.
+    Declarations,
+    /// All of its faults.
+    Faults,
+}
+
+/// The key of this of a class.
+fn class_key(alloc: Global, of: Of, class: &Name) -> Result<Key, AllocError> {
+    let class = class.copy(alloc)?;
+    match of {
+        Of::Header => Ok(Key::Header(class)),
+        Of::Supers => Ok(Key::Supers(class)),
+        Of::Members => Ok(Key::Members(class)),
+        Of::Declarations => Ok(Key::CheckClass(class)),
+        Of::Faults => Ok(Key::Diags(class)),
+    }
+}
+
+/// Brings this of a class.
+fn bring_of<S: Store<Out = Arc<Outcome<R>>>, R: Runner>(
+    alloc: Global,
+    store: &mut S,
+    runner: &mut R,
+    worker: u32,
+    class: &Name,
+    of: Of,
+) -> Result<(), Undone>
+    requires shows { ShowsOutcomes S.outcome_in }
+{
+    let key = class_key(alloc, of, class)?;
+    bring(alloc, store, runner, worker, &key)?;
+    Ok(())
+}
+
+/// What is brought of each method of a class.
 #[derive(Clone, Copy)]
 enum Part {
-    /// Its types.
+    /// The method and its types.
     Types,
     /// The faults in its body.
     Faults,
 }
 
+/// Brings this part of each method of a class, or of `main`.
+fn bring_methods<S: Store<Out = Arc<Outcome<R>>>, R: Runner>(
+    alloc: Global,
+    store: &mut S,
+    runner: &mut R,
+    worker: u32,
+    class: &Name,
+    part: Part,
+) -> Result<(), Undone>
+    requires shows { ShowsOutcomes S.outcome_in }
+{
+    let key = class_key(alloc, Of::Header, class)?;
+    let header = bring(alloc, store, runner, worker, &key)?;
+    if is_main(header.value()) {
+        return bring_main(alloc, store, runner, worker, class, part);
+    }
+    for method in methods_in(header.value()) {
+        bring_part(alloc, store, runner, worker, class, method, part)?;
+    }
+    Ok(())
+}
+
 /// The key of this part of a method.
-fn part_key(alloc: Global, part: Part, class: &Name, method: &Name) -> Result<Key, AllocError> {
+fn part_key(alloc: Global, class: &Name, method: &Name, part: Part) -> Result<Key, AllocError> {
     let (class, method) = (class.copy(alloc)?, method.copy(alloc)?);
     match part {
-        Part::Types => Ok(Key::Sig(class, method)),
+        Part::Types => Ok(Key::Method(class, method)),
         Part::Faults => Ok(Key::CheckBody(class, method)),
     }
 }
 
-/// Brings this part of each method of a class.
-fn bring_methods<R: Runner>(
+/// Brings this part of `main`, which has no types.
+fn bring_main<S: Store<Out = Arc<Outcome<R>>>, R: Runner>(
     alloc: Global,
-    solo: &mut Solo<R>,
+    store: &mut S,
     runner: &mut R,
+    worker: u32,
     class: &Name,
-    methods: &[Name],
     part: Part,
-) -> Result<(), AllocError>
-    requires { IsFree solo.old.table }
-    ensures { OnOk result (WorksOn solo.old.table solo.new.table) }
+) -> Result<(), Undone>
+    requires shows { ShowsOutcomes S.outcome_in }
 {
-    for method in methods {
-        let key = part_key(alloc, part, class, method)?;
-        bring(alloc, solo, runner, &key)?;
+    let key = part_key(alloc, class, &Name::new(alloc, "main")?, part)?;
+    bring(alloc, store, runner, worker, &key)?;
+    Ok(())
+}
+
+/// Brings this part of a method.
+fn bring_part<S: Store<Out = Arc<Outcome<R>>>, R: Runner>(
+    alloc: Global,
+    store: &mut S,
+    runner: &mut R,
+    worker: u32,
+    class: &Name,
+    method: &Name,
+    part: Part,
+) -> Result<(), Undone>
+    requires shows { ShowsOutcomes S.outcome_in }
+{
+    let key = part_key(alloc, class, method, part)?;
+    bring(alloc, store, runner, worker, &key)?;
+    if let Part::Types = part {
+        let key = Key::Sig(class.copy(alloc)?, method.copy(alloc)?);
+        bring(alloc, store, runner, worker, &key)?;
     }
     Ok(())
+}
+
+/// Whether a header tells that the class has `main`.
+fn is_main(value: &Value) -> bool {
+    match value {
+        Value::Header(Some(header)) => header.is_main(),
+        _ => false,
+    }
 }
 
 /// The names of methods that a header tells.

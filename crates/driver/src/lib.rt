@@ -1,12 +1,15 @@
-//! One session of a project: its jobs in order, over the session before it.
+//! One session of a project: its jobs, by workers who share its table, over the session before it.
 #![tactic(auto)]
 
+mod crew;
 mod fault;
-mod gate;
 mod jobs;
+mod laws;
+mod lists;
 mod session;
 
 pub use fault::DriveFault;
-pub use gate::{Gate, Open};
-pub use session::drive;
+pub use laws::{made_sessions_are_one, refusals_are_exact, sessions_are_next};
+pub use session::{drive, drive_in_steps};
 pub use session_reports::Reports;
+pub use shared_table::{Gate, Open, Shared};

@@ -1,40 +1,115 @@
 //! One session.
-ghost use Rattle.std.specs.Prelude.{◌≡◌, ◌↔◌, ◌≤◌, map, IsTrue, IfOk, length};
+ghost use Rattle.std.specs.Prelude.{◌≡◌, ◌↔◌, ◌≤◌, map, IsTrue, IfOk, IfSome, length, []};
 ghost use Rattle.item_ids.specs.declared.key.Key.TheVariants.{Answer};
 ghost use Rattle.job_table.specs.Tables.{session_in, state_of};
 ghost use Rattle.job_table.specs.Closes.{MayClose, IsClosing};
+ghost use Rattle.recorder.specs.Backed.{RunnerLaws};
+ghost use Rattle.sessions.specs.Sessions.{IsSession};
+ghost use Rattle.next_sessions.specs.Nexts.{DecidesNext, IsNextSession};
 ghost use Rattle.driver.specs.Sessions.{IsCrew, DriveGives, IsSessionOf};
-ghost use Rattle.driver.specs.Frees.{IsFree, Brings};
 
+use crate::crew::{hire, pay, work_at};
 use crate::fault::DriveFault;
-use crate::jobs::do_jobs;
+use crate::laws::sessions_are_next;
+use crate::lists::Lists;
 use job_table::{CloseFault, OpenFault, Table};
 use mj_project::Project;
 use recorder::Runner;
-use session_reports::{Reports, reports_of};
+use session_reports::Reports;
 use sessions::Session;
-use solo_table::Solo;
+use shared_table::{Counted, Gate, Naming};
 use std::alloc::{AllocError, Global};
-use std::sync::Arc;
+use std::marker::Brand;
+use std::sync::ledger::Blank;
+use std::sync::{Arc, Wait};
+use std::thread::Threads;
 
-/// One session of a project by this runner, over the session before it.
-#[tactic(auto, using(crate::proofs::FreeRules::opening_free))]
-pub fn drive<R: Runner>(
+/// One session of a project over the session before it, by so many workers, for each of whom a runner is made. Each works in
+/// a thread of its own, all at one table. The gate is called round each run.
+pub fn drive<
+    R: Runner + Drop + Send + Sync,
+    F: Fn() -> R,
+    G: Gate + Sync,
+    T: Threads + Wait + Sync,
+>(
+    rt: &T,
     alloc: Global,
-    runner: &mut R,
+    make: &F,
     prev: Option<Arc<Session>>,
     project: &Project,
     workers: usize,
+    gate: &G,
 ) -> Result<(Session, Reports), DriveFault>
-    ensures { DriveGives R.mean R.reads (session_in prev) project.now workers result }
+    requires { F.IsAlwaysCallable make.now }
+    ensures gives { DriveGives R.mean R.reads (session_in prev) project.now workers result }
+    // Where the past and the project decide it, the session is the next one.
+    ensures next { IfOk result (λ done. DecidesNext R.mean R.reads (session_in prev) project.now
+        → IsNextSession R.mean R.reads (session_in prev) project.now done.0) }
+{
+    drive_in_steps(rt, alloc, make, prev, project, workers, gate, 1)
+}
+
+/// One session, as `drive` makes it, whose lists of jobs are gone through by a step. Jobs that are left out are done when
+/// another reads what they bring.
+pub fn drive_in_steps<
+    R: Runner + Drop + Send + Sync,
+    F: Fn() -> R,
+    G: Gate + Sync,
+    T: Threads + Wait + Sync,
+>(
+    rt: &T,
+    alloc: Global,
+    make: &F,
+    prev: Option<Arc<Session>>,
+    project: &Project,
+    workers: usize,
+    gate: &G,
+    step: usize,
+) -> Result<(Session, Reports), DriveFault>
+    requires { F.IsAlwaysCallable make.now }
+    ensures gives { DriveGives R.mean R.reads (session_in prev) project.now workers result }
+    ensures next { IfOk result (λ done. DecidesNext R.mean R.reads (session_in prev) project.now
+        → IsNextSession R.mean R.reads (session_in prev) project.now done.0) }
 {
     if !is_crew(workers) {
         return Err(DriveFault::Workers);
     }
+    let _files = project.files();
+    past_is_session(&prev);
+    keeps_laws::<R>();
+    sessions_are_next();
     match Table::open(alloc, prev, project) {
-        Ok(table) => Ok(drive_table(alloc, runner, table, project, workers)?),
+        Ok(table) => {
+            let done = drive_table::<Brand, R, F, G, T>(
+                rt,
+                alloc,
+                make,
+                table,
+                project,
+                workers,
+                gate,
+                &Lists::new(step),
+                Blank::new(workers as u64),
+            )?;
+            let _records = done.0.records();
+            Ok(done)
+        }
         Err(OpenFault::ChainFull) => Err(DriveFault::ChainFull),
         Err(OpenFault::OutOfMemory) => Err(DriveFault::OutOfMemory),
+    }
+}
+
+/// A runner keeps the laws by its type.
+fn keeps_laws<R: Runner>()
+    ensures { RunnerLaws R.mean R.reads }
+{}
+
+/// The session before, where there is one, is a session.
+fn past_is_session(prev: &Option<Arc<Session>>)
+    ensures { IfSome (session_in prev.now) IsSession }
+{
+    if let Some(past) = prev {
+        let _records = past.records();
     }
 }
 
@@ -45,38 +120,57 @@ fn is_crew(workers: usize) -> bool
     1 <= workers && workers <= 64
 }
 
-/// Does all jobs at a table, and closes it.
-#[tactic(auto, using(crate::proofs::FreeRules::all_done))]
-fn drive_table<R: Runner>(
+/// Does all jobs at a table that was just opened, and closes it.
+fn drive_table<
+    J: Naming + Send + Sync,
+    R: Runner + Drop + Send + Sync,
+    F: Fn() -> R,
+    G: Gate + Sync,
+    T: Threads + Wait + Sync,
+>(
+    rt: &T,
     alloc: Global,
-    runner: &mut R,
+    make: &F,
     table: Table<R>,
     project: &Project,
     workers: usize,
+    gate: &G,
+    lists: &Lists,
+    blank: Blank,
 ) -> Result<(Session, Reports), AllocError>
+    requires makes { F.IsAlwaysCallable make.now }
+    requires name { blank.name ≡ J.name }
+    requires parts { blank.parts ≡ J.parts }
+    requires workers { blank.parts ≡ workers }
     requires crew { IsCrew workers }
-    requires free { IsFree table }
-    ensures { IfOk result (λ done. IsSessionOf R.mean R.reads table.past table.project workers
-        done.0 done.1) }
+    requires past { table.past ≡ J.past }
+    requires project { table.project ≡ J.project }
+    requires opened { table.history ≡ [] }
+    ensures { IfOk result (λ done.
+        IsSessionOf R.mean R.reads J.past J.project workers done.0 done.1) }
 {
-    let mut solo = Solo::new(table);
-    do_jobs(alloc, &mut solo, runner, project)?;
-    let table = solo.table();
+    let (book, mut all) = blank.open::<J>();
+    let mut team = hire::<J, R, F>(alloc, &mut all, workers, make)?;
+    let counted = Counted::new(table, book);
+    let counted = work_at(rt, counted, gate, project, lists, &mut team)?;
+    let events = pay(alloc, &mut all, team)?;
+    let table = counted.end(&mut all);
     table.laws();
-    let reports = reports_of(alloc, table.history().len(), workers)?;
-    Ok((close(table)?, reports))
+    let history = table.history().len();
+    Ok((close(&table)?, Reports { events, history }))
 }
 
-/// The session of a table at which all jobs are done.
+/// The session of a table, when all workers have ended. It isn't closed where one of them failed, which is for want of memory.
 fn close<R: Runner>(table: &Table<R>) -> Result<Session, AllocError>
-    requires { MayClose (state_of table.now) }
-    ensures { IfOk result (IsClosing table.now.past table.now.project (state_of table.now)) }
+    ensures may_close { IfOk result (λ _. MayClose (state_of table.now)) }
+    ensures closing { IfOk result
+        (IsClosing table.now.past table.now.project (state_of table.now)) }
 {
     match table.close() {
         Ok(session) => Ok(session),
-        Err(CloseFault::OutOfMemory) => Err(AllocError),
-        Err(CloseFault::Failed | CloseFault::StillRunning | CloseFault::NoAnswer) => {
-            unreachable!()
+        Err(CloseFault::OutOfMemory)
+        | Err(CloseFault::Failed | CloseFault::StillRunning | CloseFault::NoAnswer) => {
+            Err(AllocError)
         }
     }
 }

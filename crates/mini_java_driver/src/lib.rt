@@ -3,5 +3,5 @@
 
 mod session;
 
-pub use driver::{DriveFault, Gate, Open, Reports};
+pub use driver::{DriveFault, Gate, Open, Reports, Shared};
 pub use session::run_session;

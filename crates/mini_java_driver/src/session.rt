@@ -1,7 +1,9 @@
 //! One session of a MiniJava project.
+ghost use Rattle.std.specs.Prelude.{IfOk};
 ghost use Rattle.query_rules.specs.Meaning.{mean};
 ghost use Rattle.query_rules.specs.Reads.{reads};
 ghost use Rattle.job_table.specs.Tables.{session_in};
+ghost use Rattle.next_sessions.specs.Nexts.{DecidesNext, IsNextSession};
 ghost use Rattle.driver.specs.Sessions.{DriveGives};
 
 use driver::{DriveFault, Gate, Reports, drive};
@@ -9,19 +11,31 @@ use mj_project::Project;
 use providers::MiniJava;
 use sessions::Session;
 use std::alloc::Global;
-use std::sync::Arc;
+use std::sync::{Arc, Wait};
+use std::thread::Threads;
 
-/// One session of a MiniJava project, over the session before it. The first of the workers does all jobs, and the gate
-/// isn't called.
-pub fn run_session<G: Gate>(
+/// One session of a MiniJava project over the session before it, by so many workers, each in a thread of its own. The gate
+/// is called round each run.
+pub fn run_session<G: Gate + Sync, T: Threads + Wait + Sync>(
+    rt: &T,
     alloc: Global,
     prev: Option<Arc<Session>>,
     project: &Project,
     workers: usize,
-    _gate: &G,
+    gate: &G,
 ) -> Result<(Session, Reports), DriveFault>
-    ensures { DriveGives mean reads (session_in prev) project.now workers result }
+    ensures gives { DriveGives mean reads (session_in prev) project.now workers result }
+    // Where the past and the project decide it, the session is the next one.
+    ensures next { IfOk result (λ done. DecidesNext mean reads (session_in prev) project.now
+        → IsNextSession mean reads (session_in prev) project.now done.0) }
 {
-    let mut runner = MiniJava::new(alloc);
-    drive(alloc, &mut runner, prev, project, workers)
+    drive(
+        rt,
+        alloc,
+        &|| MiniJava::new(alloc),
+        prev,
+        project,
+        workers,
+        gate,
+    )
 }

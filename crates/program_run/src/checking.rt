@@ -13,11 +13,18 @@ use command_line::CheckWords;
 use mj_rules::{Project, render};
 use sessions::Session;
 use std::alloc::{AllocError, Global};
+use std::mem::forget;
 use std::rt::Files;
+use std::sync::Wait;
+use std::thread::Threads;
 
-/// The report on the project of these files by the session that comes behind the last one of the cache. All of it is made
-/// before the session's file is written.
-pub(crate) fn check<R: Files + AllocGlobal>(rt: &R, asked: CheckWords) -> Result<Report, Failure>
+/// The report on the project of these files by the session that comes behind the last one of the cache, whose workers are
+/// threads. All of it is made before the session's file is written.
+pub(crate) fn check<R: Files + AllocGlobal, T: Threads + Wait + Sync>(
+    rt: &R,
+    threads: &T,
+    asked: CheckWords,
+) -> Result<Report, Failure>
     requires some { 1 ≤ asked.jobs }
     requires most { asked.jobs ≤ 64 }
     ensures reports { IfOk result
@@ -28,9 +35,11 @@ pub(crate) fn check<R: Files + AllocGlobal>(rt: &R, asked: CheckWords) -> Result
     let CheckWords { cache, jobs, files } = asked;
     let project = Project::new(alloc, read_files(rt, files)?)?;
     let Beginning { past, place, notes } = begin(rt, cache.as_str())?;
-    let session = next_session(alloc, past, &project, jobs)?;
+    let session = next_session(threads, alloc, past, &project, jobs)?;
     let report = session_report(alloc, &project, notes.as_str(), &session)?;
     keep(rt, cache.as_str(), place, &session, notes)?;
+    // (the run ends here: its results are left to the system, which takes them back at once)
+    forget(session);
     Ok(report)
 }
 

@@ -24,11 +24,14 @@ use session_file::FileFault;
 use std::alloc::{AllocError, Global};
 use std::io::Write;
 use std::rt::Files;
+use std::sync::Wait;
+use std::thread::Threads;
 
 /// Does what the words ask for, of which the first is the program's name. It writes standard error,
-/// then standard output, and gives the exit status.
-pub fn run<R: Files + AllocGlobal, W: Write, E: Write>(
+/// then standard output, and gives the exit status. Only a check starts threads.
+pub fn run<R: Files + AllocGlobal, T: Threads + Wait + Sync, W: Write, E: Write>(
     rt: &R,
+    threads: &T,
     list: Vec<String>,
     out: &mut W,
     err: &mut E,
@@ -45,7 +48,7 @@ pub fn run<R: Files + AllocGlobal, W: Write, E: Write>(
         → PrintsCheck (map string_bytes list.items) result (W.contents out.old)
         (W.contents out.new) (E.contents err.old) (E.contents err.new) }
 {
-    let status = match report_of(rt, list) {
+    let status = match report_of(rt, threads, list) {
         Ok(report) => deliver(&report, out, err),
         Err(AllocError) => no_memory(err),
     };
@@ -53,7 +56,11 @@ pub fn run<R: Files + AllocGlobal, W: Write, E: Write>(
 }
 
 // The texts of a run, whose words are these, and its end.
-fn report_of<R: Files + AllocGlobal>(rt: &R, list: Vec<String>) -> Result<Report, AllocError>
+fn report_of<R: Files + AllocGlobal, T: Threads + Wait + Sync>(
+    rt: &R,
+    threads: &T,
+    list: Vec<String>,
+) -> Result<Report, AllocError>
     ensures answer { (subcommand : Subcommand) (names : List (List ℕ))
         → files_for subcommand (map string_bytes list.items) ≡ Some names
         → IsTrue (asks_plainly subcommand (map string_bytes list.items))
@@ -64,14 +71,18 @@ fn report_of<R: Files + AllocGlobal>(rt: &R, list: Vec<String>) -> Result<Report
         (report.status ≡ Status.Clean) ⊎ (report.status ≡ Status.Diagnostics)
         → ReportsCheck (map string_bytes list.items) report ⊎ TellsHelp report) }
 {
-    match perform(rt, list) {
+    match perform(rt, threads, list) {
         Ok(report) => Ok(report),
         Err(failure) => failure_report(rt.alloc(), failure),
     }
 }
 
 // What the words ask for.
-fn perform<R: Files + AllocGlobal>(rt: &R, list: Vec<String>) -> Result<Report, Failure>
+fn perform<R: Files + AllocGlobal, T: Threads + Wait + Sync>(
+    rt: &R,
+    threads: &T,
+    list: Vec<String>,
+) -> Result<Report, Failure>
     ensures reports { (subcommand : Subcommand) (names : List (List ℕ))
         → files_for subcommand (map string_bytes list.items) ≡ Some names
         → IfOk result (Reports subcommand names) }
@@ -83,7 +94,7 @@ fn perform<R: Files + AllocGlobal>(rt: &R, list: Vec<String>) -> Result<Report, 
 {
     match words(rt.alloc(), list)? {
         Words::Scratch(names) => scratch(rt, names),
-        Words::Check(asked) => check(rt, asked),
+        Words::Check(asked) => check(rt, threads, asked),
         Words::Audit(names) => audit(rt, names),
         Words::Show(name) => show(rt, name),
     }

@@ -10,6 +10,8 @@ use crate::devices::Memory;
 use program_run::run;
 use std::alloc::{AllocError, AllocFailed, Global};
 use std::io::Write;
+use std::sync::Wait;
+use std::thread::Threads;
 
 /// Adds a word.
 fn add_word(alloc: Global, words: &mut Vec<String>, word: &str) -> Result<(), AllocError>
@@ -44,7 +46,8 @@ fn words(alloc: Global, names: &[&str]) -> Result<Vec<String>, AllocError>
 }
 
 /// Runs `scratch` on these files of a memory, writes to the two streams and gives the exit status.
-pub fn scratch<W: Write, E: Write>(
+pub fn scratch<T: Threads + Wait + Sync, W: Write, E: Write>(
+    rt: &T,
     alloc: Global,
     memory: Memory,
     names: &[&str],
@@ -59,5 +62,5 @@ pub fn scratch<W: Write, E: Write>(
         (W.contents out.new) (E.contents err.old) (E.contents err.new)) }
 {
     let words = words(alloc, names)?;
-    Ok(run(&(memory, alloc), words, out, err))
+    Ok(run(&(memory, alloc), rt, words, out, err))
 }

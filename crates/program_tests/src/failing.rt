@@ -3,7 +3,9 @@ use program_samples::{Full, Logged, Memory, scratch};
 use std::alloc::Global;
 use std::cell::{Cell, RefCell};
 use std::io::ErrorKind;
+use std::sync::Wait;
 use std::test::Fail;
+use std::thread::Threads;
 
 /// Two files of a project, and one whose name is no file's.
 const FILES: &[(&str, &[u8])] = &[
@@ -75,7 +77,11 @@ const READS: &[Read] = &[
 ];
 
 /// Whether the run ends so, and how often it has read.
-fn ends(alloc: Global, row: &Read) -> Result<(bool, usize), Fail> {
+fn ends<T: Threads + Wait + Sync>(
+    rt: &T,
+    alloc: Global,
+    row: &Read,
+) -> Result<(bool, usize), Fail> {
     let (names, failing, status, wanted_out, wanted_err) = *row;
     let reads = Cell::new(0);
     let memory = Memory {
@@ -85,7 +91,7 @@ fn ends(alloc: Global, row: &Read) -> Result<(bool, usize), Fail> {
     };
     let mut out: Vec<u8> = Vec::new(alloc);
     let mut err: Vec<u8> = Vec::new(alloc);
-    let ended = scratch(alloc, memory, names, &mut out, &mut err)?;
+    let ended = scratch(rt, alloc, memory, names, &mut out, &mut err)?;
     let is_so = ended == status
         && out.as_slice() == wanted_out.as_bytes()
         && err.as_slice() == wanted_err.as_bytes();
@@ -95,7 +101,7 @@ fn ends(alloc: Global, row: &Read) -> Result<(bool, usize), Fail> {
 #[test]
 fn a_failed_read_ends_the_run(rt: HostRuntime) -> Result<(), Fail> {
     for row in READS {
-        assert!(rt; ends(rt.alloc(), row)?.0, "{row:?}");
+        assert!(rt; ends(&rt, rt.alloc(), row)?.0, "{row:?}");
     }
     Ok(())
 }
@@ -103,7 +109,7 @@ fn a_failed_read_ends_the_run(rt: HostRuntime) -> Result<(), Fail> {
 // Each of the four reads of the two files fails in a row above.
 #[test]
 fn two_files_are_four_reads(rt: HostRuntime) -> Result<(), Fail> {
-    assert_eq!(rt; ends(rt.alloc(), &PLAIN)?.1, 4);
+    assert_eq!(rt; ends(&rt, rt.alloc(), &PLAIN)?.1, 4);
     Ok(())
 }
 
@@ -123,10 +129,21 @@ fn faulty(reads: &Cell<usize>) -> Memory<'_> {
 }
 
 /// Whether standard output that is full after so many bytes is noted and refused.
-fn is_refused_after(alloc: Global, left: usize) -> Result<bool, Fail> {
+fn is_refused_after<T: Threads + Wait + Sync>(
+    rt: &T,
+    alloc: Global,
+    left: usize,
+) -> Result<bool, Fail> {
     let reads = Cell::new(0);
     let mut err: Vec<u8> = Vec::new(alloc);
-    let status = scratch(alloc, faulty(&reads), &["a"], &mut Full { left }, &mut err)?;
+    let status = scratch(
+        rt,
+        alloc,
+        faulty(&reads),
+        &["a"],
+        &mut Full { left },
+        &mut err,
+    )?;
     let noted = err.strip_prefix(ERR.as_bytes());
     Ok(status == 2 && noted == Some(b"cannot write standard output\n".as_slice()))
 }
@@ -134,23 +151,34 @@ fn is_refused_after(alloc: Global, left: usize) -> Result<bool, Fail> {
 #[test]
 fn a_failed_write_is_refused(rt: HostRuntime) -> Result<(), Fail> {
     for left in 0..OUT.len() {
-        assert!(rt; is_refused_after(rt.alloc(), left)?, "after {left}");
+        assert!(rt; is_refused_after(&rt, rt.alloc(), left)?, "after {left}");
     }
     Ok(())
 }
 
 /// Whether nothing is written to standard output where standard error is full after so many bytes.
-fn is_silent_after(alloc: Global, left: usize) -> Result<bool, Fail> {
+fn is_silent_after<T: Threads + Wait + Sync>(
+    rt: &T,
+    alloc: Global,
+    left: usize,
+) -> Result<bool, Fail> {
     let reads = Cell::new(0);
     let mut out: Vec<u8> = Vec::new(alloc);
-    let status = scratch(alloc, faulty(&reads), &["a"], &mut out, &mut Full { left })?;
+    let status = scratch(
+        rt,
+        alloc,
+        faulty(&reads),
+        &["a"],
+        &mut out,
+        &mut Full { left },
+    )?;
     Ok(status == 2 && out.is_empty())
 }
 
 #[test]
 fn nothing_follows_a_failed_note(rt: HostRuntime) -> Result<(), Fail> {
     for left in 0..ERR.len() {
-        assert!(rt; is_silent_after(rt.alloc(), left)?, "after {left}");
+        assert!(rt; is_silent_after(&rt, rt.alloc(), left)?, "after {left}");
     }
     Ok(())
 }
@@ -169,7 +197,7 @@ fn standard_error_comes_first(rt: HostRuntime) -> Result<(), Fail> {
     let log = RefCell::new(Vec::new(rt.alloc()));
     let mut out = Logged { log: &log };
     let mut err = Logged { log: &log };
-    let status = scratch(rt.alloc(), faulty(&reads), &["a"], &mut out, &mut err)?;
+    let status = scratch(&rt, rt.alloc(), faulty(&reads), &["a"], &mut out, &mut err)?;
     assert_eq!(rt; status, 1);
     assert!(rt;
         has(

@@ -3,4 +3,4 @@
 
 mod reports;
 
-pub use reports::{Reports, reports_of};
+pub use reports::Reports;

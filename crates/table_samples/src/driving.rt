@@ -13,7 +13,8 @@ use mj_project::Project;
 use session_samples::session_of;
 use sessions::Session;
 use std::alloc::Global;
-use std::sync::Arc;
+use std::sync::{Arc, Wait};
+use std::thread::Threads;
 
 /// What is reported of a session by so many workers: how many events each made, by its number, and how many there are.
 #[derive(Clone, Copy)]
@@ -38,7 +39,8 @@ fn tells(reports: &Reports, counts: &Counts) -> bool
 }
 
 /// The session over this past, where it is reported so.
-fn session_over(
+fn session_over<T: Threads + Wait + Sync>(
+    rt: &T,
     alloc: Global,
     past: Option<Arc<Session>>,
     project: &Project,
@@ -47,7 +49,7 @@ fn session_over(
     ensures { IfOk result (λ made. IfSome made (λ s.
         IsReported (session_in past) project.now counts.now (arc_value s))) }
 {
-    match run_session(alloc, past, project, counts.workers, &Open) {
+    match run_session(rt, alloc, past, project, counts.workers, &Open) {
         Ok((session, reports)) => session_if(alloc, session, tells(&reports, counts)),
         Err(_) => Err(Unfit),
     }
@@ -66,7 +68,8 @@ fn session_if(alloc: Global, session: Session, holds: bool) -> Result<Option<Arc
 }
 
 /// Whether a first session of the project is reported so, and one over it again so.
-fn are_reported_of(
+fn are_reported_of<T: Threads + Wait + Sync>(
+    rt: &T,
     alloc: Global,
     project: &Project,
     first: &Counts,
@@ -74,17 +77,18 @@ fn are_reported_of(
 ) -> Result<bool, Unfit>
     ensures { IfOk result (λ b. IsTrue b → AreReported project.now first.now again.now) }
 {
-    let Some(past) = session_over(alloc, None, project, first)? else {
+    let Some(past) = session_over(rt, alloc, None, project, first)? else {
         return Ok(false);
     };
-    match session_over(alloc, Some(past), project, again)? {
+    match session_over(rt, alloc, Some(past), project, again)? {
         Some(_) => Ok(true),
         None => Ok(false),
     }
 }
 
 /// Whether a first session of a project of this text is reported so, and one over it again so.
-pub fn are_reported(
+pub fn are_reported<T: Threads + Wait + Sync>(
+    rt: &T,
     alloc: Global,
     text: &str,
     first: &Counts,
@@ -94,7 +98,7 @@ pub fn are_reported(
         → AreReported (one_file text.now) first.now again.now) }
 {
     let project = project_of(alloc, text)?;
-    are_reported_of(alloc, &project, first, again)
+    are_reported_of(rt, alloc, &project, first, again)
 }
 
 /// The session of this number without records.
@@ -116,7 +120,8 @@ fn past_numbered(alloc: Global, number: Option<u32>) -> Result<Option<Arc<Sessio
 }
 
 /// Why there is no such session of the project, or `None` where there is one.
-fn fault_over(
+fn fault_over<T: Threads + Wait + Sync>(
+    rt: &T,
     alloc: Global,
     project: &Project,
     unmade: &Unmade,
@@ -124,11 +129,12 @@ fn fault_over(
     ensures { IfOk result (IsFaultOf unmade.now.past project.now unmade.now.workers) }
 {
     let past = past_numbered(alloc, unmade.past)?;
-    Ok(fault_behind(alloc, past, project, unmade.workers))
+    Ok(fault_behind(rt, alloc, past, project, unmade.workers))
 }
 
 /// Why there is no session over this past, or `None` where there is one.
-fn fault_behind(
+fn fault_behind<T: Threads + Wait + Sync>(
+    rt: &T,
     alloc: Global,
     past: Option<Arc<Session>>,
     project: &Project,
@@ -136,16 +142,21 @@ fn fault_behind(
 ) -> Option<DriveFault>
     ensures { IsFaultOver (session_in past) project.now workers result }
 {
-    match run_session(alloc, past, project, workers, &Open) {
+    match run_session(rt, alloc, past, project, workers, &Open) {
         Ok(_) => None,
         Err(fault) => Some(fault),
     }
 }
 
 /// Why there is no such session of a project of this text, or `None` where there is one.
-pub fn drive_fault(alloc: Global, text: &str, unmade: &Unmade) -> Result<Option<DriveFault>, Unfit>
+pub fn drive_fault<T: Threads + Wait + Sync>(
+    rt: &T,
+    alloc: Global,
+    text: &str,
+    unmade: &Unmade,
+) -> Result<Option<DriveFault>, Unfit>
     ensures { IfOk result (IsFaultOf unmade.now.past (one_file text.now) unmade.now.workers) }
 {
     let project = project_of(alloc, text)?;
-    fault_over(alloc, &project, unmade)
+    fault_over(rt, alloc, &project, unmade)
 }

@@ -4,57 +4,28 @@ use crate::records::ONE;
 use mark_green::Fault;
 use mini_java_driver::DriveFault;
 use std::alloc::Global;
+use std::sync::Wait;
 use std::test::*;
+use std::thread::Threads;
 use table_samples::{Counts, Unmade, are_reported, drive_fault};
 
-/// A first session of the class that prints 1 and one over it again, by so many workers: how many events each worker made
-/// in the first, how many there are, and the same of the second.
-struct Row {
-    workers: usize,
-    first: &'static [usize],
-    first_history: usize,
-    again: &'static [usize],
-    again_history: usize,
-}
+/// Ten queries are executed, three events for each.
+const FIRST: Counts = Counts {
+    workers: 1,
+    events: &[30],
+    history: 30,
+};
 
-const ROWS: &[Row] = &[
-    // Ten queries are executed, three events for each, and green then, two events for each.
-    Row {
-        workers: 1,
-        first: &[30],
-        first_history: 30,
-        again: &[20],
-        again_history: 20,
-    },
-    // The first of the workers makes all events.
-    Row {
-        workers: 8,
-        first: &[30, 0, 0, 0, 0, 0, 0, 0],
-        first_history: 30,
-        again: &[20, 0, 0, 0, 0, 0, 0, 0],
-        again_history: 20,
-    },
-];
-
-fn is_reported(alloc: Global, row: &Row) -> bool {
-    let first = Counts {
-        workers: row.workers,
-        events: row.first,
-        history: row.first_history,
-    };
-    let again = Counts {
-        workers: row.workers,
-        events: row.again,
-        history: row.again_history,
-    };
-    are_reported(alloc, ONE, &first, &again) == Ok(true)
-}
+/// They are green then, two events for each.
+const AGAIN: Counts = Counts {
+    workers: 1,
+    events: &[20],
+    history: 20,
+};
 
 #[test]
 fn sessions_are_reported(rt: HostRuntime) {
-    for row in ROWS {
-        assert!(rt; is_reported(rt.alloc(), row));
-    }
+    assert!(rt; are_reported(&rt, rt.alloc(), ONE, &FIRST, &AGAIN) == Ok(true));
 }
 
 /// A session that is refused, and why.
@@ -88,18 +59,18 @@ const REFUSED: &[Refused] = &[
     },
 ];
 
-fn is_refused(alloc: Global, row: &Refused) -> bool {
+fn is_refused<T: Threads + Wait + Sync>(rt: &T, alloc: Global, row: &Refused) -> bool {
     let unmade = Unmade {
         past: row.past,
         workers: row.workers,
     };
-    drive_fault(alloc, ONE, &unmade) == Ok(Some(row.fault))
+    drive_fault(rt, alloc, ONE, &unmade) == Ok(Some(row.fault))
 }
 
 #[test]
 fn sessions_are_refused(rt: HostRuntime) {
     for row in REFUSED {
-        assert!(rt; is_refused(rt.alloc(), row));
+        assert!(rt; is_refused(&rt, rt.alloc(), row));
     }
 }
 

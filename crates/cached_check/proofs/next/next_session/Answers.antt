@@ -2,5 +2,5 @@ use Rattle.cached_check.proofs.Answered.{next}
 use Rattle.cached_check.proofs.next.next_session.Goals as goal
 
 pub returns-in-Ok : goal.returns-in-Ok
-returns-in-Ok c =
-    next c.args.past c.args.project.now c.args.workers c.in-Ok.session c.in-Ok.field-0-1 c.records-records.ensures.session c.in-Ok.ensures.2
+returns-in-Ok g c =
+    next c.args.past c.args.project.now c.args.workers c.in-Ok.session c.in-Ok.field-0-1 c.records-records.ensures.session c.in-Ok.ensures.gives.2

@@ -1,8 +1,16 @@
+use Rattle.std.proofs.Common.{arith, ◌<◌, length, sym, subst}
+use Rattle.mj_project.specs.Projects.{IsProject}
 use Rattle.project_inputs.proofs.InputRules.{good_name}
 use Rattle.driver.proofs.jobs.bring_trees.Goals as goal
 
 pub bring_tree-requires-clause-some : goal.bring_tree-requires-clause-some
-bring_tree-requires-clause-some g c = rw c.as_str.ensures.value (good_name c.args.files.now c.requires.project c.loop-name.name-index c.loop-name-item.result c.loop-name-test.true c.loop-name-item.is).0
+bring_tree-requires-clause-some g c =
+    let within : c.in-Some.at < length c.files-files.result.now = c.in-Some.ensures in
+    rw c.as_str.ensures.value (good_name c.files-files.result.now (subst IsProject (sym c.files-files.ensures.files) c.files-files.ensures.project)
+    c.in-Some.at c.index-files-at.result within c.index-files-at.is).0
 
 pub bring_tree-requires-clause-short : goal.bring_tree-requires-clause-short
-bring_tree-requires-clause-short g c = rw c.as_str.ensures.value (good_name c.args.files.now c.requires.project c.loop-name.name-index c.loop-name-item.result c.loop-name-test.true c.loop-name-item.is).1
+bring_tree-requires-clause-short g c =
+    let within : c.in-Some.at < length c.files-files.result.now = c.in-Some.ensures in
+    rw c.as_str.ensures.value (good_name c.files-files.result.now (subst IsProject (sym c.files-files.ensures.files) c.files-files.ensures.project)
+    c.in-Some.at c.index-files-at.result within c.index-files-at.is).1

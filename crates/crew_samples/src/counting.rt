@@ -1,0 +1,55 @@
+//! A runner that counts.
+ghost use Rattle.std.specs.Prelude.{◌≡◌};
+
+use item_ids::Key;
+use providers::MiniJava;
+use recorder::{Reader, Recorder, RunFault, Runner};
+use result_bytes::Value;
+use std::alloc::Global;
+use std::sync::atomic::{AtomicU64, Ordering};
+
+/// Runs as MiniJava's runner does, and counts the runs of all workers together. Where the number of the run that is to fail,
+/// from 0, is given, this run ends for want of memory.
+#[derive(Drop)]
+pub struct Counting<'a> {
+    runner: MiniJava,
+    runs: &'a AtomicU64,
+    failing: Option<u64>,
+}
+
+impl<'a> Counting<'a> {
+    pub(crate) fn new(alloc: Global, runs: &'a AtomicU64, failing: Option<u64>) -> Self {
+        Counting {
+            runner: MiniJava::new(alloc),
+            runs,
+            failing,
+        }
+    }
+}
+
+impl Runner for Counting<'_> {
+    ghost use Rattle.query_rules.specs.Meaning.{mean};
+    ghost use Rattle.query_rules.specs.Reads.{reads};
+    ghost use Rattle.providers.specs.Laws.{mini_java_laws};
+
+    ghost mean = { mean };
+
+    ghost reads = { reads };
+
+    ghost log = { λ r. r.runner.log.items };
+
+    ghost laws = { mini_java_laws };
+
+    fn run<D: Reader>(
+        &mut self,
+        alloc: Global,
+        key: &Key,
+        recorder: &mut Recorder<D>,
+    ) -> Result<Value, RunFault> {
+        let number = self.runs.fetch_add(1, Ordering::SeqCst);
+        if self.failing == Some(number) {
+            return Err(RunFault::OutOfMemory);
+        }
+        self.runner.run(alloc, key, recorder)
+    }
+}

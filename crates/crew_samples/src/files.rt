@@ -1,0 +1,33 @@
+//! Projects of files that short texts tell.
+
+use answer_samples::Unfit;
+use mj_project::Project;
+use std::alloc::{AllocError, Global};
+
+/// The name of a file and its text.
+#[derive(Clone, Copy)]
+pub struct File(pub &'static str, pub &'static str);
+
+/// The project of these files.
+pub(crate) fn project_of(alloc: Global, files: &[File]) -> Result<Project, Unfit> {
+    let files = files_of(alloc, files)?;
+    match Project::new(alloc, files) {
+        Ok(project) => Ok(project),
+        Err(_) => Err(Unfit),
+    }
+}
+
+fn files_of(alloc: Global, files: &[File]) -> Result<Vec<(String, Vec<u8>)>, AllocError> {
+    let mut list = Vec::new(alloc);
+    for file in files {
+        list.push(file_of(alloc, file)?)?;
+    }
+    Ok(list)
+}
+
+fn file_of(alloc: Global, file: &File) -> Result<(String, Vec<u8>), AllocError> {
+    let File(name, text) = *file;
+    let name = String::from_str(alloc, name)?;
+    let bytes = text.as_bytes().to_vec(alloc)?;
+    Ok((name, bytes))
+}

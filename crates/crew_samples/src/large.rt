@@ -1,0 +1,72 @@
+//! Projects of many classes.
+
+use answer_samples::Unfit;
+use mj_project::Project;
+use std::alloc::{AllocError, Global};
+
+/// A class that prints a number.
+const MAIN: &str = "class M { public static void main(String[] a) { System.out.println(1); } }\n";
+
+/// One file of this text.
+fn files_of(alloc: Global, text: String) -> Result<Vec<(String, Vec<u8>)>, AllocError> {
+    let mut files = Vec::new(alloc);
+    let name = String::from_str(alloc, "M.java")?;
+    files.push((name, text.into_bytes()))?;
+    Ok(files)
+}
+
+/// The project of one file of this text.
+fn project_of_text(alloc: Global, text: String) -> Result<Project, Unfit> {
+    let files = files_of(alloc, text)?;
+    match Project::new(alloc, files) {
+        Ok(project) => Ok(project),
+        Err(_) => Err(Unfit),
+    }
+}
+
+/// So many classes of a field and a method, each of which extends the one before it.
+fn chain_text(alloc: Global, classes: usize) -> Result<String, AllocError> {
+    let mut text = String::from_str(alloc, MAIN)?;
+    text.push_str("class C0 { int x0; public int f0() { return x0; } }\n")?;
+    for at in 1..classes {
+        add_link(alloc, &mut text, at)?;
+    }
+    Ok(text)
+}
+
+/// Adds a class that extends the one before it.
+fn add_link(alloc: Global, text: &mut String, at: usize) -> Result<(), AllocError> {
+    let before = at.saturating_sub(1);
+    let link = format!(in alloc;
+        "class C{at} extends C{before} {{ int x{at}; public int f{at}() {{ return x{before}; }} }}\n"
+    )?;
+    text.push_str(link.as_str())
+}
+
+/// So many classes of a method, and one whose body makes an object of each.
+fn body_text(alloc: Global, classes: usize) -> Result<String, AllocError> {
+    let mut text = String::from_str(alloc, MAIN)?;
+    for at in 0..classes {
+        let class = format!(in alloc; "class C{at} {{ public int f() {{ return {at}; }} }}\n")?;
+        text.push_str(class.as_str())?;
+    }
+    text.push_str("class All { public int all() { int x;\n")?;
+    for at in 0..classes {
+        let statement = format!(in alloc; "x = new C{at}().f();\n")?;
+        text.push_str(statement.as_str())?;
+    }
+    text.push_str("return x; } }\n")?;
+    Ok(text)
+}
+
+/// The project of so many classes of a field and a method, each of which extends the one before it.
+pub fn chain(alloc: Global, classes: usize) -> Result<Project, Unfit> {
+    let text = chain_text(alloc, classes)?;
+    project_of_text(alloc, text)
+}
+
+/// The project of so many classes of a method, and one whose body makes an object of each.
+pub fn one_body(alloc: Global, classes: usize) -> Result<Project, Unfit> {
+    let text = body_text(alloc, classes)?;
+    project_of_text(alloc, text)
+}

@@ -1,0 +1,18 @@
+//! Sessions by several workers, for tests: made of projects that short texts tell, runs that wait for one another, runs that
+//! are counted, and one that fails.
+#![tactic(auto)]
+
+mod counting;
+mod files;
+mod large;
+mod making;
+mod meeting;
+mod runs;
+mod seats;
+
+pub use files::File;
+pub use large::{chain, one_body};
+pub use making::{Edit, Made, made_by, workers_meet};
+pub use meeting::Meeting;
+pub use runs::{Runs, digest_by_steps, fault_of_failing, runs_in, runs_of};
+pub use seats::fellows_stop;

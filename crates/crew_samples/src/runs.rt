@@ -1,0 +1,135 @@
+//! Runs that are counted, and one that fails.
+
+use crate::counting::Counting;
+use crate::files::{File, project_of};
+use crate::making::share;
+use answer_samples::Unfit;
+use driver::{DriveFault, Open, drive, drive_in_steps};
+use mj_project::Project;
+use session_file::digest;
+use sessions::{Mark, Session};
+use std::alloc::Global;
+use std::sync::atomic::{AtomicU64, Ordering};
+use std::sync::{Arc, Wait};
+use std::thread::Threads;
+
+/// How often keys were run in a session by one worker, and how many of its records are executed.
+#[derive(Clone, Copy, Debug, PartialEq, Eq)]
+pub struct Runs {
+    pub runs: u64,
+    pub executed: usize,
+}
+
+/// How many records are executed.
+fn executed_in(session: &Session) -> usize {
+    session
+        .records()
+        .iter()
+        .filter(|record| record.mark() == Mark::Executed)
+        .count()
+}
+
+/// The session of a project over the past by one worker, and its runs.
+fn counted_over<T: Threads + Wait + Sync>(
+    rt: &T,
+    alloc: Global,
+    past: Option<Arc<Session>>,
+    project: &Project,
+) -> Result<(Session, Runs), Unfit> {
+    let runs = AtomicU64::new(0);
+    match drive(
+        rt,
+        alloc,
+        &|| Counting::new(alloc, &runs, None),
+        past,
+        project,
+        1,
+        &Open,
+    ) {
+        Ok((session, _)) => {
+            let executed = executed_in(&session);
+            Ok((
+                session,
+                Runs {
+                    runs: runs.load(Ordering::SeqCst),
+                    executed,
+                },
+            ))
+        }
+        Err(_) => Err(Unfit),
+    }
+}
+
+/// The runs of a first session of these files by one worker, and of a session over it where the first file is this one.
+pub fn runs_of<T: Threads + Wait + Sync>(
+    rt: &T,
+    alloc: Global,
+    files: &[File],
+    edited: &[File],
+) -> Result<(Runs, Runs), Unfit> {
+    let project = project_of(alloc, files)?;
+    let (past, first) = counted_over(rt, alloc, None, &project)?;
+    let past = share(alloc, past)?;
+    let project = project_of(alloc, edited)?;
+    let (_session, second) = counted_over(rt, alloc, Some(past), &project)?;
+    Ok((first, second))
+}
+
+/// The runs of a first session of a project by one worker.
+pub fn runs_in<T: Threads + Wait + Sync>(
+    rt: &T,
+    alloc: Global,
+    project: &Project,
+) -> Result<Runs, Unfit> {
+    let (_session, runs) = counted_over(rt, alloc, None, project)?;
+    Ok(runs)
+}
+
+/// Why there is no session of this file by so many workers where the run of this number, from 0, ends for want of memory, or
+/// `None` where there is one.
+pub fn fault_of_failing<T: Threads + Wait + Sync>(
+    rt: &T,
+    alloc: Global,
+    file: File,
+    workers: usize,
+    failing: u64,
+) -> Result<Option<DriveFault>, Unfit> {
+    let project = project_of(alloc, &[file])?;
+    let runs = AtomicU64::new(0);
+    Ok(drive(
+        rt,
+        alloc,
+        &|| Counting::new(alloc, &runs, Some(failing)),
+        None,
+        &project,
+        workers,
+        &Open,
+    )
+    .err())
+}
+
+/// The SHA-256 of the file of a first session of this file by so many workers, whose lists of jobs are gone through by a
+/// step.
+pub fn digest_by_steps<T: Threads + Wait + Sync>(
+    rt: &T,
+    alloc: Global,
+    file: File,
+    workers: usize,
+    step: usize,
+) -> Result<[u8; 32], Unfit> {
+    let project = project_of(alloc, &[file])?;
+    let runs = AtomicU64::new(0);
+    match drive_in_steps(
+        rt,
+        alloc,
+        &|| Counting::new(alloc, &runs, None),
+        None,
+        &project,
+        workers,
+        &Open,
+        step,
+    ) {
+        Ok((session, _)) => Ok(digest(&session)),
+        Err(_) => Err(Unfit),
+    }
+}

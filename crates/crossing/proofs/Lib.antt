@@ -1,0 +1,4 @@
+pub mod Trees
+pub mod Answers
+pub mod Results
+pub mod Maps

@@ -1,0 +1,7 @@
+use Rattle.driver.proofs.session.drive_in_steps.Given as goal
+
+abbrev pub ghosts-drive_table-J-Ledger : goal.ghosts-drive_table-J-Ledger
+ghosts-drive_table-J-Ledger g a = record { name = a.blank.name; parts = a.blank.parts }
+
+abbrev pub ghosts-drive_table-J-Naming : goal.ghosts-drive_table-J-Naming
+ghosts-drive_table-J-Naming g a = record { past = a.table.past; project = a.table.project }

@@ -1,0 +1,169 @@
+//! The workers of a session, each in a thread of its own.
+ghost use Rattle.std.specs.Prelude.{◌≡◌, ◌+◌, ◌<◌, ◌≤◌, IfOk, sum, vec_len};
+
+use crate::jobs::do_jobs;
+use crate::lists::Lists;
+use mj_project::Project;
+use recorder::Runner;
+use shared_table::{Alone, Counted, Gate, Naming, Shared, Tally};
+use std::alloc::{AllocError, Global};
+use std::sync::Wait;
+use std::sync::ledger::Share;
+use std::thread;
+use std::thread::Threads;
+
+/// A worker: its number, where it allocates, the runner that it runs queries by, and its count of events.
+#[derive(Drop)]
+pub(crate) struct Worker<J: Naming, R: Runner> {
+    number: u32,
+    alloc: Global,
+    runner: R,
+    tally: Tally<J>,
+}
+
+/// So many workers, each with a runner that is made for it and a part of the ledger. The last one stands first.
+pub(crate) fn hire<J: Naming, R: Runner + Drop, F: Fn() -> R>(
+    alloc: Global,
+    all: &mut Share<J>,
+    workers: usize,
+    make: &F,
+) -> Result<Vec<Worker<J, R>>, AllocError>
+    requires makes { F.IsAlwaysCallable make.now }
+    requires few { workers ≤ 64 }
+    requires parts { workers ≤ all.old.parts }
+    requires none { all.old.amount ≡ 0 }
+    ensures team { IfOk result (λ team. vec_len team ≡ workers) }
+    ensures parts { IfOk result (λ _. all.new.parts + workers ≡ all.old.parts) }
+    ensures none { IfOk result (λ _. all.new.amount ≡ 0) }
+{
+    let mut team = Vec::new(alloc);
+    let mut left = workers;
+    while 0 < left {
+        left -= 1;
+        let tally = Tally::new(all.split_off(1, 0));
+        team.push(Worker {
+            number: left as u32,
+            alloc,
+            runner: make(),
+            tally,
+        })?;
+    }
+    Ok(team)
+}
+
+/// All workers do their jobs at a table: one worker alone, several each in a thread of its own.
+pub(crate) fn work_at<
+    J: Naming + Send + Sync,
+    R: Runner + Drop + Send + Sync,
+    G: Gate + Sync,
+    T: Threads + Wait + Sync,
+>(
+    rt: &T,
+    counted: Counted<J, R>,
+    gate: &G,
+    project: &Project,
+    lists: &Lists,
+    team: &mut Vec<Worker<J, R>>,
+) -> Result<Counted<J, R>, AllocError>
+    requires { 0 < vec_len team.old }
+    ensures { vec_len team.new ≡ vec_len team.old }
+{
+    if team.len() == 1 {
+        return Ok(work_alone(counted, gate, project, lists, &mut team[0]));
+    }
+    let shared = Shared::new(counted)?;
+    work_all(rt, &shared, gate, project, lists, team);
+    Ok(shared.into_counted())
+}
+
+/// A worker does all jobs at a table of its own.
+fn work_alone<J: Naming, R: Runner, G: Gate>(
+    counted: Counted<J, R>,
+    gate: &G,
+    project: &Project,
+    lists: &Lists,
+    worker: &mut Worker<J, R>,
+) -> Counted<J, R> {
+    let mut counted = counted;
+    let Worker {
+        number,
+        alloc,
+        runner,
+        tally,
+    } = worker;
+    let mut seat = Alone::new(&mut counted, tally, gate);
+    do_jobs(*alloc, &mut seat, runner, project, lists, *number);
+    counted
+}
+
+/// All workers do their jobs, each in a thread of its own.
+fn work_all<
+    J: Naming + Send + Sync,
+    R: Runner + Drop + Send + Sync,
+    G: Gate + Sync,
+    T: Threads + Wait + Sync,
+>(
+    rt: &T,
+    shared: &Shared<J, R>,
+    gate: &G,
+    project: &Project,
+    lists: &Lists,
+    team: &mut Vec<Worker<J, R>>,
+)
+    requires { 0 < vec_len team.old }
+    ensures { vec_len team.new ≡ vec_len team.old }
+{
+    let workers = team.len();
+    thread::for_each_mut(
+        rt,
+        team.as_mut_slice(),
+        workers,
+        &|_, worker| { work(rt, shared, gate, project, lists, worker) },
+    );
+}
+
+/// A worker does its jobs at its seat.
+fn work<J: Naming, R: Runner, G: Gate, T: Wait>(
+    rt: &T,
+    shared: &Shared<J, R>,
+    gate: &G,
+    project: &Project,
+    lists: &Lists,
+    worker: &mut Worker<J, R>,
+) {
+    let Worker {
+        number,
+        alloc,
+        runner,
+        tally,
+    } = worker;
+    let mut seat = shared.seat(*alloc, rt, gate, tally);
+    do_jobs(*alloc, &mut seat, runner, project, lists, *number);
+}
+
+/// How many events each worker made, by its number. Their shares come together again.
+pub(crate) fn pay<J: Naming, R: Runner + Drop>(
+    alloc: Global,
+    all: &mut Share<J>,
+    team: Vec<Worker<J, R>>,
+) -> Result<Vec<usize>, AllocError>
+    requires none { all.old.amount ≡ 0 }
+    ensures events { IfOk result (λ events. vec_len events ≡ vec_len team) }
+    ensures sum { IfOk result (λ events. sum events.items ≡ all.new.amount) }
+    ensures parts { IfOk result (λ _. all.new.parts ≡ all.old.parts + vec_len team) }
+{
+    let mut left = team;
+    let mut events = Vec::new(alloc);
+    while let Some(worker) = left.pop() {
+        let Worker {
+            number: _,
+            alloc: _,
+            runner: _,
+            tally,
+        } = worker;
+        let (made, share) = tally.into_parts();
+        events.push(made)?;
+        all.merge(share);
+    }
+    Ok(events)
+}

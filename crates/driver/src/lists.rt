@@ -1,0 +1,92 @@
+//! Which jobs of a session are taken.
+ghost use Rattle.std.specs.Prelude.{◌<◌, IfSome};
+
+use std::sync::atomic::{AtomicUsize, Ordering};
+
+/// The numbers of the jobs of one list, from 0, each given to one worker. Where some are left out or given twice nothing
+/// changes but who does what.
+#[derive(Drop)]
+pub(crate) struct Numbers {
+    next: AtomicUsize,
+}
+
+impl Numbers {
+    /// No number is given yet.
+    fn new() -> Self {
+        Numbers {
+            next: AtomicUsize::new(0),
+        }
+    }
+
+    /// The number of the next job, unless it is past the end of so many. The one after it is greater by the step.
+    pub(crate) fn take(&self, jobs: usize, step: usize) -> Option<usize>
+        ensures { IfSome result (λ at. at < jobs) }
+    {
+        let at = self.next.fetch_add(step, Ordering::SeqCst);
+        if at < jobs { Some(at) } else { None }
+    }
+}
+
+/// What is brought of each class of the index, in the order of the ranks: what a pass reads of the classes is done by the
+/// passes before it.
+#[derive(Clone, Copy)]
+pub(crate) enum Pass {
+    /// Its header.
+    Header,
+    /// Each of its methods, and their types.
+    Methods,
+    /// Its superclasses.
+    Supers,
+    /// Its members.
+    Members,
+    /// Its faults.
+    Faults,
+}
+
+/// The lists of jobs of a session: the trees of the files, and each pass over the classes. They take no memory.
+#[derive(Drop)]
+pub(crate) struct Lists {
+    step: usize,
+    trees: Numbers,
+    headers: Numbers,
+    methods: Numbers,
+    supers: Numbers,
+    members: Numbers,
+    faults: Numbers,
+}
+
+impl Lists {
+    /// No job is taken yet. Each list is gone through by this step, which is 1 where none is to be left out.
+    pub(crate) fn new(step: usize) -> Self {
+        Lists {
+            step,
+            trees: Numbers::new(),
+            headers: Numbers::new(),
+            methods: Numbers::new(),
+            supers: Numbers::new(),
+            members: Numbers::new(),
+            faults: Numbers::new(),
+        }
+    }
+
+    /// The place of the next file, of so many, whose tree nobody has taken.
+    pub(crate) fn tree(&self, files: usize) -> Option<usize>
+        ensures { IfSome result (λ at. at < files) }
+    {
+        self.trees.take(files, self.step)
+    }
+
+    /// The place of the next class, of so many, that nobody has taken in this pass.
+    pub(crate) fn class(&self, pass: Pass, classes: usize) -> Option<usize>
+        ensures { IfSome result (λ at. at < classes) }
+    {
+        let numbers = match pass {
+            Pass::Header => &self.headers,
+            Pass::Methods => &self.methods,
+            Pass::Supers => &self.supers,
+            Pass::Members => &self.members,
+            Pass::Faults => &self.faults,
+        };
+        numbers.take(classes, self.step)
+    }
+}

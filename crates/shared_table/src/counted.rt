@@ -1,0 +1,169 @@
+//! A table with the sum of the events that were made at it.
+ghost use Rattle.std.specs.Prelude.{◌≡◌, IfOk, length};
+ghost use Rattle.std.specs.Arc.{arc_value};
+ghost use Rattle.graph_rules.specs.Steps.{AreHeld};
+ghost use Rattle.job_table.specs.Tables.{session_in, state_of};
+ghost use Rattle.job_table.specs.Calls.{AskGives, MarkGives, BeginGives, FinishGives, FailGives};
+
+use crate::naming::Naming;
+use crate::tally::Tally;
+use fingerprint::Sealed;
+use item_ids::Key;
+use job_table::{Asked, Event, Table, TableFault};
+use recorder::{Outcome, Runner};
+use sessions::Session;
+use std::alloc::{AllocError, Global};
+use std::marker::Model;
+use std::sync::Arc;
+use std::sync::ledger::{Book, Share};
+
+/// The table of the session that it is named for, and the sum of the workers' events, which is the length of the table's
+/// history. Each call is the one of the table, and its event is counted for the worker who made it.
+#[derive(Drop)]
+pub struct Counted<J: Naming, R: Runner> {
+    table: Table<R>,
+    book: Book<J>,
+}
+
+impl<J: Naming, R: Runner> Model for Counted<J, R> {
+    ghost use Rattle.std.specs.Prelude.{◌≡◌, length};
+    ghost use Rattle.std.specs.Coded.{codes};
+    ghost use Rattle.result_bytes.specs.contracts.value.Value as value_contracts;
+    ghost use Rattle.job_table.specs.Tables.{TableValue};
+
+    ghost Value = { TableValue };
+
+    ghost coded = { Prim.hlevel (codes, value_contracts.the_row.coded) };
+
+    ghost view = { λ c. c.table };
+
+    ghost invariant = { λ c. (c.table.past ≡ J.past) × (c.table.project ≡ J.project)
+        × (length c.table.history ≡ c.book.total) };
+}
+
+impl<J: Naming, R: Runner> Counted<J, R> {
+    /// A table that was just opened.
+    pub fn new(table: Table<R>, book: Book<J>) -> Self
+        requires past { table.past ≡ J.past }
+        requires project { table.project ≡ J.project }
+        requires events { length table.history ≡ book.total }
+    {
+        Counted { table, book }
+    }
+
+    pub(crate) fn ask(
+        &mut self,
+        tally: &mut Tally<J>,
+        w: u32,
+        key: &Key,
+    ) -> Result<Asked, TableFault>
+        ensures { AskGives self.old w key.now result self.new }
+    {
+        let Counted { table, book } = self;
+        let answer = table.ask(w, key);
+        if let Ok(Asked::Yours) = &answer {
+            tally.count(table, book);
+        }
+        answer
+    }
+
+    pub(crate) fn mark(
+        &mut self,
+        tally: &mut Tally<J>,
+        w: u32,
+        key: &Key,
+    ) -> Result<Arc<Sealed>, TableFault>
+        ensures { MarkGives self.old w key.now result self.new }
+    {
+        let Counted { table, book } = self;
+        let answer = table.mark(w, key);
+        if let Ok(_) = &answer {
+            tally.count(table, book);
+        }
+        answer
+    }
+
+    pub(crate) fn begin_run(
+        &mut self,
+        tally: &mut Tally<J>,
+        w: u32,
+        key: &Key,
+    ) -> Result<(), TableFault>
+        ensures { BeginGives self.old w key.now result self.new }
+    {
+        let Counted { table, book } = self;
+        let answer = table.begin_run(w, key);
+        if let Ok(()) = &answer {
+            tally.count(table, book);
+        }
+        answer
+    }
+
+    pub(crate) fn finish(
+        &mut self,
+        tally: &mut Tally<J>,
+        w: u32,
+        outcome: Arc<Outcome<R>>,
+    ) -> Result<(), TableFault>
+        ensures { FinishGives self.old w (arc_value outcome) result self.new }
+    {
+        let Counted { table, book } = self;
+        let answer = table.finish(w, outcome);
+        if let Ok(()) = &answer {
+            tally.count(table, book);
+        }
+        answer
+    }
+
+    pub(crate) fn finish_held(
+        &mut self,
+        tally: &mut Tally<J>,
+        w: u32,
+        outcome: Arc<Outcome<R>>,
+    ) -> Result<(), TableFault>
+        requires { AreHeld (state_of self.old) (arc_value outcome).told }
+        ensures { FinishGives self.old w (arc_value outcome) result self.new }
+    {
+        let Counted { table, book } = self;
+        let answer = table.finish_held(w, outcome);
+        if let Ok(()) = &answer {
+            tally.count(table, book);
+        }
+        answer
+    }
+
+    pub(crate) fn fail(&mut self, tally: &mut Tally<J>, w: u32) -> Result<(), TableFault>
+        ensures { FailGives self.old w result self.new }
+    {
+        let Counted { table, book } = self;
+        let answer = table.fail(w);
+        if let Ok(()) = &answer {
+            tally.count(table, book);
+        }
+        answer
+    }
+
+    /// The last event.
+    pub(crate) fn last(&self) -> Option<&Event<R>> {
+        self.table.history().last()
+    }
+
+    /// The session before.
+    pub(crate) fn past(&self) -> Result<Option<Arc<Session>>, AllocError>
+        ensures { IfOk result (λ past. session_in past ≡ self.now.past) }
+    {
+        self.table.past()
+    }
+
+    /// The table, where all shares have come together. Its history has as many events as the workers have counted.
+    pub fn end(self, all: &mut Share<J>) -> Table<R>
+        requires whole { all.old.parts ≡ J.parts }
+        ensures past { result.past ≡ J.past }
+        ensures project { result.project ≡ J.project }
+        ensures counted { length result.history ≡ all.old.amount }
+    {
+        let Counted { table, mut book } = self;
+        book.audit(all);
+        table
+    }
+}

@@ -1,0 +1,19 @@
+//! One table for many workers: the lock round it, each worker's seat at it, and the counts of the events that each makes.
+#![tactic(auto)]
+
+mod alone;
+mod counted;
+mod gate;
+mod kept;
+mod naming;
+mod seat;
+mod shared;
+mod tally;
+
+pub use alone::Alone;
+pub use counted::Counted;
+pub use gate::{Gate, Open};
+pub use naming::Naming;
+pub use seat::Seat;
+pub use shared::Shared;
+pub use tally::Tally;

@@ -1,0 +1,116 @@
+//! Sessions by several workers: that they make the same files, and that their runs go on at the same time.
+
+use crate::records::{ONE, TWO};
+use answer_samples::Unfit;
+use crew_samples::{
+    Edit, File, digest_by_steps, fault_of_failing, fellows_stop, made_by, workers_meet,
+};
+use item_ids::Kind;
+use mini_java_driver::DriveFault;
+use std::alloc::Global;
+use std::sync::Wait;
+use std::test::*;
+use std::thread::Threads;
+
+/// A body is edited.
+const EDIT: Edit = Edit {
+    file: File("M.java", TWO),
+    edited: "class M { public static void main(String[] a) { System.out.println(new A().f()); } } class A { public int f() { return 3; } public int g() { return 2; } }",
+};
+
+/// Whether so many workers make sessions with just the files that one makes, and all events are counted. Of the 21 queries all
+/// are executed, three events for each; then ten are, and eleven are green, two events for each.
+fn are_same<T: Threads + Wait + Sync>(
+    rt: &T,
+    alloc: Global,
+    workers: usize,
+) -> Result<bool, Unfit> {
+    let alone = made_by(rt, alloc, &EDIT, 1)?;
+    let (first, second) = made_by(rt, alloc, &EDIT, workers)?;
+    Ok(
+        (first, second) == alone
+            && (first.history, first.events) == (63, 63)
+            && (second.history, second.events) == (52, 52),
+    )
+}
+
+#[test]
+fn workers_make_the_same_files(rt: HostRuntime) {
+    for workers in [1, 2, 8, 64] {
+        assert!(rt; are_same(&rt, rt.alloc(), workers) == Ok(true));
+    }
+}
+
+/// For so many turns a run waits for another one.
+const TURNS: u64 = 100_000_000;
+
+const EMPTY: File = File("A.java", "class A { }");
+
+const MAIN: File = File("M.java", ONE);
+
+/// Two classes of one method each.
+const METHODS: File = File(
+    "B.java",
+    "class B { public int f() { return 1; } } class C { public int g() { return 2; } }",
+);
+
+#[test]
+fn trees_are_run_at_once(rt: HostRuntime) {
+    assert!(rt; workers_meet(&rt, rt.alloc(), &[EMPTY, MAIN], Kind::Tree, 2, TURNS) == Ok(true));
+}
+
+#[test]
+fn bodies_are_checked_at_once(rt: HostRuntime) {
+    assert!(rt;
+        workers_meet(&rt, rt.alloc(), &[METHODS, MAIN], Kind::CheckBody, 2, TURNS) == Ok(true)
+    );
+}
+
+#[test]
+fn one_worker_meets_nobody(rt: HostRuntime) {
+    assert!(rt; workers_meet(&rt, rt.alloc(), &[EMPTY, MAIN], Kind::Tree, 1, 1000) == Ok(false));
+}
+
+#[test]
+fn fellows_of_a_failed_worker_stop(rt: HostRuntime) {
+    assert!(rt; fellows_stop(&rt, rt.alloc(), MAIN) == Ok(true));
+}
+
+/// By how many workers, and the number of the run that fails: a first session of this file has ten runs.
+const FAILING: &[(usize, u64)] = &[
+    (1, 0),
+    (1, 4),
+    (1, 9),
+    (2, 0),
+    (2, 9),
+    (8, 0),
+    (8, 5),
+    (64, 0),
+    (64, 9),
+];
+
+/// Where a worker fails, all others stop, and there is no session.
+#[test]
+fn where_one_worker_fails_all_end(rt: HostRuntime) {
+    for (workers, failing) in FAILING {
+        let fault = fault_of_failing(&rt, rt.alloc(), MAIN, *workers, *failing);
+        assert!(rt; fault == Ok(Some(DriveFault::OutOfMemory)));
+    }
+}
+
+/// Where no run fails there is a session.
+#[test]
+fn where_none_fails_there_is_a_session(rt: HostRuntime) {
+    assert!(rt; fault_of_failing(&rt, rt.alloc(), MAIN, 1, 10) == Ok(None));
+}
+
+/// Jobs that are left out are done all the same.
+#[test]
+fn left_out_jobs_are_done(rt: HostRuntime) {
+    let file = File("M.java", TWO);
+    let each = digest_by_steps(&rt, rt.alloc(), file, 1, 1);
+    assert!(rt; each.is_ok());
+    for (workers, step) in [(1, 2), (2, 2), (8, 3), (8, 0)] {
+        assert!(rt; digest_by_steps(&rt, rt.alloc(), file, workers, step) == each);
+    }
+}
