@@ -1,0 +1,240 @@
+"""Runs of the program under faults, each on what was there before: for tools/refusals and tools/devices."""
+import collections
+import contextlib
+import mmap
+import os
+import re
+import shutil
+import struct
+import subprocess
+import tempfile
+from pathlib import Path
+
+from random_projects import Project
+
+TOP = Path(__file__).resolve().parent.parent
+BUILT = TOP / "crates" / "cli" / "out" / "cli"
+SECONDS = 60
+M1 = "class M { public static void main(String[] a) { System.out.println(%s); } }"
+TWO = "class A { public int f() { return %s; } public int g() { return 2; } }"
+CLASSES = 40
+# How many lines are written on what is wrong with one command at most.
+LINES = 5
+
+
+def examples_of(name):
+    """The files of an example, and the same with literals changed."""
+    files = [(path.name, path.read_text()) for path in sorted((TOP / "examples" / name).glob("*.java"))]
+    return [files, [(file, re.sub(r"\b\d+\b", "77", text)) for file, text in files]]
+
+
+def many_classes():
+    """A random project of 40 classes, some of them at fault, and the same behind three edits of bodies."""
+    project = Project("many", CLASSES)
+    while len(project.classes()) < CLASSES:
+        project.add_class()
+        project.add_method(project.classes()[-1])
+    before = project.texts()
+    for _ in range(3):
+        project.edit_body()
+    return [before, project.texts()]
+
+
+def worked():
+    """Two versions of each worked example, by its name."""
+    return {
+        "one class": [[("M.java", M1 % text)] for text in ("1", "2")],
+        "two classes": [[("M.java", M1 % "new A().f()" + TWO % text)] for text in ("1", "3")],
+        "a fault": [[("M.java", M1 % text)] for text in ("true", "1 < 2")],
+    }
+
+
+def longer():
+    """The same of larger projects."""
+    return {**{path.name: examples_of(path.name) for path in sorted((TOP / "examples").iterdir()) if path.is_dir()},
+            "40 classes": many_classes()}
+
+
+class Command:
+    """Words for the program, with the versions of the project that were checked before and the one that is there.
+
+    With `cut` the last session's file was cut to so many bytes."""
+
+    def __init__(self, name, project, words, checked=(), version=0, cut=None):
+        self.name, self.project, self.checked, self.version, self.cut = name, project, checked, version, cut
+        files = [file for file, _ in project[version]]
+        self.chain = [f"cache/c0000/s{number:04}.mjrg" for number in range(len(checked))]
+        self.words = words + {"audit": self.chain, "show": self.chain[-1:], "help": []}.get(words[0], files)
+
+
+def commands(projects):
+    """All commands on all of the projects."""
+    made = []
+    for name, project in projects.items():
+        made.append(Command(f"scratch of {name}", project, ["scratch"]))
+        for jobs in ("1", "2"):
+            check = ["check", "--cache", "cache", "--jobs", jobs]
+            made += [Command(f"check of {name} with {jobs}, first", project, check),
+                     Command(f"check of {name} with {jobs}, unchanged", project, check, [0]),
+                     Command(f"check of {name} with {jobs}, edited", project, check, [0], 1)]
+        made += [Command(f"audit of {name}", project, ["audit"], [0, 1, 0]),
+                 Command(f"show of {name}", project, ["show"], [0])]
+    return made
+
+
+def others():
+    """Commands that end otherwise: with help, with a refusal, with a note."""
+    one, faulty = (worked()[name] for name in ("one class", "a fault"))
+    check = ["check", "--cache", "cache"]
+    return [Command("help", one, ["help"]), Command("help of check", one, ["help", "check"]),
+            Command("refused words", one, [*check, "--jobs", "65"]),
+            Command("a file that isn't there", one, ["scratch", "nowhere"]),
+            Command("a file twice", one, ["scratch", one[0][0][0]]),
+            Command("no sentence", [[("M.java", M1 % "1" + "class {"), ("N.java", "/* /*")]], ["scratch"]),
+            Command("check over a session that is cut", one, check, [0, 0], cut=100),
+            Command("check with faults over a session that is cut", faulty, check, [0], cut=0),
+            Command("audit of a session that is cut", one, ["audit"], [0, 1, 0], cut=1000),
+            Command("show of a session that is cut", one, ["show"], [0], cut=1000)]
+
+
+Outcome = collections.namedtuple("Outcome", "status error output files folders")
+Counts = collections.namedtuple("Counts", "allocations refused calls failed first")
+
+
+class Bench:
+    """A folder in which one command is run again and again, each time on what was there first."""
+
+    def __init__(self, program, shim, command, folder):
+        self.shim, self.command, self.folder = str(shim), command, Path(folder)
+        self.words, self.before = [str(program), *command.words], {}
+        for version in command.checked:
+            self.write(version)
+            subprocess.run([program, "check", "--cache", "cache", *(name for name, _ in command.project[version])],
+                           cwd=folder, capture_output=True, check=False)
+        self.write(command.version)
+        if command.cut is not None:
+            os.truncate(self.folder / command.chain[-1], command.cut)
+        self.file = os.open(self.folder / "counts", os.O_RDWR | os.O_CREAT)
+        os.truncate(self.file, struct.calcsize("=5Q"))
+        self.shared = mmap.mmap(self.file, struct.calcsize("=5Q"))
+        self.before = self.entries()
+        self.right = self.run(self.words)
+        self.clear()
+
+    def write(self, version):
+        for name, text in self.command.project[version]:
+            (self.folder / name).write_text(text)
+
+    def entries(self):
+        """The bytes of each file of the cache, and None for each folder, by path."""
+        return {str(path.relative_to(self.folder)): path.read_bytes() if path.is_file() else None
+                for path in [self.folder / "cache", *(self.folder / "cache").rglob("*")] if path.exists()}
+
+    def run(self, words, output=subprocess.PIPE, user=None, environment=()):
+        """Runs the program, as another user if that is wanted. What it makes stays until `clear`.
+
+        Raises TimeoutExpired where it doesn't end."""
+        done = subprocess.run(words, cwd=self.folder, stdin=subprocess.DEVNULL, stdout=output, stderr=subprocess.PIPE,
+                              check=False, timeout=SECONDS, pass_fds=[self.file],
+                              env={**os.environ, **dict(environment)}, **(user or {}))
+        now = self.entries()
+        made = {path: data for path, data in now.items() if path not in self.before or self.before[path] != data}
+        made.update({path: "lost" for path in self.before if path not in now})
+        files = {path: data for path, data in made.items() if data is not None}
+        return Outcome(done.returncode, done.stderr, done.stdout, files, len(made) - len(files))
+
+    def clear(self):
+        """Takes away what was made."""
+        for path in sorted(self.entries().keys() - self.before.keys(), reverse=True):
+            path = self.folder / path
+            path.rmdir() if path.is_dir() else path.unlink()
+
+    def faulty(self, **numbers):
+        """Runs the command with faults, told by the environment's names. Returns what came, and the counts."""
+        self.shared[:] = bytes(len(self.shared))
+        numbers = {name: str(number) for name, number in numbers.items()}
+        done = self.run(self.words, environment={"LD_PRELOAD": self.shim, "FAULTS_FD": str(self.file), **numbers})
+        return done, Counts(*struct.unpack("=5Q", self.shared))
+
+
+def tried(ways, program, shim_path, command):
+    """Runs a command in all ways, each a function that gives what came of its runs: the name of each, what came of it, and
+    what is wrong about it or None. Returns the command's name, what came, by way, and the lines on what is wrong."""
+    came, wrong = {}, []
+    with tempfile.TemporaryDirectory(prefix="mjrg-faults-") as folder:
+        bench = Bench(program, shim_path, command, folder)
+        for way, run in ways.items():
+            came[way] = collections.Counter()
+            try:
+                for name, outcome, fault in run(bench):
+                    came[way][outcome] += 1
+                    wrong += [f"{command.name}: {way}, {name}: {fault}"] if fault else []
+            except subprocess.TimeoutExpired:
+                came[way]["wrong"] += 1
+                wrong.append(f"{command.name}: {way}: still running after {SECONDS} seconds")
+            except OSError as fault:
+                came[way]["wrong"] += 1
+                wrong.append(f"{command.name}: {way}: {fault}")
+    return command.name, {way: counts for way, counts in came.items() if counts}, wrong
+
+
+def arguments(parser):
+    """Adds the arguments of both tools."""
+    parser.add_argument("program", metavar="PROGRAM", nargs="?", default=BUILT, type=Path,
+                        help="the executable (crates/cli/out/cli)")
+    parser.add_argument("--long", action="store_true")
+    parser.add_argument("--brief", action="store_true")
+    parser.add_argument("--only", metavar="WORDS", default="")
+    parser.add_argument("--jobs", metavar="N", type=int, default=os.cpu_count())
+
+
+def asked(parser, options):
+    """The program and the commands that are asked for."""
+    program = options.program.resolve()
+    if not (program.is_file() and os.access(program, os.X_OK)):
+        parser.error(f"no program at {program}: tools/build builds it")
+    if compiler() is None:
+        parser.error("there is no C compiler for tools/faults.c")
+    projects = {**worked(), **(longer() if options.long else {})}
+    return program, [command for command in commands(projects) + others() if options.only in command.name]
+
+
+def compiler():
+    """The path of a C compiler, or None."""
+    return next(filter(None, map(shutil.which, ["cc", "clang", "gcc"])), None)
+
+
+@contextlib.contextmanager
+def shim():
+    """The path of tools/faults.c as it is compiled."""
+    with tempfile.TemporaryDirectory(prefix="mjrg-shim-") as folder:
+        made = Path(folder) / "faults.so"
+        subprocess.run([compiler(), "-O2", "-shared", "-fPIC", "-o", made, TOP / "tools" / "faults.c"], check=True)
+        yield made
+
+
+def counted(came):
+    """What came, in words, by way."""
+    told = (f"{way}: " + ", ".join(f"{times} {outcome}" for outcome, times in sorted(counts.items()))
+            for way, counts in came.items())
+    return "; ".join(told)
+
+
+def report(parts, is_brief):
+    """Prints what came of each part, as its name, its counts and the lines on what is wrong, and then all together.
+    Returns the exit status."""
+    total, failed = collections.defaultdict(collections.Counter), 0
+    for name, came, wrong in parts:
+        if not is_brief:
+            print(f"{name}: {counted(came)}", flush=True)
+        for text in wrong[:LINES]:
+            print(text, flush=True)
+        if len(wrong) > LINES:
+            print(f"{name}: {len(wrong) - LINES} more that are wrong", flush=True)
+        for way, counts in came.items():
+            total[way].update(counts)
+        failed += len(wrong)
+    runs = sum(sum(counts.values()) for counts in total.values())
+    print(f"all: {counted(total)}")
+    print(f"{runs - failed} passed, {failed} failed")
+    return 1 if failed or not runs else 0

@@ -1,0 +1,145 @@
+"""Session files by their byte format alone: records and sessions, spelled as a file, and read back from one.
+
+tools/sessions and tools/forge use it. Nothing is asked of the program, and little is tested here: a session may be
+spelled that is none, and of what is read just the lengths are looked at.
+"""
+import hashlib
+import struct
+from dataclasses import dataclass
+
+INPUT, EXECUTED, GREEN = 0, 1, 2
+NO_LINK = bytes(32)
+# Kinds by their numbers.
+(FILES, SOURCE, TREE, INDEX, HEADER, METHOD, SIG, SUPERS, MEMBERS, CHECK_CLASS, CHECK_BODY, DIAGS,
+ ANSWER) = range(13)
+KINDS = ["Files", "Source", "Tree", "Index", "Header", "Method", "Sig", "Supers", "Members", "CheckClass",
+         "CheckBody", "Diags", "Answer"]
+
+
+def count(number):
+    return struct.pack(">Q", number)
+
+
+def name(text):
+    """A name with its length in front, which is 0 where there is none."""
+    return bytes([len(text)]) + text
+
+
+def items(parts):
+    return count(len(parts)) + b"".join(parts)
+
+
+def sha256(data):
+    return hashlib.sha256(data).digest()
+
+
+@dataclass
+class Record:
+    """A record of a key, with its edges by index. Its print is that of the result, unless another one is forged."""
+
+    kind: int
+    class_name: bytes
+    member: bytes
+    mark: int
+    edges: list
+    result: bytes
+    forged_print: bytes = None
+
+    def key(self):
+        return self.kind, self.class_name, self.member
+
+    def print(self):
+        return sha256(self.result) if self.forged_print is None else self.forged_print
+
+    def spelled(self):
+        return (bytes([self.kind]) + name(self.class_name) + name(self.member) + bytes([self.mark])
+                + items([count(edge) for edge in self.edges]) + self.print()
+                + count(len(self.result)) + self.result)
+
+
+@dataclass
+class Session:
+    """A session, whose number and link are those of its place in a chain, and whose count of records is right,
+    unless others are forged."""
+
+    records: list
+    version: int = 1
+    number: int = None
+    link: bytes = None
+    record_count: int = None
+
+    def spelled(self, number, link):
+        """The session's file, of this place in a chain."""
+        head = b"MJRG" + struct.pack(">HI", self.version, number if self.number is None else self.number)
+        told = len(self.records) if self.record_count is None else self.record_count
+        body = head + (link if self.link is None else self.link) + count(told)
+        body += b"".join(record.spelled() for record in self.records)
+        return body + sha256(body)
+
+    def without(self, place):
+        """Leaves a record out, and the edges to it."""
+        del self.records[place]
+        for record in self.records:
+            record.edges = [edge - (edge > place) for edge in record.edges if edge != place]
+
+    def insert(self, place, new):
+        """Puts a record in, to which no edge leads, and counts the edges behind it anew."""
+        for record in self.records:
+            record.edges = [edge + (edge >= place) for edge in record.edges]
+        self.records.insert(place, new)
+
+
+def chain(sessions, first=0):
+    """The files of sessions, the first with this number, each linked to the one before."""
+    files, link = [], NO_LINK
+    for number, session in enumerate(sessions, first):
+        files.append(session.spelled(number, link))
+        link = sha256(files[-1])
+    return files
+
+
+class Bytes:
+    """Bytes that are taken from the front."""
+
+    def __init__(self, data):
+        self.data, self.at = data, 0
+
+    def take(self, length):
+        self.at += length
+        if self.at > len(self.data):
+            raise ValueError("the bytes end too early")
+        return self.data[self.at - length:self.at]
+
+    def number(self, length):
+        return int.from_bytes(self.take(length), "big")
+
+    def name(self):
+        return self.take(self.number(1))
+
+
+def read_record(data):
+    kind, class_name, member, mark = data.number(1), data.name(), data.name(), data.number(1)
+    edges = [data.number(8) for _ in range(data.number(8))]
+    data.take(32)
+    return Record(kind, class_name, member, mark, edges, data.take(data.number(8)))
+
+
+def read(file):
+    """The session whose file this is."""
+    data = Bytes(file)
+    data.take(4 + 2 + 4 + 32)
+    return Session([read_record(data) for _ in range(data.number(8))])
+
+
+def names_of(files):
+    """The names that the result of Files has."""
+    data = Bytes(files)
+    data.take(1)
+    return [data.name() for _ in range(data.number(8))]
+
+
+def sources(session):
+    """The names of a session's files, in order, with the bytes of each, by its records of inputs."""
+    results = {record.key(): record.result for record in session.records if record.mark == INPUT}
+    # (behind the kind, the byte that says that the file is there, and its length)
+    return [(file, results[SOURCE, file, b""][10:]) for file in names_of(results[FILES, b"", b""])]
