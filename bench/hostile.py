@@ -1,11 +1,12 @@
 #!/usr/bin/env python3
-"""Times `mjrg scratch` on hostile files of 1 MiB beside one of ordinary methods, in one run.
+"""Times `mjrg scratch` and `mjrg check` on hostile files of 1 MiB beside one of ordinary methods, in one run.
 
 Each file is of one kind: all its fields are faulty, its classes stand in one chain, and so on. Prints for each the least
-time of some runs, and how many times as long that is as the ordinary file takes. Nothing is asserted. A file that takes
-longer than the limit is given up.
+time of some runs of `scratch`, of a first check and of an unchanged one, and how many times as long each is as the same
+takes on the ordinary file. Nothing is asserted. A file that takes longer than the limit is given up.
 """
 import argparse
+import shutil
 import subprocess
 import tempfile
 import threading
@@ -85,17 +86,32 @@ def timed(words, limit):
     return (taken, status) if taken < limit else None
 
 
-def least_time(program, path, runs, limit):
-    best = None
+def runs_of(program, path):
+    """The runs that are timed, in order: an unchanged check stands over the cache of the first one."""
+    cache = Path(path).parent / "cache"
+    check = [program, "check", "--cache", str(cache), path]
+    shutil.rmtree(cache, ignore_errors=True)
+    return {"scratch": [program, "scratch", path], "first check": check, "unchanged": check}
+
+
+def least_times(program, path, runs, limit):
+    """The least seconds of each of these runs, or None where one takes longer than the limit."""
+    least = {}
     for _ in range(runs):
-        ran = timed([program, "scratch", path], limit)
-        if ran is None:
-            return None
-        taken, status = ran
-        if status not in (0, 1):
-            raise SystemExit(f"{path}: status {status}")
-        best = taken if best is None else min(best, taken)
-    return best
+        for run, words in runs_of(program, path).items():
+            took = timed(words, limit)
+            if took is not None and took[1] not in (0, 1):
+                raise SystemExit(f"{path}: {run} ends with status {took[1]}")
+            seconds = took and took[0]
+            before = least.get(run, seconds)
+            least[run] = seconds and before and min(seconds, before)
+    return least
+
+
+def shown(seconds, ordinary, limit):
+    if seconds is None:
+        return f"over {limit} s"
+    return f"{seconds:.3f} s, {seconds / ordinary:.1f} times"
 
 
 def main():
@@ -110,10 +126,10 @@ def main():
             path = Path(folder, "file.java")
             text = text()[:MOST]
             path.write_text(text)
-            took = least_time(given.program, str(path), given.runs, given.limit)
-            ordinary = took if ordinary is None else ordinary
-            shown = f"over {given.limit} s" if took is None else f"{took:.3f} s, {took / ordinary:.1f} times"
-            print(f"{kind}: {len(text)} bytes, {shown}", flush=True)
+            took = least_times(given.program, str(path), given.runs, given.limit)
+            ordinary = ordinary or took
+            told = "; ".join(f"{run} {shown(seconds, ordinary[run], given.limit)}" for run, seconds in took.items())
+            print(f"{kind}: {len(text)} bytes; {told}", flush=True)
 
 
 if __name__ == "__main__":

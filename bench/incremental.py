@@ -1,15 +1,28 @@
-"""Runs `mjrg check` on projects that change, for the benchmarks of sessions and of audits."""
-import os
-import re
-import subprocess
+#!/usr/bin/env python3
+"""Times `mjrg check` on projects that change, in one run: first by shapes of projects, then by numbers of workers.
+
+Of each shape (400 classes with 2,000 methods, 4,096 files of a class each, a body that names 8,000 classes, a chain of 400
+classes) a line each for `scratch`, a first check, and one behind it of the same files, of files of which a body was edited,
+and of files in which a class got a field; each with how many times as long as `scratch` it takes.
+
+By 1, 2, 4 and 8 workers (--jobs) a first session and an unchanged one, each beside the time of the first number of workers.
+The runs take turns, and the least of each counts. Nothing is asserted but that all workers make the same files.
+"""
+import argparse
+import filecmp
+import shutil
 import sys
-import time
+import tempfile
 from pathlib import Path
 
-from projects import write_project
+sys.dont_write_bytecode = True
+from measuring import A_LITERAL, measured  # noqa: E402
+from projects import write_project  # noqa: E402
+from rechecks import by_shapes  # noqa: E402
+
+TOP = Path(__file__).resolve().parent.parent
 
 CLASSES, FIELDS, METHODS = 400, 4, 5
-A_LITERAL = re.compile(r"\bsum = \d+;")
 
 
 def project(folder):
@@ -29,19 +42,6 @@ def add_field(folder, name):
     path.write_text(path.read_text().replace("{\n", "{\n    boolean added;\n", 1))
 
 
-def measured(words, folder):
-    """Seconds and peak bytes of one run, which has to end in status 0."""
-    started = time.perf_counter()
-    child = subprocess.Popen(words, cwd=folder, stdin=subprocess.DEVNULL, stdout=subprocess.DEVNULL,
-                             stderr=subprocess.PIPE)
-    told = child.stderr.read()
-    _, status, usage = os.wait4(child.pid, 0)
-    child.returncode = os.waitstatus_to_exitcode(status)
-    if child.returncode != 0:
-        sys.exit(f"{words[0]} ended with status {child.returncode}: {told[:400]!r}")
-    return time.perf_counter() - started, usage.ru_maxrss * 1024
-
-
 def check(program, folder, names):
     return measured([program, "check", "--cache", "cache", *names], folder)
 
@@ -53,3 +53,62 @@ def session_files(folder):
 def summed(files, folder):
     """Seconds that sha256sum takes for files."""
     return measured(["sha256sum", *files], folder)[0]
+
+
+# Projects by their classes, fields and methods, and how many classes stand in a file.
+PROJECTS = {
+    "400 classes of 5 methods": (400, 4, 5, 40),
+    "100 classes of 60 methods": (100, 4, 60, 5),
+    "4,096 files of a class of 1 method": (4095, 2, 1, 1),
+}
+
+
+def check_by(program, folder, names, jobs):
+    """Seconds of a first session by so many workers and of an unchanged one, and the files that they made."""
+    cache = Path(folder, f"cache{jobs}")
+    shutil.rmtree(cache, ignore_errors=True)
+    words = [program, "check", "--cache", cache.name, "--jobs", str(jobs), *names]
+    took = [measured(words, folder)[0] for _ in range(2)]
+    return took, [str(path) for path in sorted(cache.glob("c*/s*.mjrg"))]
+
+
+def times_by(program, folder, names, numbers, runs):
+    """The least seconds of both sessions by each number of workers."""
+    least = {}
+    for _ in range(runs):
+        made = None
+        for jobs in numbers:
+            took, files = check_by(program, folder, names, jobs)
+            least[jobs] = [min(pair) for pair in zip(took, least.get(jobs, took))]
+            made = made or files
+            if not all(filecmp.cmp(one, other, shallow=False) for one, other in zip(made, files, strict=True)):
+                sys.exit(f"{jobs} workers make other files than {numbers[0]}")
+    return least
+
+
+def by_workers(program, numbers, runs):
+    for title, (classes, fields, methods, in_one_file) in PROJECTS.items():
+        with tempfile.TemporaryDirectory() as folder:
+            names = write_project(folder, classes, fields, methods, in_one_file)
+            least = times_by(program, folder, names, numbers, runs)
+        print(title)
+        for jobs, took in least.items():
+            first, again = (f"{seconds:.2f} s, {seconds / alone:.2f}" for seconds, alone in zip(took, least[numbers[0]]))
+            print(f"  {jobs} workers: a first session {first}; unchanged {again}")
+
+
+def main():
+    parser = argparse.ArgumentParser(description=__doc__, formatter_class=argparse.RawDescriptionHelpFormatter)
+    parser.add_argument("program", nargs="?", default=str(TOP / "mjrg"))
+    parser.add_argument("--only", choices=["shapes", "jobs"], help="one of both parts")
+    parser.add_argument("--jobs", type=int, nargs="+", default=[1, 2, 4, 8], help="numbers of workers")
+    parser.add_argument("--runs", type=int, default=3, help="runs of which the shortest counts")
+    given = parser.parse_args()
+    if given.only != "jobs":
+        by_shapes(given.program, given.runs)
+    if given.only != "shapes":
+        by_workers(given.program, given.jobs, given.runs)
+
+
+if __name__ == "__main__":
+    main()

@@ -19,7 +19,7 @@ from pathlib import Path
 sys.dont_write_bytecode = True
 from codec import items, least_time, name  # noqa: E402
 from incremental import add_field, check, edit_body, project, session_files, summed  # noqa: E402
-from incremental import measured as one_run  # noqa: E402
+from measuring import measured as one_run  # noqa: E402
 
 TOP = Path(__file__).resolve().parent.parent
 
