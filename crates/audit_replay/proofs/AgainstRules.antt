@@ -1,29 +1,25 @@
 -- A session that holds the files of a project beside another project.
 use Rattle.std.proofs.Common.{◌≡◌, ℕ, suc, zero, ◌<◌, ◌+◌, Bool, true, false, cond, find, List, [], ◌∷◌, take, length, slice_get, get_or, Option, Some, None, option_map, inl, inr, refl, sym, ap, ◌∙◌, subst, arith}
-use Rattle.std.specs.Prelude.{Contains, bytes_eq, string_bytes, String, Vec, Result, Ok, Err, IfOk, IsTrue, ◌↔◌, ◌≢◌}
+use Rattle.std.specs.Prelude.{Contains, bytes_eq, String, Vec}
 use Rattle.std.specs.declared.alloc.Global.{Global}
 use Rattle.std.proofs.lemmas.List.{length-map, get_or-map}
-use Rattle.std.proofs.lemmas.Option.{none-some, same_Some}
+use Rattle.std.proofs.lemmas.Option.{same_Some}
 use Rattle.std.proofs.lemmas.Slice.Eq.{bytes_eq-Decides}
-use Rattle.item_ids.specs.declared.key.Key.{Key}
-use Rattle.item_ids.specs.declared.key.Key.TheVariants.{Files, Source, Answer}
+use Rattle.item_ids.specs.declared.key.Key.TheVariants.{Files, Source}
 use Rattle.result_bytes.specs.declared.value.Value.{Value}
 use Rattle.result_bytes.specs.declared.value.Value.TheVariants as values
 use Rattle.result_bytes.specs.Storable.{AreDistinct}
 use Rattle.mj_project.specs.Projects.{SourceFile, source_view, sources_view, names_of, IsProject}
 use Rattle.mj_project.proofs.Listed.{place_of}
 use Rattle.recorder.specs.Projects.{Project, bytes_at}
-use Rattle.recorder.specs.Backed.{Meaning, ReadLists}
-use Rattle.sessions.specs.Sessions.{Entry, SessionValue, entry_at, past_entry}
+use Rattle.sessions.specs.Sessions.{Entry}
 use Rattle.graph_rules.specs.Pasts.{Past}
 use Rattle.graph_rules.specs.Next.{AreSources}
 use Rattle.audit_graph.proofs.Entries.{contains_cases, contains_first, contains_later}
-use Rattle.audit_graph.specs.Sources.{HasSources}
-use Rattle.audit_graph.proofs.SourceRules.{one_project}
-use Rattle.audit_replay.specs.Audits.{HasValue, IsAccepted, IsAcceptedUpTo, PassesWith, last_of}
+use Rattle.audit_replay.specs.Audits.{HasValue}
 use Rattle.audit_replay.specs.Projects.{IsFileOf, AreFilesOf}
 
-nowhere : {X : Type 0} (x : X) → Contains [] x → ⊥
+pub nowhere : {X : Type 0} (x : X) → Contains [] x → ⊥
 nowhere x c = absurd (let b = c.1 in omega arith)
 
 -- ---- files that are held, one after the other
@@ -88,7 +84,7 @@ bytes_found (g ∷ gs) d f c = elim (contains_cases g gs f c) [
 -- ---- one project and another
 
 module _ (now : Past) (r : Entry) (names : List (List ℕ)) (has : now Files ≡ Some r) (value : r.value ≡ values.Files names) where
-  same_names : (p : Project) → AreSources now p → names ≡ names_of p
+  pub same_names : (p : Project) → AreSources now p → names ≡ names_of p
   same_names p s =
       let e : r ≡ s.files.0 = same_Some _ _ (sym has ∙ s.files.1) in
       let v : values.Files names ≡ values.Files (names_of p) = sym value ∙ (ap (λ (x : Entry). x.value) e ∙ s.files.2) in
@@ -116,95 +112,5 @@ module _ (now : Past) (r : Entry) (names : List (List ℕ)) (has : now Files ≡
             value = x.2 ∙ ap (λ (o : Option (List ℕ)). values.Source o) (bytes_found p (distinct_from (names_of p) s.project.distinct) f c);
           }
 
--- ---- a walk over names and files
-
-pub as_long : (now : Past) (names : List (List ℕ)) (fs : List SourceFile) → AreFilesOf now names fs → length names ≡ length fs
-as_long now [] [] a = refl
-as_long now [] (f ∷ fs) a = absurd a
-as_long now (n ∷ ns) [] a = absurd a
-as_long now (n ∷ ns) (f ∷ fs) a = let l = as_long now ns fs a.1 in omega (arith, l)
-
-pub file_more : (now : Past) (names : List (List ℕ)) (fs : List SourceFile) (i : ℕ) (d : List ℕ) (e : SourceFile) → i < length names → i < length fs → AreFilesOf now (take i names) (take i fs)
-    → IsFileOf now (get_or names i d) (get_or fs i e) → AreFilesOf now (take (i + 1) names) (take (i + 1) fs)
-file_more now names fs i d e l m a h =
-    let n : suc i ≡ i + 1 = omega arith in
-    subst (λ k. AreFilesOf now (take k names) (take k fs)) n (more names fs i l m a h)
-  where
-    more : (names : List (List ℕ)) (fs : List SourceFile) (i : ℕ) → i < length names → i < length fs → AreFilesOf now (take i names) (take i fs) → IsFileOf now (get_or names i d) (get_or fs i e) → AreFilesOf now (take (suc i) names) (take (suc i) fs)
-    more [] fs i l m a h = absurd (omega arith)
-    more (n ∷ ns) [] i l m a h = absurd (omega arith)
-    more (n ∷ ns) (f ∷ fs) zero l m a h = (h, tt)
-    more (n ∷ ns) (f ∷ fs) (suc i) l m a h = (a.0, more ns fs i (omega arith) (omega arith) a.1 h)
-
-pub file_at : (now : Past) (names : List (List ℕ)) (fs : List SourceFile) (i : ℕ) (d : List ℕ) (e : SourceFile) → i < length names → i < length fs → AreFilesOf now names fs → IsFileOf now (get_or names i d) (get_or fs i e)
-file_at now [] fs i d e l m a = absurd (omega arith)
-file_at now (n ∷ ns) [] i d e l m a = absurd a
-file_at now (n ∷ ns) (f ∷ fs) zero d e l m a = a.0
-file_at now (n ∷ ns) (f ∷ fs) (suc i) d e l m a = file_at now ns fs i d e (omega arith) (omega arith) a.1
-
--- the same, by what a name and a file are read as
-module _ (now : Past) (names : List (List ℕ)) (files : List (String Global × Vec ℕ Global)) (i : ℕ) (n : List ℕ) (f : String Global × Vec ℕ Global) (lt : i < length names)
-    (same : length names ≡ length files) (n_is : n ≡ get_or names i n) (f_is : f ≡ get_or files i f) (name bytes : List ℕ) (called : name ≡ string_bytes f.0) (read : bytes ≡ f.1.items) where
-  abbrev made : List ℕ → List ℕ → SourceFile
-  made x y = record { name = x; bytes = y }
-
-  inside : i < length files
-  inside = omega (arith, lt, same)
-
-  viewed : i < length (sources_view files)
-  viewed = omega (arith, lt, same, length-map files source_view)
-
-  file_is : made name bytes ≡ get_or (sources_view files) i (source_view f)
-  file_is =
-      ap (λ (x : List ℕ). made x bytes) called ∙ (ap (λ (x : List ℕ). made (string_bytes f.0) x) read
-      ∙ (ap source_view f_is ∙ sym (get_or-map source_view files i f (source_view f) inside)))
-
-  pub next_file : AreFilesOf now (take i names) (take i (sources_view files)) → IsFileOf now n (made name bytes) → AreFilesOf now (take (i + 1) names) (take (i + 1) (sources_view files))
-  next_file a h = file_more now names (sources_view files) i n (source_view f) lt viewed a
-      (subst (λ (x : List ℕ). IsFileOf now x (get_or (sources_view files) i (source_view f))) n_is (subst (IsFileOf now n) file_is h))
-
-  pub file_there : AreFilesOf now names (sources_view files) → IsFileOf now n (made name bytes)
-  file_there a = subst (IsFileOf now n) (sym file_is)
-      (subst (λ (x : List ℕ). IsFileOf now x (get_or (sources_view files) i (source_view f))) (sym n_is) (file_at now names (sources_view files) i n (source_view f) lt viewed a))
-
 pub viewed_length : (files : List (String Global × Vec ℕ Global)) → length (sources_view files) ≡ length files
 viewed_length files = length-map files source_view
-
--- ---- what the whole comparison tells
-
-pub alike : {E : Type 0} (now : Past) (r : Entry) (names read : List (List ℕ)) → now Files ≡ Some r → r.value ≡ values.Files names → read ≡ names → HasSources now
-    → (p fs : Project) → IsProject p → fs ≡ p → (result : Result Bool E) → IfOk result (λ b. IsTrue b ↔ AreFilesOf now read fs) → IfOk result (λ b. IsTrue b ↔ AreSources now p)
-alike now r names read has value same old p fs is view (Ok b) h = (
-  (λ t. are_sources now r names has value old.0 p old.1 is (held (h.0 t))),
-  (λ s. h.1 (subst (λ (x : List SourceFile). AreFilesOf now read x) (sym view) (subst (λ (ns : List (List ℕ)). AreFilesOf now ns p) (sym same) (are_files now r names has value p s)))),
-)
-  where
-    held : AreFilesOf now read fs → AreFilesOf now names p
-    held a = subst (λ (x : List SourceFile). AreFilesOf now names x) view (subst (λ (ns : List (List ℕ)). AreFilesOf now ns fs) same a)
-alike now r names read has value same old p fs is view (Err e) h = tt
-
-module _ (mean : Meaning) (reads : ReadLists) (files : List (List ℕ)) (old new : List Key) (s t : SessionValue) (is : t ≡ s) (answer : Value) (count runs : ℕ)
-    (u : IsAcceptedUpTo mean reads files old new s answer count runs) where
-  ends : last_of None u.accepted.sessions ≡ Some t
-  ends = u.end ∙ ap Some (sym is)
-
-  own_sources : AreSources (entry_at t) u.project
-  own_sources = subst (λ (o : Option SessionValue). AreSources (past_entry o) u.project) ends u.accepted.sources
-
-  pub accepted_sources : HasSources (entry_at t)
-  accepted_sources = (u.project, own_sources)
-
-  pub accepted_against : (p : Project) → AreSources (entry_at t) p → IsAccepted mean reads files old new p answer count runs
-  accepted_against p sources =
-      subst (λ (q : Project). IsAccepted mean reads files old new q answer count runs) (one_project (entry_at t) u.project p own_sources sources) u.accepted
-
-  pub refused_against : (p : Project) → (AreSources (entry_at t) p → ⊥) → PassesWith mean reads files old new (λ last. (last Answer ≢ None) × ¬ AreSources last p)
-  refused_against p other = record {
-    sessions = u.accepted.sessions;
-    runs = runs;
-    passed = u.accepted.passed;
-    holds = (
-      (λ none. none-some u.held.entry (sym none ∙ (ap (λ (o : Option SessionValue). past_entry o Answer) u.end ∙ u.held.has))),
-      (λ sources. other (subst (λ (o : Option SessionValue). AreSources (past_entry o) p) ends sources)),
-    );
-  }

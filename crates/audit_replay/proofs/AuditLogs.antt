@@ -13,20 +13,10 @@ use Rattle.sessions.specs.Spelling.{file_of}
 use Rattle.graph_rules.specs.Pasts.{Past}
 use Rattle.audit_graph.specs.declared.fault.AuditFault.{AuditFault}
 use Rattle.audit_graph.specs.declared.fault.AuditFault.TheVariants.{EmptyChain, File, NoAnswer, SourcesDiffer, OutOfMemory}
-use Rattle.audit_replay.specs.Logs.{all_executed_keys, executed_keys, GrowsWithin, RunsExecuted, RunsNoOther}
+use Rattle.audit_replay.specs.Logs.{all_executed_keys, executed_keys, GrowsWithin, RunsNoOther}
 use Rattle.audit_replay.specs.Passes.{RunsWithin, FileRefuses}
-use Rattle.audit_replay.specs.Audits.{ArePassedFiles, IsAccepted, AuditRefuses, IsRefusedBehind, IsAcceptedUpTo, PassesWith}
+use Rattle.audit_replay.specs.Audits.{AuditRefuses, IsRefusedBehind, PassesWith}
 use Rattle.audit_replay.proofs.LogRules.{executed_more, log_none}
-
-pub accepted_log : (mean : Meaning) (reads : ReadLists) (files : List (List ℕ)) (old new : List Key) (s : SessionValue) (answer : Value) (count runs : ℕ)
-    → IsAcceptedUpTo mean reads files old new s answer count runs → RunsExecuted files old new runs
-accepted_log mean reads files old new s answer count runs u = record {
-  sessions = u.accepted.sessions;
-  each = u.accepted.passed.each;
-  spelled = u.accepted.passed.spelled;
-  log = u.accepted.passed.log;
-  many = u.accepted.passed.many;
-}
 
 module _ (mean : Meaning) (reads : ReadLists) (files : List (List ℕ)) (old new : List Key) where
   -- all of the keys of these sessions

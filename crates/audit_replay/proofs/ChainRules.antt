@@ -68,6 +68,20 @@ module _ (mean : Meaning) (reads : ReadLists) (laws : RunnerLaws mean reads) (al
   pub all_right : AllByRecursion IsSession all → ArePassed mean reads None 0 all → AreRight mean reads None all × IsMeant (last_of None all)
   all_right each passed = let r = front_right all (λ s c. c) each passed in (r.0, r.1.3)
 
+  -- the last of right sessions is one of them, and a project gives it its values and reads
+  last_known : (past : Option SessionValue) (ss : List SessionValue) → IfSome past (Contains all) → IsGraph (past_entry past) → IsKnown past → ((t : SessionValue) → Contains ss t → Contains all t)
+      → AllByRecursion IsSession ss → AreRight mean reads past ss → IfSome (last_of past ss) (Contains all) × IsGraph (past_entry (last_of past ss)) × IsKnown (last_of past ss)
+  last_known past [] h graph known inside each right = (h, graph, known)
+  last_known past (t ∷ ts) h graph known inside each right =
+      last_known (Some t) ts (inside t (contains_first t ts)) (session_graph t each.0) (known_behind (past_entry past) t right.0) (λ u c. inside u (contains_later t ts u c)) each.1 right.1
+
+  -- a session that passes behind right ones is right
+  pub right_behind : (ss : List SessionValue) (s : SessionValue) → ((t : SessionValue) → Contains ss t → Contains all t) → Contains all s → AllByRecursion IsSession ss → AreRight mean reads None ss
+      → (k : ℕ) → IsSession s → Passes mean reads (last_of None ss) k s → IsRight mean reads (past_entry (last_of None ss)) (entry_at s)
+  right_behind ss s inside c each right k session p =
+      let l = last_known None ss tt none_graph (λ q is. (q, is, none_meant mean reads q)) inside each right in
+      right_over (last_of None ss) k s l.1 l.2 l.0 c session p
+
   -- the keys before a key, where the executed ones among them follow from their edges
   pub before_means : (past : Option SessionValue) → IsSound past → (k : ℕ) (s : SessionValue) → Contains all s → IsSession s → IsStep past k s → (p : Project) → AreSources (entry_at s) p
       → (key : Key) → AreWithLower (is_before key) → AreReplayed mean reads (entry_at s) (is_before key)

@@ -5,8 +5,11 @@ pub mod OrderRules
 pub mod LogRules
 pub mod FileRules
 pub mod ChainRules
-pub mod EndRules
+pub mod ReadRules
+pub mod SumRules
 pub mod AuditLogs
 pub mod AgainstRules
+pub mod InputRules
+pub mod SumEnds
 pub mod RefusalRules
 pub mod RightRules

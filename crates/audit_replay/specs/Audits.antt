@@ -1,9 +1,6 @@
 -- What the audit of a list of files answers.
-use Rattle.std.specs.Prelude.{◌≡◌, ◌≢◌, ◌⊎◌, ℕ, ◌+◌, List, [], ◌∷◌, ◌++◌, map, length, Contains, Option, Some, None, option_map}
-use Rattle.std.specs.Arc.{arc_value}
+use Rattle.std.specs.Prelude.{◌≡◌, ◌≢◌, ◌⊎◌, ℕ, ◌+◌, List, [], ◌∷◌, ◌++◌, map, length, Contains, Option, Some, None}
 use Rattle.std.specs.List.{AllByRecursion}
-use Rattle.std.specs.declared.alloc.Global.{Global}
-use Rattle.std.specs.declared.sync.Arc.{Arc}
 use Rattle.item_ids.specs.declared.key.Key.{Key}
 use Rattle.item_ids.specs.declared.key.Key.TheVariants.{Answer}
 use Rattle.result_bytes.specs.declared.value.Value.{Value}
@@ -64,10 +61,6 @@ pub record HasValue (now : Past) (q : Key) (v : Value) : Type 0 where
   pub has : now q ≡ Some entry
   pub value : entry.value ≡ v
 
--- the session that is pointed to, where there is one
-abbrev pub session_in : Option (Arc SessionValue Global) → Option SessionValue
-session_in session = option_map arc_value session
-
 -- ---- what an audit answers
 
 -- The files are those of sessions each of which passes over the one before, and just the executed
@@ -79,13 +72,6 @@ pub record ArePassedFiles (mean : Meaning) (reads : ReadLists) (files : List (Li
   pub passed : ArePassed mean reads None 0 sessions
   pub log : new ≡ old ++ all_executed_keys sessions
   pub many : runs ≡ length (all_executed_keys sessions)
-
--- so far, with the last of these sessions
-pub record PassesSoFar (mean : Meaning) (reads : ReadLists) (files : List (List ℕ))
-    (old new : List Key) (last : Option SessionValue) (runs : ℕ) : Type 0 where
-  pub sessions : List SessionValue
-  pub passed : ArePassedFiles mean reads files old new sessions runs
-  pub end : last_of None sessions ≡ last
 
 -- The audit accepts the files, with this answer, over this project. The files are those of a chain
 -- of sessions, of which the last holds the answer and the project's files. Where no two different
@@ -101,14 +87,6 @@ pub record IsAccepted (mean : Meaning) (reads : ReadLists) (files : List (List �
   pub held : HasValue (last_entry sessions) Answer answer
   pub right : AreApart sessions → AreRight mean reads None sessions
   pub means : AreApart sessions → answer ≡ mean project Answer
-
--- so too, and the session s is the last one
-pub record IsAcceptedUpTo (mean : Meaning) (reads : ReadLists) (files : List (List ℕ))
-    (old new : List Key) (s : SessionValue) (answer : Value) (count runs : ℕ) : Type 0 where
-  pub project : Project
-  pub accepted : IsAccepted mean reads files old new project answer count runs
-  pub end : last_of None accepted.sessions ≡ Some s
-  pub held : HasValue (entry_at s) Answer answer
 
 -- The sessions of the first files pass, and the file behind them is refused.
 pub record IsRefusedBehind (mean : Meaning) (reads : ReadLists) (files : List (List ℕ))

@@ -5,3 +5,4 @@ pub mod Audits
 pub mod Projects
 pub mod Refusals
 pub mod RightChains
+pub mod Sums

@@ -35,15 +35,6 @@ SessionGives mean reads past k s (Err fault) = SessionRefuses mean reads past k 
 
 -- ---- one file
 
--- the file is that of a session that passes, of which so many records were run
-pub record PassesFile (mean : Meaning) (reads : ReadLists) (past : Option SessionValue) (k : ℕ)
-    (file : List ℕ) (old new : List Key) (s : SessionValue) (runs : ℕ) : Type 0 where
-  pub session : IsSession s
-  pub spelled : file_of s ≡ file
-  pub passes : Passes mean reads past k s
-  pub log : new ≡ old ++ executed_keys s
-  pub count : runs ≡ length (executed_keys s)
-
 -- the file is that of a session, of which no more was run than the executed records, in order
 pub record RunsWithin (file : List ℕ) (old new : List Key) (s : SessionValue) : Type 0 where
   pub session : IsSession s

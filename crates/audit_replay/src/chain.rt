@@ -2,15 +2,15 @@
 ghost use Rattle.std.specs.Prelude.{◌≡◌, map, IfOk, IfErr};
 ghost use Rattle.std.specs.Arc.{arc_value};
 ghost use Rattle.recorder.specs.Projects.{Project as Files};
-ghost use Rattle.audit_replay.specs.Audits.{IsAccepted, IsAcceptedUpTo, AuditRefuses};
+ghost use Rattle.audit_replay.specs.Audits.{IsAccepted, AuditRefuses, IsRefusedBehind};
 ghost use Rattle.audit_replay.specs.Logs.{RunsExecuted, RunsNoOther};
+ghost use Rattle.audit_replay.specs.Sums.{AreSummed};
 
-use crate::answer::answer_of;
-use crate::files::audit_files;
+use crate::auditor::Auditor;
 use audit_graph::AuditFault;
 use fingerprint::Sealed;
 use recorder::Runner;
-use sessions::Session;
+use session_file::MemoryFeed;
 use std::alloc::Global;
 use std::sync::Arc;
 
@@ -40,43 +40,30 @@ pub fn audit<R: Runner>(
     ensures log_refused { IfErr result (λ _. RunsNoOther (map (λ f. f.now) chain.now)
         (R.log runner.old) (R.log runner.new)) }
 {
-    match audit_chain(alloc, runner, chain) {
-        Ok((_, audited)) => Ok(audited),
+    match audit_files(alloc, runner, chain) {
+        Ok(auditor) => auditor.end(),
         Err(fault) => Err(fault),
     }
 }
 
-/// Audits a chain, and answers its last session too.
-pub(crate) fn audit_chain<R: Runner>(
+/// Audits the files, each over the one before, up to the first that is refused.
+pub(crate) fn audit_files<R: Runner>(
     alloc: Global,
     runner: &mut R,
     chain: &[&[u8]],
-) -> Result<(Arc<Session>, Audited), AuditFault>
-    ensures accepted { IfOk result (λ x. IsAcceptedUpTo R.mean R.reads
-        (map (λ f. f.now) chain.now) (R.log runner.old) (R.log runner.new) (arc_value x.0)
-        (arc_value x.1.answer) x.1.sessions x.1.runs) }
-    ensures refused { IfErr result (AuditRefuses R.mean R.reads (map (λ f. f.now) chain.now)
+) -> Result<Auditor<R>, AuditFault>
+    ensures summed { IfOk result (λ auditor. AreSummed R.mean R.reads
+        (map (λ f. f.now) chain.now) (R.log runner.old) (R.log runner.new) auditor.state) }
+    ensures refused { IfErr result (IsRefusedBehind R.mean R.reads (map (λ f. f.now) chain.now)
         (R.log runner.old) (R.log runner.new)) }
 {
-    let (last, runs) = match audit_files(alloc, runner, chain) {
-        Ok(passed) => passed,
-        Err(fault) => return Err(fault),
-    };
-    let Some(last) = last else {
-        return Err(AuditFault::EmptyChain);
-    };
-    match answer_of(&last) {
-        Some(answer) => match Arc::try_clone(answer) {
-            Ok(answer) => Ok((
-                last,
-                Audited {
-                    answer,
-                    sessions: chain.len(),
-                    runs,
-                },
-            )),
-            Err(_) => Err(AuditFault::OutOfMemory),
-        },
-        None => Err(AuditFault::NoAnswer),
+    let mut auditor = Auditor::new();
+    for file in chain {
+        let mut feed = MemoryFeed::new(file);
+        match auditor.take(alloc, runner, &mut feed) {
+            Ok(()) => {}
+            Err(fault) => return Err(fault),
+        }
     }
+    Ok(auditor)
 }

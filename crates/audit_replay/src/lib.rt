@@ -4,17 +4,21 @@
 
 mod against;
 mod answer;
+mod auditor;
 mod chain;
 mod compare;
-mod files;
+mod inputs;
 mod laws;
 mod mismatch;
 mod plan;
+mod reading;
 mod rerun;
 mod script;
 mod session;
+mod sum;
 
 pub use against::audit_against;
+pub use auditor::Auditor;
 pub use chain::{Audited, audit};
 pub use laws::{
     accepted_are_right_chains, passed_are_right, refused_records_are_wrong, right_chains_pass,

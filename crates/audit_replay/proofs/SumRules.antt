@@ -1,0 +1,146 @@
+-- Sessions that are summed, and one more of them.
+use Rattle.std.proofs.Common.{◌≡◌, inl, inr, ℕ, ◌+◌, ◌*◌, ◌≤◌, ◌^◌, ◌-◌, min, true, List, [], ◌∷◌, ◌++◌, map, length, Option, Some, None, Result, Ok, Err, option_map, refl, sym, ap, ◌∙◌, subst, arith, append-nil, length-append}
+use Rattle.std.specs.Prelude.{IfSome, Contains}
+use Rattle.std.specs.List.{AllByRecursion}
+use Rattle.std.proofs.lemmas.List.{length-map}
+use Rattle.std.proofs.lemmas.List.Elements.{Contains-push}
+use Rattle.std.proofs.Math.ListN.{get_or-append}
+use Rattle.item_ids.specs.declared.key.Key.{Key}
+use Rattle.recorder.specs.Backed.{Meaning, ReadLists, RunnerLaws}
+use Rattle.recorder.proofs.Recorded.{all_last}
+use Rattle.sessions.specs.Sessions.{SessionValue, IsSession, key_at, entry_at, past_entry}
+use Rattle.sessions.specs.Spelling.{file_of}
+use Rattle.session_file.specs.Feeding.{Given}
+use Rattle.graph_rules.specs.Next.{IsRight}
+use Rattle.audit_graph.specs.Chains.{IsLinked, AreLinked}
+use Rattle.audit_graph.specs.Plans.{executed_in}
+use Rattle.audit_graph.specs.Kept.{ArePastOf}
+use Rattle.audit_graph.specs.declared.fault.AuditFault.{AuditFault}
+use Rattle.audit_graph.specs.declared.fault.AuditFault.TheVariants.{File, OutOfMemory}
+use Rattle.audit_replay.specs.Logs.{executed_keys, all_executed_keys, GrowsWithin}
+use Rattle.audit_replay.specs.Passes.{Passes, RunsWithin, ReadRefuses, FileRefuses, SessionGives, SessionRefuses}
+use Rattle.audit_replay.specs.Audits.{AreRight, AreApart, last_of}
+use Rattle.audit_replay.specs.RightChains.{AreRightInChain}
+use Rattle.audit_replay.specs.Sums.{IsLastOf, IsLast, IsSumOf, Sums, Takes, IsDeviceFault, ReadFails, TakeRefuses, CountsFault}
+use Rattle.audit_replay.specs.declared.sum.Last.{Last}
+use Rattle.audit_replay.specs.declared.sum.Sum.{Sum}
+use Rattle.audit_replay.proofs.LogRules.{executed_more}
+use Rattle.audit_replay.proofs.FileRules.{last_more, count_fits, session_refused}
+use Rattle.audit_replay.proofs.ChainRules.{right_behind}
+
+-- ---- what is kept
+
+pub past_kept : (last : Option Last) (s : Option SessionValue) → IsLast last s → ArePastOf (option_map (λ (l : Last). l.past) last) s
+past_kept None None i = tt
+past_kept (Some l) (Some s) i = i.past
+past_kept None (Some s) i = absurd i
+past_kept (Some l) None i = absurd i
+
+-- ---- one more session
+
+-- all executed records can be counted
+few_runs : (ss : List SessionValue) → AllByRecursion IsSession ss → length (all_executed_keys ss) ≤ length ss * 18446744073709551615
+few_runs [] each = omega arith
+few_runs (s ∷ ss) each =
+    let one = count_fits s each.0 (length (executed_keys s)) refl in
+    let rest = few_runs ss each.1 in
+    let both = length-append (executed_keys s) (all_executed_keys ss) in
+    omega (arith, one, rest, both)
+
+linked_more : (past : Option SessionValue) (k n : ℕ) (ss : List SessionValue) (s : SessionValue) → n ≡ k + length ss → AreLinked past k ss → IsLinked (last_of past ss) n s → AreLinked past k (ss ++ s ∷ [])
+linked_more past k n [] s is a l = let e : n ≡ k = omega (arith, is) in (subst (λ (m : ℕ). IsLinked past m s) e l, tt)
+linked_more past k n (t ∷ ts) s is a l = let e : n ≡ k + 1 + length ts = omega (arith, is) in (a.0, linked_more (Some t) (k + 1) n ts s e a.1 l)
+
+right_more : (mean : Meaning) (reads : ReadLists) (past : Option SessionValue) (ss : List SessionValue) (s : SessionValue) → AreRight mean reads past ss → IsRight mean reads (past_entry (last_of past ss)) (entry_at s) → AreRight mean reads past (ss ++ s ∷ [])
+right_more mean reads past [] s a r = (r, tt)
+right_more mean reads past (t ∷ ts) s a r = (a.0, right_more mean reads (Some t) ts s a.1 r)
+
+front_in : (ss : List SessionValue) (s t : SessionValue) → Contains ss t → Contains (ss ++ s ∷ []) t
+front_in ss s t c = (c.0, omega (arith, c.1, length-append ss (s ∷ [])), get_or-append ss (s ∷ []) t c.0 c.1 ∙ c.2)
+
+chain_more : (mean : Meaning) (reads : ReadLists) → RunnerLaws mean reads → (ss : List SessionValue) (s : SessionValue) → AreRightInChain mean reads ss → IsSession s → Passes mean reads (last_of None ss) (length ss) s → AreApart (ss ++ s ∷ [])
+    → AreRightInChain mean reads (ss ++ s ∷ [])
+chain_more mean reads laws ss s c session p apart = record {
+  each = all_last IsSession ss s c.each session;
+  chain = linked_more None 0 (length ss) ss s (omega arith) c.chain p.step.linked;
+  right = right_more mean reads None ss s c.right
+      (right_behind mean reads laws (ss ++ s ∷ []) apart ss s (front_in ss s) (Contains-push ss s) c.each c.right (length ss) session p);
+}
+
+module _ (mean : Meaning) (reads : ReadLists) (laws : RunnerLaws mean reads) (old new : Sum) (s : SessionValue) (session : IsSession s) (runs : ℕ)
+    (gives : (was : Option SessionValue) → ArePastOf (option_map (λ (l : Last). l.past) old.last) was → SessionGives mean reads was old.count s (Ok runs)) where
+  gives_behind : (ss : List SessionValue) → IsSumOf old ss → SessionGives mean reads (last_of None ss) old.count s (Ok runs)
+  gives_behind ss a = gives (last_of None ss) (past_kept old.last (last_of None ss) a.last)
+
+  passes_behind : (ss : List SessionValue) → IsSumOf old ss → Passes mean reads (last_of None ss) (length ss) s
+  passes_behind ss a = subst (λ (n : ℕ). Passes mean reads (last_of None ss) n s) a.count (gives_behind ss a).0
+
+  -- what a call has to establish
+  pub takes : (held left : List ℕ → Type 0) (log_old log_new : List Key) → Given held left (file_of s) → ((bytes : List ℕ) → held bytes → bytes ≡ file_of s) → s.number ≡ old.count
+      → log_new ≡ log_old ++ executed_keys s → new.count ≡ old.count + 1 → new.runs ≡ min (old.runs + runs) (2 ^ 128 - 1) → IsLast new.last (Some s)
+      → Takes mean reads (Ok old) (Ok new) held left log_old log_new s
+  takes held left log_old log_new given whole number log count sum last = record {
+    session = session;
+    given = given;
+    whole = whole;
+    passes = passes_behind;
+    sums = λ ss a. record {
+      each = all_last IsSession ss s a.each session;
+      count = let more = length-append ss (s ∷ []) in omega (arith, count, a.count, more);
+      runs =
+          let g = gives_behind ss a in
+          let few = few_runs ss a.each in
+          let one = count_fits s session (length (executed_keys s)) refl in
+          let keys = length-map (executed_in s) (key_at s.records) in
+          let split = ap (λ (ks : List Key). length ks) (executed_more ss s) in
+          let both = length-append (all_executed_keys ss) (executed_keys s) in
+          omega (arith, sum, a.runs, a.count, number, session.number, g.1, few, one, keys, split, both);
+      last = subst (IsLast new.last) (sym (last_more None ss s)) last;
+    };
+    right = λ ss a chain apart. chain_more mean reads laws ss s chain session (passes_behind ss a) apart;
+    log = log;
+  }
+
+-- ---- refusals
+
+module _ (mean : Meaning) (reads : ReadLists) (kept : Sum) (ss : List SessionValue) (a : IsSumOf kept ss) (bytes : List ℕ) where
+  file_fails : (log : List Key) (fault : AuditFault) → ReadRefuses (length ss) bytes fault → FileRefuses mean reads (last_of None ss) (length ss) bytes log log fault
+  file_fails log (File j f) r = (r.0, r.1, refl)
+  file_fails log OutOfMemory r = inl refl
+  file_fails log fault r = absurd r
+
+  pub read_refuses : (log : List Key) (fault : AuditFault) → ReadFails kept.count bytes fault → TakeRefuses mean reads ss bytes log log fault
+  read_refuses log fault (inl d) = inl (subst (λ (n : ℕ). IsDeviceFault n fault) a.count d, refl)
+  read_refuses log fault (inr r) = inr (file_fails log fault (subst (λ (n : ℕ). ReadRefuses n bytes fault) a.count r))
+
+  module _ (s : SessionValue) (session : IsSession s) (spelled : bytes ≡ file_of s) (log_old log_new : List Key) where
+    pub session_refuses : (fault : AuditFault) → ((was : Option SessionValue) → ArePastOf (option_map (λ (l : Last). l.past) kept.last) was → SessionGives mean reads was kept.count s (Err fault))
+        → GrowsWithin (executed_keys s) log_old log_new → TakeRefuses mean reads ss bytes log_old log_new fault
+    session_refuses fault gives log = inr (session_refused mean reads (last_of None ss) (length ss) s bytes log_old log_new
+        (record { session = session; spelled = sym spelled; log = log }) fault
+        (subst (λ (n : ℕ). SessionRefuses mean reads (last_of None ss) n s fault) a.count (gives (last_of None ss) (past_kept kept.last (last_of None ss) a.last))))
+
+    pub memory_refuses : log_new ≡ log_old ++ executed_keys s → TakeRefuses mean reads ss bytes log_old log_new OutOfMemory
+    memory_refuses log = inr (inr (
+      s,
+      record {
+        session = session;
+        spelled = sym spelled;
+        log = record { front = executed_keys s; grown = log; begins = ([], append-nil (executed_keys s)) };
+      },
+    ))
+
+-- what a session is refused for is no failure of a device
+session_counts : (mean : Meaning) (reads : ReadLists) (past : Option SessionValue) (k : ℕ) (s : SessionValue) (fault : AuditFault) → SessionRefuses mean reads past k s fault → (n : ℕ) → CountsFault fault n n
+session_counts mean reads past k s (File j f) r n = absurd (elim r [
+  | inl x ↦ x
+  | inr x ↦ x.1
+])
+session_counts mean reads past k s fault r n = refl
+
+pub session_counted : (mean : Meaning) (reads : ReadLists) (kept : Sum) (ss : List SessionValue) → IsSumOf kept ss → (s : SessionValue) (fault : AuditFault)
+    → ((was : Option SessionValue) → ArePastOf (option_map (λ (l : Last). l.past) kept.last) was → SessionGives mean reads was kept.count s (Err fault))
+    → (old new : ℕ) → new ≡ old → CountsFault fault old new
+session_counted mean reads kept ss a s fault gives old new same =
+    subst (λ (n : ℕ). CountsFault fault old n) (sym same)
+    (session_counts mean reads (last_of None ss) kept.count s fault (gives (last_of None ss) (past_kept kept.last (last_of None ss) a.last)) old)
