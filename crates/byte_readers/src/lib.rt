@@ -10,7 +10,8 @@ mod options;
 
 pub use breach::{Breach, ReadError};
 pub use fields::{
-    not_canonical, put_eight, put_four, put_two, read_byte, read_eight, read_four, read_two,
+    eight_bytes, four_bytes, not_canonical, put_eight, put_four, put_two, read_byte, read_eight,
+    read_four, read_two,
 };
 pub use format::{Format, Ordered};
 pub use lists::{check_list, put_list, read_ascending, read_list};

@@ -1,6 +1,8 @@
 -- What is read from a feed, step by step.
 use Rattle.std.proofs.Common.{◌≡◌, ℕ, suc, ◌+◌, ◌-◌, ◌<◌, ◌≤◌, inl, inr, false, ltb, List, [], ◌∷◌, ◌++◌, length, take, drop, get_or, Result, Ok, Err, refl, sym, ap, subst, ◌∙◌, append_assoc, arith}
 use Rattle.std.specs.Int.{Width, w16, w32, w64, byte_len, from_be_bytes}
+use Rattle.byteorder.specs.Endian.{big_number}
+use Rattle.byte_readers.proofs.Numbers.{two_is, four_is, eight_is}
 use Rattle.std.proofs.lemmas.Bool.{cases_lt, le-ltb, lt-ltb}
 use Rattle.std.proofs.lemmas.List.{take_at, drop_at, length-append, get_or-append_right, append-nil, take-append-drop, take-append-le, length-take-le}
 use Rattle.std.proofs.Math.ListN.{get_or-append}
@@ -81,25 +83,25 @@ number_reads w part rest len =
 number_ends : (w : Width) (bytes : List ℕ) → length bytes < byte_len w → whole (number_at w bytes) ≡ Err Truncated
 number_ends w bytes lt = rw (lt-ltb _ _ lt) refl
 
-pub eight_took : {old new : List ℕ → Type 0} {g h : HashingSink} {part : List ℕ} (n : ℕ) → Moved old new g h part → length part ≡ 8 → n ≡ from_be_bytes w64 part → Took old new g h (λ bytes. whole (eight_at bytes)) n
+pub eight_took : {old new : List ℕ → Type 0} {g h : HashingSink} {part : List ℕ} (n : ℕ) → Moved old new g h part → length part ≡ 8 → n ≡ big_number 8 part → Took old new g h (λ bytes. whole (eight_at bytes)) n
 unfolding eight_at
-eight_took {old} {new} {g} {h} {part} n moved len is = record { part = part; moved = moved; reads = λ rest. rw is (number_reads w64 part rest len) }
+eight_took {old} {new} {g} {h} {part} n moved len is = record { part = part; moved = moved; reads = λ rest. rw (is, eight_is part) (number_reads w64 part rest len) }
 
 pub eight_stops : (old : List ℕ → Type 0) (stop : Stop) → FillsNot old 8 stop → Halts old stop (λ bytes. whole (eight_at bytes))
 unfolding eight_at
 eight_stops old stop h = stops_short stop h (λ s. record { breach = λ bytes has. number_ends w64 bytes (s.short bytes has) })
 
-pub four_took : {old new : List ℕ → Type 0} {g h : HashingSink} {part : List ℕ} (n : ℕ) → Moved old new g h part → length part ≡ 4 → n ≡ from_be_bytes w32 part → Took old new g h (λ bytes. whole (four_at bytes)) n
+pub four_took : {old new : List ℕ → Type 0} {g h : HashingSink} {part : List ℕ} (n : ℕ) → Moved old new g h part → length part ≡ 4 → n ≡ big_number 4 part → Took old new g h (λ bytes. whole (four_at bytes)) n
 unfolding four_at
-four_took {old} {new} {g} {h} {part} n moved len is = record { part = part; moved = moved; reads = λ rest. rw is (number_reads w32 part rest len) }
+four_took {old} {new} {g} {h} {part} n moved len is = record { part = part; moved = moved; reads = λ rest. rw (is, four_is part) (number_reads w32 part rest len) }
 
 pub four_stops : (old : List ℕ → Type 0) (stop : Stop) → FillsNot old 4 stop → Halts old stop (λ bytes. whole (four_at bytes))
 unfolding four_at
 four_stops old stop h = stops_short stop h (λ s. record { breach = λ bytes has. number_ends w32 bytes (s.short bytes has) })
 
-pub two_took : {old new : List ℕ → Type 0} {g h : HashingSink} {part : List ℕ} (n : ℕ) → Moved old new g h part → length part ≡ 2 → n ≡ from_be_bytes w16 part → Took old new g h (λ bytes. whole (two_at bytes)) n
+pub two_took : {old new : List ℕ → Type 0} {g h : HashingSink} {part : List ℕ} (n : ℕ) → Moved old new g h part → length part ≡ 2 → n ≡ big_number 2 part → Took old new g h (λ bytes. whole (two_at bytes)) n
 unfolding two_at
-two_took {old} {new} {g} {h} {part} n moved len is = record { part = part; moved = moved; reads = λ rest. rw is (number_reads w16 part rest len) }
+two_took {old} {new} {g} {h} {part} n moved len is = record { part = part; moved = moved; reads = λ rest. rw (is, two_is part) (number_reads w16 part rest len) }
 
 pub two_stops : (old : List ℕ → Type 0) (stop : Stop) → FillsNot old 2 stop → Halts old stop (λ bytes. whole (two_at bytes))
 unfolding two_at

@@ -9,6 +9,7 @@ use crate::device::Feed;
 use crate::feeding::pull;
 use crate::hashing::HashingSink;
 use crate::stop::Stop;
+use byteorder::{BigEndian, ByteOrder};
 use std::alloc::Global;
 
 /// A number of eight bytes.
@@ -19,7 +20,7 @@ pub(crate) fn eight<F: Feed>(feed: &mut F, hash: &mut HashingSink) -> Result<u64
 {
     let mut room = [0; 8];
     match pull(feed, hash, &mut room) {
-        Ok(()) => Ok(u64::from_be_bytes(room)),
+        Ok(()) => Ok(BigEndian::read_u64(&room)),
         Err(stop) => Err(stop),
     }
 }
@@ -32,7 +33,7 @@ pub(crate) fn four<F: Feed>(feed: &mut F, hash: &mut HashingSink) -> Result<u32,
 {
     let mut room = [0; 4];
     match pull(feed, hash, &mut room) {
-        Ok(()) => Ok(u32::from_be_bytes(room)),
+        Ok(()) => Ok(BigEndian::read_u32(&room)),
         Err(stop) => Err(stop),
     }
 }
@@ -45,7 +46,7 @@ pub(crate) fn two<F: Feed>(feed: &mut F, hash: &mut HashingSink) -> Result<u16, 
 {
     let mut room = [0; 2];
     match pull(feed, hash, &mut room) {
-        Ok(()) => Ok(u16::from_be_bytes(room)),
+        Ok(()) => Ok(BigEndian::read_u16(&room)),
         Err(stop) => Err(stop),
     }
 }

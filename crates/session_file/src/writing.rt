@@ -13,6 +13,7 @@ use crate::device::{DeviceFault, Sink};
 use crate::fault::FileFault;
 use crate::hashing::HashingSink;
 use crate::putting::{put_all, put_parts};
+use byte_readers::{eight_bytes, four_bytes};
 use fingerprint::Sealed;
 use mj_lexer::Name;
 use sessions::{Record, Session};
@@ -91,8 +92,8 @@ fn put_head<W: Sink>(sink: &mut W, session: &Session) -> Result<(), DeviceFault>
     ensures holds { Puts (W.holds sink.old) (W.holds sink.new) (head_bytes session.now) result }
     ensures counted { Counts result (W.failed sink.old) (W.failed sink.new) }
 {
-    let number = session.number().to_be_bytes();
-    let count = (session.records().len() as u64).to_be_bytes();
+    let number = four_bytes(session.number());
+    let count = eight_bytes(session.records().len() as u64);
     put_parts(
         sink,
         &[
@@ -137,7 +138,7 @@ fn put_front<W: Sink>(sink: &mut W, item: &Record) -> Result<(), DeviceFault>
 {
     let class = text(item.key().class());
     let member = text(item.key().member());
-    let count = (item.edges().len() as u64).to_be_bytes();
+    let count = eight_bytes(item.edges().len() as u64);
     put_parts(
         sink,
         &[
@@ -181,7 +182,7 @@ fn put_edges<W: Sink>(sink: &mut W, edges: &[usize]) -> Result<(), DeviceFault>
     ensures counted { Counts result (W.failed sink.old) (W.failed sink.new) }
 {
     for edge in edges {
-        let bytes = (*edge as u64).to_be_bytes();
+        let bytes = eight_bytes(*edge as u64);
         match put_all(sink, bytes.as_slice()) {
             Ok(()) => {}
             Err(fault) => return Err(fault),
@@ -196,6 +197,6 @@ fn put_result<W: Sink>(sink: &mut W, sealed: &Sealed) -> Result<(), DeviceFault>
     ensures counted { Counts result (W.failed sink.old) (W.failed sink.new) }
 {
     let print = sealed.print().0;
-    let len = (sealed.bytes().len() as u64).to_be_bytes();
+    let len = eight_bytes(sealed.bytes().len() as u64);
     put_parts(sink, &[print.as_slice(), len.as_slice(), sealed.bytes()])
 }

@@ -2,7 +2,7 @@ use Rattle.session_file.proofs.FeedLaws.{four_took, four_stops}
 use Rattle.session_file.proofs.parts.four.Goals as goal
 
 pub returns-in-Ok-clause-value : goal.returns-in-Ok-clause-value
-returns-in-Ok-clause-value g c = four_took c.from_be_bytes.result c.in-Ok.ensures.pulled.1 c.in-Ok.ensures.pulled.0 c.from_be_bytes.ensures
+returns-in-Ok-clause-value g c = four_took c.read_u32.result c.in-Ok.ensures.pulled.1 c.in-Ok.ensures.pulled.0 c.read_u32.ensures
 
 pub returns-in-Err-clause-value : goal.returns-in-Err-clause-value
 returns-in-Err-clause-value g c = four_stops _ c.in-Err.stop c.in-Err.ensures.pulled

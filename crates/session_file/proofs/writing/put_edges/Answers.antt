@@ -1,8 +1,7 @@
-use Rattle.std.proofs.Common.{rules, ◌<◌, List, ℕ, length, ◌++◌, take, flat_map, get_or, arith, refl, subst, ◌∙◌}
+use Rattle.std.proofs.Common.{rules, ◌≡◌, ◌<◌, List, ℕ, length, ◌++◌, take, flat_map, get_or, arith, refl, subst, ◌∙◌}
 use Rattle.byte_readers.specs.Spelling.{eight}
 use Rattle.session_file.specs.Devices.{Begins}
 use Rattle.session_file.proofs.PutLaws.{items_more, items_end}
-use Rattle.session_file.proofs.PartLaws.{eight_is}
 use Rattle.session_file.proofs.writing.put_edges.Goals as goal
 
 pub returns-in-Err-clause-holds : goal.returns-in-Err-clause-holds
@@ -11,8 +10,9 @@ returns-in-Err-clause-holds g c = λ front h.
     let i = c.loop-edge.edge-index in
     let lt : i < length edges = omega arith in
     let done = front ++ flat_map eight (take i edges) in
+    let is : c.as_slice.result.now ≡ eight (get_or edges i 0) = search rules in
     let part = c.in-Err.ensures.holds done (c.loop-edge.invariant.holds front h) in
-    items_end (g.W.Sink.holds c.put_all.new.sink) front eight edges i 0 (get_or edges i 0) lt refl (subst (Begins (g.W.Sink.holds c.put_all.new.sink) done) (eight_is c.as_slice.result.now (get_or edges i 0) (search rules)) part)
+    items_end (g.W.Sink.holds c.put_all.new.sink) front eight edges i 0 (get_or edges i 0) lt refl (subst (Begins (g.W.Sink.holds c.put_all.new.sink) done) is part)
 
 pub loop-edge-preserved : goal.loop-edge-preserved
 loop-edge-preserved g c = record {
@@ -21,7 +21,8 @@ loop-edge-preserved g c = record {
       let i = c.loop-edge.edge-index in
       let lt : i < length edges = omega arith in
       let done = front ++ flat_map eight (take i edges) in
+      let is : c.as_slice.result.now ≡ eight (get_or edges i 0) = search rules in
       let part = c.in-Ok.ensures.holds done (c.loop-edge.invariant.holds front h) in
-      items_more (g.W.Sink.holds c.put_all.new.sink) front eight edges i 0 (get_or edges i 0) lt refl (subst (λ (xs : List ℕ). g.W.Sink.holds c.put_all.new.sink (done ++ xs)) (eight_is c.as_slice.result.now (get_or edges i 0) (search rules)) part);
+      items_more (g.W.Sink.holds c.put_all.new.sink) front eight edges i 0 (get_or edges i 0) lt refl (subst (λ (xs : List ℕ). g.W.Sink.holds c.put_all.new.sink (done ++ xs)) is part);
   failed = c.in-Ok.ensures.counted ∙ c.loop-edge.invariant.failed;
 }
