@@ -5,4 +5,5 @@ pub mod FirstClasses
 pub mod AnswerTie
 pub mod Steps
 pub mod Places
+pub mod Bounds
 pub mod Kept

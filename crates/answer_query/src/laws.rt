@@ -1,8 +1,13 @@
 //! What holds of the query.
-ghost use Rattle.answer_query.specs.Laws.{AnswerTies};
+ghost use Rattle.answer_query.specs.Laws.{AnswerTies, ProjectBounds};
 
 /// In every project the program of the answer gives the answer of the rules and asks what the query reads; whatever the
 /// answers, it asks keys of lower rank and gives an answer.
 pub fn answer_ties()
     ensures { AnswerTies }
+{}
+
+/// The faults of a project that stand in no class are noted at the very places where they are.
+pub fn project_bounds()
+    ensures { ProjectBounds }
 {}

@@ -9,4 +9,4 @@ mod project_faults;
 mod trees;
 
 pub use answer::run_answer;
-pub use laws::answer_ties;
+pub use laws::{answer_ties, project_bounds};

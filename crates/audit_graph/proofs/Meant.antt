@@ -67,15 +67,15 @@ module _ (mean : Meaning) (reads : ReadLists) (laws : RunnerLaws mean reads) (pa
   same_entry q r x a b = same_Some r x (sym a ∙ b)
 
   no_reads : (q : Key) (r : Entry) → now q ≡ Some r → rank q ≡ 0 → r.reads ≡ reads p q
-  no_reads q r has z = none_lower q z r.reads (graph.lower q r has) ∙ sym (laws.no_reads p q sources.project z)
+  no_reads q r has z = none_lower q z r.reads (graph.lower q r has) ∙ sym ((laws.inputs p sources.project).no_reads q z)
 
   input : (q : Key) (r : Entry) → now q ≡ Some r → true ≡ is_input (kind_of q) → (r.value ≡ mean p q) × (r.reads ≡ reads p q)
   input Files r has e =
       let x = sources.files in
-      (ap (λ (y : Entry). y.value) (same_entry Files r x.0 has x.1) ∙ (x.2 ∙ sym (laws.files p sources.project)), no_reads Files r has refl)
+      (ap (λ (y : Entry). y.value) (same_entry Files r x.0 has x.1) ∙ (x.2 ∙ sym (laws.inputs p sources.project).files), no_reads Files r has refl)
   input (Source file) r has e =
       let x = sources.each file (sources.others file r has) in
-      (ap (λ (y : Entry). y.value) (same_entry (Source file) r x.0 has x.1) ∙ (x.2 ∙ sym (laws.source p file sources.project)), no_reads (Source file) r has refl)
+      (ap (λ (y : Entry). y.value) (same_entry (Source file) r x.0 has x.1) ∙ (x.2 ∙ sym ((laws.inputs p sources.project).source file)), no_reads (Source file) r has refl)
   input (Tree file) r has e = absurd (cc)
   input Index r has e = absurd (cc)
   input (Header c) r has e = absurd (cc)

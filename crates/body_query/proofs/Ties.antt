@@ -2,6 +2,8 @@
 use Rattle.std.proofs.Common.{◌≡◌, ◌<◌, ◌^◌, List, [], ◌∷◌, Option, Some, None, refl, sym, ap, ap₂, ◌∙◌, arith}
 use Rattle.item_ids.specs.declared.key.Key.{Key}
 use Rattle.item_ids.specs.declared.key.Key.TheVariants as keys
+use Rattle.item_ids.specs.declared.kind.Kind.TheVariants as kinds
+use Rattle.item_ids.specs.Keys.{kind_of}
 use Rattle.mj_tree.specs.Trees.{Name}
 use Rattle.mj_tree.specs.declared.place.Place.TheVariants.{Inside}
 use Rattle.mj_phrases.specs.declared.verdict.Mistake.{Mistake}
@@ -23,6 +25,7 @@ use Rattle.query_rules.specs.Items.{body_at, mistakes_in, fault_set}
 use Rattle.query_rules.specs.BodyReads.{body_reads}
 use Rattle.query_rules.specs.Meaning.{mean}
 use Rattle.query_rules.specs.Reads.{asked_keys, firsts, reads}
+use Rattle.query_rules.specs.Ties.{Ties}
 use Rattle.body_questions.specs.Facts.{is_declared_in, descends_in, field_in, method_in, body_in}
 use Rattle.body_query.specs.Programs.{reads_of}
 use Rattle.body_query.specs.Body.{fault_in, faults_in, check_of, body_prog}
@@ -92,3 +95,8 @@ body_ties c x = record {
   asked = λ p h. are_asked c x p;
   fits = fits c x;
 }
+
+-- every key of this kind is tied to its program
+pub body_tied : (q : Key) → kind_of q ≡ kinds.CheckBody → Ties q (body_prog q)
+body_tied (keys.CheckBody c m) is = body_ties c m
+body_tied _ is = absurd cc

@@ -8,7 +8,7 @@ pub fn body_ties()
     ensures { BodyTies }
 {}
 
-/// Faults whose numbers have four bytes are noted as they are.
+/// In a project the faults in a body are noted at the very places where they are.
 pub fn bounds_law()
     ensures { BoundsLaw }
 {}

@@ -3,7 +3,10 @@ ghost use Rattle.std.specs.Prelude.{◌≡◌, [], None, IfOk, IfErr, option_cop
 ghost use Rattle.item_ids.specs.Keys.{kind_of};
 ghost use Rattle.item_ids.specs.declared.kind.Kind.TheVariants as kinds;
 ghost use Rattle.recorder.specs.Programs.{Goes, GivesUp, Performs};
+ghost use Rattle.recorder.specs.Runs.{IsRun};
 ghost use Rattle.query_rules.specs.Items.{fault_set};
+ghost use Rattle.query_rules.specs.Meaning.{mean};
+ghost use Rattle.query_rules.specs.Reads.{reads};
 ghost use Rattle.body_query.specs.Programs.{reads_of};
 ghost use Rattle.body_query.specs.Body.{faults_in as faults_told, check_of, body_steps, body_prog};
 ghost use Rattle.body_questions.specs.Facts.{body_in as body_told};
@@ -60,7 +63,7 @@ fn faults_for(alloc: Global, method: &Name, mistakes: &[Mistake]) -> Result<Faul
 }
 
 /// The mistakes in a method of a class.
-pub fn check_body_steps<D: Reader>(
+fn check_body_steps<D: Reader>(
     alloc: Global,
     recorder: &mut Recorder<D>,
     class: &Name,
@@ -78,7 +81,8 @@ pub fn check_body_steps<D: Reader>(
     Ok(Value::CheckBody(faults))
 }
 
-/// Runs a query of this kind, with a recorder that hasn't read.
+/// Runs a query of this kind, with a recorder that hasn't read: what it asks is what the query reads, and its result
+/// follows from the answers.
 pub fn check_body<D: Reader>(
     alloc: Global,
     key: &Key,
@@ -87,6 +91,7 @@ pub fn check_body<D: Reader>(
     requires kind { kind_of key.now ≡ kinds.CheckBody }
     requires unread { recorder.old.told ≡ [] }
     requires unrefused { recorder.old.refused ≡ None }
+    ensures run { IsRun mean reads key.now recorder.new result }
     ensures performs { Performs (body_prog key.now) recorder.old result recorder.new }
     ensures follows { D.follows recorder.old.inner recorder.new.inner }
 {

@@ -1,10 +1,23 @@
--- What the program is tied to: in every project it gives the value of the query and asks what it
--- reads.
-use Rattle.std.specs.Prelude.{List, ℕ}
+-- What the program is tied to, in every project.
+use Rattle.std.specs.Prelude.{◌≡◌, List, ℕ, Some}
 use Rattle.item_ids.specs.declared.key.Key.TheVariants as keys
+use Rattle.mj_members.specs.Declarations.{ClassDecl}
+use Rattle.mj_project.specs.Projects.{IsProject}
+use Rattle.mj_rules.specs.Sentences.{classes_in}
+use Rattle.mj_rules.specs.FaultLists.{declaration_faults}
+use Rattle.recorder.specs.Projects.{Project}
 use Rattle.recorder.specs.Programs.{Ret}
+use Rattle.query_rules.specs.Items.{class_at}
 use Rattle.query_rules.specs.Ties.{Ties}
+use Rattle.body_query.specs.Bounds.{bounded_faults}
 use Rattle.class_query.specs.CheckClass.{check_class_steps}
 
+-- it gives the value of the query and asks what it reads
 abbrev pub CheckClassTies : Type 0
 CheckClassTies = (c : List ℕ) → Ties (keys.CheckClass c) (check_class_steps c Ret)
+
+-- the faults of a class's declarations have their places in four bytes, and are left as they are
+abbrev pub ClassBounds : Type 0
+ClassBounds =
+    (p : Project) → IsProject p → (c : List ℕ) (k : ClassDecl) → class_at p c ≡ Some k
+    → bounded_faults (declaration_faults (classes_in p) k) ≡ declaration_faults (classes_in p) k

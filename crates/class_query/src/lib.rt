@@ -7,5 +7,5 @@ mod overrides;
 mod query;
 mod told;
 
-pub use laws::check_class_ties;
+pub use laws::{check_class_ties, class_bounds};
 pub use query::run_check_class;

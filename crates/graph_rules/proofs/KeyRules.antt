@@ -109,8 +109,8 @@ input_kind p Answer v e = absurd (none-some v e)
 -- an input is what the project means by it
 pub input_means : (mean : Meaning) (reads : ReadLists) → RunnerLaws mean reads → (p : Project) → IsProject p → (q : Key) (v : Value) → input_of p q ≡ Some v → mean p q ≡ v
 unfolding input_of
-input_means mean reads laws p is Files v e = laws.files p is ∙ same_Some _ v e
-input_means mean reads laws p is (Source file) v e = laws.source p file is ∙ same_Some _ v e
+input_means mean reads laws p is Files v e = (laws.inputs p is).files ∙ same_Some _ v e
+input_means mean reads laws p is (Source file) v e = (laws.inputs p is).source file ∙ same_Some _ v e
 input_means mean reads laws p is (Tree file) v e = absurd (none-some v e)
 input_means mean reads laws p is Index v e = absurd (none-some v e)
 input_means mean reads laws p is (Header c) v e = absurd (none-some v e)

@@ -187,7 +187,7 @@ module _ (mean : Meaning) (reads : ReadLists) (laws : RunnerLaws mean reads) (pa
       → ((e : Key) → Contains es e → Contains (reads p q) e → Means mean reads p s e) → Means mean reads p s q
   means_at q v es Input is so inP ih =
       let v_is = sym (input_means mean reads laws p project q v so.0) in
-      let es_is : es ≡ reads p q = so.1 ∙ sym (laws.no_reads p q project (input_rank p q v so.0)) in
+      let es_is : es ≡ reads p q = so.1 ∙ sym ((laws.inputs p project).no_reads q (input_rank p q v so.0)) in
       (Input, is ∙ ap (λ (x : Value). Done x es Input) v_is ∙ ap (λ (x : List Key). Done (mean p q) x Input) es_is)
   means_at q v es Green is so inP ih = let e = green q v es so.0 so.1 inP ih in (Green, is ∙ ap (λ (x : Value). Done x es Green) (sym e.1) ∙ ap (λ (x : List Key). Done (mean p q) x Green) (sym e.0))
   means_at q v es Executed is so inP ih = let e = executed q v es so.1 ih in (Executed, is ∙ ap (λ (x : Value). Done x es Executed) (sym e.1) ∙ ap (λ (x : List Key). Done (mean p q) x Executed) (sym e.0))
@@ -199,7 +199,7 @@ module _ (mean : Meaning) (reads : ReadLists) (laws : RunnerLaws mean reads) (pa
       let d = done q reached in
       let so : IsSoundAt mean reads past p s q (Done d.0 d.1 d.2) = subst (λ (y : Status). IsSoundAt mean reads past p s q y) d.3 (sound q) in
       means_at q d.0 d.1 d.2 d.3 so inP
-      (λ e has inn. let low = all_at (λ k. rank k < rank q) (reads p q) (laws.lower p q project) e inn in means n e (omega arith) (edge q d.0 d.1 d.2 e reached d.3 has) (read_in q e inP inn))
+      (λ e has inn. let low = all_at (λ k. rank k < rank q) (reads p q) ((laws.keys p project).lower q) e inn in means n e (omega arith) (edge q d.0 d.1 d.2 e reached d.3 has) (read_in q e inP inn))
 
   means_of : (q : Key) → IsReached p s q → IsReadIn reads p q → Means mean reads p s q
   means_of q reached inP = means (suc (rank q)) q (omega arith) reached inP

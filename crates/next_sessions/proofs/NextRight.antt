@@ -71,8 +71,8 @@ module _ (mean : Meaning) (reads : ReadLists) (laws : RunnerLaws mean reads) (pa
   next_sources : AreSources (entry_at s) p
   next_sources = record {
     project = project;
-    files = let t = told Files (root Files files) in (t.0, t.1, t.2 ∙ laws.files p project);
-    each = λ file c. let t = told (Source file) (root (Source file) (source file c)) in (t.0, t.1, t.2 ∙ laws.source p file project);
+    files = let t = told Files (root Files files) in (t.0, t.1, t.2 ∙ (laws.inputs p project).files);
+    each = λ file c. let t = told (Source file) (root (Source file) (source file c)) in (t.0, t.1, t.2 ∙ (laws.inputs p project).source file);
     others = λ file r has. own file (subst (IsReadIn reads p) (key_of (Source file) r has) (next_entry (Source file) r has).reached);
   }
 

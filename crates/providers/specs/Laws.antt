@@ -40,12 +40,8 @@ tie_of keys.Answer a = answer_ties
 
 pub mini_java_tied : Tied prog_of mean reads
 mini_java_tied = record {
-  files = λ p i. query_laws.files p;
-  source = λ p f i. query_laws.source p f;
-  no_reads = λ p q i e. query_laws.no_reads p q e;
-  means = λ p q i a. (tie_of q a).means p i;
-  asked = λ p q i a. (tie_of q a).asked p i;
-  fits = λ q a. (tie_of q a).fits;
+  inputs = λ p i. query_laws.inputs p;
+  each = tie_of;
 }
 
 pub mini_java_laws : RunnerLaws mean reads

@@ -1,13 +1,18 @@
 //! The runner.
-ghost use Rattle.std.specs.Prelude.{◌≡◌, ◌<◌, ◌++◌, ◌∷◌, [], List, IfOk, IfErr, OnOk, OnErr};
+ghost use Rattle.std.specs.Prelude.{◌≡◌, ◌≢◌, ◌<◌, ◌++◌, ◌∷◌, [], List, None, IfOk, IfErr, OnOk, OnErr};
+ghost use Rattle.item_ids.specs.Keys.{kind_of};
+ghost use Rattle.item_ids.specs.declared.kind.Kind.TheVariants as kinds;
 ghost use Rattle.recorder.specs.Backed.{rank};
 ghost use Rattle.recorder.specs.Programs.{Goes, GivesUp};
+ghost use Rattle.recorder.specs.Runs.{IsRun};
+ghost use Rattle.query_rules.specs.Meaning.{mean};
+ghost use Rattle.query_rules.specs.Reads.{reads};
 ghost use Rattle.providers.specs.Programs.{steps_of};
 
 use answer_query::run_answer;
-use body_query::check_body_steps;
+use body_query::check_body;
 use class_query::run_check_class;
-use item_ids::Key;
+use item_ids::{Key, Kind};
 use recorder::{Reader, Recorder, RunFault, Runner};
 use result_bytes::Value;
 use std::alloc::{AllocError, AllocFailed, Global};
@@ -47,20 +52,21 @@ fn note(alloc: Global, log: &mut Vec<Key>, key: &Key) -> Result<(), AllocError>
     Ok(())
 }
 
-/// One run, by the program of the key's kind.
+/// The steps of the program of the key's kind, of any but the check of a body.
 #[tactic(auto, unfolding(crate::specs::Programs::steps_of))]
-fn run_kind<D: Reader>(
+fn run_steps<D: Reader>(
     alloc: Global,
     key: &Key,
     recorder: &mut Recorder<D>,
 ) -> Result<Value, RunFault>
     requires no_input { 0 < rank key.now }
+    requires no_body { kind_of key.now ≢ kinds.CheckBody }
     ensures ok { IfOk result (λ v. Goes (steps_of key.now) recorder.old v recorder.new) }
     ensures err { IfErr result (λ e. GivesUp (steps_of key.now) recorder.old e recorder.new) }
     ensures follows { D.follows recorder.old.inner recorder.new.inner }
 {
     match key {
-        Key::Files | Key::Source(_) => unreachable!(),
+        Key::Files | Key::Source(_) | Key::CheckBody(_, _) => unreachable!(),
         Key::Tree(file) => run_tree(alloc, recorder, file),
         Key::Index => run_index(alloc, recorder),
         Key::Header(class) => run_header(alloc, recorder, class),
@@ -69,10 +75,27 @@ fn run_kind<D: Reader>(
         Key::Supers(class) => run_supers(alloc, recorder, class),
         Key::Members(class) => run_members(alloc, recorder, class),
         Key::CheckClass(class) => run_check_class(alloc, recorder, class),
-        Key::CheckBody(class, method) => check_body_steps(alloc, recorder, class, method),
         Key::Diags(class) => run_diags(alloc, recorder, class),
         Key::Answer => run_answer(alloc, recorder),
     }
+}
+
+/// One run, with a recorder that hasn't read.
+fn run_query<D: Reader>(
+    alloc: Global,
+    key: &Key,
+    recorder: &mut Recorder<D>,
+) -> Result<Value, RunFault>
+    requires no_input { 0 < rank key.now }
+    requires unread { recorder.old.told ≡ [] }
+    requires unrefused { recorder.old.refused ≡ None }
+    ensures run { IsRun mean reads key.now recorder.new result }
+    ensures follows { D.follows recorder.old.inner recorder.new.inner }
+{
+    if key.kind() == Kind::CheckBody {
+        return check_body(alloc, key, recorder);
+    }
+    run_steps(alloc, key, recorder)
 }
 
 impl Runner for MiniJava {
@@ -95,6 +118,6 @@ impl Runner for MiniJava {
         recorder: &mut Recorder<D>,
     ) -> Result<Value, RunFault> {
         note(alloc, &mut self.log, key)?;
-        run_kind(alloc, key, recorder)
+        run_query(alloc, key, recorder)
     }
 }

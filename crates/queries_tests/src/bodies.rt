@@ -4,7 +4,7 @@
 use crate::answers::{BODY_F, BODY_H, HEADER_Z, NO_HEADER_A, SUPERS_B, are_right};
 use answer_samples::Asked;
 use item_ids::Kind;
-use query_samples::Row;
+use query_samples::{Row, is_checked};
 use run_samples::Given;
 use std::test::*;
 
@@ -150,6 +150,14 @@ static AT_FAULT: [Row; 4] = [
 #[test]
 fn bodies_that_are_well(rt: HostRuntime) -> Result<(), Fail> {
     assert!(rt; are_right(rt.alloc(), &WELL)?);
+    Ok(())
+}
+
+#[test]
+fn bodies_without_a_runner(rt: HostRuntime) -> Result<(), Fail> {
+    for row in &AT_FAULT {
+        assert!(rt; is_checked(rt.alloc(), *row)?);
+    }
     Ok(())
 }
 

@@ -112,10 +112,6 @@ once p q = (firsts_new [] (asked_keys p q)).1
 pub query_laws : QueryLaws
 unfolding mean
 query_laws = record {
-  files = λ p. refl;
-  source = λ p file. refl;
-  no_reads = no_reads;
-  kind = kind;
-  lower = lower;
-  once = once;
+  inputs = λ p. record { files = refl; source = λ file. refl; no_reads = no_reads p };
+  keys = λ p. record { kind = kind p; lower = lower p; once = once p };
 }

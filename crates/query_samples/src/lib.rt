@@ -6,4 +6,4 @@ mod driving;
 mod rows;
 
 pub use driving::{brings_each, is_answer};
-pub use rows::{Row, is_lacking, is_right};
+pub use rows::{Row, is_checked, is_lacking, is_right};

@@ -5,7 +5,8 @@ ghost use Rattle.answer_samples.specs.Telling.{IsKeyOf};
 ghost use Rattle.query_samples.specs.Rows.{IsRunOf, IsLackingRun};
 
 use answer_samples::{Asked, Unfit, is_key, key_of};
-use item_ids::{Key, rank};
+use body_query::check_body;
+use item_ids::{Key, Kind, rank};
 use providers::MiniJava;
 use recorder::{AnswerList, Recorder, Runner};
 use run_samples::{Given, Kept, comes_to, list_of, wants};
@@ -38,10 +39,15 @@ fn is_run(alloc: Global, key: &Key, list: AnswerList, row: Row) -> Result<bool, 
     let mut runner = MiniJava::new(alloc);
     let mut recorder = Recorder::new(alloc, list);
     let result = runner.run(alloc, key, &mut recorder);
-    Ok(
-        comes_to(alloc, result, recorder, row.query.1, row.reads)?
-            && matches!(runner.log(), [one] if is_key(one, row.query.0)),
-    )
+    if !has_logged(&runner, row.query.0) {
+        return Ok(false);
+    }
+    comes_to(alloc, result, recorder, row.query.1, row.reads)
+}
+
+/// Whether the runner was asked this query alone.
+fn has_logged(runner: &MiniJava, asked: Asked) -> bool {
+    matches!(runner.log(), [one] if is_key(one, asked))
 }
 
 /// Whether the row's query, run over its answers, reads just them, in their order, comes to its value, and is logged.
@@ -70,7 +76,10 @@ fn is_refused(
     let mut runner = MiniJava::new(alloc);
     let mut recorder = Recorder::new(alloc, list);
     let result = runner.run(alloc, key, &mut recorder);
-    Ok(wants(alloc, result, recorder, kept)? && matches!(runner.log(), [one] if is_key(one, query)))
+    if !has_logged(&runner, query) {
+        return Ok(false);
+    }
+    wants(alloc, result, recorder, kept)
 }
 
 /// Whether the run of the query over the answers that are kept is refused another one, and is logged.
@@ -80,6 +89,31 @@ pub fn is_lacking(alloc: Global, query: Asked, kept: Kept) -> Result<bool, Unfit
     let key = query_of(alloc, query)?;
     match list_of(alloc, kept.reads) {
         Ok(list) => is_refused(alloc, &key, list, query, kept),
+        Err(unfit) => Err(unfit),
+    }
+}
+
+/// Whether the check of the body over the list reads just the row's answers, in their order, and comes to the value.
+fn is_body_check(alloc: Global, key: &Key, list: AnswerList, row: Row) -> Result<bool, Unfit>
+    requires told { IsKeyOf row.query.0 key.now }
+    ensures { IfOk result (λ b. IsTrue b → IsRunOf row.entry.query row.entry.reads.now) }
+{
+    if key.kind() != Kind::CheckBody {
+        return Err(Unfit);
+    }
+    let mut recorder = Recorder::new(alloc, list);
+    let result = check_body(alloc, key, &mut recorder);
+    comes_to(alloc, result, recorder, row.query.1, row.reads)
+}
+
+/// Whether the row's query is one of a body, and its check without a runner, over the row's answers, reads just them, in
+/// their order, and comes to its value.
+pub fn is_checked(alloc: Global, row: Row) -> Result<bool, Unfit>
+    ensures { IfOk result (λ b. IsTrue b → IsRunOf row.entry.query row.entry.reads.now) }
+{
+    let key = query_of(alloc, row.query.0)?;
+    match list_of(alloc, row.reads) {
+        Ok(list) => is_body_check(alloc, &key, list, row),
         Err(unfit) => Err(unfit),
     }
 }

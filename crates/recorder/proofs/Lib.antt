@@ -1,4 +1,5 @@
 pub mod Recorded
+pub mod FirstReads
 pub mod Seen
 pub mod Reach
 pub mod ProgramLaws

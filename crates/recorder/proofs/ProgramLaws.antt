@@ -115,45 +115,45 @@ place_of Answer = IsAbove (omega arith)
 
 module _ (prog_of other : Key → Prog) (m n : Meaning) (l k : ReadLists) (t : Tied prog_of m l) (u : Tied other n k) where
   next_law : (p r : Project) (q : Key) (i : ℕ) → prog_of q ≡ other q → Place q → NextAlike m l n k p r q i
-  next_law p r _ i e IsFiles h g a = ap (take (suc i)) (t.no_reads p Files h refl ∙ sym (u.no_reads r Files g refl))
-  next_law p r _ i e (IsSource file) h g a = ap (take (suc i)) (t.no_reads p (Source file) h refl ∙ sym (u.no_reads r (Source file) g refl))
+  next_law p r _ i e IsFiles h g a = ap (take (suc i)) ((t.inputs p h).no_reads Files refl ∙ sym ((u.inputs r g).no_reads Files refl))
+  next_law p r _ i e (IsSource file) h g a = ap (take (suc i)) ((t.inputs p h).no_reads (Source file) refl ∙ sym ((u.inputs r g).no_reads (Source file) refl))
   next_law p r q i e (IsAbove above) h g a =
-      ap (take (suc i)) (t.asked p q h above)
-      ∙ asks_next (prog_of q) (m p) (n r) [] i tt (subst (λ ks. Alike (m p) (n r) (take i ks)) (t.asked p q h above) a)
+      ap (take (suc i)) ((t.each q above).asked p h)
+      ∙ asks_next (prog_of q) (m p) (n r) [] i tt (subst (λ ks. Alike (m p) (n r) (take i ks)) ((t.each q above).asked p h) a)
       ∙ ap (λ x. take (suc i) (asks x (n r) [])) e
-      ∙ ap (take (suc i)) (sym (u.asked r q g above))
+      ∙ ap (take (suc i)) (sym ((u.each q above).asked r g))
 
   same_law : (p r : Project) (q : Key) → prog_of q ≡ other q → ValueAlike m l n k p r q
   same_law p r q e h g above a =
-      t.means p q h above
-      ∙ asks_same (prog_of q) (m p) (n r) [] tt (subst (Alike (m p) (n r)) (t.asked p q h above) a)
+      (t.each q above).means p h
+      ∙ asks_same (prog_of q) (m p) (n r) [] tt (subst (Alike (m p) (n r)) ((t.each q above).asked p h) a)
       ∙ ap (λ x. runs x (n r)) e
-      ∙ sym (u.means r q g above)
+      ∙ sym ((u.each q above).means r g)
 
 module _ (prog_of : Key → Prog) (mean : Meaning) (reads : ReadLists) (t : Tied prog_of mean reads) where
   kind_law : (p : Project) (q : Key) → IsProject p → Place q → IsOfKind q (mean p q)
-  kind_law p _ h IsFiles = ap kind_of_value (t.files p h)
-  kind_law p _ h (IsSource file) = ap kind_of_value (t.source p file h)
-  kind_law p q h (IsAbove above) = subst (IsOfKind q) (sym (t.means p q h above)) (runs_kind q (prog_of q) (mean p) (t.fits q above))
+  kind_law p _ h IsFiles = ap kind_of_value (t.inputs p h).files
+  kind_law p _ h (IsSource file) = ap kind_of_value ((t.inputs p h).source file)
+  kind_law p q h (IsAbove above) = subst (IsOfKind q) (sym ((t.each q above).means p h)) (runs_kind q (prog_of q) (mean p) (t.each q above).fits)
 
   lower_law : (p : Project) (q : Key) → IsProject p → Place q → AreLower q (reads p q)
-  lower_law p _ h IsFiles = subst (AreLower Files) (sym (t.no_reads p Files h refl)) tt
-  lower_law p _ h (IsSource file) = subst (AreLower (Source file)) (sym (t.no_reads p (Source file) h refl)) tt
-  lower_law p q h (IsAbove above) = subst (AreLower q) (sym (t.asked p q h above)) (asks_lower q (prog_of q) (mean p) [] (t.fits q above))
+  lower_law p _ h IsFiles = subst (AreLower Files) (sym ((t.inputs p h).no_reads Files refl)) tt
+  lower_law p _ h (IsSource file) = subst (AreLower (Source file)) (sym ((t.inputs p h).no_reads (Source file) refl)) tt
+  lower_law p q h (IsAbove above) = subst (AreLower q) (sym ((t.each q above).asked p h)) (asks_lower q (prog_of q) (mean p) [] (t.each q above).fits)
 
   once_law : (p : Project) (q : Key) → IsProject p → Place q → NoneTwice (λ k. k) (reads p q)
-  once_law p _ h IsFiles = subst (NoneTwice (λ k. k)) (sym (t.no_reads p Files h refl)) tt
-  once_law p _ h (IsSource file) = subst (NoneTwice (λ k. k)) (sym (t.no_reads p (Source file) h refl)) tt
-  once_law p q h (IsAbove above) = subst (NoneTwice (λ k. k)) (sym (t.asked p q h above)) (asks_once (prog_of q) (mean p) [])
+  once_law p _ h IsFiles = subst (NoneTwice (λ k. k)) (sym ((t.inputs p h).no_reads Files refl)) tt
+  once_law p _ h (IsSource file) = subst (NoneTwice (λ k. k)) (sym ((t.inputs p h).no_reads (Source file) refl)) tt
+  once_law p q h (IsAbove above) = subst (NoneTwice (λ k. k)) (sym ((t.each q above).asked p h)) (asks_once (prog_of q) (mean p) [])
 
   pub program_laws : RunnerLaws mean reads
   program_laws = record {
-    files = t.files;
-    source = t.source;
-    no_reads = t.no_reads;
-    kind = λ p q h. kind_law p q h (place_of q);
-    lower = λ p q h. lower_law p q h (place_of q);
-    once = λ p q h. once_law p q h (place_of q);
+    inputs = t.inputs;
+    keys = λ p h. record {
+      kind = λ q. kind_law p q h (place_of q);
+      lower = λ q. lower_law p q h (place_of q);
+      once = λ q. once_law p q h (place_of q);
+    };
     next = λ p r q i. next_law prog_of prog_of mean mean reads reads t t p r q i refl (place_of q);
     same = λ p r q. same_law prog_of prog_of mean mean reads reads t t p r q refl;
   }

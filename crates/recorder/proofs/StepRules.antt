@@ -1,5 +1,5 @@
 -- Rules for steps.
-use Rattle.std.proofs.Common.{◌≡◌, ◌⊎◌, inl, inr, sym, ◌∙◌, ap, subst, refl, IfSome, Option, Some, None}
+use Rattle.std.proofs.Common.{◌≡◌, ◌⊎◌, inl, inr, sym, ◌∙◌, ap, subst, refl, IfSome, Option, option_map, Some, None}
 use Rattle.item_ids.specs.declared.key.Key.{Key}
 use Rattle.result_bytes.specs.declared.value.Value.{Value}
 use Rattle.recorder.specs.Recording.{Recording, key_of, IsUnread, IsForMemory, IsByReader, Answers, Refuses}
@@ -44,7 +44,7 @@ module _ {D : Type 0} (prog : Prog) (faults : Key → ReadFault → Type 0) (k :
           | inl h ↦ subst Kept (sym s.unrefused ∙ sym (ap (λ r. r.refused) h)) tt
           | inr h ↦ kept_first new.refused h.kept
         ]));
-    fault = λ g same. let h : e ≡ g = cc in r.fault ∙ ap Some h;
+    fault = sym r.fault;
   }
 
 pub halts_memory : {D : Type 0} (prog p : Prog) (r : Recording D) → IsAt prog r p → Halts prog OutOfMemory r
@@ -52,7 +52,7 @@ halts_memory prog p r s = record {
   rest = p;
   reached = s.reached;
   refused = none r.refused s.unrefused;
-  fault = λ g e. cc;
+  fault = sym (ap (option_map (λ x. x.fault)) s.unrefused);
 }
   where
     none : (o : Option Refused) → o ≡ None → IfSome (key_of {D = _} (record { inner = r.inner; told = r.told; refused = o })) (IsAsked r.told p)

@@ -7,7 +7,7 @@ use Rattle.recorder.specs.Projects.{Project}
 use Rattle.recorder.specs.Backed.{Meaning, ReadLists, rank, IsOfKind, IsNext}
 use Rattle.recorder.specs.Recording.{Recording, key_of}
 use Rattle.recorder.specs.Runs.{IsRun}
-use Rattle.recorder.specs.Programs.{Prog, Ret, Ask, runs, asks, Fits, Reached, Start, IsAt, IsAsked, Goes, GivesUp, Tied}
+use Rattle.recorder.specs.Programs.{Prog, Ret, Ask, runs, asks, Fits, Reached, Start, IsAt, IsAsked, Goes, GivesUp, Performs, TiedAt}
 use Rattle.recorder.specs.declared.runner.RunFault.{RunFault}
 use Rattle.recorder.proofs.Reach.{reached_lower, reached_next, reached_asked, reached_backed}
 
@@ -19,19 +19,21 @@ ret_kind : (q : Key) (v : Value) → Fits q (Ret v) → IsOfKind q v
 unfolding Fits
 ret_kind q v h = h
 
-pub run_performed : (prog_of : Key → Prog) (mean : Meaning) (reads : ReadLists) → Tied prog_of mean reads
-    → (q : Key) → 0 < rank q → {D : Type 0} (old new : Recording D) (result : Result Value RunFault) → old.told ≡ [] → old.refused ≡ None
-    → (step : (Value → Prog) → Prog) → step Ret ≡ prog_of q → IfOk result (λ v. Goes step old v new) → IfErr result (λ e. GivesUp step old e new) → IsRun mean reads q new result
-run_performed prog_of mean reads t q h {D = D} old new result unread unrefused step same ok err = by_result result ok err
+pub run_performed : (mean : Meaning) (reads : ReadLists) (q : Key) (prog : Prog) → TiedAt mean reads q prog
+    → {D : Type 0} (old new : Recording D) (result : Result Value RunFault) → Performs prog old result new → IsRun mean reads q new result
+run_performed mean reads q prog t {D = D} old new result performed = by_result result performed.ok performed.err
   where
+    step : (Value → Prog) → Prog
+    step = performed.step
+
     tie : (p : Project) → IsProject p → reads p q ≡ asks (step Ret) (mean p) []
-    tie p i = t.asked p q i h ∙ ap (λ g. asks g (mean p) []) (sym same)
+    tie p i = t.asked p i ∙ ap (λ g. asks g (mean p) []) (sym performed.whole)
 
     means : (p : Project) → IsProject p → mean p q ≡ runs (step Ret) (mean p)
-    means p i = t.means p q i h ∙ ap (λ g. runs g (mean p)) (sym same)
+    means p i = t.means p i ∙ ap (λ g. runs g (mean p)) (sym performed.whole)
 
     fits : Fits q (step Ret)
-    fits = subst (Fits q) (sym same) (t.fits q h)
+    fits = subst (Fits q) (sym performed.whole) t.fits
 
     IsGood : Option Key → Type 0
     IsGood o = IfSome o (λ k. (rank k < rank q) × IsNext mean reads q new.told k)
@@ -47,7 +49,7 @@ run_performed prog_of mean reads t q h {D = D} old new result unread unrefused s
     nothing_refused e = subst (λ o. IsGood (key_of {D = D} (record { inner = new.inner; told = new.told; refused = o }))) (sym e) tt
 
     start : IsAt (step Ret) old (step Ret)
-    start = record { reached = subst (λ told. Reached (step Ret) told (step Ret)) (sym unread) Start; unrefused = unrefused }
+    start = record { reached = subst (λ told. Reached (step Ret) told (step Ret)) (sym performed.unread) Start; unrefused = performed.unrefused }
 
     by_result : (result : Result Value RunFault) → IfOk result (λ v. Goes step old v new) → IfErr result (λ e. GivesUp step old e new) → IsRun mean reads q new result
     by_result (Ok v) g _ = let s = g.goes (step Ret) Ret start in record {

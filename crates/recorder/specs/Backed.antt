@@ -60,16 +60,21 @@ pub record ReadLaws (m : Meaning) (l : ReadLists) (n : Meaning) (k : ReadLists)
   pub next : (p r : Project) (i : ℕ) → NextAlike m l n k p r q i
   pub same : (p r : Project) → ValueAlike m l n k p r q
 
+-- the inputs are the names and the bytes of p's files, and read nothing
+pub record InputLaws (p : Project) (m : Key → Value) (l : Key → List Key) : Type 0 where
+  pub files : m Files ≡ values.Files (names_of p)
+  pub source : (file : List ℕ) → m (Source file) ≡ values.Source (bytes_at p file)
+  pub no_reads : (q : Key) → rank q ≡ 0 → l q ≡ []
+
+-- each key has a value of its kind, and reads keys of lower rank, none twice
+pub record KeyLaws (m : Key → Value) (l : Key → List Key) : Type 0 where
+  pub kind : (q : Key) → IsOfKind q (m q)
+  pub lower : (q : Key) → AreLower q (l q)
+  pub once : (q : Key) → NoneTwice (λ k. k) (l q)
+
 pub record RunnerLaws (mean : Meaning) (reads : ReadLists) : Type 0 where
-  -- the inputs are the names and the bytes of the files, and read nothing
-  pub files : (p : Project) → IsProject p → mean p Files ≡ values.Files (names_of p)
-  pub source : (p : Project) (file : List ℕ) → IsProject p
-      → mean p (Source file) ≡ values.Source (bytes_at p file)
-  pub no_reads : (p : Project) (q : Key) → IsProject p → rank q ≡ 0 → reads p q ≡ []
-  -- each key has a value of its kind, and reads keys of lower rank, none twice
-  pub kind : (p : Project) (q : Key) → IsProject p → IsOfKind q (mean p q)
-  pub lower : (p : Project) (q : Key) → IsProject p → AreLower q (reads p q)
-  pub once : (p : Project) (q : Key) → IsProject p → NoneTwice (λ k. k) (reads p q)
+  pub inputs : (p : Project) → IsProject p → InputLaws p (mean p) (reads p)
+  pub keys : (p : Project) → IsProject p → KeyLaws (mean p) (reads p)
   -- two projects that agree on what a key reads first read alike, and where they agree on all reads
   -- of it, they have one value
   pub next : (p r : Project) (q : Key) (i : ℕ) → NextAlike mean reads mean reads p r q i

@@ -2,15 +2,13 @@
 use Rattle.std.specs.Prelude.{◌≡◌, ◌<◌, ℕ, Bool, true, false, if◌then◌else◌, List, [], ◌∷◌, ◌++◌, Contains, drop, None, IfSome, Result, IfOk, IfErr}
 use Rattle.std.specs.Ordering.{is_eq}
 use Rattle.item_ids.specs.declared.key.Key.{Key}
-use Rattle.item_ids.specs.declared.key.Key.TheVariants.{Files, Source}
 use Rattle.item_ids.specs.Keys.{key_cmp}
 use Rattle.result_bytes.specs.declared.value.Value.{Value}
-use Rattle.result_bytes.specs.declared.value.Value.TheVariants as values
-use Rattle.mj_project.specs.Projects.{names_of, IsProject}
-use Rattle.recorder.specs.Projects.{Project, bytes_at}
-use Rattle.recorder.specs.Backed.{Meaning, ReadLists, ReadValue, rank, IsOfKind}
+use Rattle.mj_project.specs.Projects.{IsProject}
+use Rattle.recorder.specs.Projects.{Project}
+use Rattle.recorder.specs.Backed.{Meaning, ReadLists, ReadValue, rank, IsOfKind, InputLaws}
 use Rattle.recorder.specs.Recording.{Recording, IsUnread, key_of}
-use Rattle.recorder.specs.Runs.{IsFaultKept}
+use Rattle.recorder.specs.Runs.{TellsFault}
 use Rattle.recorder.specs.declared.runner.RunFault.{RunFault}
 
 -- a value, or a key to ask and what follows each answer
@@ -40,17 +38,17 @@ unfoldable pub Fits : Key → Prog → Type 0
 Fits q (Ret v) = IsOfKind q v
 Fits q (Ask k f) = (rank k < rank q) × ((v : Value) → Fits q (f v))
 
--- The values and the reads of the keys that are no inputs are those of their programs.
+-- In every project prog gives q its value and asks what q reads. Whatever the answers, it asks keys
+-- of lower rank than q and gives a value of its kind.
+pub record TiedAt (mean : Meaning) (reads : ReadLists) (q : Key) (prog : Prog) : Type 0 where
+  pub means : (p : Project) → IsProject p → mean p q ≡ runs prog (mean p)
+  pub asked : (p : Project) → IsProject p → reads p q ≡ asks prog (mean p) []
+  pub fits : Fits q prog
+
+-- The inputs are those of the project and read nothing, and every other key is tied to its program.
 pub record Tied (prog_of : Key → Prog) (mean : Meaning) (reads : ReadLists) : Type 0 where
-  pub files : (p : Project) → IsProject p → mean p Files ≡ values.Files (names_of p)
-  pub source : (p : Project) (file : List ℕ) → IsProject p
-      → mean p (Source file) ≡ values.Source (bytes_at p file)
-  pub no_reads : (p : Project) (q : Key) → IsProject p → rank q ≡ 0 → reads p q ≡ []
-  pub means : (p : Project) (q : Key) → IsProject p → 0 < rank q
-      → mean p q ≡ runs (prog_of q) (mean p)
-  pub asked : (p : Project) (q : Key) → IsProject p → 0 < rank q
-      → reads p q ≡ asks (prog_of q) (mean p) []
-  pub fits : (q : Key) → 0 < rank q → Fits q (prog_of q)
+  pub inputs : (p : Project) → IsProject p → InputLaws p (mean p) (reads p)
+  pub each : (q : Key) → 0 < rank q → TiedAt mean reads q (prog_of q)
 
 -- ---- how far a run has come
 
@@ -78,7 +76,7 @@ pub record Halts {D : Type 0} (prog : Prog) (e : RunFault) (r : Recording D) : T
   pub rest : Prog
   pub reached : Reached prog r.told rest
   pub refused : IfSome (key_of r) (IsAsked r.told rest)
-  pub fault : IsFaultKept r e
+  pub fault : TellsFault r e
 
 -- ---- steps: parts of a program, which go on with the value that they give
 

@@ -1,7 +1,9 @@
 -- What a recorder holds, and what each read does to it.
-use Rattle.std.specs.Prelude.{◌≡◌, ◌≢◌, ◌⊎◌, List, [], ◌∷◌, ◌++◌, Contains, Option, Some, None, IfSome, option_map, option_and_then}
+use Rattle.std.specs.Prelude.{◌≡◌, ◌≢◌, ◌⊎◌, List, [], ◌∷◌, ◌++◌, Contains, find, Option, Some, None, IfSome, option_map, option_and_then}
 use Rattle.std.specs.List.{AllByRecursion}
+use Rattle.std.specs.Ordering.{is_eq}
 use Rattle.item_ids.specs.declared.key.Key.{Key}
+use Rattle.item_ids.specs.Keys.{key_cmp}
 use Rattle.result_bytes.specs.declared.value.Value.{Value}
 use Rattle.recorder.specs.Backed.{ReadValue, IsTold, IsOfKind, NoneTwice}
 use Rattle.recorder.specs.declared.reader.ReadFault.{ReadFault}
@@ -21,6 +23,10 @@ fault_of r = option_map (λ x. x.fault) r.refused
 -- the key that is kept of a refused read
 abbrev pub key_of : {D : Type 0} → Recording D → Option Key
 key_of r = option_and_then (λ x. x.key) r.refused
+
+-- the first read of k
+abbrev pub first_read : Key → List ReadValue → Option ReadValue
+first_read k told = find (λ t. is_eq (key_cmp t.key k)) told
 
 -- k wasn't read
 abbrev pub IsUnread : Key → List ReadValue → Type 0

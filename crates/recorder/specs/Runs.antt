@@ -1,5 +1,5 @@
 -- What a run of a query keeps to.
-use Rattle.std.specs.Prelude.{◌≡◌, ◌<◌, List, [], ◌∷◌, ◌++◌, None, Some, IfSome, Result, IfOk, IfErr}
+use Rattle.std.specs.Prelude.{◌≡◌, ◌<◌, List, [], ◌∷◌, ◌++◌, Option, None, Some, IfSome, Result, IfOk, IfErr}
 use Rattle.std.specs.List.{AllByRecursion}
 use Rattle.item_ids.specs.declared.key.Key.{Key}
 use Rattle.item_ids.specs.Keys.{IsKey}
@@ -16,9 +16,15 @@ abbrev pub IsNextRefused : Meaning → ReadLists → Key → {D : Type 0} → Re
 IsNextRefused mean reads q r =
     IfSome (key_of r) (λ k. (rank k < rank q) × IsNext mean reads q r.told k)
 
--- a fault of the reader is the one that the recorder keeps
-abbrev pub IsFaultKept : {D : Type 0} → Recording D → RunFault → Type 0
-IsFaultKept r e = (f : ReadFault) → e ≡ Read f → fault_of r ≡ Some f
+-- the reader's fault in a run's
+abbrev pub read_fault : RunFault → Option ReadFault
+read_fault (Read f) = Some f
+read_fault OutOfMemory = None
+
+-- The fault tells what the recorder keeps: of a refused read the reader's fault, and where no read
+-- was refused, that memory ran out.
+abbrev pub TellsFault : {D : Type 0} → Recording D → RunFault → Type 0
+TellsFault r e = read_fault e ≡ fault_of r
 
 -- the fault is one of the reader, which the recorder keeps
 abbrev pub IsReadFault : {D : Type 0} → Recording D → RunFault → Type 0
@@ -36,7 +42,8 @@ pub record IsRun (mean : Meaning) (reads : ReadLists) (q : Key) {D : Type 0} (r 
   pub unrefused : IfOk result (λ v. r.refused ≡ None)
   pub kind : IfOk result (λ v. IsOfKind q v)
   pub backed : IfOk result (λ v. Backed mean reads q r.told v)
-  pub fault : IfErr result (λ e. IsFaultKept r e)
+  -- without one the fault is that of the refused read, and for want of memory where none was
+  pub fault : IfErr result (λ e. TellsFault r e)
 
 -- the log grew by q
 abbrev pub Logs : Key → List Key → List Key → Type 0

@@ -1,8 +1,8 @@
 //! A reader over a list of answers.
-ghost use Rattle.std.specs.Prelude.{◌≡◌, ◌⊎◌, [], ◌∷◌, ◌++◌, Contains, OnOk, OnErr, MatchOption};
+ghost use Rattle.std.specs.Prelude.{◌≡◌, ◌⊎◌, [], ◌∷◌, ◌++◌, Contains, OnOk, OnErr, MatchOption, option_copied};
 ghost use Rattle.std.specs.Arc.{arc_value};
 ghost use Rattle.recorder.specs.Backed.{IsOfKind};
-ghost use Rattle.recorder.specs.Recording.{IsUnread};
+ghost use Rattle.recorder.specs.Recording.{IsUnread, first_read};
 
 use crate::reader::{ReadFault, Reader};
 use crate::reads::Reads;
@@ -56,8 +56,9 @@ impl AnswerList {
         self.reads.push(self.alloc, Read::new(key, answer))
     }
 
-    /// The key with its answer, which is of the key's kind.
+    /// The key with its first answer, which is of the key's kind.
     pub fn find(&self, key: &Key) -> Option<&Read>
+        ensures first { option_copied result ≡ first_read key.now self.now }
         ensures found { MatchOption result (IsUnread key.now self.now)
             (λ r. (r.now.key ≡ key.now) × Contains self.now r.now) }
         ensures kind { MatchOption result (IsUnread key.now self.now)

@@ -13,7 +13,9 @@ mod steps;
 mod told;
 
 pub use answers::AnswerList;
-pub use laws::{programs_are_runs, programs_keep_the_laws, programs_read_alike};
+pub use laws::{
+    programs_are_runs, programs_keep_the_laws, programs_read_alike, tied_programs_are_runs,
+};
 pub use outcome::{Outcome, record};
 pub use reader::{ReadFault, Reader};
 pub use recorder::Recorder;

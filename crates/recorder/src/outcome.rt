@@ -3,7 +3,7 @@ ghost use Rattle.std.specs.Prelude.{◌≡◌, ◌⊎◌, ◌<◌, [], IfOk, IfE
 ghost use Rattle.std.specs.Arc.{arc_value};
 ghost use Rattle.result_bytes.specs.Values.{IsValue};
 ghost use Rattle.recorder.specs.Backed.{rank, keys, AreLower, Asked};
-ghost use Rattle.recorder.specs.Runs.{IsOutcome, IsNextRefused, IsFaultKept, Logs};
+ghost use Rattle.recorder.specs.Runs.{IsOutcome, IsNextRefused, TellsFault, Logs};
 
 use crate::reader::Reader;
 use crate::recorder::Recorder;
@@ -85,7 +85,7 @@ pub fn record<R: Runner, D: Reader>(
     ensures asked { Asked R.mean R.reads key.now recorder.new.told }
     ensures lower { AreLower key.now (keys recorder.new.told) }
     ensures refused { IsNextRefused R.mean R.reads key.now recorder.new }
-    ensures fault { IfErr result (λ e. IsFaultKept recorder.new e) }
+    ensures fault { IfErr result (λ e. TellsFault recorder.new e) }
     ensures log { Logs key.now (R.log runner.old) (R.log runner.new)
         ⊎ ((result ≡ Err RunFault.OutOfMemory) × (R.log runner.new ≡ R.log runner.old)
         × (recorder.new ≡ recorder.old)) }

@@ -1,31 +1,35 @@
 //! Reads in their order, found by their keys.
-ghost use Rattle.std.specs.Prelude.{◌≡◌, [], ◌∷◌, ◌++◌, Contains, OnOk, OnErr, MatchOption};
-ghost use Rattle.std.specs.BTreeMap.{get};
+ghost use Rattle.std.specs.Prelude.{◌≡◌, [], ◌∷◌, ◌++◌, Contains, OnOk, OnErr, MatchOption, None, option_copied, is_some, true};
+ghost use Rattle.std.specs.Ordering.{eq_by_cmp};
 ghost use Rattle.item_ids.specs.declared.key.Key.{Key as SpecKey};
 ghost use Rattle.item_ids.specs.Keys.{key_cmp};
-ghost use Rattle.item_ids.specs.Places.{ArePlaces, with_place};
-ghost use Rattle.recorder.specs.Recording.{IsUnread};
+ghost use Rattle.item_ids.specs.Places.{with_place};
+ghost use Rattle.indexmap.specs.IndexMap.{get};
+ghost use Rattle.recorder.specs.Places.{first_place};
+ghost use Rattle.recorder.specs.Recording.{IsUnread, first_read};
 
 use crate::told::Read;
+use indexmap::IndexMap;
 use item_ids::Key;
 use std::alloc::{AllocError, AllocFailed, Global};
-use std::collections::BTreeMap;
 use std::marker::Model;
 
-/// Reads in their order, with a place of each key among them.
+/// Reads in their order, with the place of the first one of each key.
 #[derive(Drop)]
 pub(crate) struct Reads {
     list: Vec<Read>,
-    places: BTreeMap<Key, usize>,
+    places: IndexMap<Key, usize>,
 }
 
 impl Model for Reads {
-    ghost use Rattle.std.specs.Prelude.{List};
-    ghost use Rattle.std.specs.BTreeMap.{get};
+    ghost use Rattle.std.specs.Prelude.{◌≡◌, List};
+    ghost use Rattle.std.specs.Ordering.{eq_by_cmp};
+    ghost use Rattle.item_ids.specs.declared.key.Key.{Key as SpecKey};
     ghost use Rattle.item_ids.specs.Keys.{key_cmp};
+    ghost use Rattle.indexmap.specs.IndexMap.{get};
     ghost use Rattle.recorder.specs.Backed.{ReadValue};
     ghost use Rattle.recorder.specs.Codes.{coded_reads};
-    ghost use Rattle.item_ids.specs.Places.{ArePlaces};
+    ghost use Rattle.recorder.specs.Places.{first_place};
 
     ghost Value = { List ReadValue };
 
@@ -33,7 +37,8 @@ impl Model for Reads {
 
     ghost view = { λ r. r.list.items };
 
-    ghost invariant = { λ r. ArePlaces (λ t. t.key) r.list.items (get key_cmp r.places) };
+    ghost invariant = { λ r. (q : SpecKey)
+        → get (eq_by_cmp key_cmp) r.places q ≡ first_place r.list.items q };
 }
 
 impl Reads {
@@ -43,7 +48,7 @@ impl Reads {
     {
         Reads {
             list: Vec::new(alloc),
-            places: BTreeMap::new(alloc),
+            places: IndexMap::new(alloc),
         }
     }
 
@@ -54,9 +59,10 @@ impl Reads {
         self.list.as_slice()
     }
 
-    /// A read of the key.
+    /// The first read of the key.
     pub(crate) fn find(&self, key: &Key) -> Option<&Read>
-        ensures { MatchOption result (IsUnread key.now self.now)
+        ensures first { option_copied result ≡ first_read key.now self.now }
+        ensures found { MatchOption result (IsUnread key.now self.now)
             (λ r. (r.now.key ≡ key.now) × Contains self.now r.now) }
     {
         match self.places.get(key) {
@@ -65,24 +71,58 @@ impl Reads {
         }
     }
 
-    /// One more read.
+    /// One more read. The first of its key stays the one that is found.
     pub(crate) fn push(&mut self, alloc: Global, read: Read) -> Result<(), AllocError>
         ensures ok { OnOk result (self.new ≡ self.old ++ read ∷ []) }
         ensures err { OnErr result (self.new ≡ self.old) }
     {
-        push_read(alloc, &mut self.list, &mut self.places, read)
+        if self.places.contains_key(read.key()) {
+            push_again(&mut self.list, &self.places, read)
+        } else {
+            push_first(alloc, &mut self.list, &mut self.places, read)
+        }
+    }
+
+    /// One more read, of a key that has none.
+    pub(crate) fn push_unread(&mut self, alloc: Global, read: Read) -> Result<(), AllocError>
+        requires { IsUnread read.key self.old }
+        ensures ok { OnOk result (self.new ≡ self.old ++ read ∷ []) }
+        ensures err { OnErr result (self.new ≡ self.old) }
+    {
+        push_first(alloc, &mut self.list, &mut self.places, read)
     }
 }
 
-/// Adds a read to a list and its key to the places.
-fn push_read(
-    alloc: Global,
+/// Adds a read of a key that has a place.
+fn push_again(
     list: &mut Vec<Read>,
-    places: &mut BTreeMap<Key, usize>,
+    places: &IndexMap<Key, usize>,
     read: Read,
 ) -> Result<(), AllocError>
-    requires places { ArePlaces (λ t. t.key) list.old.items (get key_cmp places.old) }
-    ensures places { ArePlaces (λ t. t.key) list.new.items (get key_cmp places.new) }
+    requires places { (q : SpecKey)
+        → get (eq_by_cmp key_cmp) places.now q ≡ first_place list.old.items q }
+    requires placed { is_some (first_place list.old.items read.key) ≡ true }
+    ensures places { (q : SpecKey)
+        → get (eq_by_cmp key_cmp) places.now q ≡ first_place list.new.items q }
+    ensures ok { OnOk result (list.new.items ≡ list.old.items ++ read ∷ []) }
+    ensures err { OnErr result (list.new.items ≡ list.old.items) }
+{
+    list.push(read)?;
+    Ok(())
+}
+
+/// Adds the first read of a key, and its place.
+fn push_first(
+    alloc: Global,
+    list: &mut Vec<Read>,
+    places: &mut IndexMap<Key, usize>,
+    read: Read,
+) -> Result<(), AllocError>
+    requires places { (q : SpecKey)
+        → get (eq_by_cmp key_cmp) places.old q ≡ first_place list.old.items q }
+    requires unread { first_place list.old.items read.key ≡ None }
+    ensures places { (q : SpecKey)
+        → get (eq_by_cmp key_cmp) places.new q ≡ first_place list.new.items q }
     ensures ok { OnOk result (list.new.items ≡ list.old.items ++ read ∷ []) }
     ensures err { OnErr result (list.new.items ≡ list.old.items) }
 {
@@ -95,17 +135,16 @@ fn push_read(
 /// Notes the place of a key that has none.
 fn note_place(
     alloc: Global,
-    places: &mut BTreeMap<Key, usize>,
+    places: &mut IndexMap<Key, usize>,
     key: &Key,
     at: usize,
 ) -> Result<(), AllocError>
-    ensures ok { OnOk result ((q : SpecKey) →
-        get key_cmp places.new q ≡ with_place (get key_cmp places.old) key.now at q) }
-    ensures err { OnErr result ((q : SpecKey) →
-        get key_cmp places.new q ≡ get key_cmp places.old q) }
+    requires { get (eq_by_cmp key_cmp) places.old key.now ≡ None }
+    ensures ok { OnOk result ((q : SpecKey) → get (eq_by_cmp key_cmp) places.new q
+        ≡ with_place (get (eq_by_cmp key_cmp) places.old) key.now at q) }
+    ensures err { OnErr result ((q : SpecKey) → get (eq_by_cmp key_cmp) places.new q
+        ≡ get (eq_by_cmp key_cmp) places.old q) }
 {
-    if !places.contains_key(key) {
-        places.insert(key.copy(alloc)?, at)?;
-    }
+    places.insert(key.copy(alloc)?, at)?;
     Ok(())
 }

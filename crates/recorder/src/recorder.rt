@@ -177,8 +177,9 @@ fn kept_answer(read: &Read) -> Result<Arc<Sealed>, Refused>
     }
 }
 
-/// Keeps one more read.
+/// Keeps one more read, of a key that has none.
 fn keep(alloc: Global, reads: &mut Reads, key: &Key, answer: &Arc<Sealed>) -> Result<(), AllocError>
+    requires { IsUnread key.now reads.old }
     ensures ok { OnOk result
         (reads.new ≡ reads.old ++ record { key = key.now; value = arc_value answer.now } ∷ []) }
     ensures err { OnErr result (reads.new ≡ reads.old) }
@@ -186,7 +187,7 @@ fn keep(alloc: Global, reads: &mut Reads, key: &Key, answer: &Arc<Sealed>) -> Re
 {
     is_told(key, answer);
     let read = Read::new(key.copy(alloc)?, Arc::try_clone(answer)?);
-    reads.push(alloc, read)
+    reads.push_unread(alloc, read)
 }
 
 /// The reader's answer to a key that wasn't read.

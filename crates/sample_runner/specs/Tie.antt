@@ -186,12 +186,8 @@ no_reads p _ e = absurd (omega (arith, e))
 pub sample_tied : Tied prog_of sample_mean sample_reads
 unfolding sample_mean
 sample_tied = record {
-  files = λ p i. refl;
-  source = λ p f i. refl;
-  no_reads = λ p q i e. no_reads p q e;
-  means = λ p q i a. means p q a;
-  asked = λ p q i a. refl;
-  fits = fits;
+  inputs = λ p i. record { files = refl; source = λ f. refl; no_reads = no_reads p };
+  each = λ q a. record { means = λ p i. means p q a; asked = λ p i. refl; fits = fits q a };
 }
 
 pub sample_laws : RunnerLaws sample_mean sample_reads

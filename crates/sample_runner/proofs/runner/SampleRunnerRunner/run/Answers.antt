@@ -6,4 +6,12 @@ use Rattle.sample_runner.specs.Tie.{sample_tied}
 use Rattle.sample_runner.proofs.runner.SampleRunnerRunner.run.Goals as goal
 
 pub returns-clause-run : goal.returns-clause-run
-returns-clause-run g c = run_performed prog_of sample_mean sample_reads sample_tied c.args.key.now c.requires.no_input c.args.recorder.now c.run_kind.new.recorder c.run_kind.result c.requires.unread c.requires.unrefused (steps_of c.args.key.now) refl c.run_kind.ensures.ok c.run_kind.ensures.err
+returns-clause-run g c =
+    run_performed sample_mean sample_reads c.args.key.now (prog_of c.args.key.now) (sample_tied.each c.args.key.now c.requires.no_input) c.args.recorder.now c.run_kind.new.recorder c.run_kind.result (record {
+      unread = c.requires.unread;
+      unrefused = c.requires.unrefused;
+      step = steps_of c.args.key.now;
+      whole = refl;
+      ok = c.run_kind.ensures.ok;
+      err = c.run_kind.ensures.err;
+    })
