@@ -1,0 +1,9 @@
+pub mod Ones
+pub mod Found
+pub mod Declared
+pub mod Classes
+pub mod Bodies
+pub mod Faults
+pub mod Meanings
+pub mod Demands
+pub mod Firsts
