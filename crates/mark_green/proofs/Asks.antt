@@ -1,21 +1,27 @@
 -- What the answers to the reads of a run come to.
 use Rattle.std.proofs.Common.{◌≡◌, ℕ, ◌<◌, refl, sym, subst, Option, inl, inr, ◌⊎◌}
-use Rattle.std.specs.Prelude.{Ok, Err}
+use Rattle.std.specs.Prelude.{Result, Ok, Err, IfErr}
 use Rattle.std.specs.declared.alloc.Global.{Global}
 use Rattle.std.specs.declared.sync.Arc.{Arc}
 use Rattle.std.specs.Arc.{arc_value}
 use Rattle.item_ids.specs.declared.key.Key.{Key}
 use Rattle.result_bytes.specs.declared.value.Value.{Value}
-use Rattle.recorder.specs.Backed.{rank}
-use Rattle.job_table.specs.Tables.{TableValue}
+use Rattle.recorder.specs.Projects.{Project}
+use Rattle.recorder.specs.Backed.{Meaning, ReadLists, rank}
+use Rattle.graph_rules.specs.Pasts.{Past}
+use Rattle.graph_rules.specs.Steps.{State, Unknown, Legal}
+use Rattle.graph_rules.specs.Sound.{AreBacked, IsSound, IsSoundAt}
+use Rattle.graph_rules.proofs.Keeping.{sound_history}
+use Rattle.job_table.specs.Tables.{TableValue, past_of, state_of}
 use Rattle.job_table.specs.Calls.{AskGives}
+use Rattle.job_table.specs.declared.fault.Asked.{Asked}
 use Rattle.job_table.specs.declared.fault.Asked.TheVariants as asked
 use Rattle.job_table.specs.declared.fault.TableFault.{TableFault}
 use Rattle.mark_green.specs.declared.asking.Stop.{Stop}
 use Rattle.mark_green.specs.declared.asking.Stop.TheVariants as stop
-use Rattle.mark_green.specs.Leaves.{Knows, Tells, GoesOn}
+use Rattle.mark_green.specs.Leaves.{Knows, Tells, GoesOn, ClaimsNoInput}
 use Rattle.mark_green.specs.Moves.{IsDoneIn, StopGives, Halts}
-use Rattle.mark_green.proofs.GoingOn.{on_none, tells_map, tells_here}
+use Rattle.mark_green.proofs.GoingOn.{on_none, stays_same, tells_map, tells_here}
 use Rattle.mark_green.proofs.Running.{same_tables, done_tables, reads_lacks, reads_lost, reads_other, reads_busy, reads_stopped, reads_refused}
 
 module _ (w : ℕ) (q : Key) (a b : Option TableValue) where
@@ -28,9 +34,13 @@ module _ (w : ℕ) (q : Key) (a b : Option TableValue) where
   pub asked_other : (r : ℕ) (v : Arc Value Global) (x : Stop) → x ≡ stop.OutOfMemory → Tells (λ t u. AskGives t w q (Ok (asked.Done v)) u) a b → Halts w r x a b
   asked_other r v x e h = subst (λ (y : Stop). Halts w r y a b) (sym e) (tt, tells_map _ _ (reads_other w r q v) a b h)
 
-  pub asked_yours : (r : ℕ) → rank q < r → (x : Stop) → (x ≡ stop.Lacks q) ⊎ (x ≡ stop.OutOfMemory) → Tells (λ t u. AskGives t w q (Ok asked.Yours) u) a b → Halts w r x a b
-  asked_yours r lt x (inl e) h = subst (λ (y : Stop). Halts w r y a b) (sym e) (lt, tells_map _ _ (reads_lacks w r q) a b h)
-  asked_yours r lt x (inr e) h = subst (λ (y : Stop). Halts w r y a b) (sym e) (tt, tells_map _ _ (reads_lost w r q) a b h)
+  pub asked_kept : (v : Arc Value Global) (o : Result (Arc Value Global) Stop) → IfErr o (λ x. x ≡ stop.OutOfMemory) → Tells (λ t u. AskGives t w q (Ok (asked.Done v)) u) a b → (r : ℕ) → IfErr o (λ x. Halts w r x a b)
+  asked_kept v (Ok s) e h r = tt
+  asked_kept v (Err x) e h r = asked_other r v x e h
+
+  pub asked_yours : (r : ℕ) → rank q < r → 0 < rank q → (x : Stop) → (x ≡ stop.Lacks q) ⊎ (x ≡ stop.OutOfMemory) → Tells (λ t u. AskGives t w q (Ok asked.Yours) u) a b → Halts w r x a b
+  asked_yours r lt pos x (inl e) h = subst (λ (y : Stop). Halts w r y a b) (sym e) ((lt, pos), tells_map _ _ (reads_lacks w r q) a b h)
+  asked_yours r lt pos x (inr e) h = subst (λ (y : Stop). Halts w r y a b) (sym e) (tt, tells_map _ _ (reads_lost w r q) a b h)
 
   pub asked_busy : (r : ℕ) → Tells (λ t u. AskGives t w q (Ok asked.Busy) u) a b → Halts w r stop.Busy a b
   asked_busy r h = (tt, tells_map _ _ (reads_busy w r q) a b h)
@@ -41,5 +51,14 @@ module _ (w : ℕ) (q : Key) (a b : Option TableValue) where
   pub asked_refused : (r : ℕ) → rank q < r → (f : TableFault) → Tells (λ t u. AskGives t w q (Err f) u) a b → Halts w r (stop.Refused f) a b
   asked_refused r lt f h = (tt, tells_map _ _ (reads_refused w r q f lt) a b h)
 
+-- a key that nobody has is no input
+unknown_rank : (mean : Meaning) (reads : ReadLists) (past : Past) (p : Project) (s : State) (q : Key) → IsSound mean reads past p s → s.at q ≡ Unknown → 0 < rank q
+unknown_rank mean reads past p s q sound is = (let h : IsSoundAt mean reads past p s q Unknown = subst (IsSoundAt mean reads past p s q) is (sound q) in h)
+
+pub claims_no_input : (mean : Meaning) (reads : ReadLists) (w : ℕ) (q : Key) (t u : TableValue) (r : Result Asked TableFault) → Legal (past_of t) t.project t.history → AreBacked mean reads t.history → AskGives t w q r u → ClaimsNoInput q r
+claims_no_input mean reads w q t u r legal backed a is =
+    let yours : AskGives t w q (Ok asked.Yours) u = subst (λ (x : Result Asked TableFault). AskGives t w q x u) is a in
+    unknown_rank mean reads (past_of t) t.project (state_of t) q (sound_history mean reads (past_of t) t.project t.history legal backed) yours.0.1
+
 pub not_asked : (w r : ℕ) (a : Option TableValue) → Halts w r stop.OutOfMemory a a
-not_asked w r a = (tt, tells_here (λ t u. GoesOn t u × StopGives t w r stop.OutOfMemory u) (λ t. (on_none t, refl)) a)
+not_asked w r a = (tt, tells_here (λ t u. GoesOn t u × StopGives t w r stop.OutOfMemory u) (λ t. (on_none t, (refl, stays_same t t refl))) a)

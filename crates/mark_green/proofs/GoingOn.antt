@@ -18,7 +18,7 @@ use Rattle.graph_rules.proofs.Keeping.{held_keeps}
 use Rattle.job_table.specs.Tables.{TableValue, past_of, state_of, IsStep, adds}
 use Rattle.mark_green.specs.declared.fault.Fault.{Fault}
 use Rattle.mark_green.specs.declared.fault.Fault.TheVariants as fault
-use Rattle.mark_green.specs.Leaves.{Knows, Tells, GoesOn, Stops, Leaves, LeavesBut, IsOthers, HasStatus}
+use Rattle.mark_green.specs.Leaves.{Knows, Tells, GoesOn, Stops, Stays, StaysBut, GivesUp, Leaves, LeavesBut, IsOthers, HasStatus}
 use Rattle.mark_green.specs.Ensures.{IsGivenUp, WorkGives}
 use Rattle.mark_green.specs.Moves.{state_on, keeps_on}
 
@@ -169,8 +169,24 @@ gives_up_on t u v w fault.Stopped g o h = h
 gives_up_on t u v w fault.OutOfMemory g o h = stops_then t u v g h
 gives_up_on t u v w fault.Busy g o h = (on_then t u v g h.0, h.1, o h.2)
 
-pub leaves_gives_up : (t u v : TableValue) (w : ℕ) (f : Fault) → Leaves t u → IsGivenUp u w f v → IsGivenUp t w f v
-leaves_gives_up t u v w f l h = gives_up_on t u v w f l.goes_on (others_back t u w (λ k a is n. l.held k a is)) h
+pub stays_then : (t u v : TableValue) → Stays t u → Stays u v → Stays t v
+stays_then t u v s m = λ k w h. let e = s k w h in m k w (subst (λ (y : Status). IsHeldBy w y) (sym e) h) ∙ e
+
+pub stays_but_then : (q : Key) (t u v : TableValue) → Stays t u → StaysBut q u v → StaysBut q t v
+stays_but_then q t u v s m = λ k w n h. let e = s k w h in m k w n (subst (λ (y : Status). IsHeldBy w y) (sym e) h) ∙ e
+
+-- what a worker had it has after it gave up, too
+pub stays_up : (t u v : TableValue) → Stays t u → GivesUp u v → Stays t v
+stays_up t u v s g = λ k w h. g.same k ∙ s k w h
+
+pub stays_same : (t u : TableValue) → u ≡ t → Stays t u
+stays_same t u e = λ k w h. ap (λ (x : TableValue). (state_of x).at k) e
+
+leaves_given_up : (t u v : TableValue) (w : ℕ) (f : Fault) → Leaves t u → IsGivenUp u w f v → IsGivenUp t w f v
+leaves_given_up t u v w f l h = gives_up_on t u v w f l.goes_on (others_back t u w (λ k a is n. l.held k a is)) h
+
+pub leaves_gives_up : (t u v : TableValue) (w : ℕ) (f : Fault) → Leaves t u → IsGivenUp u w f v × Stays u v → IsGivenUp t w f v × Stays t v
+leaves_gives_up t u v w f l h = (leaves_given_up t u v w f l h.0, stays_then t u v l.stays h.1)
 
 pub leaves_work : (t u v : TableValue) (w : ℕ) (q : Key) (r : Result (Arc Value Global) Fault) → Leaves t u → WorkGives u w q r v → WorkGives t w q r v
 leaves_work t u v w q (Ok a) l h = (
@@ -182,7 +198,7 @@ leaves_work t u v w q (Ok a) l h = (
   },
   h.1,
 )
-leaves_work t u v w q (Err f) l h = leaves_gives_up t u v w f l h
+leaves_work t u v w q (Err f) l h = (leaves_given_up t u v w f l h.0, stays_but_then q t u v l.stays h.1)
 
 -- a worker's key that stands otherwise, and is done in the end
 module _ (t u : TableValue) (w : ℕ) (q : Key) (x : Status) (c : Changes q x t u) where
@@ -200,7 +216,16 @@ module _ (t u : TableValue) (w : ℕ) (q : Key) (x : Status) (c : Changes q x t 
         },
         h.1,
       )
-  changed_work v (Err f) mine h = gives_up_on t u v w f c.goes_on (changed_others mine) h
+  changed_work v (Err f) mine h = (
+    gives_up_on t u v w f c.goes_on (changed_others mine) h.0,
+    λ k b n is. let e = c.other k n in h.1 k b n (subst (λ (y : Status). IsHeldBy b y) (sym e) is) ∙ e,
+  )
+
+  -- a key that nobody had, while all others stay
+  pub changed_stays : (v : TableValue) → (state_of t).at q ≡ Unknown → StaysBut q u v → Stays t v
+  changed_stays v was m =
+      let was_q : (k : Key) (b : ℕ) → IsHeldBy b ((state_of t).at k) → k ≡ q → ⊥ = λ k b is e. (let f : IsHeldBy b Unknown = subst (λ (y : Status). IsHeldBy b y) (ap (state_of t).at e ∙ was) is in f) in
+      λ k b is. let n = was_q k b is in let e = c.other k n in m k b n (subst (λ (y : Status). IsHeldBy b y) (sym e) is) ∙ e
 
   -- a key that nobody had
   pub changed_leaves : (v : TableValue) (a : Value) → (state_of t).at q ≡ Unknown → LeavesBut q u v → IsDoneWith a ((state_of v).at q) → Leaves t v

@@ -1,17 +1,23 @@
 -- What one run comes to.
-use Rattle.std.proofs.Common.{◌≡◌, ℕ, List, sym, subst, Option, Some, None, inl, inr, ◌⊎◌, Contains}
-use Rattle.std.specs.Prelude.{Result, Ok, Err, IfOk, IfErr}
+use Rattle.std.proofs.Common.{◌≡◌, ℕ, ◌<◌, List, refl, ◌∙◌, sym, subst, Option, Some, None, inl, inr, ◌⊎◌, Contains}
+use Rattle.std.specs.Prelude.{Result, Ok, Err, IfOk, IfErr, IfSome, option_map, option_and_then}
 use Rattle.std.specs.List.{AllByRecursion}
 use Rattle.item_ids.specs.declared.key.Key.{Key}
-use Rattle.recorder.specs.Backed.{ReadValue}
-use Rattle.recorder.specs.Runs.{OutcomeValue}
+use Rattle.result_bytes.specs.declared.value.Value.{Value}
+use Rattle.recorder.specs.Backed.{Meaning, ReadLists, ReadValue, rank, IsNext}
+use Rattle.recorder.specs.Recording.{Recording, Keeps, IsForMemory, IsByReader}
+use Rattle.recorder.specs.declared.refused.Refused.{Refused}
+use Rattle.recorder.specs.declared.reader.ReadFault.{ReadFault}
+use Rattle.recorder.specs.declared.reader.ReadFault.TheVariants as read
+use Rattle.recorder.specs.Runs.{OutcomeValue, TellsFault, IsNextRefused}
 use Rattle.recorder.specs.declared.runner.RunFault.{RunFault}
+use Rattle.recorder.specs.declared.runner.RunFault.TheVariants as run
 use Rattle.graph_rules.specs.Steps.{AreHeld}
 use Rattle.job_table.specs.Tables.{TableValue, state_of}
 use Rattle.mark_green.specs.declared.asking.Stop.{Stop}
 use Rattle.mark_green.specs.declared.asking.Stop.TheVariants as stop
 use Rattle.mark_green.specs.Leaves.{Knows}
-use Rattle.mark_green.specs.Moves.{IsDoneIn, Halts, Moves}
+use Rattle.mark_green.specs.Moves.{IsDoneIn, Halts, Moves, IsUnanswered, IsWantOfMemory}
 use Rattle.mark_green.proofs.Running.{run_same, run_halts, run_memory, told_knows}
 
 -- each read is done in the table, or held
@@ -40,3 +46,32 @@ pub halts_of_run : (given : Result OutcomeValue Stop) (w r : ℕ) (last : Option
     → IfErr given (λ x. (last ≡ Some x) ⊎ ((last ≡ None) × (x ≡ stop.OutOfMemory))) → Moves w r None last a b → IfErr given (λ x. Halts w r x a b)
 halts_of_run (Ok o) w r last a b err m = tt
 halts_of_run (Err x) w r last a b err m = halts_where w r x last a b err m
+
+-- ---- a run that nothing stopped
+
+same_fault : (a b : ReadFault) → Some a ≡ Some b → a ≡ b
+same_fault a b e = cc
+
+no_fault : (f : ReadFault) → None ≡ Some f → ⊥
+no_fault f e = cc
+
+-- A read that is refused though nothing stopped the run is refused for want of memory, since keys of
+-- lower rank alone are asked.
+memory_alone : (q : Key) (N : Key → Type 0) (below : (k : Key) → N k → rank k < rank q) (o : Option Refused) (f : ReadFault)
+    → option_map (λ x. x.fault) o ≡ Some f → IfSome o (λ x. IsForMemory x ⊎ ((k : Key) × IsByReader (IsUnanswered (rank q) None) k x))
+    → IfSome (option_and_then (λ x. x.key) o) N → f ≡ read.OutOfMemory
+memory_alone q N below None f is kept next = absurd (no_fault f is)
+memory_alone q N below (Some x) f is (inl m) next = sym (same_fault x.fault f is) ∙ m.0
+memory_alone q N below (Some x) f is (inr h) next = elim h.1.2 [
+  | inl e ↦ absurd (h.1.1 e)
+  | inr p ↦ absurd (p.1 (below h.0 (subst (λ (y : Option Key). IfSome y N) h.1.0 next)))
+]
+
+pub wants_memory : {D : Type 0} (mean : Meaning) (reads : ReadLists) (q : Key) (x : Recording D) (last : Option Stop) (r : ℕ) (made : Result OutcomeValue RunFault) (A : Key → Value → Type 0)
+    → r ≡ rank q → last ≡ None → IfErr made (λ e. TellsFault x e) → Keeps A (IsUnanswered r last) x.told x.refused → IsNextRefused mean reads q x → IfErr made IsWantOfMemory
+wants_memory mean reads q x last r (Ok o) A r_is none kept keeps next = tt
+wants_memory mean reads q x last r (Err run.OutOfMemory) A r_is none kept keeps next = tt
+wants_memory mean reads q x last r (Err (run.Read f)) A r_is none kept keeps next =
+    memory_alone q (λ k. (rank k < rank q) × IsNext mean reads q x.told k) (λ k n. n.0) x.refused f (sym kept)
+    (subst (λ (o : Option Stop). IfSome x.refused (λ y. IsForMemory y ⊎ ((k : Key) × IsByReader (IsUnanswered (rank q) o) k y))) none
+    (subst (λ (n : ℕ). IfSome x.refused (λ y. IsForMemory y ⊎ ((k : Key) × IsByReader (IsUnanswered n last) k y))) r_is keeps.refusal)) next

@@ -22,10 +22,10 @@ use Rattle.mark_green.specs.declared.fault.Fault.{Fault}
 use Rattle.mark_green.specs.declared.fault.Fault.TheVariants as fault
 use Rattle.mark_green.specs.declared.asking.Stop.{Stop}
 use Rattle.mark_green.specs.declared.asking.Stop.TheVariants as stop
-use Rattle.mark_green.specs.Leaves.{Knows, Tells, GoesOn, Stops, Leaves, HasStatus}
-use Rattle.mark_green.specs.Ensures.{IsGivenUp, WorkGives, FetchGives, TurnGives, IsFaultOf, IsFaultOfStop, StopsFor}
+use Rattle.mark_green.specs.Leaves.{Knows, Tells, GoesOn, Stays, GivesUp, Leaves, HasStatus}
+use Rattle.mark_green.specs.Ensures.{IsGivenUp, WorkGives, FetchGives, TurnGives, RunGives, IsFaultOf, IsFaultOfStop, StopsFor}
 use Rattle.mark_green.specs.Moves.{IsDoneIn, StopGives, Halts, Moves}
-use Rattle.mark_green.proofs.GoingOn.{on_none, on_one, stops_then, changed_others, changed_leaves, changed_stands, leaves_none, leaves_then, leaves_gives_up, leaves_work, stands_on, gives_up_on, held_on, tells_here}
+use Rattle.mark_green.proofs.GoingOn.{on_none, on_one, stops_then, stays_up, stays_same, changed_others, changed_leaves, changed_stays, changed_stands, leaves_none, leaves_then, leaves_gives_up, leaves_work, stands_on, gives_up_on, held_on, tells_here}
 use Rattle.mark_green.proofs.Calling.{claim_changes, ask_others}
 
 -- ---- one read
@@ -65,11 +65,17 @@ claim_failed w q t u a = failed_same (adds t (Claim w q)) u a.1 ∙ (claim_chang
 pub reads_lacks : (w r : ℕ) (q : Key) (t u : TableValue) → AskGives t w q (Ok asked.Yours) u → GoesOn t u × StopGives t w r (stop.Lacks q) u
 reads_lacks w r q t u a = (claim_on w q t u a, a)
 
+-- a claim takes nothing from anybody
+claim_stays : (w : ℕ) (q : Key) (t u : TableValue) → AskGives t w q (Ok asked.Yours) u → Stays t u
+claim_stays w q t u a =
+    let c = claim_changes t w q a.0 in
+    subst (λ (x : TableValue). Stays t x) (sym a.1) (changed_stays t (adds t (Claim w q)) w q (Claimed w) c (adds t (Claim w q)) a.0.1 (λ k v n h. refl))
+
 pub reads_lost : (w r : ℕ) (q : Key) (t u : TableValue) → AskGives t w q (Ok asked.Yours) u → GoesOn t u × StopGives t w r stop.OutOfMemory u
-reads_lost w r q t u a = (claim_on w q t u a, claim_failed w q t u a)
+reads_lost w r q t u a = (claim_on w q t u a, (claim_failed w q t u a, claim_stays w q t u a))
 
 pub reads_other : (w r : ℕ) (q : Key) (v : Arc Value Global) (t u : TableValue) → AskGives t w q (Ok (asked.Done v)) u → GoesOn t u × StopGives t w r stop.OutOfMemory u
-reads_other w r q v t u a = (quiet_on t u a.2, failed_same t u a.2)
+reads_other w r q v t u a = (quiet_on t u a.2, (failed_same t u a.2, stays_same t u a.2))
 
 pub reads_busy : (w r : ℕ) (q : Key) (t u : TableValue) → AskGives t w q (Ok asked.Busy) u → GoesOn t u × StopGives t w r stop.Busy u
 reads_busy w r q t u a = (quiet_on t u a.3, (q, a))
@@ -78,7 +84,7 @@ pub reads_stopped : (w r : ℕ) (q : Key) (t u : TableValue) → AskGives t w q 
 reads_stopped w r q t u a = (quiet_on t u a.1, (q, a))
 
 pub reads_memory : (w r : ℕ) (q : Key) (t u : TableValue) → AskGives t w q (Err table.OutOfMemory) u → GoesOn t u × StopGives t w r stop.OutOfMemory u
-reads_memory w r q t u a = (quiet_on t u a.2, failed_same t u a.2)
+reads_memory w r q t u a = (quiet_on t u a.2, (failed_same t u a.2, stays_same t u a.2))
 
 refused_same : (w : ℕ) (q : Key) (f : TableFault) (t u : TableValue) → AskGives t w q (Err f) u → u ≡ t
 refused_same w q table.OutOfMemory t u a = a.2
@@ -110,7 +116,7 @@ run_halts w r x a b (inr h) = h.1
 pub run_memory : (w r : ℕ) (a b : Option TableValue) → Moves w r None None a b → Halts w r stop.OutOfMemory a b
 run_memory w r a b m =
     subst (λ (o : Option TableValue). Halts w r stop.OutOfMemory a o) (sym (run_same w r a b m))
-    (tt, tells_here (λ t u. GoesOn t u × StopGives t w r stop.OutOfMemory u) (λ t. (on_none t, refl)) a)
+    (tt, tells_here (λ t u. GoesOn t u × StopGives t w r stop.OutOfMemory u) (λ t. (on_none t, (refl, stays_same t t refl))) a)
 
 pub told_in : (s : State) (held : List ReadValue) (q : Key) (v : Value) → AreHeld s held → Contains held (record { key = q; value = v }) → IsDoneWith v (s.at q)
 told_in s held q v all c = All-contains (λ (r : ReadValue). IsDoneWith r.value (s.at r.key)) held (record { key = q; value = v }) (All-from_recursion (λ (r : ReadValue). IsDoneWith r.value (s.at r.key)) held all) c
@@ -150,8 +156,8 @@ below_run w q k t st lt = λ j h. elim (st.above j h) [
   | inr more ↦ (let below : rank k < rank j = omega (arith, lt, more) in below)
 ]
 
-refused_gives_up : (w : ℕ) (q k : Key) (f : TableFault) (g : Fault) → IsFaultOf f g → (t u v : TableValue) → HasStatus (Running w) w q t → rank k < rank q → AskGives t w k (Err f) u → GoesOn t u → Stops u v → IsGivenUp t w g v
-refused_gives_up w q k table.OutOfMemory g is t u v st lt a on s = subst (λ (x : Fault). IsGivenUp t w x v) (sym is) (stops_then t u v on s)
+refused_gives_up : (w : ℕ) (q k : Key) (f : TableFault) (g : Fault) → IsFaultOf f g → (t u v : TableValue) → HasStatus (Running w) w q t → rank k < rank q → AskGives t w k (Err f) u → GoesOn t u → GivesUp u v → IsGivenUp t w g v × Stays t v
+refused_gives_up w q k table.OutOfMemory g is t u v st lt a on s = (subst (λ (x : Fault). IsGivenUp t w x v) (sym is) (stops_then t u v on s.stops), stays_up t u v (stays_same t u a.2) s)
 refused_gives_up w q k table.OutOfRank g is t u v st lt a on s = absurd (a.1 (below_run w q k t st lt))
 refused_gives_up w q k table.NotYours g is t u v st lt a on s = absurd a
 refused_gives_up w q k (table.EdgeOpen i) g is t u v st lt a on s = absurd a
@@ -161,16 +167,18 @@ refused_gives_up w q k table.NothingChanged g is t u v st lt a on s = absurd a
 refused_gives_up w q k (table.StaleRead i) g is t u v st lt a on s = absurd a
 refused_gives_up w q k table.Failed g is t u v st lt a on s = absurd a
 
-busy_gives_up : (w : ℕ) (k : Key) (g : Fault) → g ≡ fault.Busy → (t u v : TableValue) → AskGives t w k (Ok asked.Busy) u → v ≡ u → IsGivenUp t w g v
-busy_gives_up w k g is t u v a e =
-    subst (λ (x : Fault). IsGivenUp t w x v) (sym is) (subst (λ (x : TableValue). IsGivenUp t w fault.Busy x) (sym (e ∙ a.3)) (on_none t, a.0.0, ask_others w k t u a))
+busy_gives_up : (w : ℕ) (k : Key) (g : Fault) → g ≡ fault.Busy → (t u v : TableValue) → AskGives t w k (Ok asked.Busy) u → v ≡ u → IsGivenUp t w g v × Stays t v
+busy_gives_up w k g is t u v a e = (
+  subst (λ (x : Fault). IsGivenUp t w x v) (sym is) (subst (λ (x : TableValue). IsGivenUp t w fault.Busy x) (sym (e ∙ a.3)) (on_none t, a.0.0, ask_others w k t u a)),
+  stays_same t v (e ∙ a.3),
+)
 
-pub stop_gives_up : (w : ℕ) (q : Key) (x : Stop) (g : Fault) → IsFaultOfStop x g → (t u v : TableValue) → GoesOn t u × StopGives t w (rank q) x u → StopsFor x u v → HasStatus (Running w) w q t → IsGivenUp t w g v
-stop_gives_up w q (stop.Lacks k) g is t u v h s st = subst (λ (y : Fault). IsGivenUp t w y v) (sym is) (stops_then t u v h.0 s)
+pub stop_gives_up : (w : ℕ) (q : Key) (x : Stop) (g : Fault) → IsFaultOfStop x g → (t u v : TableValue) → GoesOn t u × StopGives t w (rank q) x u → StopsFor x u v → HasStatus (Running w) w q t → IsGivenUp t w g v × Stays t v
+stop_gives_up w q (stop.Lacks k) g is t u v h s st = (subst (λ (y : Fault). IsGivenUp t w y v) (sym is) (stops_then t u v h.0 s.stops), stays_up t u v (claim_stays w k t u h.1) s)
 stop_gives_up w q stop.Busy g is t u v h s st = busy_gives_up w h.1.0 g is t u v h.1.1 s
 stop_gives_up w q stop.Stopped g is t u v h s st = absurd (not_both (state_of t).failed h.1.1.0 st.failed)
 stop_gives_up w q (stop.Refused f) g is t u v h s st = refused_gives_up w q h.1.0 f g is t u v st h.1.1 h.1.2 h.0 s
-stop_gives_up w q stop.OutOfMemory g is t u v h s st = subst (λ (y : Fault). IsGivenUp t w y v) (sym is) (stops_then t u v h.0 s)
+stop_gives_up w q stop.OutOfMemory g is t u v h s st = (subst (λ (y : Fault). IsGivenUp t w y v) (sym is) (stops_then t u v h.0 s.stops), stays_up t u v h.1.1 s)
 
 -- ---- a key that a run lacked
 
@@ -183,8 +191,9 @@ fetched_at w q k (Ok x) held t v st may h o ok err =
     subst (λ (y : Result (Option OutcomeValue) Fault). TurnGives t w q y held v) (sym (ok x refl)) (l, h.2)
 fetched_at w q k (Err f) held t v st may h o ok err =
     let c = claim_changes t w k may in
-    let g : IsGivenUp t w f v = gives_up_on t (adds t (Claim w k)) v w f c.goes_on (changed_others t (adds t (Claim w k)) w k (Claimed w) c refl) h in
-    subst (λ (y : Result (Option OutcomeValue) Fault). TurnGives t w q y held v) (sym (err f refl)) g
+    let g : IsGivenUp t w f v = gives_up_on t (adds t (Claim w k)) v w f c.goes_on (changed_others t (adds t (Claim w k)) w k (Claimed w) c refl) h.0 in
+    let s : Stays t v = changed_stays t (adds t (Claim w k)) w k (Claimed w) c v may.1 h.1 in
+    subst (λ (y : Result (Option OutcomeValue) Fault). TurnGives t w q y held v) (sym (err f refl)) (g, s)
 
 pub claimed_stands : (w : ℕ) (q k : Key) (t : TableValue) → (state_of t).failed ≡ false → IsStep t (Claim w k) → HasStatus (Claimed w) w k (adds t (Claim w k))
 claimed_stands w q k t nf may = changed_stands t (adds t (Claim w k)) w k (Claimed w) (claim_changes t w k may) nf refl (λ j n h. may.2 j h)
@@ -214,8 +223,10 @@ work_held w k v old new is x t u work st all =
       subst (λ (l : List ReadValue). AreHeld (state_of u) l) (sym is) (one_more (state_of u) old k (arc_value v) (held_on t u h.0.goes_on old all) h.1),
     )
 
-pub work_lost : (w : ℕ) (k : Key) (v : Arc Value Global) (g : Fault) → g ≡ fault.OutOfMemory → (old held : List ReadValue) → (t u z : TableValue) → (HasStatus (Claimed w) w k t → WorkGives t w k (Ok v) u) → Stops u z → HasStatus (Claimed w) w k t → AreHeld (state_of t) old → FetchGives t w k (Err g) held z
-work_lost w k v g is old held t u z work s st all = subst (λ (x : Fault). IsGivenUp t w x z) (sym is) (stops_then t u z (work st).0.goes_on s)
+pub work_lost : (w : ℕ) (k : Key) (v : Arc Value Global) (g : Fault) → g ≡ fault.OutOfMemory → (old held : List ReadValue) → (t u z : TableValue) → (HasStatus (Claimed w) w k t → WorkGives t w k (Ok v) u) → GivesUp u z → HasStatus (Claimed w) w k t → AreHeld (state_of t) old → FetchGives t w k (Err g) held z
+work_lost w k v g is old held t u z work s st all =
+    let l = (work st).0 in
+    (subst (λ (x : Fault). IsGivenUp t w x z) (sym is) (stops_then t u z l.goes_on s.stops), λ j a n h. s.same j ∙ l.stays j a n h)
 
 -- ---- runs, one after the other
 
@@ -228,7 +239,7 @@ turns_more w q old new t u v so h st =
     let m = h (stands_on (Running w) w q t u l.0 st) l.1 in
     (leaves_then t u v l.0 m.0, m.1)
 
-pub turns_up : (w : ℕ) (q : Key) (f : Fault) (old new : List ReadValue) (t u v : TableValue) → (HasStatus (Running w) w q t → Leaves t u × AreHeld (state_of u) old) → (HasStatus (Running w) w q u → AreHeld (state_of u) old → TurnGives u w q (Err f) new v) → HasStatus (Running w) w q t → WorkGives t w q (Err f) v
+pub turns_up : (w : ℕ) (q : Key) (f : Fault) (old new : List ReadValue) (t u v : TableValue) → (HasStatus (Running w) w q t → Leaves t u × AreHeld (state_of u) old) → (HasStatus (Running w) w q u → AreHeld (state_of u) old → TurnGives u w q (Err f) new v) → HasStatus (Running w) w q t → RunGives t w (Err f) v
 turns_up w q f old new t u v so h st =
     let l = so st in leaves_gives_up t u v w f l.0 (h (stands_on (Running w) w q t u l.0 st) l.1)
 
@@ -242,5 +253,7 @@ pub turns_ended : (w : ℕ) (q : Key) (told : List ReadValue) (r : Result (Arc V
 turns_ended w q told r t v z so e st =
     let l = so st in leaves_work t v z w q r l.0 (e (stands_on (Running w) w q t v l.0 st) l.1)
 
-pub turns_memory : (w : ℕ) (q : Key) (g : Fault) → g ≡ fault.OutOfMemory → (held : List ReadValue) → (t u v : TableValue) → (HasStatus (Running w) w q t → Leaves t u × AreHeld (state_of u) held) → Stops u v → HasStatus (Running w) w q t → WorkGives t w q (Err g) v
-turns_memory w q g is held t u v so s st = subst (λ (x : Fault). IsGivenUp t w x v) (sym is) (stops_then t u v (so st).0.goes_on s)
+pub turns_memory : (w : ℕ) (q : Key) (g : Fault) → g ≡ fault.OutOfMemory → (held : List ReadValue) → (t u v : TableValue) → (HasStatus (Running w) w q t → Leaves t u × AreHeld (state_of u) held) → GivesUp u v → HasStatus (Running w) w q t → RunGives t w (Err g) v
+turns_memory w q g is held t u v so s st =
+    let l = (so st).0 in
+    (subst (λ (x : Fault). IsGivenUp t w x v) (sym is) (stops_then t u v l.goes_on s.stops), stays_up t u v l.stays s)

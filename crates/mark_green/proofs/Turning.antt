@@ -16,7 +16,7 @@ use Rattle.mark_green.specs.declared.fault.Fault.{Fault}
 use Rattle.mark_green.specs.declared.fault.Fault.TheVariants as fault
 use Rattle.mark_green.specs.declared.asking.Stop.{Stop}
 use Rattle.mark_green.specs.declared.asking.Stop.TheVariants as stop
-use Rattle.mark_green.specs.Leaves.{Knows, Tells, Stops, Leaves, HasStatus}
+use Rattle.mark_green.specs.Leaves.{Knows, Tells, GivesUp, Leaves, HasStatus}
 use Rattle.mark_green.specs.Ensures.{WorkGives, FetchGives, TurnGives, RunGives, IsFaultOf, IsFaultOfStop, StopsFor}
 use Rattle.mark_green.specs.Moves.{Halts}
 use Rattle.mark_green.proofs.GoingOn.{leaves_none, tells_map, tells_then, tells_here}
@@ -36,7 +36,7 @@ module _ (w : ℕ) (k : Key) (old new : List ReadValue) where
   pub fetch_ok : (v : Arc Value Global) → new ≡ old ++ record { key = k; value = arc_value v } ∷ [] → (x : Unit {0}) → (a b : Option TableValue) → Works w k (Ok v) a b → Fetches w k (Ok x) old new a b
   fetch_ok v is x a b h = tells_map _ _ (work_held w k v old new is x) a b h
 
-  pub fetch_lost : (v : Arc Value Global) (g : Fault) → g ≡ fault.OutOfMemory → (a b c : Option TableValue) → Works w k (Ok v) a b → Tells Stops b c → Fetches w k (Err g) old new a c
+  pub fetch_lost : (v : Arc Value Global) (g : Fault) → g ≡ fault.OutOfMemory → (a b c : Option TableValue) → Works w k (Ok v) a b → Tells GivesUp b c → Fetches w k (Err g) old new a c
   fetch_lost v g is a b c h s = tells_then _ _ _ (λ t u z. work_lost w k v g is old new t u z) a b c h s
 
   pub fetch_up : (f : Fault) (a b : Option TableValue) → Works w k (Err f) a b → Fetches w k (Err f) old new a b
@@ -102,7 +102,7 @@ module _ (w : ℕ) (q : Key) where
     pub ends_up : (f : Fault) → Turns w q (Err f) old new b c → Ends w q (Err f) a c
     ends_up f h = tells_then _ _ _ (turns_up w q f old new) a b c so h
 
-    pub ends_lost : (g : Fault) → g ≡ fault.OutOfMemory → Tells Stops b c → Ends w q (Err g) a c
+    pub ends_lost : (g : Fault) → g ≡ fault.OutOfMemory → Tells GivesUp b c → Ends w q (Err g) a c
     ends_lost g is h = tells_then _ _ _ (turns_memory w q g is old) a b c so h
 
 -- ---- a run and its beginning
@@ -126,10 +126,10 @@ module _ (w : ℕ) (q : Key) (r : Result (Arc Value Global) Fault) where
 
 module _ (w : ℕ) (q : Key) where
   pub run_up : (f : Fault) (a b : Option TableValue) → Ends w q (Err f) a b → Runs w q (Err f) a b
-  run_up f a b h = tells_map _ _ (λ t u so st. so st) a b h
+  run_up f a b h = tells_map _ _ (λ t u so st. (let e = so st in (e.0, λ k a n is. e.1 k a is))) a b h
 
-  pub start_refused : (f : TableFault) (g : Fault) → IsFaultOf f g → (a b c : Option TableValue) → Tells (λ t u. BeginGives t w q (Err f) u) a b → Tells Stops b c → Starts w q (Err g) a c
+  pub start_refused : (f : TableFault) (g : Fault) → IsFaultOf f g → (a b c : Option TableValue) → Tells (λ t u. BeginGives t w q (Err f) u) a b → Tells GivesUp b c → Starts w q (Err g) a c
   start_refused f g is a b c begun s = tells_then _ _ _ (start_ended w q f g is) a b c begun s
 
-  pub start_lost : (g : Fault) → g ≡ fault.OutOfMemory → (a b : Option TableValue) → Tells Stops a b → Starts w q (Err g) a b
+  pub start_lost : (g : Fault) → g ≡ fault.OutOfMemory → (a b : Option TableValue) → Tells GivesUp a b → Starts w q (Err g) a b
   start_lost g is a b s = tells_map _ _ (λ t u stops st may. work_memory w q g is t u stops st) a b s

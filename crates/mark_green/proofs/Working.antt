@@ -18,7 +18,7 @@ use Rattle.job_table.specs.declared.fault.Asked.TheVariants as asked
 use Rattle.job_table.specs.declared.fault.TableFault.{TableFault}
 use Rattle.mark_green.specs.declared.fault.Fault.{Fault}
 use Rattle.mark_green.specs.declared.fault.Fault.TheVariants as fault
-use Rattle.mark_green.specs.Leaves.{Knows, Tells, Stops, HasStatus}
+use Rattle.mark_green.specs.Leaves.{Knows, Tells, GivesUp, HasStatus}
 use Rattle.mark_green.specs.Ensures.{EnsureGives, WorkGives, EdgeGives, WalkGives, HasEdges, IsRecordUnder, IsFaultOf}
 use Rattle.mark_green.proofs.GoingOn.{leaves_work, stands_on, tells_map, tells_then, tells_here, tells_with}
 use Rattle.mark_green.proofs.Calling.{work_memory, ask_work, ask_done, ask_stopped, ask_busy, ask_refused}
@@ -123,14 +123,19 @@ module _ (w : ℕ) (q : Key) (r : Result (Arc Value Global) Fault) (past : Optio
     over_run_at x_is starts = of_past (over_run w q r z edges there a b c (subst (λ (y : Result Bool Fault). Walks z w q edges y a b) x_is walks) starts)
 
 pub over_up : (w : ℕ) (q : Key) (s : SessionValue) (edges : List ℕ) (f : Fault) (a b : Option TableValue) → Walks s w q edges (Err f) a b → Overs (Some s) w q (Err f) a b
-over_up w q s edges f a b h = tells_map _ _ (λ t u go has st. go (sym has) st) a b h
+over_up w q s edges f a b h = tells_map _ _ (λ t u go has st. (let e = go (sym has) st in (e.0, λ k a n is. e.1 k a is))) a b h
+
+pub over_up_at : (w : ℕ) (q : Key) (past : Option (Arc SessionValue Global)) (p : Arc SessionValue Global) → past ≡ Some p → (z : SessionValue) → z ≡ arc_value p → (edges : List ℕ) (x : Result Bool Fault) (f : Fault) → x ≡ Err f → (a b : Option TableValue) → Walks z w q edges x a b → Overs (session_in past) w q (Err f) a b
+over_up_at w q past p is z z_is edges x f x_is a b walks =
+    subst (λ (o : Option SessionValue). Overs o w q (Err f) a b) (ap Some z_is ∙ sym (ap session_in is))
+    (over_up w q z edges f a b (subst (λ (y : Result Bool Fault). Walks z w q edges y a b) x_is walks))
 
 -- ---- a claimed key
 
 pub work_over_past : (w : ℕ) (q : Key) (r : Result (Arc Value Global) Fault) (past : Option SessionValue) (a b : Option TableValue) → Knows (λ t. past ≡ t.past) a → Overs past w q r a b → Works w q r a b
 work_over_past w q r past a b has h = tells_with _ _ _ (λ t u is go st. go is st) a b has h
 
-pub work_lost_past : (w : ℕ) (q : Key) (g : Fault) → g ≡ fault.OutOfMemory → (a b : Option TableValue) → Tells Stops a b → Works w q (Err g) a b
+pub work_lost_past : (w : ℕ) (q : Key) (g : Fault) → g ≡ fault.OutOfMemory → (a b : Option TableValue) → Tells GivesUp a b → Works w q (Err g) a b
 work_lost_past w q g is a b s = tells_map _ _ (work_memory w q g is) a b s
 
 -- ---- any key
@@ -151,5 +156,5 @@ module _ (w : ℕ) (q : Key) (a b : Option TableValue) where
   pub ensured_work : (c : Option TableValue) (r : Result (Arc Value Global) Fault) → Tells (λ t u. AskGives t w q (Ok asked.Yours) u) a b → Works w q r b c → Ensured w q r a c
   ensured_work c r h works = tells_then _ _ _ (ask_work w q r) a b c h works
 
-  pub ensured_refused : (c : Option TableValue) (f : TableFault) (g : Fault) → IsFaultOf f g → Tells (λ t u. AskGives t w q (Err f) u) a b → Tells Stops b c → Ensured w q (Err g) a c
+  pub ensured_refused : (c : Option TableValue) (f : TableFault) (g : Fault) → IsFaultOf f g → Tells (λ t u. AskGives t w q (Err f) u) a b → Tells GivesUp b c → Ensured w q (Err g) a c
   ensured_refused c f g is h s = tells_then _ _ _ (ask_refused w q f g is) a b c h s

@@ -16,18 +16,20 @@ use Rattle.mark_green.specs.declared.fault.Fault.{Fault}
 use Rattle.mark_green.specs.declared.fault.Fault.TheVariants as fault
 use Rattle.mark_green.specs.declared.asking.Stop.{Stop}
 use Rattle.mark_green.specs.declared.asking.Stop.TheVariants as stop
-use Rattle.mark_green.specs.Leaves.{GoesOn, Stops, Leaves, LeavesBut, IsOthers}
+use Rattle.mark_green.specs.Leaves.{GoesOn, Stops, Stays, StaysBut, GivesUp, Leaves, LeavesBut, IsOthers}
 
 -- Ok: the key is done in the table with this result. Stopped: a worker had failed, or w had a key
--- whose rank isn't above this one's. Busy: another worker had a key.
+-- whose rank isn't above this one's. Busy: another worker had a key. Whatever the answer, what a
+-- worker had claimed or ran it still has.
 abbrev pub EnsureGives : TableValue → ℕ → Key → Result (Arc Value Global) Fault → TableValue
     → Type 0
 EnsureGives t w q (Ok v) u = Leaves t u × IsDoneWith (arc_value v) ((state_of u).at q)
 EnsureGives t w q (Err fault.Stopped) u =
-    Stops t u × (((state_of t).failed ≡ true) ⊎ ¬ IsBelow (state_of t) w q)
-EnsureGives t w q (Err fault.OutOfMemory) u = Stops t u × ((state_of t).failed ≡ false)
+    Stops t u × Stays t u × (((state_of t).failed ≡ true) ⊎ ¬ IsBelow (state_of t) w q)
+EnsureGives t w q (Err fault.OutOfMemory) u =
+    Stops t u × Stays t u × ((state_of t).failed ≡ false)
 EnsureGives t w q (Err fault.Busy) u =
-    GoesOn t u × ((state_of u).failed ≡ false) × IsOthers t w
+    GoesOn t u × Stays t u × ((state_of u).failed ≡ false) × IsOthers t w
 
 -- why a key isn't brought to done that w has claimed or runs: memory ran out, or another worker had
 -- a key
@@ -39,7 +41,7 @@ IsGivenUp t w fault.Busy u = GoesOn t u × ((state_of u).failed ≡ false) × Is
 -- bringing a key to done that w has claimed or runs
 abbrev pub WorkGives : TableValue → ℕ → Key → Result (Arc Value Global) Fault → TableValue → Type 0
 WorkGives t w q (Ok v) u = LeavesBut q t u × IsDoneWith (arc_value v) ((state_of u).at q)
-WorkGives t w q (Err f) u = IsGivenUp t w f u
+WorkGives t w q (Err f) u = IsGivenUp t w f u × StaysBut q t u
 
 -- bringing a past edge e to done, and whether it is unchanged then
 abbrev pub EdgeGives : TableValue → ℕ → Key → Result Bool Fault → TableValue → Type 0
@@ -55,7 +57,7 @@ walk_over t es = walk (past_of t) (state_of t) es
 abbrev pub WalkGives : TableValue → ℕ → List Key → Result Bool Fault → TableValue → Type 0
 WalkGives t w es (Ok true) u = Leaves t u × (walk_over u es ≡ AllUnchanged)
 WalkGives t w es (Ok false) u = Leaves t u × MayRun (Some (walk_over u es))
-WalkGives t w es (Err f) u = IsGivenUp t w f u
+WalkGives t w es (Err f) u = IsGivenUp t w f u × Stays t u
 
 -- the past has the key with these edges
 abbrev pub HasEdges : SessionValue → Key → List ℕ → Type 0
@@ -71,14 +73,14 @@ abbrev pub FetchGives : TableValue → ℕ → Key → Result (Unit {0}) Fault �
     → TableValue → Type 0
 FetchGives t w k (Ok _) held u =
     LeavesBut k t u × ((v : Value) × IsDoneWith v ((state_of u).at k)) × AreHeld (state_of u) held
-FetchGives t w k (Err f) held u = IsGivenUp t w f u
+FetchGives t w k (Err f) held u = IsGivenUp t w f u × StaysBut k t u
 
 -- one run, or a key brought to done that it lacked
 abbrev pub TurnGives : TableValue → ℕ → Key → Result (Option OutcomeValue) Fault
     → List ReadValue → TableValue → Type 0
 TurnGives t w q (Ok (Some o)) held u = Leaves t u × AreHeld (state_of u) o.told
 TurnGives t w q (Ok None) held u = Leaves t u × AreHeld (state_of u) held
-TurnGives t w q (Err f) held u = IsGivenUp t w f u
+TurnGives t w q (Err f) held u = IsGivenUp t w f u × Stays t u
 
 -- what was read in a run, or else what is held for the next one
 abbrev pub told_or : Option OutcomeValue → List ReadValue → List ReadValue
@@ -88,7 +90,7 @@ told_or None held = held
 -- runs, until one has an outcome
 abbrev pub RunGives : TableValue → ℕ → Result OutcomeValue Fault → TableValue → Type 0
 RunGives t w (Ok o) u = Leaves t u × AreHeld (state_of u) o.told
-RunGives t w (Err f) u = IsGivenUp t w f u
+RunGives t w (Err f) u = IsGivenUp t w f u × Stays t u
 
 -- a table's refusal for want of memory is one for want of memory, any other ends the work
 abbrev pub IsFaultOf : TableFault → Fault → Type 0
@@ -107,7 +109,7 @@ IsFaultOfStop stop.OutOfMemory f = f ≡ fault.OutOfMemory
 abbrev pub StopsFor : Stop → TableValue → TableValue → Type 0
 StopsFor stop.Busy t u = u ≡ t
 StopsFor stop.Stopped t u = u ≡ t
-StopsFor _ t u = Stops t u
+StopsFor _ t u = GivesUp t u
 
 -- what a store says of an outcome is what stands in it
 abbrev pub ShowsOutcomes : (Arc OutcomeValue Global → OutcomeValue) → Type 0

@@ -1,9 +1,12 @@
 -- What calls make of a table.
-use Rattle.std.specs.Prelude.{◌≡◌, ◌≢◌, ◌⊎◌, ℕ, ◌<◌, true, false, List, ◌++◌, Option, Some, None}
+use Rattle.std.specs.Prelude.{◌≡◌, ◌≢◌, ◌⊎◌, ℕ, ◌<◌, true, false, List, ◌++◌, Option, Some, None, Result, Ok}
 use Rattle.item_ids.specs.declared.key.Key.{Key}
 use Rattle.recorder.specs.Backed.{rank}
 use Rattle.graph_rules.specs.Steps.{Status, Event, AreSteps, IsHeldBy}
 use Rattle.job_table.specs.Tables.{TableValue, past_of, state_of}
+use Rattle.job_table.specs.declared.fault.Asked.{Asked}
+use Rattle.job_table.specs.declared.fault.Asked.TheVariants as asked
+use Rattle.job_table.specs.declared.fault.TableFault.{TableFault}
 
 -- what is known of a table, where anything is known of it
 abbrev pub Knows : (TableValue → Type 0) → Option TableValue → Type 0
@@ -18,6 +21,10 @@ Tells P None (Some u) = ⊥
 Tells P (Some t) None = ⊥
 Tells P (Some t) (Some u) = P t u
 
+-- a key that is to be worked on is no input
+abbrev pub ClaimsNoInput : Key → Result Asked TableFault → Type 0
+ClaimsNoInput q r = r ≡ Ok asked.Yours → 0 < rank q
+
 -- the history goes on by steps
 pub record GoesOn (t u : TableValue) : Type 0 where
   pub past : u.past ≡ t.past
@@ -31,13 +38,27 @@ pub record Stops (t u : TableValue) : Type 0 where
   pub goes_on : GoesOn t u
   pub failed : (state_of u).failed ≡ true
 
+-- what each worker had claimed or ran, it still has
+abbrev pub Stays : TableValue → TableValue → Type 0
+Stays t u = (k : Key) (w : ℕ) → IsHeldBy w ((state_of t).at k)
+    → (state_of u).at k ≡ (state_of t).at k
+
+-- the same, but for the key q
+abbrev pub StaysBut : Key → TableValue → TableValue → Type 0
+StaysBut q t u = (k : Key) (w : ℕ) → k ≢ q → IsHeldBy w ((state_of t).at k)
+    → (state_of u).at k ≡ (state_of t).at k
+
+-- a worker gave up, and else each key is as it was
+pub record GivesUp (t u : TableValue) : Type 0 where
+  pub stops : Stops t u
+  pub same : (k : Key) → (state_of u).at k ≡ (state_of t).at k
+
 -- The history goes on by steps in which all went well: nobody failed, and just those keys are
 -- claimed or running, by the same workers, that were before.
 pub record Leaves (t u : TableValue) : Type 0 where
   pub goes_on : GoesOn t u
   pub failed : (state_of u).failed ≡ (state_of t).failed
-  pub stays : (k : Key) (w : ℕ) → IsHeldBy w ((state_of t).at k)
-      → (state_of u).at k ≡ (state_of t).at k
+  pub stays : Stays t u
   pub held : (k : Key) (w : ℕ) → IsHeldBy w ((state_of u).at k)
       → (state_of u).at k ≡ (state_of t).at k
 
@@ -45,8 +66,7 @@ pub record Leaves (t u : TableValue) : Type 0 where
 pub record LeavesBut (q : Key) (t u : TableValue) : Type 0 where
   pub goes_on : GoesOn t u
   pub failed : (state_of u).failed ≡ (state_of t).failed
-  pub stays : (k : Key) (w : ℕ) → k ≢ q → IsHeldBy w ((state_of t).at k)
-      → (state_of u).at k ≡ (state_of t).at k
+  pub stays : StaysBut q t u
   pub held : (k : Key) (w : ℕ) → IsHeldBy w ((state_of u).at k)
       → (state_of u).at k ≡ (state_of t).at k
 

@@ -5,6 +5,10 @@ use Rattle.item_ids.specs.declared.key.Key.{Key}
 use Rattle.result_bytes.specs.declared.value.Value.{Value}
 use Rattle.sessions.specs.declared.mark.Mark.{Mark}
 use Rattle.recorder.specs.Backed.{rank}
+use Rattle.recorder.specs.declared.reader.ReadFault.{ReadFault}
+use Rattle.recorder.specs.declared.reader.ReadFault.TheVariants as read
+use Rattle.recorder.specs.declared.runner.RunFault.{RunFault}
+use Rattle.recorder.specs.declared.runner.RunFault.TheVariants as run
 use Rattle.graph_rules.specs.Steps.{Status, Unknown, Claimed, Running, Done, State, after_all, IsDoneWith, opening}
 use Rattle.graph_rules.specs.Histories.{Keeps}
 use Rattle.graph_rules.proofs.Orders.{after_all_append}
@@ -12,9 +16,10 @@ use Rattle.graph_rules.proofs.Keeping.{keeps_all}
 use Rattle.job_table.specs.Tables.{TableValue, past_of, state_of}
 use Rattle.job_table.specs.Calls.{AskGives}
 use Rattle.job_table.specs.declared.fault.Asked.TheVariants as asked
+use Rattle.job_table.specs.declared.fault.TableFault.TheVariants as table
 use Rattle.mark_green.specs.declared.asking.Stop.{Stop}
 use Rattle.mark_green.specs.declared.asking.Stop.TheVariants as stop
-use Rattle.mark_green.specs.Leaves.{Knows, Tells, GoesOn}
+use Rattle.mark_green.specs.Leaves.{Knows, Tells, GoesOn, Stays}
 
 -- the key is done with this value
 abbrev pub IsDoneIn : Key → Value → TableValue → Type 0
@@ -27,12 +32,32 @@ StopGives t w r stop.Busy u = (k : Key) × AskGives t w k (Ok asked.Busy) u
 StopGives t w r stop.Stopped u = (k : Key) × AskGives t w k (Ok asked.Stopped) u
 StopGives t w r (stop.Refused f) u =
     (k : Key) × (rank k < r) × AskGives t w k (Err f) u
-StopGives t w r stop.OutOfMemory u = (state_of u).failed ≡ (state_of t).failed
+StopGives t w r stop.OutOfMemory u = ((state_of u).failed ≡ (state_of t).failed) × Stays t u
 
--- a key that a run lacked is of lower rank than its own
+-- a key that a run lacked is no input, and of lower rank than its own
 abbrev pub IsUnder : ℕ → Stop → Type 0
-IsUnder r (stop.Lacks k) = rank k < r
+IsUnder r (stop.Lacks k) = (rank k < r) × (0 < rank k)
 IsUnder r _ = Unit {0}
+
+-- What a read is refused with, by what stopped the run: only a key that a worker has isn't held.
+abbrev pub IsFaultOfRead : Stop → ReadFault → Type 0
+IsFaultOfRead (stop.Lacks k) f = f ≡ read.NotHeld
+IsFaultOfRead stop.Busy f = f ≡ read.NotHeld
+IsFaultOfRead stop.Stopped f = f ≡ read.Stopped
+IsFaultOfRead (stop.Refused table.OutOfMemory) f = f ≡ read.OutOfMemory
+IsFaultOfRead (stop.Refused x) f = f ≡ read.Stopped
+IsFaultOfRead stop.OutOfMemory f = f ≡ read.OutOfMemory
+
+-- Why a read of q isn't answered in a run of rank r: what stopped the run. Where nothing did, memory
+-- ran out, or q is a key that no query of that rank reads.
+abbrev pub IsUnanswered : ℕ → Option Stop → Key → ReadFault → Type 0
+IsUnanswered r (Some x) q f = IsFaultOfRead x f
+IsUnanswered r None q f = (f ≡ read.OutOfMemory) ⊎ ((f ≡ read.Stopped) × ¬ (rank q < r))
+
+-- a run that nothing stopped failed for want of memory
+abbrev pub IsWantOfMemory : RunFault → Type 0
+IsWantOfMemory run.OutOfMemory = Unit {0}
+IsWantOfMemory (run.Read f) = f ≡ read.OutOfMemory
 
 -- the first read without an answer
 abbrev pub Halts : ℕ → ℕ → Stop → Option TableValue → Option TableValue → Type 0

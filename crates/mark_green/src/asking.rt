@@ -1,9 +1,10 @@
 //! Why runs stop, and what answers their reads.
-ghost use Rattle.std.specs.Prelude.{◌≡◌, ◌⊎◌, IfOk, IfErr};
+ghost use Rattle.std.specs.Prelude.{◌≡◌, ◌⊎◌, ◌<◌, ℕ, IfOk, IfErr};
 ghost use Rattle.std.specs.Arc.{arc_value};
 ghost use Rattle.recorder.specs.Backed.{IsOfKind};
 ghost use Rattle.mark_green.specs.Leaves.{Knows};
-ghost use Rattle.mark_green.specs.Moves.{IsDoneIn, Halts};
+ghost use Rattle.recorder.specs.Backed.{rank as rank_of_key};
+ghost use Rattle.mark_green.specs.Moves.{IsDoneIn, Halts, IsFaultOfRead};
 ghost use Rattle.mark_green.specs.declared.asking.Stop.{Stop};
 
 use crate::store::Store;
@@ -29,8 +30,8 @@ pub(crate) enum Stop {
     OutOfMemory,
 }
 
-/// Answers the reads of a run by the results held, else by the store, of keys below a rank. After the first read without
-/// an answer it asks nothing.
+/// Answers the reads of a run by the results held, else by the store, of keys below a rank. After the first read that
+/// the store doesn't answer it asks nothing.
 #[derive(Drop)]
 pub(crate) struct Asking<'a, S: Store> {
     pub alloc: Global,
@@ -45,12 +46,12 @@ impl<S: Store> Reader for Asking<'_, S> {
     ghost use Rattle.std.specs.Prelude.{◌≡◌, ◌⊎◌, Contains, refl};
     ghost use Rattle.std.proofs.Common.{◌∙◌, inl, inr, subst, sym};
     ghost use Rattle.mark_green.specs.Leaves.{Knows};
-    ghost use Rattle.mark_green.specs.Moves.{IsDoneIn, Moves, moves_keep, moves_from};
+    ghost use Rattle.mark_green.specs.Moves.{IsDoneIn, IsUnanswered, Moves, moves_keep, moves_from};
 
     ghost answers = { λ s q v. Knows (IsDoneIn q v) (S.table s.store.now)
         ⊎ Contains s.held.now (record { key = q; value = v }) };
 
-    ghost faults = { λ s q f. Unit {0} };
+    ghost faults = { λ s q f. IsUnanswered s.below s.stop q f };
 
     ghost follows = { λ s t. (t.store.ghost_name ≡ s.store.ghost_name)
         × (t.held.now ≡ s.held.now) × (t.w ≡ s.w) × (t.below ≡ s.below)
@@ -74,8 +75,8 @@ impl<S: Store> Reader for Asking<'_, S> {
     ] };
 
     fn read(&mut self, key: &Key) -> Result<Arc<Sealed>, ReadFault> {
-        if let Some(_) = &self.stop {
-            return Err(ReadFault::Stopped);
+        if let Some(stop) = &self.stop {
+            return Err(fault_of(stop));
         }
         if let Some(read) = self.held.find(key) {
             return match Arc::try_clone(read.answer()) {
@@ -83,32 +84,39 @@ impl<S: Store> Reader for Asking<'_, S> {
                 Err(_) => Err(ReadFault::OutOfMemory),
             };
         }
-        match answer_of(self.alloc, self.store, self.w, self.below, key) {
+        if rank(key.kind()) >= self.below {
+            return Err(ReadFault::Stopped);
+        }
+        match answer_of(self.alloc, self.store, self.w, key) {
             Ok(sealed) => Ok(sealed),
             Err(stop) => {
+                let fault = fault_of(&stop);
                 self.stop = Some(stop);
-                Err(ReadFault::NotHeld)
+                Err(fault)
             }
         }
     }
 }
 
-/// The result of a key below the rank that is done in the store.
-fn answer_of<S: Store>(
-    alloc: Global,
-    store: &mut S,
-    w: u32,
-    below: u8,
-    key: &Key,
-) -> Result<Arc<Sealed>, Stop>
+/// What a run's read is refused with, by what stopped the run: only a key that a worker has isn't held.
+fn fault_of(stop: &Stop) -> ReadFault
+    ensures { IsFaultOfRead stop.now result }
+{
+    match stop {
+        Stop::Lacks(_) | Stop::Busy => ReadFault::NotHeld,
+        Stop::Refused(TableFault::OutOfMemory) | Stop::OutOfMemory => ReadFault::OutOfMemory,
+        Stop::Stopped | Stop::Refused(_) => ReadFault::Stopped,
+    }
+}
+
+/// The result of a key that is done in the store.
+fn answer_of<S: Store>(alloc: Global, store: &mut S, w: u32, key: &Key) -> Result<Arc<Sealed>, Stop>
     ensures kind { IfOk result (λ a. IsOfKind key.now (arc_value a)) }
     ensures same { IfOk result (λ _. S.table store.new ≡ S.table store.old) }
     ensures done { IfOk result (λ a. Knows (IsDoneIn key.now (arc_value a)) (S.table store.new)) }
-    ensures halts { IfErr result (λ x. Halts w below x (S.table store.old) (S.table store.new)) }
+    ensures halts { (r : ℕ) → rank_of_key key.now < r → IfErr result
+        (λ x. Halts w r x (S.table store.old) (S.table store.new)) }
 {
-    if rank(key.kind()) >= below {
-        return Err(Stop::OutOfMemory);
-    }
     match store.ask(w, key) {
         Ok(Asked::Done(sealed)) => of_kind(key, sealed),
         Ok(Asked::Yours) => Err(lacks(alloc, key)),

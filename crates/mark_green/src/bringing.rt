@@ -12,20 +12,19 @@ ghost use Rattle.mark_green.specs.Ensures.{EnsureGives, WorkGives, EdgeGives, Wa
 use crate::asking::Stop;
 use crate::edges::{is_same, past_edges};
 use crate::fault::Fault;
-use crate::giving_up::{give_up, give_up_run};
 use crate::runs::run_once;
-use crate::steps::{end_run, hold, mark};
+use crate::steps::hold;
 use crate::store::Store;
+use crate::worker::Worker;
 use fingerprint::Sealed;
-use item_ids::{Key, rank};
+use item_ids::Key;
 use job_table::{Asked, TableFault};
 use recorder::{AnswerList, Outcome, Runner};
 use sessions::Session;
 use std::alloc::Global;
 use std::sync::Arc;
 
-/// Brings a key to done in the store, and gives its result.
-#[cycle(ensure)]
+/// Brings a key to done in the store, by the worker, and gives its result.
 pub fn ensure<S: Store<Out = Arc<Outcome<R>>>, R: Runner>(
     alloc: Global,
     store: &mut S,
@@ -37,231 +36,212 @@ pub fn ensure<S: Store<Out = Arc<Outcome<R>>>, R: Runner>(
     ensures { Tells (λ t u. EnsureGives t w key.now result u) (S.table store.old)
         (S.table store.new) }
 {
-    match store.ask(w, key) {
-        Ok(Asked::Done(sealed)) => Ok(sealed),
-        Ok(Asked::Yours) => work(alloc, store, runner, w, key),
-        Ok(Asked::Busy) => Err(Fault::Busy),
-        Ok(Asked::Stopped) => Err(Fault::Stopped),
-        Err(fault) => Err(give_up(store, w, fault)),
-    }
-}
-
-/// Brings a key to done that the worker has claimed.
-#[cycle(ensure)]
-fn work<S: Store<Out = Arc<Outcome<R>>>, R: Runner>(
-    alloc: Global,
-    store: &mut S,
-    runner: &mut R,
-    w: u32,
-    key: &Key,
-) -> Result<Arc<Sealed>, Fault>
-    requires shows { ShowsOutcomes S.outcome_in }
-    ensures { Tells (λ t u. HasStatus (Claimed w) w key.now t → WorkGives t w key.now result u)
-        (S.table store.old) (S.table store.new) }
-{
-    match store.past() {
-        Ok(past) => work_over(alloc, store, runner, w, key, &past),
-        Err(_) => Err(give_up(store, w, TableFault::OutOfMemory)),
-    }
-}
-
-/// Brings a key to done that the worker has claimed, over this past.
-#[cycle(ensure)]
-fn work_over<S: Store<Out = Arc<Outcome<R>>>, R: Runner>(
-    alloc: Global,
-    store: &mut S,
-    runner: &mut R,
-    w: u32,
-    key: &Key,
-    past: &Option<Arc<Session>>,
-) -> Result<Arc<Sealed>, Fault>
-    requires shows { ShowsOutcomes S.outcome_in }
-    ensures { Tells (λ t u. session_in past.now ≡ t.past → HasStatus (Claimed w) w key.now t
-        → WorkGives t w key.now result u) (S.table store.old) (S.table store.new) }
-{
-    let Some(past) = past else {
-        return start(alloc, store, runner, w, key);
+    let mut worker = Worker {
+        alloc,
+        store,
+        runner,
+        id: w,
     };
-    let Some(edges) = past_edges(past, key) else {
-        return start(alloc, store, runner, w, key);
-    };
-    match walk_edges(alloc, store, runner, w, key, past, edges) {
-        Ok(true) => mark(store, w, key),
-        Ok(false) => start(alloc, store, runner, w, key),
-        Err(fault) => Err(fault),
-    }
+    worker.ensure(key)
 }
 
-/// Whether all past edges of a key that the worker has claimed are unchanged, each brought to done in its turn.
-#[cycle(ensure)]
-fn walk_edges<S: Store<Out = Arc<Outcome<R>>>, R: Runner>(
-    alloc: Global,
-    store: &mut S,
-    runner: &mut R,
-    w: u32,
-    key: &Key,
-    past: &Session,
-    edges: &[usize],
-) -> Result<bool, Fault>
-    requires shows { ShowsOutcomes S.outcome_in }
-    requires edges { AllByRecursion (IsRecordUnder past.now.records key.now) edges.now }
-    ensures { Tells (λ t u. t.past ≡ Some past.now → HasStatus (Claimed w) w key.now t
-        → WalkGives t w (map (key_at past.now.records) edges.now) result u)
-        (S.table store.old) (S.table store.new) }
-{
-    'edges: for at in edges.iter() {
-        match is_unchanged(alloc, store, runner, w, past, *at) {
-            Ok(true) => {}
-            Ok(false) => return Ok(false),
-            Err(fault) => return Err(fault),
+impl<S: Store<Out = Arc<Outcome<R>>>, R: Runner> Worker<'_, S, R> {
+    /// Brings a key to done in the store, and gives its result.
+    #[cycle(ensure)]
+    pub(crate) fn ensure(&mut self, key: &Key) -> Result<Arc<Sealed>, Fault>
+        requires shows { ShowsOutcomes S.outcome_in }
+        ensures store { self.new.store.ghost_name ≡ self.old.store.ghost_name }
+        ensures id { self.new.id ≡ self.old.id }
+        ensures gives { Tells (λ t u. EnsureGives t self.old.id key.now result u)
+            (S.table self.old.store.now) (S.table self.new.store.now) }
+    {
+        match self.store.ask(self.id, key) {
+            Ok(Asked::Done(sealed)) => Ok(sealed),
+            Ok(Asked::Yours) => self.work(key),
+            Ok(Asked::Busy) => Err(Fault::Busy),
+            Ok(Asked::Stopped) => Err(Fault::Stopped),
+            Err(fault) => Err(self.give_up(fault)),
         }
     }
-    Ok(true)
-}
 
-/// Whether a past edge is unchanged, once it is brought to done.
-#[cycle(ensure)]
-fn is_unchanged<S: Store<Out = Arc<Outcome<R>>>, R: Runner>(
-    alloc: Global,
-    store: &mut S,
-    runner: &mut R,
-    w: u32,
-    past: &Session,
-    at: usize,
-) -> Result<bool, Fault>
-    requires shows { ShowsOutcomes S.outcome_in }
-    requires within { at < length past.now.records }
-    ensures { Tells (λ t u. t.past ≡ Some past.now
-        → EdgeGives t w (key_at past.now.records at) result u) (S.table store.old)
-        (S.table store.new) }
-{
-    let record = &past.records()[at];
-    match ensure(alloc, store, runner, w, record.key()) {
-        Ok(sealed) => Ok(is_same(record, sealed)),
-        Err(fault) => Err(fault),
-    }
-}
-
-/// Runs a key that the worker has claimed.
-#[cycle(ensure)]
-fn start<S: Store<Out = Arc<Outcome<R>>>, R: Runner>(
-    alloc: Global,
-    store: &mut S,
-    runner: &mut R,
-    w: u32,
-    key: &Key,
-) -> Result<Arc<Sealed>, Fault>
-    requires shows { ShowsOutcomes S.outcome_in }
-    ensures { Tells (λ t u. HasStatus (Claimed w) w key.now t → MayRun (walk_in t key.now)
-        → WorkGives t w key.now result u) (S.table store.old) (S.table store.new) }
-{
-    if rank(key.kind()) == 0 {
-        return Err(give_up(store, w, TableFault::OutOfMemory));
-    }
-    match store.begin_run(w, key) {
-        Ok(()) => run(alloc, store, runner, w, key),
-        Err(fault) => Err(give_up(store, w, fault)),
-    }
-}
-
-/// Ends the run of a key that was begun.
-#[cycle(ensure)]
-fn run<S: Store<Out = Arc<Outcome<R>>>, R: Runner>(
-    alloc: Global,
-    store: &mut S,
-    runner: &mut R,
-    w: u32,
-    key: &Key,
-) -> Result<Arc<Sealed>, Fault>
-    requires shows { ShowsOutcomes S.outcome_in }
-    requires rank { 0 < rank_of_key key.now }
-    ensures { Tells (λ t u. HasStatus (Running w) w key.now t → WorkGives t w key.now result u)
-        (S.table store.old) (S.table store.new) }
-{
-    let mut held = AnswerList::new(alloc);
-    let outcome = turns(alloc, store, runner, w, key, &mut held);
-    drop(held);
-    match outcome {
-        Ok(outcome) => end_run(alloc, store, w, key, outcome),
-        Err(fault) => Err(fault),
-    }
-}
-
-/// Runs a key again and again, each time with one result more, until it has an outcome.
-#[cycle(ensure)]
-fn turns<S: Store<Out = Arc<Outcome<R>>>, R: Runner>(
-    alloc: Global,
-    store: &mut S,
-    runner: &mut R,
-    w: u32,
-    key: &Key,
-    held: &mut AnswerList,
-) -> Result<Outcome<R>, Fault>
-    requires shows { ShowsOutcomes S.outcome_in }
-    requires rank { 0 < rank_of_key key.now }
-    requires none_held { held.old ≡ [] }
-    ensures key { IfOk result (λ o. o.key ≡ key.now) }
-    ensures held { IfOk result (λ o. Knows (λ t. AreHeld (state_of t) o.told) (S.table store.new)) }
-    ensures gives { Tells (λ t u. HasStatus (Running w) w key.now t → RunGives t w result u)
-        (S.table store.old) (S.table store.new) }
-{
-    'again: for _ in 0..u64::MAX {
-        match turn(alloc, store, runner, w, key, held) {
-            Ok(None) => {}
-            Ok(Some(outcome)) => return Ok(outcome),
-            Err(fault) => return Err(fault),
+    /// Brings a key to done that the worker has claimed.
+    #[cycle(ensure)]
+    fn work(&mut self, key: &Key) -> Result<Arc<Sealed>, Fault>
+        requires shows { ShowsOutcomes S.outcome_in }
+        requires rank { 0 < rank_of_key key.now }
+        ensures store { self.new.store.ghost_name ≡ self.old.store.ghost_name }
+        ensures id { self.new.id ≡ self.old.id }
+        ensures gives { Tells (λ t u. HasStatus (Claimed self.old.id) self.old.id key.now t
+            → WorkGives t self.old.id key.now result u)
+            (S.table self.old.store.now) (S.table self.new.store.now) }
+    {
+        match self.store.past() {
+            Ok(past) => self.work_over(key, &past),
+            Err(_) => Err(self.give_up(TableFault::OutOfMemory)),
         }
     }
-    Err(give_up(store, w, TableFault::OutOfMemory))
-}
 
-/// Runs a key once, and holds the result of the key that this run lacked.
-#[cycle(ensure)]
-fn turn<S: Store<Out = Arc<Outcome<R>>>, R: Runner>(
-    alloc: Global,
-    store: &mut S,
-    runner: &mut R,
-    w: u32,
-    key: &Key,
-    held: &mut AnswerList,
-) -> Result<Option<Outcome<R>>, Fault>
-    requires shows { ShowsOutcomes S.outcome_in }
-    requires rank { 0 < rank_of_key key.now }
-    ensures key { IfOk result (λ ran. IfSome ran (λ o. o.key ≡ key.now)) }
-    ensures held { IfOk result (λ ran. Knows (λ t. AreHeld (state_of t) held.old) (S.table store.old)
-        → Knows (λ t. AreHeld (state_of t) (told_or ran held.new)) (S.table store.new)) }
-    ensures gives { Tells (λ t u. HasStatus (Running w) w key.now t → AreHeld (state_of t) held.old
-        → TurnGives t w key.now result held.new u) (S.table store.old) (S.table store.new) }
-{
-    match run_once(alloc, store, runner, w, key, held) {
-        Ok(outcome) => Ok(Some(outcome)),
-        Err(Stop::Lacks(lacked)) => match fetch(alloc, store, runner, w, lacked, held) {
-            Ok(()) => Ok(None),
-            Err(fault) => Err(fault),
-        },
-        Err(stop) => Err(give_up_run(store, w, stop)),
+    /// Brings a key to done that the worker has claimed, over this past.
+    #[cycle(ensure)]
+    fn work_over(&mut self, key: &Key, past: &Option<Arc<Session>>) -> Result<Arc<Sealed>, Fault>
+        requires shows { ShowsOutcomes S.outcome_in }
+        requires rank { 0 < rank_of_key key.now }
+        ensures store { self.new.store.ghost_name ≡ self.old.store.ghost_name }
+        ensures id { self.new.id ≡ self.old.id }
+        ensures gives { Tells (λ t u. session_in past.now ≡ t.past
+            → HasStatus (Claimed self.old.id) self.old.id key.now t
+            → WorkGives t self.old.id key.now result u)
+            (S.table self.old.store.now) (S.table self.new.store.now) }
+    {
+        let Some(past) = past else {
+            return self.start(key);
+        };
+        let Some(edges) = past_edges(past, key) else {
+            return self.start(key);
+        };
+        if self.walk_edges(key, past, edges)? {
+            self.mark(key)
+        } else {
+            self.start(key)
+        }
     }
-}
 
-/// Brings a key to done that the worker has claimed for a run, and holds its result.
-#[cycle(ensure)]
-fn fetch<S: Store<Out = Arc<Outcome<R>>>, R: Runner>(
-    alloc: Global,
-    store: &mut S,
-    runner: &mut R,
-    w: u32,
-    lacked: Key,
-    held: &mut AnswerList,
-) -> Result<(), Fault>
-    requires shows { ShowsOutcomes S.outcome_in }
-    ensures { Tells (λ t u. HasStatus (Claimed w) w lacked t → AreHeld (state_of t) held.old
-        → FetchGives t w lacked result held.new u) (S.table store.old) (S.table store.new) }
-{
-    match work(alloc, store, runner, w, &lacked) {
-        Ok(sealed) => match hold(held, lacked, sealed) {
+    /// Whether all past edges of a key that the worker has claimed are unchanged, each brought to done in its turn.
+    #[cycle(ensure)]
+    fn walk_edges(&mut self, key: &Key, past: &Session, edges: &[usize]) -> Result<bool, Fault>
+        requires shows { ShowsOutcomes S.outcome_in }
+        requires edges { AllByRecursion (IsRecordUnder past.now.records key.now) edges.now }
+        ensures store { self.new.store.ghost_name ≡ self.old.store.ghost_name }
+        ensures id { self.new.id ≡ self.old.id }
+        ensures gives { Tells (λ t u. t.past ≡ Some past.now
+            → HasStatus (Claimed self.old.id) self.old.id key.now t
+            → WalkGives t self.old.id (map (key_at past.now.records) edges.now) result u)
+            (S.table self.old.store.now) (S.table self.new.store.now) }
+    {
+        'edges: for at in edges.iter() {
+            if !self.is_unchanged(past, *at)? {
+                return Ok(false);
+            }
+        }
+        Ok(true)
+    }
+
+    /// Whether a past edge is unchanged, once it is brought to done.
+    #[cycle(ensure)]
+    fn is_unchanged(&mut self, past: &Session, at: usize) -> Result<bool, Fault>
+        requires shows { ShowsOutcomes S.outcome_in }
+        requires within { at < length past.now.records }
+        ensures store { self.new.store.ghost_name ≡ self.old.store.ghost_name }
+        ensures id { self.new.id ≡ self.old.id }
+        ensures gives { Tells (λ t u. t.past ≡ Some past.now
+            → EdgeGives t self.old.id (key_at past.now.records at) result u)
+            (S.table self.old.store.now) (S.table self.new.store.now) }
+    {
+        let record = &past.records()[at];
+        let sealed = self.ensure(record.key())?;
+        Ok(is_same(record, sealed))
+    }
+
+    /// Runs a key that the worker has claimed.
+    #[cycle(ensure)]
+    fn start(&mut self, key: &Key) -> Result<Arc<Sealed>, Fault>
+        requires shows { ShowsOutcomes S.outcome_in }
+        requires rank { 0 < rank_of_key key.now }
+        ensures store { self.new.store.ghost_name ≡ self.old.store.ghost_name }
+        ensures id { self.new.id ≡ self.old.id }
+        ensures gives { Tells (λ t u. HasStatus (Claimed self.old.id) self.old.id key.now t
+            → MayRun (walk_in t key.now)
+            → WorkGives t self.old.id key.now result u)
+            (S.table self.old.store.now) (S.table self.new.store.now) }
+    {
+        match self.store.begin_run(self.id, key) {
+            Ok(()) => self.run(key),
+            Err(fault) => Err(self.give_up(fault)),
+        }
+    }
+
+    /// Ends the run of a key that was begun.
+    #[cycle(ensure)]
+    fn run(&mut self, key: &Key) -> Result<Arc<Sealed>, Fault>
+        requires shows { ShowsOutcomes S.outcome_in }
+        requires rank { 0 < rank_of_key key.now }
+        ensures store { self.new.store.ghost_name ≡ self.old.store.ghost_name }
+        ensures id { self.new.id ≡ self.old.id }
+        ensures gives { Tells (λ t u. HasStatus (Running self.old.id) self.old.id key.now t
+            → WorkGives t self.old.id key.now result u)
+            (S.table self.old.store.now) (S.table self.new.store.now) }
+    {
+        let mut held = AnswerList::new(self.alloc);
+        let outcome = self.turns(key, &mut held)?;
+        self.end_run(key, outcome)
+    }
+
+    /// Runs a key again and again, each time with one result more, until it has an outcome.
+    #[cycle(ensure)]
+    fn turns(&mut self, key: &Key, held: &mut AnswerList) -> Result<Outcome<R>, Fault>
+        requires shows { ShowsOutcomes S.outcome_in }
+        requires rank { 0 < rank_of_key key.now }
+        requires none_held { held.old ≡ [] }
+        ensures store { self.new.store.ghost_name ≡ self.old.store.ghost_name }
+        ensures id { self.new.id ≡ self.old.id }
+        ensures key { IfOk result (λ o. o.key ≡ key.now) }
+        ensures held { IfOk result (λ o. Knows (λ t. AreHeld (state_of t) o.told)
+            (S.table self.new.store.now)) }
+        ensures gives { Tells (λ t u. HasStatus (Running self.old.id) self.old.id key.now t
+            → RunGives t self.old.id result u)
+            (S.table self.old.store.now) (S.table self.new.store.now) }
+    {
+        'again: for _ in 0..u64::MAX {
+            if let Some(outcome) = self.turn(key, held)? {
+                return Ok(outcome);
+            }
+        }
+        Err(self.give_up(TableFault::OutOfMemory))
+    }
+
+    /// Runs a key once, and holds the result of the key that this run lacked.
+    #[cycle(ensure)]
+    fn turn(&mut self, key: &Key, held: &mut AnswerList) -> Result<Option<Outcome<R>>, Fault>
+        requires shows { ShowsOutcomes S.outcome_in }
+        requires rank { 0 < rank_of_key key.now }
+        ensures store { self.new.store.ghost_name ≡ self.old.store.ghost_name }
+        ensures id { self.new.id ≡ self.old.id }
+        ensures key { IfOk result (λ ran. IfSome ran (λ o. o.key ≡ key.now)) }
+        ensures held { IfOk result (λ ran. Knows (λ t. AreHeld (state_of t) held.old)
+            (S.table self.old.store.now)
+            → Knows (λ t. AreHeld (state_of t) (told_or ran held.new))
+            (S.table self.new.store.now)) }
+        ensures gives { Tells (λ t u. HasStatus (Running self.old.id) self.old.id key.now t
+            → AreHeld (state_of t) held.old
+            → TurnGives t self.old.id key.now result held.new u)
+            (S.table self.old.store.now) (S.table self.new.store.now) }
+    {
+        match run_once(self.alloc, self.store, self.runner, self.id, key, held) {
+            Ok(outcome) => Ok(Some(outcome)),
+            Err(Stop::Lacks(lacked)) => {
+                self.fetch(lacked, held)?;
+                Ok(None)
+            }
+            Err(stop) => Err(self.give_up_run(stop)),
+        }
+    }
+
+    /// Brings a key to done that the worker has claimed for a run, and holds its result.
+    #[cycle(ensure)]
+    fn fetch(&mut self, lacked: Key, held: &mut AnswerList) -> Result<(), Fault>
+        requires shows { ShowsOutcomes S.outcome_in }
+        requires rank { 0 < rank_of_key lacked }
+        ensures store { self.new.store.ghost_name ≡ self.old.store.ghost_name }
+        ensures id { self.new.id ≡ self.old.id }
+        ensures gives { Tells (λ t u. HasStatus (Claimed self.old.id) self.old.id lacked t
+            → AreHeld (state_of t) held.old
+            → FetchGives t self.old.id lacked result held.new u)
+            (S.table self.old.store.now) (S.table self.new.store.now) }
+    {
+        let sealed = self.work(&lacked)?;
+        match hold(held, lacked, sealed) {
             Ok(()) => Ok(()),
-            Err(_) => Err(give_up(store, w, TableFault::OutOfMemory)),
-        },
-        Err(fault) => Err(fault),
+            Err(_) => Err(self.give_up(TableFault::OutOfMemory)),
+        }
     }
 }

@@ -1,19 +1,43 @@
 //! Giving up.
-ghost use Rattle.mark_green.specs.Leaves.{Tells, Stops};
+ghost use Rattle.std.specs.Prelude.{◌≡◌};
+ghost use Rattle.mark_green.specs.Leaves.{Tells, GivesUp};
 ghost use Rattle.mark_green.specs.Ensures.{IsFaultOf, IsFaultOfStop, StopsFor};
 
 use crate::asking::Stop;
 use crate::fault::Fault;
 use crate::store::Store;
+use crate::worker::Worker;
 use job_table::TableFault;
+use recorder::Runner;
 
-/// Notes that the worker gives up, for a refusal of the table.
-pub(crate) fn give_up<S: Store>(store: &mut S, w: u32, fault: TableFault) -> Fault
-    ensures fault { IsFaultOf fault result }
-    ensures stops { Tells Stops (S.table store.old) (S.table store.new) }
-{
-    let _ = store.fail(w);
-    fault_of(fault)
+impl<S: Store, R: Runner> Worker<'_, S, R> {
+    /// Notes that the worker gives up, for a refusal of the table.
+    pub(crate) fn give_up(&mut self, fault: TableFault) -> Fault
+        ensures store { self.new.store.ghost_name ≡ self.old.store.ghost_name }
+        ensures id { self.new.id ≡ self.old.id }
+        ensures fault { IsFaultOf fault result }
+        ensures stops { Tells GivesUp (S.table self.old.store.now) (S.table self.new.store.now) }
+    {
+        let _ = self.store.fail(self.id);
+        fault_of(fault)
+    }
+
+    /// What a run that stopped comes to. The worker gives up, unless another one has a key, or a worker failed before.
+    pub(crate) fn give_up_run(&mut self, stop: Stop) -> Fault
+        ensures store { self.new.store.ghost_name ≡ self.old.store.ghost_name }
+        ensures id { self.new.id ≡ self.old.id }
+        ensures fault { IsFaultOfStop stop result }
+        ensures stops { Tells (StopsFor stop) (S.table self.old.store.now)
+            (S.table self.new.store.now) }
+    {
+        match stop {
+            Stop::Busy => Fault::Busy,
+            Stop::Stopped => Fault::Stopped,
+            Stop::Refused(fault) => self.give_up(fault),
+            Stop::OutOfMemory => self.give_up(TableFault::OutOfMemory),
+            Stop::Lacks(_) => self.give_up(TableFault::OutOfMemory),
+        }
+    }
 }
 
 /// What a refusal of the table comes to.
@@ -23,19 +47,5 @@ fn fault_of(fault: TableFault) -> Fault
     match fault {
         TableFault::OutOfMemory => Fault::OutOfMemory,
         _ => Fault::Stopped,
-    }
-}
-
-/// What a run that stopped comes to. The worker gives up, unless another one has a key, or a worker failed before.
-pub(crate) fn give_up_run<S: Store>(store: &mut S, w: u32, stop: Stop) -> Fault
-    ensures fault { IsFaultOfStop stop result }
-    ensures stops { Tells (StopsFor stop) (S.table store.old) (S.table store.new) }
-{
-    match stop {
-        Stop::Busy => Fault::Busy,
-        Stop::Stopped => Fault::Stopped,
-        Stop::Refused(fault) => give_up(store, w, fault),
-        Stop::OutOfMemory => give_up(store, w, TableFault::OutOfMemory),
-        Stop::Lacks(_) => give_up(store, w, TableFault::OutOfMemory),
     }
 }

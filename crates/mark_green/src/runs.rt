@@ -4,13 +4,13 @@ ghost use Rattle.recorder.specs.Backed.{rank as rank_of_key};
 ghost use Rattle.graph_rules.specs.Steps.{AreHeld};
 ghost use Rattle.job_table.specs.Tables.{state_of};
 ghost use Rattle.mark_green.specs.Leaves.{Knows};
-ghost use Rattle.mark_green.specs.Moves.{Halts};
+ghost use Rattle.mark_green.specs.Moves.{Halts, IsWantOfMemory};
 ghost use Rattle.mark_green.specs.declared.asking.Stop.{Stop};
 
 use crate::asking::{Asking, Stop};
 use crate::store::Store;
 use item_ids::{Key, rank};
-use recorder::{AnswerList, Outcome, Recorder, RunFault, Runner, record};
+use recorder::{AnswerList, Outcome, ReadFault, Recorder, RunFault, Runner, record};
 use std::alloc::Global;
 
 /// One run of a key that isn't an input, with the results held.
@@ -60,11 +60,12 @@ fn keep<S>(store: &mut S)
     let _ = store;
 }
 
-/// The outcome, unless the run was stopped.
+/// The outcome, unless the run was stopped or memory ran out.
 fn outcome_of<R: Runner>(
     outcome: Result<Outcome<R>, RunFault>,
     stop: Option<Stop>,
 ) -> Result<Outcome<R>, Stop>
+    requires memory { stop ≡ None → IfErr outcome IsWantOfMemory }
     ensures ok { IfOk result (λ o. (outcome ≡ Ok o) × (stop ≡ None)) }
     ensures err { IfErr result
         (λ x. (stop ≡ Some x) ⊎ ((stop ≡ None) × (x ≡ Stop.OutOfMemory))) }
@@ -76,7 +77,9 @@ fn outcome_of<R: Runner>(
         }
         None => match outcome {
             Ok(outcome) => Ok(outcome),
-            Err(_) => Err(Stop::OutOfMemory),
+            Err(RunFault::OutOfMemory) => Err(Stop::OutOfMemory),
+            Err(RunFault::Read(ReadFault::OutOfMemory)) => Err(Stop::OutOfMemory),
+            Err(RunFault::Read(_)) => unreachable!(),
         },
     }
 }

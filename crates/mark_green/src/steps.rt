@@ -8,8 +8,8 @@ ghost use Rattle.mark_green.specs.Leaves.{Knows, Tells, HasStatus};
 ghost use Rattle.mark_green.specs.Ensures.{WorkGives, ShowsOutcomes};
 
 use crate::fault::Fault;
-use crate::giving_up::give_up;
 use crate::store::Store;
+use crate::worker::Worker;
 use fingerprint::Sealed;
 use item_ids::Key;
 use job_table::TableFault;
@@ -17,14 +17,40 @@ use recorder::{AnswerList, Outcome, Runner};
 use std::alloc::{AllocError, Global};
 use std::sync::Arc;
 
-/// Marks a key that the worker has claimed, all of whose past edges are unchanged.
-pub(crate) fn mark<S: Store>(store: &mut S, w: u32, key: &Key) -> Result<Arc<Sealed>, Fault>
-    ensures { Tells (λ t u. HasStatus (Claimed w) w key.now t → walk_in t key.now ≡ Some AllUnchanged
-        → WorkGives t w key.now result u) (S.table store.old) (S.table store.new) }
-{
-    match store.mark(w, key) {
-        Ok(sealed) => Ok(sealed),
-        Err(fault) => Err(give_up(store, w, fault)),
+impl<S: Store<Out = Arc<Outcome<R>>>, R: Runner> Worker<'_, S, R> {
+    /// Marks a key that the worker has claimed, all of whose past edges are unchanged.
+    pub(crate) fn mark(&mut self, key: &Key) -> Result<Arc<Sealed>, Fault>
+        ensures store { self.new.store.ghost_name ≡ self.old.store.ghost_name }
+        ensures id { self.new.id ≡ self.old.id }
+        ensures gives { Tells (λ t u. HasStatus (Claimed self.old.id) self.old.id key.now t
+            → walk_in t key.now ≡ Some AllUnchanged → WorkGives t self.old.id key.now result u)
+            (S.table self.old.store.now) (S.table self.new.store.now) }
+    {
+        match self.store.mark(self.id, key) {
+            Ok(sealed) => Ok(sealed),
+            Err(fault) => Err(self.give_up(fault)),
+        }
+    }
+
+    /// Ends a run by its outcome.
+    pub(crate) fn end_run(&mut self, key: &Key, outcome: Outcome<R>) -> Result<Arc<Sealed>, Fault>
+        requires shows { ShowsOutcomes S.outcome_in }
+        requires key { outcome.key ≡ key.now }
+        requires held { Knows (λ t. AreHeld (state_of t) outcome.told)
+            (S.table self.old.store.now) }
+        ensures store { self.new.store.ghost_name ≡ self.old.store.ghost_name }
+        ensures id { self.new.id ≡ self.old.id }
+        ensures gives { Tells (λ t u. HasStatus (Running self.old.id) self.old.id key.now t
+            → AreHeld (state_of t) outcome.told → WorkGives t self.old.id key.now result u)
+            (S.table self.old.store.now) (S.table self.new.store.now) }
+    {
+        let Ok((sealed, outcome)) = share(self.alloc, outcome) else {
+            return Err(self.give_up(TableFault::OutOfMemory));
+        };
+        match self.store.finish(self.id, outcome) {
+            Ok(()) => Ok(sealed),
+            Err(fault) => Err(self.give_up(fault)),
+        }
     }
 }
 
@@ -37,29 +63,6 @@ pub(crate) fn hold(held: &mut AnswerList, key: Key, sealed: Arc<Sealed>) -> Resu
         held.add(key, sealed)
     } else {
         Err(AllocError)
-    }
-}
-
-/// Ends a run by its outcome.
-pub(crate) fn end_run<S: Store<Out = Arc<Outcome<R>>>, R: Runner>(
-    alloc: Global,
-    store: &mut S,
-    w: u32,
-    key: &Key,
-    outcome: Outcome<R>,
-) -> Result<Arc<Sealed>, Fault>
-    requires shows { ShowsOutcomes S.outcome_in }
-    requires key { outcome.key ≡ key.now }
-    requires held { Knows (λ t. AreHeld (state_of t) outcome.told) (S.table store.old) }
-    ensures { Tells (λ t u. HasStatus (Running w) w key.now t → AreHeld (state_of t) outcome.told
-        → WorkGives t w key.now result u) (S.table store.old) (S.table store.new) }
-{
-    let Ok((sealed, outcome)) = share(alloc, outcome) else {
-        return Err(give_up(store, w, TableFault::OutOfMemory));
-    };
-    match store.finish(w, outcome) {
-        Ok(()) => Ok(sealed),
-        Err(fault) => Err(give_up(store, w, fault)),
     }
 }
 

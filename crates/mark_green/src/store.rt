@@ -3,7 +3,7 @@ ghost use Rattle.std.specs.Prelude.{◌≡◌, IfOk, Option};
 ghost use Rattle.graph_rules.specs.Steps.{AreHeld};
 ghost use Rattle.job_table.specs.Tables.{session_in, state_of};
 ghost use Rattle.job_table.specs.Calls.{AskGives, MarkGives, BeginGives, FinishGives, FailGives};
-ghost use Rattle.mark_green.specs.Leaves.{Knows, Tells};
+ghost use Rattle.mark_green.specs.Leaves.{Knows, Tells, ClaimsNoInput};
 
 use fingerprint::Sealed;
 use item_ids::Key;
@@ -27,9 +27,11 @@ pub trait Store {
     /// What a run gave.
     ghost outcome_in: { Self.Out → OutcomeValue };
 
-    /// Asks for a key, by a worker that claims it where nobody has.
+    /// Asks for a key, by a worker that claims it where nobody has. An input is never claimed.
     fn ask(&mut self, w: u32, key: &Key) -> Result<Asked, TableFault>
-        ensures { Tells (λ t u. AskGives t w key.now result u) (table self.old) (table self.new) };
+        ensures gives { Tells (λ t u. AskGives t w key.now result u) (table self.old)
+            (table self.new) }
+        ensures claims { ClaimsNoInput key.now result };
 
     /// Takes over the past's result for a key that the worker has claimed.
     fn mark(&mut self, w: u32, key: &Key) -> Result<Arc<Sealed>, TableFault>

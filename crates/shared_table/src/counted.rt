@@ -4,12 +4,14 @@ ghost use Rattle.std.specs.Arc.{arc_value};
 ghost use Rattle.graph_rules.specs.Steps.{AreHeld};
 ghost use Rattle.job_table.specs.Tables.{session_in, state_of};
 ghost use Rattle.job_table.specs.Calls.{AskGives, MarkGives, BeginGives, FinishGives, FailGives};
+ghost use Rattle.mark_green.specs.Leaves.{ClaimsNoInput};
 
 use crate::naming::Naming;
 use crate::tally::Tally;
 use fingerprint::Sealed;
 use item_ids::Key;
 use job_table::{Asked, Event, Table, TableFault};
+use mark_green::ask_table;
 use recorder::{Outcome, Runner};
 use sessions::Session;
 use std::alloc::{AllocError, Global};
@@ -57,10 +59,11 @@ impl<J: Naming, R: Runner> Counted<J, R> {
         w: u32,
         key: &Key,
     ) -> Result<Asked, TableFault>
-        ensures { AskGives self.old w key.now result self.new }
+        ensures gives { AskGives self.old w key.now result self.new }
+        ensures claims { ClaimsNoInput key.now result }
     {
         let Counted { table, book } = self;
-        let answer = table.ask(w, key);
+        let answer = ask_table(table, w, key);
         if let Ok(Asked::Yours) = &answer {
             tally.count(table, book);
         }

@@ -1,4 +1,5 @@
 //! A worker's seat at a table that all share.
+ghost use Rattle.std.specs.Prelude.{◌≢◌, IfOk};
 ghost use Rattle.std.specs.Arc.{arc_value};
 
 use crate::gate::Gate;
@@ -98,7 +99,9 @@ impl<J: Naming, R: Runner, T: Wait, G: Gate> Store for Seat<'_, J, R, T, G> {
 }
 
 /// The result of a key that is done.
-fn done_again(sealed: &Arc<Sealed>) -> Result<Asked, TableFault> {
+fn done_again(sealed: &Arc<Sealed>) -> Result<Asked, TableFault>
+    ensures { IfOk result (λ a. a ≢ Asked.Yours) }
+{
     match Arc::try_clone(sealed) {
         Ok(sealed) => Ok(Asked::Done(sealed)),
         Err(_) => Err(TableFault::OutOfMemory),
@@ -106,7 +109,9 @@ fn done_again(sealed: &Arc<Sealed>) -> Result<Asked, TableFault> {
 }
 
 /// The result of a key that is done, which is kept.
-fn given(kept: &mut Kept, key: &Key, sealed: &Arc<Sealed>) -> Result<Asked, TableFault> {
+fn given(kept: &mut Kept, key: &Key, sealed: &Arc<Sealed>) -> Result<Asked, TableFault>
+    ensures { IfOk result (λ a. a ≢ Asked.Yours) }
+{
     match kept.add(key, sealed) {
         Ok(()) => done_again(sealed),
         Err(_) => Err(TableFault::OutOfMemory),

@@ -1,4 +1,5 @@
 //! The table under a lock.
+ghost use Rattle.mark_green.specs.Leaves.{ClaimsNoInput};
 
 use crate::counted::Counted;
 use crate::gate::Gate;
@@ -62,7 +63,9 @@ impl<J: Naming, R: Runner> Shared<J, R> {
         tally: &mut Tally<J>,
         w: u32,
         key: &Key,
-    ) -> Result<Asked, TableFault> {
+    ) -> Result<Asked, TableFault>
+        ensures { ClaimsNoInput key.now result }
+    {
         for _ in rt.forever() {
             let mut counted = self.counted.lock(rt);
             match counted.ask(tally, w, key) {

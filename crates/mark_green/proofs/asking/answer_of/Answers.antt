@@ -1,17 +1,29 @@
-use Rattle.std.proofs.Common.{◌≡◌, ◌<◌, ap, ◌∙◌, arith}
-use Rattle.item_ids.specs.Kinds.{rank_of}
-use Rattle.recorder.specs.Backed.{rank}
-use Rattle.mark_green.proofs.Asks.{asked_yours, asked_stopped}
+use Rattle.std.proofs.Common.{refl}
+use Rattle.mark_green.proofs.Asks.{asked_kept, asked_yours, asked_busy, asked_stopped, asked_refused}
 use Rattle.mark_green.proofs.asking.answer_of.Goals as goal
+
+pub returns-in-Ok-Done-clause-halts : goal.returns-in-Ok-Done-clause-halts
+returns-in-Ok-Done-clause-halts g c =
+    let a = rw (c.in-Ok-Done.is, c.in-Ok-Done.field-0-is) at c.ask.ensures.gives in
+    λ r lt. asked_kept c.args.w c.args.key.now _ _ c.in-Ok-Done.sealed c.of_kind.result c.of_kind.ensures.err a r
 
 pub returns-in-Ok-Yours-clause-halts : goal.returns-in-Ok-Yours-clause-halts
 returns-in-Ok-Yours-clause-halts g c =
-    let a = rw (c.in-Ok-Yours.is, c.in-Ok-Yours.field-0-is) at c.ask.ensures in
-    let is : c.rank.result ≡ rank c.args.key.now = c.rank.ensures ∙ ap rank_of c.kind.ensures in
-    let lt : rank c.args.key.now < c.args.below = omega (arith, is) in
-    asked_yours c.args.w c.args.key.now _ _ c.args.below lt c.lacks.result c.lacks.ensures a
+    let a = rw (c.in-Ok-Yours.is, c.in-Ok-Yours.field-0-is) at c.ask.ensures.gives in
+    let claims = rw (c.in-Ok-Yours.is, c.in-Ok-Yours.field-0-is) at c.ask.ensures.claims in
+    λ r lt. asked_yours c.args.w c.args.key.now _ _ r lt (claims refl) c.lacks.result c.lacks.ensures a
+
+pub returns-in-Ok-Busy-clause-halts : goal.returns-in-Ok-Busy-clause-halts
+returns-in-Ok-Busy-clause-halts g c =
+    let a = rw (c.in-Ok-Busy.is, c.in-Ok-Busy.field-0-is) at c.ask.ensures.gives in
+    λ r lt. asked_busy c.args.w c.args.key.now _ _ r a
 
 pub returns-in-Ok-Stopped-clause-halts : goal.returns-in-Ok-Stopped-clause-halts
 returns-in-Ok-Stopped-clause-halts g c =
-    let a = rw (c.in-Ok-Stopped.is, c.in-Ok-Stopped.field-0-is) at c.ask.ensures in
-    asked_stopped c.args.w c.args.key.now _ _ c.args.below a
+    let a = rw (c.in-Ok-Stopped.is, c.in-Ok-Stopped.field-0-is) at c.ask.ensures.gives in
+    λ r lt. asked_stopped c.args.w c.args.key.now _ _ r a
+
+pub returns-in-Err-clause-halts : goal.returns-in-Err-clause-halts
+returns-in-Err-clause-halts g c =
+    let a = rw c.in-Err.is at c.ask.ensures.gives in
+    λ r lt. asked_refused c.args.w c.args.key.now _ _ r lt c.in-Err.fault a

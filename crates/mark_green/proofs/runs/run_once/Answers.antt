@@ -2,7 +2,7 @@ use Rattle.std.proofs.Common.{◌≡◌, ap, ◌∙◌, sym, subst, None, rules}
 use Rattle.item_ids.specs.Kinds.{rank_of}
 use Rattle.recorder.specs.Backed.{rank}
 use Rattle.mark_green.specs.Moves.{Moves}
-use Rattle.mark_green.proofs.Once.{told_of_run, halts_of_run}
+use Rattle.mark_green.proofs.Once.{told_of_run, halts_of_run, wants_memory}
 use Rattle.mark_green.proofs.runs.run_once.Goals as goal
 
 pub returns-clause-told : goal.returns-clause-told
@@ -22,3 +22,13 @@ returns-clause-halts g c =
     let moves = rw (sym last, below) at follows.4 in
     halts_of_run c.outcome_of.result c.args.w (rank c.args.key.now) c.into_reader-back.result.stop (g.S.Store.table c.args.store.now) _ c.outcome_of.ensures.err
     (subst (λ s. Moves c.args.w (rank c.args.key.now) None c.into_reader-back.result.stop (g.S.Store.table c.args.store.now) (g.S.Store.table s)) (search rules) moves)
+
+pub outcome_of-requires : goal.outcome_of-requires
+outcome_of-requires g c =
+    let follows = rw c.new-recorder.ensures at c.record-outcome.ensures.follows in
+    let last = ap (λ r. r.stop) c.into_reader-back.ensures in
+    let below : c.rank.result ≡ rank c.args.key.now = c.rank.ensures ∙ ap rank_of c.kind.ensures in
+    record {
+      memory = λ none. wants_memory g.R.Runner.mean g.R.Runner.reads c.args.key.now c.record-outcome.new.recorder c.record-outcome.new.recorder.inner.stop c.record-outcome.new.recorder.inner.below c.record-outcome.result _
+          (follows.3 ∙ below) (sym last ∙ none) c.record-outcome.ensures.fault c.reads-reads.ensures.keeps c.record-outcome.ensures.refused;
+    }

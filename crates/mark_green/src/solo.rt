@@ -1,12 +1,16 @@
 //! A table of one's own.
 ghost use Rattle.std.specs.Prelude.{◌≡◌, Some};
 ghost use Rattle.std.specs.Arc.{arc_value};
+ghost use Rattle.job_table.specs.Calls.{AskGives};
+ghost use Rattle.mark_green.specs.Leaves.{ClaimsNoInput};
 ghost use Rattle.mark_green.specs.Ensures.{EnsureGives};
 
+use crate::bringing::ensure;
+use crate::fault::Fault;
+use crate::store::Store;
 use fingerprint::Sealed;
 use item_ids::Key;
 use job_table::{Asked, Table, TableFault};
-use mark_green::{Fault, Store, ensure};
 use recorder::{Outcome, Runner};
 use sessions::Session;
 use std::alloc::{AllocError, Global};
@@ -63,7 +67,7 @@ impl<R: Runner> Store for Solo<R> {
     ghost outcome_in = { λ o. arc_value o };
 
     fn ask(&mut self, w: u32, key: &Key) -> Result<Asked, TableFault> {
-        self.table.ask(w, key)
+        ask_table(&mut self.table, w, key)
     }
 
     fn mark(&mut self, w: u32, key: &Key) -> Result<Arc<Sealed>, TableFault> {
@@ -85,4 +89,13 @@ impl<R: Runner> Store for Solo<R> {
     fn past(&self) -> Result<Option<Arc<Session>>, AllocError> {
         self.table.past()
     }
+}
+
+/// Asks a table for a key. The inputs are done from its opening on, so that none is claimed.
+pub fn ask_table<R: Runner>(table: &mut Table<R>, w: u32, key: &Key) -> Result<Asked, TableFault>
+    ensures gives { AskGives table.old w key.now result table.new }
+    ensures claims { ClaimsNoInput key.now result }
+{
+    table.laws();
+    table.ask(w, key)
 }

@@ -1,10 +1,10 @@
-use Rattle.std.proofs.Common.{◌+◌, ◌*◌}
+use Rattle.std.proofs.Common.{◌≡◌, ◌+◌, ◌*◌}
 use Rattle.recorder.specs.Backed.{rank}
 use Rattle.sessions.specs.Sessions.{key_at}
 use Rattle.mark_green.proofs.Held.{Held}
 use Rattle.mark_green.proofs.Turning.{Holds}
 use Rattle.mark_green.proofs.Working.{SoFar}
-use Rattle.mark_green.proofs.bringing.+ensure.Given as goal
+use Rattle.mark_green.proofs.worker.Worker.+ensure.Given as goal
 
 abbrev pub decreases-ensure : goal.decreases-ensure
 decreases-ensure g l = 8 * rank l.key.now + 7
@@ -37,7 +37,14 @@ abbrev pub decreases-fetch : goal.decreases-fetch
 decreases-fetch g l = 8 * rank l.lacked + 7
 
 abbrev pub invariant-walk_edges-edges : goal.invariant-walk_edges-edges
-invariant-walk_edges-edges g l = SoFar l.past l.w l.key l.edges l.at-index (g.S.Store.table l.fn.store) (g.S.Store.table l.store)
+invariant-walk_edges-edges g l =
+    (l.self.store.ghost_name ≡ l.fn.self.store.ghost_name)
+    × (l.self.id ≡ l.fn.self.id)
+    × SoFar l.past l.fn.self.id l.key l.edges l.at-index (g.S.Store.table l.fn.self.store.now) (g.S.Store.table l.self.store.now)
 
 abbrev pub invariant-turns-again : goal.invariant-turns-again
-invariant-turns-again g l = Holds l.w l.key l.held (g.S.Store.table l.fn.store) (g.S.Store.table l.store) × Held l.held (g.S.Store.table l.store)
+invariant-turns-again g l =
+    (l.self.store.ghost_name ≡ l.fn.self.store.ghost_name)
+    × (l.self.id ≡ l.fn.self.id)
+    × Holds l.fn.self.id l.key l.held (g.S.Store.table l.fn.self.store.now) (g.S.Store.table l.self.store.now)
+    × Held l.held (g.S.Store.table l.self.store.now)

@@ -1,0 +1,183 @@
+use Rattle.std.proofs.Common.{rules, ◌≡◌, ℕ, ◌<◌, length, get_or, Bool, subst, ap, ◌∙◌, arith, Option, Some}
+use Rattle.std.specs.Prelude.{Result, Ok, Err}
+use Rattle.std.specs.declared.alloc.Global.{Global}
+use Rattle.std.specs.declared.sync.Arc.{Arc}
+use Rattle.result_bytes.specs.declared.value.Value.{Value}
+use Rattle.sessions.specs.Sessions.{key_at}
+use Rattle.recorder.specs.Backed.{rank}
+use Rattle.recorder.specs.Runs.{OutcomeValue}
+use Rattle.job_table.specs.declared.fault.Asked.{Asked}
+use Rattle.job_table.specs.declared.fault.TableFault.{TableFault}
+use Rattle.mark_green.specs.declared.asking.Stop.{Stop}
+use Rattle.mark_green.specs.declared.fault.Fault.{Fault}
+use Rattle.mark_green.specs.Moves.{Halts}
+use Rattle.mark_green.proofs.Held.{held_more}
+use Rattle.graph_rules.specs.Steps.{Claimed, Running, AllUnchanged, AreHeld}
+use Rattle.job_table.specs.Tables.{session_in, state_of}
+use Rattle.job_table.specs.Calls.{walk_in}
+use Rattle.mark_green.specs.Leaves.{Tells, HasStatus}
+use Rattle.mark_green.specs.Ensures.{WorkGives}
+use Rattle.mark_green.proofs.Turning.{Works, Fetches, Turns, Ends, Runs, Begins, Starts, fetch_ok, fetch_lost, fetch_up, turn_stopped, turn_more, turn_up, holds_more, ends_ok, ends_up, ends_lost, run_ended, run_up, start_run}
+use Rattle.mark_green.proofs.Working.{Ensured, Edges, Walks, Overs, Asks, edge_ok, far_more, far_changed, far_up, over_marked_at, over_run_at, over_up_at, ensured_work, ensured_busy}
+use Rattle.mark_green.proofs.worker.Worker.+ensure.Goals as goal
+
+pub ensure-returns-in-Ok-Yours-clause-gives : goal.ensure-returns-in-Ok-Yours-clause-gives
+ensure-returns-in-Ok-Yours-clause-gives g t c =
+    let w = c.args.self.now.id in
+    let a = subst (λ (r : Result Asked TableFault). Asks w c.args.key.now r (g.S.Store.table c.args.self.now.store.now) (g.S.Store.table c.ask.new.self)) (c.in-Ok-Yours.is ∙ ap Ok c.in-Ok-Yours.field-0-is) c.ask.ensures.gives in
+    ensured_work w c.args.key.now _ _ _ c.work.result a c.work.ensures.gives
+
+pub ensure-returns-in-Ok-Busy-clause-gives : goal.ensure-returns-in-Ok-Busy-clause-gives
+ensure-returns-in-Ok-Busy-clause-gives g t c =
+    let w = c.args.self.now.id in
+    let a = subst (λ (r : Result Asked TableFault). Asks w c.args.key.now r (g.S.Store.table c.args.self.now.store.now) (g.S.Store.table c.ask.new.self)) (c.in-Ok-Busy.is ∙ ap Ok c.in-Ok-Busy.field-0-is) c.ask.ensures.gives in
+    ensured_busy w c.args.key.now _ _ a
+
+pub fetch-returns-in-Ok-clause-gives : goal.fetch-returns-in-Ok-clause-gives
+fetch-returns-in-Ok-clause-gives g t c =
+    let w = c.args.self.now.id in
+    let h = subst (λ (r : Result (Arc Value Global) Fault). Works w c.args.lacked r (g.S.Store.table c.args.self.now.store.now) (g.S.Store.table c.work.new.self.store.now)) c.in_ok-sealed.was c.work.ensures.gives in
+    fetch_ok w c.args.lacked c.args.held.now c.hold.new.held c.in_ok-sealed.sealed c.in-Ok.ensures tt _ _ h
+
+pub fetch-returns-in-Err-clause-gives : goal.fetch-returns-in-Err-clause-gives
+fetch-returns-in-Err-clause-gives g t c =
+    let w = c.args.self.now.id in
+    let h = subst (λ (r : Result (Arc Value Global) Fault). Works w c.args.lacked r (g.S.Store.table c.args.self.now.store.now) (g.S.Store.table c.work.new.self.store.now)) c.in_ok-sealed.was c.work.ensures.gives in
+    fetch_lost w c.args.lacked c.args.held.now c.hold.new.held c.in_ok-sealed.sealed c.give_up.result c.give_up.ensures.fault _ _ _ h c.give_up.ensures.stops
+
+pub fetch-returns-in_err-sealed-clause-gives : goal.fetch-returns-in_err-sealed-clause-gives
+fetch-returns-in_err-sealed-clause-gives g t c =
+    let w = c.args.self.now.id in
+    let h = subst (λ (r : Result (Arc Value Global) Fault). Works w c.args.lacked r (g.S.Store.table c.args.self.now.store.now) (g.S.Store.table c.work.new.self.store.now)) c.in_err-sealed.was c.work.ensures.gives in
+    let h : Fetches w c.args.lacked (Err c.in_err-sealed.field-0.0) c.args.held.now c.args.held.now (g.S.Store.table c.args.self.now.store.now) (g.S.Store.table c.work.new.self.store.now) =
+    fetch_up w c.args.lacked c.args.held.now c.args.held.now c.in_err-sealed.field-0.0 _ _ h in
+    search rules
+
+pub is_unchanged-returns-clause-gives : goal.is_unchanged-returns-clause-gives
+is_unchanged-returns-clause-gives g t c =
+    let r = c.index-records-at.result in
+    let is = rw c.records.ensures.value at c.index-records-at.is in
+    let w = c.args.self.now.id in
+    let m = rw c.key.ensures at c.ensure.ensures.gives in
+    let e = subst (λ (x : Result (Arc Value Global) Fault). Ensured w r.key x (g.S.Store.table c.args.self.now.store.now) (g.S.Store.table c.ensure.new.self.store.now)) c.in_ok-sealed.was m in
+    edge_ok c.args.past.now c.records.ensures.session c.args.at r c.requires.within is w _ _ c.in_ok-sealed.sealed c.is_same.result c.is_same.ensures.0 c.is_same.ensures.1 e
+
+pub run-returns-clause-gives : goal.run-returns-clause-gives
+run-returns-clause-gives g t c =
+    let w = c.args.self.now.id in
+    let so = subst (λ (r : Result OutcomeValue Fault). Ends w c.args.key.now r (g.S.Store.table c.args.self.now.store.now) (g.S.Store.table c.turns.new.self.store.now)) c.in_ok-outcome.was c.turns.ensures.gives in
+    run_ended w c.args.key.now c.end_run.result c.in_ok-outcome.outcome _ _ _ so
+    (subst (λ (n : ℕ). Tells (λ t u. HasStatus (Running n) n c.args.key.now t → AreHeld (state_of t) c.in_ok-outcome.outcome.told → WorkGives t n c.args.key.now c.end_run.result u) (g.S.Store.table c.turns.new.self.store.now) (g.S.Store.table c.end_run.new.self.store.now)) c.turns.ensures.id c.end_run.ensures.gives)
+
+pub run-returns-in_err-outcome-clause-gives : goal.run-returns-in_err-outcome-clause-gives
+run-returns-in_err-outcome-clause-gives g t c =
+    let w = c.args.self.now.id in
+    let so = subst (λ (r : Result OutcomeValue Fault). Ends w c.args.key.now r (g.S.Store.table c.args.self.now.store.now) (g.S.Store.table c.turns.new.self.store.now)) c.in_err-outcome.was c.turns.ensures.gives in
+    let h : Runs w c.args.key.now (Err c.in_err-outcome.field-0.0) (g.S.Store.table c.args.self.now.store.now) (g.S.Store.table c.turns.new.self.store.now) =
+    run_up w c.args.key.now c.in_err-outcome.field-0.0 _ _ so in
+    search rules
+
+pub start-returns-in-Ok-clause-gives : goal.start-returns-in-Ok-clause-gives
+start-returns-in-Ok-clause-gives g t c =
+    let w = c.args.self.now.id in
+    let b = subst (λ (r : Result (Unit {0}) TableFault). Begins w c.args.key.now r (g.S.Store.table c.args.self.now.store.now) (g.S.Store.table c.begin_run.new.self)) c.in-Ok.is c.begin_run.ensures in
+    start_run w c.args.key.now c.run.result tt _ _ _ b c.run.ensures.gives
+
+pub turn-returns-in_ok-fetch-in-Err-Lacks-clause-gives : goal.turn-returns-in_ok-fetch-in-Err-Lacks-clause-gives
+turn-returns-in_ok-fetch-in-Err-Lacks-clause-gives g t c =
+    let w = c.args.self.now.id in
+    let h = subst (λ (x : Stop). Halts w (rank c.args.key.now) x (g.S.Store.table c.args.self.now.store.now) (g.S.Store.table c.run_once.new.store)) c.in-Err-Lacks.field-0-is c.in-Err-Lacks.ensures.halts in
+    let f = subst (λ (r : Result (Unit {0}) Fault). Fetches w c.in-Err-Lacks.lacked r c.args.held.now c.fetch.new.held (g.S.Store.table c.run_once.new.store) (g.S.Store.table c.fetch.new.self.store.now)) c.in_ok-fetch-in-Err-Lacks.was c.fetch.ensures.gives in
+    turn_more w c.args.key.now c.args.held.now c.fetch.new.held c.in-Err-Lacks.lacked tt _ _ _ h f
+
+pub turn-returns-in_ok-fetch-in-Err-Lacks-clause-held : goal.turn-returns-in_ok-fetch-in-Err-Lacks-clause-held
+turn-returns-in_ok-fetch-in-Err-Lacks-clause-held g t c =
+    let w = c.args.self.now.id in
+    let h = subst (λ (x : Stop). Halts w (rank c.args.key.now) x (g.S.Store.table c.args.self.now.store.now) (g.S.Store.table c.run_once.new.store)) c.in-Err-Lacks.field-0-is c.in-Err-Lacks.ensures.halts in
+    let f = subst (λ (r : Result (Unit {0}) Fault). Fetches w c.in-Err-Lacks.lacked r c.args.held.now c.fetch.new.held (g.S.Store.table c.run_once.new.store) (g.S.Store.table c.fetch.new.self.store.now)) c.in_ok-fetch-in-Err-Lacks.was c.fetch.ensures.gives in
+    held_more w c.args.key.now c.in-Err-Lacks.lacked c.args.held.now c.fetch.new.held tt _ _ _ h f
+
+pub turn-returns-in_err-fetch-in-Err-Lacks-clause-gives : goal.turn-returns-in_err-fetch-in-Err-Lacks-clause-gives
+turn-returns-in_err-fetch-in-Err-Lacks-clause-gives g t c =
+    let w = c.args.self.now.id in
+    let h = subst (λ (x : Stop). Halts w (rank c.args.key.now) x (g.S.Store.table c.args.self.now.store.now) (g.S.Store.table c.run_once.new.store)) c.in-Err-Lacks.field-0-is c.in-Err-Lacks.ensures.halts in
+    let f = subst (λ (r : Result (Unit {0}) Fault). Fetches w c.in-Err-Lacks.lacked r c.args.held.now c.fetch.new.held (g.S.Store.table c.run_once.new.store) (g.S.Store.table c.fetch.new.self.store.now)) c.in_err-fetch-in-Err-Lacks.was c.fetch.ensures.gives in
+    let h : Turns w c.args.key.now (Err c.in_err-fetch-in-Err-Lacks.field-0.0) c.args.held.now c.fetch.new.held (g.S.Store.table c.args.self.now.store.now) (g.S.Store.table c.fetch.new.self.store.now) =
+    turn_up w c.args.key.now c.args.held.now c.fetch.new.held c.in-Err-Lacks.lacked c.in_err-fetch-in-Err-Lacks.field-0.0 _ _ _ h f in
+    search rules
+
+pub turn-returns-in-Err-clause-gives : goal.turn-returns-in-Err-clause-gives
+turn-returns-in-Err-clause-gives g t c =
+    let w = c.args.self.now.id in
+    turn_stopped w c.args.key.now c.args.held.now c.args.held.now c.in-Err.stop c.give_up_run.result c.give_up_run.ensures.fault _ _ _ c.in-Err.ensures.halts c.give_up_run.ensures.stops
+
+pub turns-returns-in-Some-clause-gives : goal.turns-returns-in-Some-clause-gives
+turns-returns-in-Some-clause-gives g t c =
+    let w = c.args.self.now.id in
+    let h = subst (λ (r : Result (Option OutcomeValue) Fault). Turns w c.args.key.now r c.again.held c.turn.new.held (g.S.Store.table c.again.self.store.now) (g.S.Store.table c.turn.new.self.store.now)) (c.in_ok-outcome.was ∙ ap Ok c.in-Some.is) (subst (λ (n : ℕ). Turns n c.args.key.now c.turn.result c.again.held c.turn.new.held (g.S.Store.table c.again.self.store.now) (g.S.Store.table c.turn.new.self.store.now)) c.again.invariant.1 c.turn.ensures.gives) in
+    ends_ok w c.args.key.now c.again.held c.turn.new.held _ _ _ c.again.invariant.2 c.in-Some.outcome h
+
+pub turns-returns-in-Some-clause-held : goal.turns-returns-in-Some-clause-held
+turns-returns-in-Some-clause-held g t c =
+    let held = rw (c.in_ok-outcome.was, c.in-Some.is) at c.turn.ensures.held in
+    held c.again.invariant.3
+
+pub turns-returns-in_err-outcome-clause-gives : goal.turns-returns-in_err-outcome-clause-gives
+turns-returns-in_err-outcome-clause-gives g t c =
+    let w = c.args.self.now.id in
+    let h = subst (λ (r : Result (Option OutcomeValue) Fault). Turns w c.args.key.now r c.again.held c.turn.new.held (g.S.Store.table c.again.self.store.now) (g.S.Store.table c.turn.new.self.store.now)) c.in_err-outcome.was (subst (λ (n : ℕ). Turns n c.args.key.now c.turn.result c.again.held c.turn.new.held (g.S.Store.table c.again.self.store.now) (g.S.Store.table c.turn.new.self.store.now)) c.again.invariant.1 c.turn.ensures.gives) in
+    let h : Ends w c.args.key.now (Err c.in_err-outcome.field-0.0) (g.S.Store.table c.args.self.now.store.now) (g.S.Store.table c.turn.new.self.store.now) =
+    ends_up w c.args.key.now c.again.held c.turn.new.held _ _ _ c.again.invariant.2 c.in_err-outcome.field-0.0 h in
+    search rules
+
+pub turns-returns-clause-gives : goal.turns-returns-clause-gives
+turns-returns-clause-gives g t c =
+    ends_lost c.args.self.now.id c.args.key.now c.again.held c.again.held _ _ _ c.again.invariant.2 c.give_up.result c.give_up.ensures.fault c.give_up.ensures.stops
+
+pub turns-again-preserved : goal.turns-again-preserved
+turns-again-preserved g t c =
+    let w = c.args.self.now.id in
+    let h = subst (λ (r : Result (Option OutcomeValue) Fault). Turns w c.args.key.now r c.again.held c.turn.new.held (g.S.Store.table c.again.self.store.now) (g.S.Store.table c.turn.new.self.store.now)) (c.in_ok-outcome.was ∙ ap Ok c.in_default.is) (subst (λ (n : ℕ). Turns n c.args.key.now c.turn.result c.again.held c.turn.new.held (g.S.Store.table c.again.self.store.now) (g.S.Store.table c.turn.new.self.store.now)) c.again.invariant.1 c.turn.ensures.gives) in
+    let held = rw (c.in_ok-outcome.was, c.in_default.is) at c.turn.ensures.held in
+    (c.turn.ensures.store ∙ c.again.invariant.0, c.turn.ensures.id ∙ c.again.invariant.1, holds_more w c.args.key.now c.again.held c.turn.new.held _ _ _ c.again.invariant.2 h, held c.again.invariant.3)
+
+pub walk_edges-returns-then-not-branch-clause-gives : goal.walk_edges-returns-then-not-branch-clause-gives
+walk_edges-returns-then-not-branch-clause-gives g t c =
+    let w = c.args.self.now.id in
+    let lt : c.edges.at-index < length c.args.edges.now = omega arith in
+    let e = subst (λ (r : Result Bool Fault). Edges c.args.past.now w (key_at c.args.past.now.records (get_or c.args.edges.now c.edges.at-index 0)) r (g.S.Store.table c.edges.self.store.now) (g.S.Store.table c.is_unchanged.new.self.store.now)) (c.in_ok-is_unchanged.was ∙ ap Ok c.if-not-branch.true) (subst (λ (n : ℕ). Edges c.args.past.now n (key_at c.args.past.now.records (get_or c.args.edges.now c.edges.at-index 0)) c.is_unchanged.result (g.S.Store.table c.edges.self.store.now) (g.S.Store.table c.is_unchanged.new.self.store.now)) c.edges.invariant.1 c.is_unchanged.ensures.gives) in
+    far_changed c.args.past.now w c.args.key.now c.args.edges.now c.edges.at-index _ _ c.edges.invariant.2 lt _ e
+
+pub walk_edges-returns-in_err-is_unchanged-clause-gives : goal.walk_edges-returns-in_err-is_unchanged-clause-gives
+walk_edges-returns-in_err-is_unchanged-clause-gives g t c =
+    let w = c.args.self.now.id in
+    let lt : c.edges.at-index < length c.args.edges.now = omega arith in
+    let e = subst (λ (r : Result Bool Fault). Edges c.args.past.now w (key_at c.args.past.now.records (get_or c.args.edges.now c.edges.at-index 0)) r (g.S.Store.table c.edges.self.store.now) (g.S.Store.table c.is_unchanged.new.self.store.now)) c.in_err-is_unchanged.was (subst (λ (n : ℕ). Edges c.args.past.now n (key_at c.args.past.now.records (get_or c.args.edges.now c.edges.at-index 0)) c.is_unchanged.result (g.S.Store.table c.edges.self.store.now) (g.S.Store.table c.is_unchanged.new.self.store.now)) c.edges.invariant.1 c.is_unchanged.ensures.gives) in
+    let h : Walks c.args.past.now w c.args.key.now c.args.edges.now (Err c.in_err-is_unchanged.field-0.0) (g.S.Store.table c.args.self.now.store.now) (g.S.Store.table c.is_unchanged.new.self.store.now) =
+    far_up c.args.past.now w c.args.key.now c.args.edges.now c.edges.at-index _ _ c.edges.invariant.2 lt _ c.in_err-is_unchanged.field-0.0 c.requires.edges e in
+    search rules
+
+pub walk_edges-edges-preserved : goal.walk_edges-edges-preserved
+walk_edges-edges-preserved g t c =
+    let w = c.args.self.now.id in
+    let lt : c.edges.at-index < length c.args.edges.now = omega arith in
+    let e = subst (λ (r : Result Bool Fault). Edges c.args.past.now w (key_at c.args.past.now.records (get_or c.args.edges.now c.edges.at-index 0)) r (g.S.Store.table c.edges.self.store.now) (g.S.Store.table c.is_unchanged.new.self.store.now)) (c.in_ok-is_unchanged.was ∙ ap Ok c.if-not-branch.false) (subst (λ (n : ℕ). Edges c.args.past.now n (key_at c.args.past.now.records (get_or c.args.edges.now c.edges.at-index 0)) c.is_unchanged.result (g.S.Store.table c.edges.self.store.now) (g.S.Store.table c.is_unchanged.new.self.store.now)) c.edges.invariant.1 c.is_unchanged.ensures.gives) in
+    (c.is_unchanged.ensures.store ∙ c.edges.invariant.0, c.is_unchanged.ensures.id ∙ c.edges.invariant.1, far_more c.args.past.now w c.args.key.now c.args.edges.now c.edges.at-index _ _ c.edges.invariant.2 lt _ e)
+
+pub work_over-returns-then-branch-clause-gives : goal.work_over-returns-then-branch-clause-gives
+work_over-returns-then-branch-clause-gives g t c =
+    over_marked_at c.args.self.now.id c.args.key.now c.mark.result c.args.past.now c.in-Some.past c.in-Some.is c.deref.result.now c.deref-2.result.now c.deref.ensures c.deref-2.ensures
+    c.in-Some-past_edges.edges.now c.in-Some-past_edges.ensures.found c.walk_edges.result _ _ _ c.walk_edges.ensures.gives (c.in_ok-walk_edges.was ∙ ap Ok c.if-branch.true)
+    (subst (λ (n : ℕ). Tells (λ t u. HasStatus (Claimed n) n c.args.key.now t → walk_in t c.args.key.now ≡ Some AllUnchanged → WorkGives t n c.args.key.now c.mark.result u) (g.S.Store.table c.walk_edges.new.self.store.now) (g.S.Store.table c.mark.new.self.store.now)) c.walk_edges.ensures.id c.mark.ensures.gives)
+
+pub work_over-returns-else-branch-clause-gives : goal.work_over-returns-else-branch-clause-gives
+work_over-returns-else-branch-clause-gives g t c =
+    over_run_at c.args.self.now.id c.args.key.now c.start-else-branch.result c.args.past.now c.in-Some.past c.in-Some.is c.deref.result.now c.deref-2.result.now c.deref.ensures c.deref-2.ensures
+    c.in-Some-past_edges.edges.now c.in-Some-past_edges.ensures.found c.walk_edges.result _ _ _ c.walk_edges.ensures.gives (c.in_ok-walk_edges.was ∙ ap Ok c.if-branch.false)
+    (subst (λ (n : ℕ). Starts n c.args.key.now c.start-else-branch.result (g.S.Store.table c.walk_edges.new.self.store.now) (g.S.Store.table c.start-else-branch.new.self.store.now)) c.walk_edges.ensures.id c.start-else-branch.ensures.gives)
+
+pub work_over-returns-in_err-walk_edges-clause-gives : goal.work_over-returns-in_err-walk_edges-clause-gives
+work_over-returns-in_err-walk_edges-clause-gives g t c =
+    let h : Overs (session_in c.args.past.now) c.args.self.now.id c.args.key.now (Err c.in_err-walk_edges.field-0.0) (g.S.Store.table c.args.self.now.store.now) (g.S.Store.table c.walk_edges.new.self.store.now) =
+    over_up_at c.args.self.now.id c.args.key.now c.args.past.now c.in-Some.past c.in-Some.is c.deref-2.result.now c.deref-2.ensures c.in-Some-past_edges.edges.now c.walk_edges.result c.in_err-walk_edges.field-0.0 c.in_err-walk_edges.was _ _ c.walk_edges.ensures.gives in
+    search rules
