@@ -4,12 +4,16 @@ use Rattle.std.specs.Prelude.{Contains, IfSome}
 use Rattle.std.specs.declared.alloc.Global.{Global}
 use Rattle.std.specs.declared.sync.Arc.{Arc}
 use Rattle.item_ids.specs.declared.key.Key.TheVariants.{Answer}
+use Rattle.result_bytes.specs.declared.value.Value.TheVariants as values
+use Rattle.mj_answer.specs.AnswerValues.{AnswerValue}
+use Rattle.mj_rules.specs.Answering.{rules_of}
+use Rattle.mj_rules.specs.Laws.{AnswerLaw}
 use Rattle.recorder.specs.Projects.{Project}
 use Rattle.query_rules.specs.Meaning.{mean}
 use Rattle.query_rules.specs.Reads.{reads}
 use Rattle.providers.proofs.AnswerKind.{answer_value}
 use Rattle.sessions.specs.Sessions.{RecordValue, SessionValue, IsSession, Entry, entries, entry_at, entry_of}
-use Rattle.sessions.proofs.EntryRules.{entry_of_place}
+use Rattle.sessions.proofs.EntryRules.{entry_of_place, has_key}
 use Rattle.graph_rules.specs.Steps.{State}
 use Rattle.graph_rules.specs.Graphs.{AreClosed, answer}
 use Rattle.graph_rules.specs.Graphs.IsReached.{root as starts}
@@ -17,9 +21,11 @@ use Rattle.graph_rules.proofs.SessionRules.{session_graph}
 use Rattle.job_table.specs.Tables.{IsFull, session_in as session_at_table}
 use Rattle.session_cache.specs.Names.{most}
 use Rattle.session_cache.specs.Starts.{session_in}
-use Rattle.driver.specs.Sessions.{AreEventsOf, IsSessionOf}
-use Rattle.session_reports.specs.declared.reports.Reports.{Reports}
-use Rattle.cached_check.specs.Checks.{IsAnswered, IsNextSession}
+use Rattle.next_sessions.specs.Nexts.{DecidesNext, IsNextSession}
+use Rattle.next_sessions.proofs.NextRight.{entry_told}
+use Rattle.driver.specs.Sessions.{IsSessionOf}
+use Rattle.driver.specs.declared.reports.Reports.{Reports}
+use Rattle.cached_check.specs.Checks.{IsAnswered, IsNextByRules, IsMadeOver}
 
 -- a record at some place of the list that is mapped
 mapped_at : (rs xs : List RecordValue) (i : ℕ) (r : Entry) → i < length (map (entry_of rs) xs) → get_or (map (entry_of rs) xs) i r ≡ r
@@ -56,10 +62,44 @@ pub has_room : (past : Option (Arc SessionValue Global)) → IfSome (session_in 
 has_room None room full = full
 has_room (Some s) room full = omega arith
 
-pub next : (past : Option (Arc SessionValue Global)) (p : Project) (workers : ℕ) (s : SessionValue) (r : Reports) → IsSession s
-    → IsSessionOf mean reads (session_at_table past) p workers s r → IsNextSession (session_in past) p s
-next past p workers s r session of = record {
-  history = of.history;
-  events = subst (λ (o : Option SessionValue). AreEventsOf mean reads o p of.history s) (same_past past) of.events;
-  answered = closed_answered p s session _ of.events.closing.closed;
+-- ---- the answer of the rules
+
+means_the_rules : (p : Project) → mean p Answer ≡ values.Answer (rules_of p)
+unfolding mean
+means_the_rules p = refl
+
+same_answer : (a b : AnswerValue) → values.Answer a ≡ values.Answer b → a ≡ b
+same_answer a b e = cc
+
+-- the next session's record of the answer has what the project gives
+next_means : (past : Option SessionValue) (p : Project) (s : SessionValue) → IsNextSession mean reads past p s
+    → (r : Entry) → entry_at s Answer ≡ Some r → r.value ≡ mean p Answer
+next_means past p s is r has =
+    let key : r.key ≡ Answer = has_key s is.session Answer r has in
+    (is.told.each r (entry_told s Answer r has)).value ∙ ap (mean p) key
+
+of_the_rules : AnswerLaw → (past : Option SessionValue) (p : Project) (s : SessionValue) → IsNextSession mean reads past p s → IsNextByRules past p s
+of_the_rules law past p s is = record {
+  next = is;
+  rules = λ answer recorded.
+      let same : answer ≡ rules_of p = same_answer answer (rules_of p)
+      (sym recorded.value ∙ next_means past p s is recorded.entry recorded.has ∙ means_the_rules p) in
+      (law p answer).1 same;
 }
+
+module _ (law : AnswerLaw) (past : Option (Arc SessionValue Global)) (p : Project) (workers : ℕ) (s : SessionValue) (r : Reports) where
+  made : IsSession s → IsSessionOf mean reads (session_at_table past) p workers s r
+      → (DecidesNext mean reads (session_at_table past) p → IsNextSession mean reads (session_at_table past) p s)
+      → IsMadeOver (session_at_table past) p s
+  made session of next = record {
+    history = of.history;
+    events = of.events;
+    answered = closed_answered p s session _ of.events.closing.closed;
+    decided = λ d. of_the_rules law (session_at_table past) p s (next d);
+  }
+
+  pub made_over : IsSession s → IsSessionOf mean reads (session_at_table past) p workers s r
+      → (DecidesNext mean reads (session_at_table past) p → IsNextSession mean reads (session_at_table past) p s)
+      → IsMadeOver (session_in past) p s
+  made_over session of next =
+      subst (λ (o : Option SessionValue). IsMadeOver o p s) (same_past past) (made session of next)

@@ -4,41 +4,59 @@ use Rattle.std.specs.declared.alloc.Global.{Global}
 use Rattle.item_ids.specs.declared.key.Key.TheVariants.{Answer}
 use Rattle.mj_answer.specs.AnswerValues.{AnswerValue}
 use Rattle.result_bytes.specs.declared.value.Value.TheVariants as values
+use Rattle.mj_rules.specs.Rules.{Rules}
 use Rattle.recorder.specs.Projects.{Project}
 use Rattle.query_rules.specs.Meaning.{mean}
 use Rattle.query_rules.specs.Reads.{reads}
 use Rattle.sessions.specs.Sessions.{Entry, SessionValue, entry_at}
 use Rattle.graph_rules.specs.Steps.{Event}
+use Rattle.next_sessions.specs.Nexts.{DecidesNext, IsNextSession}
 use Rattle.driver.specs.Sessions.{AreEventsOf}
-use Rattle.session_cache.specs.Starts.{IsStart, IsStartless, path_of, session_in}
+use Rattle.session_cache.specs.Starts.{IsLast, IsStart, IsStartBehind, IsStartless, path_of, session_in}
 use Rattle.session_cache.specs.declared.fault.CacheFault.TheVariants as cache
 use Rattle.session_cache.specs.declared.place.Place.{Place}
+use Rattle.session_cache.specs.declared.start.Last.{Last}
 use Rattle.session_cache.specs.declared.start.Start.{Start}
 use Rattle.cached_check.specs.Lines.{AreNotes}
 use Rattle.cached_check.specs.declared.beginning.Beginning.{Beginning}
 use Rattle.cached_check.specs.declared.fault.CheckFault.{CheckFault}
 use Rattle.cached_check.specs.declared.fault.CheckFault.TheVariants as fault
 
--- A session begins behind another one, or a chain; the notes tell of a file that isn't followed.
-pub record IsBeginning (dir : List ℕ) (b : Beginning) : Type 0 where
+-- A session begins where what was read of the cache's last chain lets it; the notes tell of a file
+-- that isn't followed.
+pub record BeginsBehind (dir : List ℕ) (last : Last) (b : Beginning) : Type 0 where
   pub start : Start
+  pub behind : IsStartBehind last start
   pub begins : IsStart start
   pub past : start.past ≡ b.past
   pub place : start.place ≡ Some b.place
   pub notes : AreNotes dir start.note (string_bytes b.notes)
 
 -- there is no beginning past the last chain
-pub record HasNoChain (dir : List ℕ) (told : String Global) : Type 0 where
+pub record HasNoChain (dir : List ℕ) (last : Last) (told : String Global) : Type 0 where
   pub start : Start
+  pub behind : IsStartBehind last start
   pub begins : IsStart start
   pub place : start.place ≡ None
   pub notes : AreNotes dir start.note (string_bytes told)
+
+-- why it doesn't begin: there is no chain for it, or memory ran out
+abbrev pub IsUnbegunBehind : List ℕ → Last → CheckFault → Type 0
+IsUnbegunBehind dir last (fault.CannotRead path) = ⊥
+IsUnbegunBehind dir last (fault.CannotWrite told path) =
+    (string_bytes path ≡ dir) × HasNoChain dir last told
+IsUnbegunBehind dir last fault.OutOfMemory = Unit {0}
+
+-- it begins behind what was read
+abbrev pub IsBeginning : List ℕ → Beginning → Type 0
+IsBeginning dir b = (last : Last) × IsLast last × BeginsBehind dir last b
 
 -- why a session doesn't begin: the folder of the cache or the last file in it can't be read, or there
 -- is no chain for it, or memory ran out
 abbrev pub IsUnbegun : List ℕ → CheckFault → Type 0
 IsUnbegun dir (fault.CannotRead path) = IsStartless dir (cache.CannotRead path)
-IsUnbegun dir (fault.CannotWrite told path) = (string_bytes path ≡ dir) × HasNoChain dir told
+IsUnbegun dir (fault.CannotWrite told path) =
+    (string_bytes path ≡ dir) × (last : Last) × IsLast last × HasNoChain dir last told
 IsUnbegun dir fault.OutOfMemory = Unit {0}
 
 -- this path can't be read, or memory ran out
@@ -64,13 +82,21 @@ pub record IsAnswerIn (s : SessionValue) (answer : AnswerValue) : Type 0 where
 abbrev pub IsAnswered : SessionValue → Type 0
 IsAnswered s = (answer : AnswerValue) × IsAnswerIn s answer
 
+-- It is the one next session, and its answer is the one that the static rules give the files.
+pub record IsNextByRules (past : Option SessionValue) (p : Project) (s : SessionValue)
+    : Type 0 where
+  pub next : IsNextSession mean reads past p s
+  pub rules : (answer : AnswerValue) → IsAnswerIn s answer → Rules p answer
+
 -- The session comes of a legal history over the past and the project, in which each outcome is one
--- that MiniJava's queries give to their reads, and it records the answer.
-pub record IsNextSession (past : Option SessionValue) (p : Project) (s : SessionValue) : Type 0 where
+-- that MiniJava's queries give to their reads, and it records the answer. Where the past and the
+-- project decide the next session, it is that one, with the answer of the static rules.
+pub record IsMadeOver (past : Option SessionValue) (p : Project) (s : SessionValue) : Type 0 where
   pub history : List Event
   pub events : AreEventsOf mean reads past p history s
   pub answered : IsAnswered s
+  pub decided : DecidesNext mean reads past p → IsNextByRules past p s
 
 -- the session comes where it is to begin
 abbrev pub IsNextAt : Beginning → Project → SessionValue → Type 0
-IsNextAt b p s = IsNextSession (session_in b.past) p s
+IsNextAt b p s = IsMadeOver (session_in b.past) p s

@@ -1,12 +1,14 @@
 //! Where the next session begins, and where it is kept.
 ghost use Rattle.std.specs.Prelude.{◌≡◌, [], IfOk, IfErr, IfSome, IsErrAnd, string_bytes};
-ghost use Rattle.session_cache.specs.Starts.{IsPlace, IsStart};
+ghost use Rattle.session_cache.specs.Starts.{IsLast, IsPlace};
 ghost use Rattle.cached_check.specs.Lines.{AreNotes};
-ghost use Rattle.cached_check.specs.Checks.{IsBeginning, IsUnbegun, IsUnkept, IsUnreadAt};
+ghost use Rattle.cached_check.specs.Checks.{BeginsBehind, IsBeginning, IsUnbegun, IsUnbegunBehind, IsUnkept, IsUnreadAt};
 
 use crate::fault::CheckFault;
 use crate::words::note_text;
-use session_cache::{CacheFault, Note, Place, Start, file_bytes, find_start, write_file};
+use session_cache::{
+    CacheFault, Last, Note, Place, Start, file_bytes, find_last, start_behind, write_file,
+};
 use sessions::Session;
 use std::alloc::{AllocError, Global};
 use std::rt::Files;
@@ -25,27 +27,28 @@ pub struct Beginning {
 
 /// Where the next session begins in the cache of this folder: behind the last session of the last chain, or in a new chain
 /// where that one can't be followed. An empty word names no folder, and can't be read.
+#[tactic(auto, using(crate::proofs::Beginnings::begun, crate::proofs::Beginnings::unbegun))]
 pub fn begin<R: Files + AllocGlobal>(rt: &R, cache: &str) -> Result<Beginning, CheckFault>
     ensures begins { IfOk result (IsBeginning cache.now) }
     ensures failed { IfErr result (IsUnbegun cache.now) }
     ensures unnamed { cache.now ≡ [] → IsErrAnd result (IsUnreadAt []) }
 {
-    let alloc = rt.alloc();
-    match find_start(rt, cache) {
-        Ok(start) => begin_at(alloc, cache, start),
+    match find_last(rt, cache) {
+        Ok(last) => begin_behind(rt.alloc(), cache, last),
         Err(CacheFault::CannotRead(path)) => Err(CheckFault::CannotRead(path)),
         Err(CacheFault::CannotWrite(_)) => unreachable!(),
         Err(CacheFault::OutOfMemory) => Err(CheckFault::OutOfMemory),
     }
 }
 
-/// The beginning at this start. Past the last chain there is none.
-fn begin_at(alloc: Global, cache: &str, start: Start) -> Result<Beginning, CheckFault>
-    requires { IsStart start }
-    ensures begins { IfOk result (IsBeginning cache.now) }
-    ensures failed { IfErr result (IsUnbegun cache.now) }
+/// Where the next session begins in the cache of this folder, of whose last chain this was read. Past the last chain there is
+/// no beginning.
+pub fn begin_behind(alloc: Global, cache: &str, last: Last) -> Result<Beginning, CheckFault>
+    requires { IsLast last }
+    ensures begins { IfOk result (BeginsBehind cache.now last) }
+    ensures failed { IfErr result (IsUnbegunBehind cache.now last) }
 {
-    let Start { past, place, note } = start;
+    let Start { past, place, note } = start_behind(alloc, last)?;
     let notes = notes_of(alloc, cache, note)?;
     match place {
         Some(place) => Ok(Beginning { past, place, notes }),

@@ -5,11 +5,13 @@
 mod answer;
 mod beginning;
 mod fault;
+mod laws;
 mod next;
 mod words;
 
 pub use answer::answer_in;
-pub use beginning::{Beginning, begin, keep};
+pub use beginning::{Beginning, begin, begin_behind, keep};
 pub use fault::CheckFault;
+pub use laws::first_is_decided;
 pub use next::next_session;
 pub use words::summary_text;

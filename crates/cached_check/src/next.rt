@@ -3,16 +3,19 @@ ghost use Rattle.std.specs.Prelude.{◌<◌, IfOk, IfSome};
 ghost use Rattle.session_cache.specs.Names.{most};
 ghost use Rattle.session_cache.specs.Starts.{session_in};
 ghost use Rattle.driver.specs.Sessions.{IsCrew};
-ghost use Rattle.cached_check.specs.Checks.{IsNextSession};
+ghost use Rattle.cached_check.specs.Checks.{IsMadeOver};
 
 use mini_java_driver::{DriveFault, Open, run_session};
 use mj_project::Project;
+use mj_rules::answer_laws;
 use sessions::Session;
 use std::alloc::{AllocError, Global};
 use std::sync::{Arc, Wait};
 use std::thread::Threads;
 
-/// The session of a project that comes behind the past, made by so many workers, each in a thread of its own.
+/// The session of a project that comes behind the past, made by so many workers, each in a thread of its own. Where the past
+/// is a session of some project, or there is none, and no two different results of both have one print, it is the session
+/// that any workers make, and its answer is what the static rules give the project's files.
 pub fn next_session<T: Threads + Wait + Sync>(
     rt: &T,
     alloc: Global,
@@ -22,8 +25,9 @@ pub fn next_session<T: Threads + Wait + Sync>(
 ) -> Result<Session, AllocError>
     requires crew { IsCrew workers }
     requires room { IfSome (session_in past) (λ s. s.number < most) }
-    ensures { IfOk result (IsNextSession (session_in past) project.now) }
+    ensures { IfOk result (IsMadeOver (session_in past) project.now) }
 {
+    answer_laws();
     match run_session(rt, alloc, past, project, workers, &Open) {
         Ok((session, _)) => {
             let _records = session.records();

@@ -1,4 +1,7 @@
 //! Projects of files that short texts tell.
+ghost use Rattle.std.specs.Prelude.{◌≡◌, IfOk, map};
+ghost use Rattle.mj_project.specs.Projects.{source_view, sources_view};
+ghost use Rattle.crew_samples.specs.Made.{file_told, files_told};
 
 use answer_samples::Unfit;
 use mj_project::Project;
@@ -9,7 +12,9 @@ use std::alloc::{AllocError, Global};
 pub struct File(pub &'static str, pub &'static str);
 
 /// The project of these files.
-pub(crate) fn project_of(alloc: Global, files: &[File]) -> Result<Project, Unfit> {
+pub(crate) fn project_of(alloc: Global, files: &[File]) -> Result<Project, Unfit>
+    ensures { IfOk result (λ p. p ≡ files_told files.now) }
+{
     let files = files_of(alloc, files)?;
     match Project::new(alloc, files) {
         Ok(project) => Ok(project),
@@ -17,7 +22,9 @@ pub(crate) fn project_of(alloc: Global, files: &[File]) -> Result<Project, Unfit
     }
 }
 
-fn files_of(alloc: Global, files: &[File]) -> Result<Vec<(String, Vec<u8>)>, AllocError> {
+fn files_of(alloc: Global, files: &[File]) -> Result<Vec<(String, Vec<u8>)>, AllocError>
+    ensures { IfOk result (λ list. sources_view list.items ≡ files_told files.now) }
+{
     let mut list = Vec::new(alloc);
     for file in files {
         list.push(file_of(alloc, file)?)?;
@@ -25,7 +32,9 @@ fn files_of(alloc: Global, files: &[File]) -> Result<Vec<(String, Vec<u8>)>, All
     Ok(list)
 }
 
-fn file_of(alloc: Global, file: &File) -> Result<(String, Vec<u8>), AllocError> {
+fn file_of(alloc: Global, file: &File) -> Result<(String, Vec<u8>), AllocError>
+    ensures { IfOk result (λ f. source_view f ≡ file_told file.now) }
+{
     let File(name, text) = *file;
     let name = String::from_str(alloc, name)?;
     let bytes = text.as_bytes().to_vec(alloc)?;

@@ -24,14 +24,27 @@ fn project_of_text(alloc: Global, text: String) -> Result<Project, Unfit> {
     }
 }
 
-/// So many classes of a field and a method, each of which extends the one before it.
-fn chain_text(alloc: Global, classes: usize) -> Result<String, AllocError> {
+/// So many classes of a field and a method, each of which extends the one before it, but for the first and the one of this
+/// number.
+fn chain_text(alloc: Global, classes: usize, cut: Option<usize>) -> Result<String, AllocError> {
     let mut text = String::from_str(alloc, MAIN)?;
-    text.push_str("class C0 { int x0; public int f0() { return x0; } }\n")?;
+    add_root(alloc, &mut text, 0)?;
     for at in 1..classes {
-        add_link(alloc, &mut text, at)?;
+        if cut == Some(at) {
+            add_root(alloc, &mut text, at)?;
+        } else {
+            add_link(alloc, &mut text, at)?;
+        }
     }
     Ok(text)
+}
+
+/// Adds a class that extends no other.
+fn add_root(alloc: Global, text: &mut String, at: usize) -> Result<(), AllocError> {
+    let root = format!(in alloc;
+        "class C{at} {{ int x{at}; public int f{at}() {{ return x{at}; }} }}\n"
+    )?;
+    text.push_str(root.as_str())
 }
 
 /// Adds a class that extends the one before it.
@@ -61,7 +74,13 @@ fn body_text(alloc: Global, classes: usize) -> Result<String, AllocError> {
 
 /// The project of so many classes of a field and a method, each of which extends the one before it.
 pub fn chain(alloc: Global, classes: usize) -> Result<Project, Unfit> {
-    let text = chain_text(alloc, classes)?;
+    let text = chain_text(alloc, classes, None)?;
+    project_of_text(alloc, text)
+}
+
+/// The same project, but that the class of this number extends none.
+pub(crate) fn cut_chain(alloc: Global, classes: usize, cut: usize) -> Result<Project, Unfit> {
+    let text = chain_text(alloc, classes, Some(cut))?;
     project_of_text(alloc, text)
 }
 

@@ -4,15 +4,19 @@
 
 mod counting;
 mod files;
+mod holding;
 mod large;
 mod making;
 mod meeting;
+mod pairs;
 mod runs;
 mod seats;
+mod waiting;
 
 pub use files::File;
 pub use large::{chain, one_body};
-pub use making::{Edit, Made, made_by, workers_meet};
+pub use making::{Edit, Made, made_by, made_while_held, workers_meet};
 pub use meeting::Meeting;
-pub use runs::{Runs, digest_by_steps, fault_of_failing, runs_in, runs_of};
+pub use pairs::seats_meet;
+pub use runs::{Runs, digest_by, fault_of_failing, runs_in, runs_of};
 pub use seats::fellows_stop;

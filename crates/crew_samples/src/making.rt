@@ -1,10 +1,15 @@
 //! Sessions by several workers.
+ghost use Rattle.std.specs.Prelude.{◌≡◌, IfOk, IfSome, sum};
+ghost use Rattle.std.specs.Arc.{arc_value};
+ghost use Rattle.sessions.specs.Spelling.{digest_of};
 
 use crate::files::{File, project_of};
+use crate::holding::Holding;
+use crate::large::{chain, cut_chain};
 use crate::meeting::Meeting;
 use answer_samples::Unfit;
 use item_ids::Kind;
-use mini_java_driver::{Open, Reports, run_session};
+use mini_java_driver::{Gate, Open, Reports, run_session};
 use mj_project::Project;
 use session_file::digest;
 use sessions::Session;
@@ -29,16 +34,22 @@ pub struct Made {
 }
 
 /// How many events the workers have counted together. None where that is past the numbers that there are.
-fn total(reports: &Reports) -> Option<usize> {
+fn total(events: &[usize]) -> Option<usize>
+    ensures { IfSome result (λ n. n ≡ sum events.now) }
+{
     let mut total = 0usize;
-    for events in &reports.events {
-        total = total.checked_add(*events)?;
+    for made in events {
+        total = total.checked_add(*made)?;
     }
     Some(total)
 }
 
-fn made_of(session: &Session, reports: &Reports) -> Result<Made, Unfit> {
-    match total(reports) {
+fn made_of(session: &Session, reports: &Reports) -> Result<Made, Unfit>
+    ensures digest { IfOk result (λ made. made.digest ≡ digest_of session.now) }
+    ensures history { IfOk result (λ made. made.history ≡ reports.now.history) }
+    ensures events { IfOk result (λ made. made.events ≡ sum reports.now.events.items) }
+{
+    match total(reports.events.as_slice()) {
         Some(events) => Ok(Made {
             digest: digest(session),
             history: reports.history,
@@ -49,19 +60,22 @@ fn made_of(session: &Session, reports: &Reports) -> Result<Made, Unfit> {
 }
 
 /// A session, to be shared.
-pub(crate) fn share(alloc: Global, session: Session) -> Result<Arc<Session>, AllocError> {
+pub(crate) fn share(alloc: Global, session: Session) -> Result<Arc<Session>, AllocError>
+    ensures { IfOk result (λ shared. arc_value shared ≡ session) }
+{
     Ok(Arc::new(alloc, session)?)
 }
 
 /// The session of a project over the past, by so many workers, and what was made of it.
-fn session_over<T: Threads + Wait + Sync>(
+fn session_over<T: Threads + Wait + Sync, G: Gate + Sync>(
     rt: &T,
     alloc: Global,
     past: Option<Arc<Session>>,
     project: &Project,
     workers: usize,
+    gate: &G,
 ) -> Result<(Arc<Session>, Made), Unfit> {
-    match run_session(rt, alloc, past, project, workers, &Open) {
+    match run_session(rt, alloc, past, project, workers, gate) {
         Ok((session, reports)) => {
             let made = made_of(&session, &reports)?;
             Ok((share(alloc, session)?, made))
@@ -70,16 +84,18 @@ fn session_over<T: Threads + Wait + Sync>(
     }
 }
 
-/// The session of a project of this file over the past, by so many workers, and what was made of it.
-fn session_of<T: Threads + Wait + Sync>(
+/// What is made of a first session of one project, and of the one over it of another, by so many workers.
+fn made_of_both<T: Threads + Wait + Sync, G: Gate + Sync>(
     rt: &T,
     alloc: Global,
-    past: Option<Arc<Session>>,
-    file: File,
+    first: &Project,
+    second: &Project,
     workers: usize,
-) -> Result<(Arc<Session>, Made), Unfit> {
-    let project = project_of(alloc, &[file])?;
-    session_over(rt, alloc, past, &project, workers)
+    gate: &G,
+) -> Result<(Made, Made), Unfit> {
+    let (past, first) = session_over(rt, alloc, None, first, workers, gate)?;
+    let (_session, second) = session_over(rt, alloc, Some(past), second, workers, gate)?;
+    Ok((first, second))
 }
 
 /// What is made of a first session of the project, and of the one over it after the edit, by so many workers.
@@ -89,10 +105,23 @@ pub fn made_by<T: Threads + Wait + Sync>(
     edit: &Edit,
     workers: usize,
 ) -> Result<(Made, Made), Unfit> {
-    let (past, first) = session_of(rt, alloc, None, edit.file, workers)?;
-    let edited = File(edit.file.0, edit.edited);
-    let (_session, second) = session_of(rt, alloc, Some(past), edited, workers)?;
-    Ok((first, second))
+    let project = project_of(alloc, &[edit.file])?;
+    let edited = project_of(alloc, &[File(edit.file.0, edit.edited)])?;
+    made_of_both(rt, alloc, &project, &edited, workers, &Open)
+}
+
+/// What is made of a first session of a chain of so many classes, and of the one over it after the chain is cut in the middle,
+/// by so many workers, whose runs are held as this seed decides.
+pub fn made_while_held<T: Threads + Wait + Sync>(
+    rt: &T,
+    alloc: Global,
+    classes: usize,
+    workers: usize,
+    seed: u64,
+) -> Result<(Made, Made), Unfit> {
+    let project = chain(alloc, classes)?;
+    let edited = cut_chain(alloc, classes, classes / 2)?;
+    made_of_both(rt, alloc, &project, &edited, workers, &Holding::new(seed))
 }
 
 /// Whether in a session of these files by so many workers the first run of the kind that begins, held for so many turns at

@@ -4,10 +4,10 @@ use crate::counting::Counting;
 use crate::files::{File, project_of};
 use crate::making::share;
 use answer_samples::Unfit;
-use driver::{DriveFault, Open, drive, drive_in_steps};
+use driver::{Crew, DriveFault, Open, drive};
 use mj_project::Project;
 use session_file::digest;
-use sessions::{Mark, Session};
+use sessions::{Mark, Record, Session};
 use std::alloc::Global;
 use std::sync::atomic::{AtomicU64, Ordering};
 use std::sync::{Arc, Wait};
@@ -21,12 +21,13 @@ pub struct Runs {
 }
 
 /// How many records are executed.
-fn executed_in(session: &Session) -> usize {
-    session
-        .records()
-        .iter()
-        .filter(|record| record.mark() == Mark::Executed)
-        .count()
+fn executed_in(records: &[Record]) -> usize {
+    records.iter().filter(|item| is_executed(item)).count()
+}
+
+/// Whether a record is executed.
+fn is_executed(item: &Record) -> bool {
+    item.mark().number() == Mark::Executed.number()
 }
 
 /// The session of a project over the past by one worker, and its runs.
@@ -43,11 +44,11 @@ fn counted_over<T: Threads + Wait + Sync>(
         &|| Counting::new(alloc, &runs, None),
         past,
         project,
-        1,
+        Crew::of(1),
         &Open,
     ) {
         Ok((session, _)) => {
-            let executed = executed_in(&session);
+            let executed = executed_in(session.records());
             Ok((
                 session,
                 Runs {
@@ -60,7 +61,7 @@ fn counted_over<T: Threads + Wait + Sync>(
     }
 }
 
-/// The runs of a first session of these files by one worker, and of a session over it where the first file is this one.
+/// The runs of a first session of these files by one worker, and of a session of the others over it.
 pub fn runs_of<T: Threads + Wait + Sync>(
     rt: &T,
     alloc: Global,
@@ -96,38 +97,37 @@ pub fn fault_of_failing<T: Threads + Wait + Sync>(
 ) -> Result<Option<DriveFault>, Unfit> {
     let project = project_of(alloc, &[file])?;
     let runs = AtomicU64::new(0);
-    Ok(drive(
+    match drive(
         rt,
         alloc,
         &|| Counting::new(alloc, &runs, Some(failing)),
         None,
         &project,
-        workers,
+        Crew::of(workers),
         &Open,
-    )
-    .err())
+    ) {
+        Ok(_) => Ok(None),
+        Err(fault) => Ok(Some(fault)),
+    }
 }
 
-/// The SHA-256 of the file of a first session of this file by so many workers, whose lists of jobs are gone through by a
-/// step.
-pub fn digest_by_steps<T: Threads + Wait + Sync>(
+/// The SHA-256 of the file of a first session of this file by a crew.
+pub fn digest_by<T: Threads + Wait + Sync>(
     rt: &T,
     alloc: Global,
     file: File,
-    workers: usize,
-    step: usize,
+    crew: Crew,
 ) -> Result<[u8; 32], Unfit> {
     let project = project_of(alloc, &[file])?;
     let runs = AtomicU64::new(0);
-    match drive_in_steps(
+    match drive(
         rt,
         alloc,
         &|| Counting::new(alloc, &runs, None),
         None,
         &project,
-        workers,
+        crew,
         &Open,
-        step,
     ) {
         Ok((session, _)) => Ok(digest(&session)),
         Err(_) => Err(Unfit),

@@ -10,7 +10,7 @@ use Rattle.graph_rules.specs.Steps.{Event, Legal, state_after}
 use Rattle.graph_rules.specs.Sound.{AreBacked}
 use Rattle.job_table.specs.Tables.{IsFull}
 use Rattle.job_table.specs.Closes.{MayClose, IsClosing}
-use Rattle.session_reports.specs.declared.reports.Reports.{Reports}
+use Rattle.driver.specs.declared.reports.Reports.{Reports}
 use Rattle.driver.specs.declared.fault.DriveFault.{DriveFault}
 use Rattle.driver.specs.declared.fault.DriveFault.TheVariants as fault
 

@@ -12,6 +12,25 @@ use std::sync::ledger::Share;
 use std::thread;
 use std::thread::Threads;
 
+/// Who makes a session.
+#[derive(Clone, Copy)]
+pub struct Crew {
+    /// How many workers there are, each in a thread of its own.
+    pub workers: usize,
+    /// The step by which they go through each list of jobs. Jobs that are left out are done when another reads what they
+    /// bring.
+    pub step: usize,
+}
+
+impl Crew {
+    /// So many workers, who leave out no job.
+    pub fn of(workers: usize) -> Self
+        ensures { result.workers ≡ workers }
+    {
+        Crew { workers, step: 1 }
+    }
+}
+
 /// A worker: its number, where it allocates, the runner that it runs queries by, and its count of events.
 #[derive(Drop)]
 pub(crate) struct Worker<J: Naming, R: Runner> {
@@ -51,7 +70,7 @@ pub(crate) fn hire<J: Naming, R: Runner + Drop, F: Fn() -> R>(
     Ok(team)
 }
 
-/// All workers do their jobs at a table: one worker alone, several each in a thread of its own.
+/// All workers do their jobs at a table, each in a thread of its own, or the first one alone does all of them.
 pub(crate) fn work_at<
     J: Naming + Send + Sync,
     R: Runner + Drop + Send + Sync,
@@ -64,12 +83,14 @@ pub(crate) fn work_at<
     project: &Project,
     lists: &Lists,
     team: &mut Vec<Worker<J, R>>,
+    alone: bool,
 ) -> Result<Counted<J, R>, AllocError>
     requires { 0 < vec_len team.old }
     ensures { vec_len team.new ≡ vec_len team.old }
 {
-    if team.len() == 1 {
-        return Ok(work_alone(counted, gate, project, lists, &mut team[0]));
+    if alone {
+        let first = team.len() - 1;
+        return Ok(work_alone(counted, gate, project, lists, &mut team[first]));
     }
     let shared = Shared::new(counted)?;
     work_all(rt, &shared, gate, project, lists, team);

@@ -41,158 +41,175 @@ pub(crate) fn do_jobs<S: Store<Out = Arc<Outcome<R>>>, R: Runner>(
 )
     requires shows { ShowsOutcomes S.outcome_in }
 {
-    if let Err(Undone) = bring_all(alloc, store, runner, project, lists, worker) {
-        let _failed = store.fail(worker);
+    let mut bringer = Bringer {
+        alloc,
+        store,
+        runner,
+        worker,
+    };
+    bringer.do_jobs(project, lists)
+}
+
+/// A worker at a store: where it allocates, the runner that it runs queries by, and its number.
+#[derive(Drop)]
+struct Bringer<'a, S: Store, R: Runner> {
+    alloc: Global,
+    store: &'a mut S,
+    runner: &'a mut R,
+    worker: u32,
+}
+
+impl<S: Store<Out = Arc<Outcome<R>>>, R: Runner> Bringer<'_, S, R> {
+    /// Does the worker's jobs, or gives up.
+    fn do_jobs(&mut self, project: &Project, lists: &Lists)
+        requires shows { ShowsOutcomes S.outcome_in }
+    {
+        if let Err(Undone) = self.bring_all(project, lists) {
+            let _failed = self.store.fail(self.worker);
+        }
     }
-}
 
-/// Brings the trees of the worker's files, what its classes come to, and the answer.
-fn bring_all<S: Store<Out = Arc<Outcome<R>>>, R: Runner>(
-    alloc: Global,
-    store: &mut S,
-    runner: &mut R,
-    project: &Project,
-    lists: &Lists,
-    worker: u32,
-) -> Result<(), Undone>
-    requires shows { ShowsOutcomes S.outcome_in }
-{
-    bring_trees(alloc, store, runner, project, lists, worker)?;
-    let index = bring(alloc, store, runner, worker, &Key::Index)?;
-    bring_classes(alloc, store, runner, rows_in(index.value()), lists, worker)?;
-    bring(alloc, store, runner, worker, &Key::Answer)?;
-    Ok(())
-}
-
-/// Brings a key to done.
-fn bring<S: Store<Out = Arc<Outcome<R>>>, R: Runner>(
-    alloc: Global,
-    store: &mut S,
-    runner: &mut R,
-    worker: u32,
-    key: &Key,
-) -> Result<Arc<Sealed>, Undone>
-    requires shows { ShowsOutcomes S.outcome_in }
-{
-    Ok(ensure(alloc, store, runner, worker, key)?)
-}
-
-/// Brings the trees of the files that the worker takes.
-fn bring_trees<S: Store<Out = Arc<Outcome<R>>>, R: Runner>(
-    alloc: Global,
-    store: &mut S,
-    runner: &mut R,
-    project: &Project,
-    lists: &Lists,
-    worker: u32,
-) -> Result<(), Undone>
-    requires shows { ShowsOutcomes S.outcome_in }
-{
-    let files = project.files();
-    for _ in 0..files.len() {
-        let Some(at) = lists.tree(files.len()) else {
-            return Ok(());
-        };
-        let (name, _) = &files[at];
-        bring_tree(alloc, store, runner, worker, name.as_str())?;
+    /// Brings the trees of the worker's files, what its classes come to, and the answer.
+    fn bring_all(&mut self, project: &Project, lists: &Lists) -> Result<(), Undone>
+        requires shows { ShowsOutcomes S.outcome_in }
+    {
+        self.bring_trees(project, lists)?;
+        let index = self.bring(&Key::Index)?;
+        self.bring_classes(rows_in(index.value()), lists)?;
+        self.bring(&Key::Answer)?;
+        Ok(())
     }
-    Ok(())
-}
 
-/// Brings the tree of a file.
-fn bring_tree<S: Store<Out = Arc<Outcome<R>>>, R: Runner>(
-    alloc: Global,
-    store: &mut S,
-    runner: &mut R,
-    worker: u32,
-    file: &str,
-) -> Result<(), Undone>
-    requires shows { ShowsOutcomes S.outcome_in }
-    requires some { 0 < length file.now }
-    requires short { length file.now ≤ most_name_bytes }
-{
-    let key = Key::Tree(Name::new(alloc, file)?);
-    bring(alloc, store, runner, worker, &key)?;
-    Ok(())
-}
-
-/// Brings what the classes of the index come to, in passes, so that no run ends for want of what it reads.
-fn bring_classes<S: Store<Out = Arc<Outcome<R>>>, R: Runner>(
-    alloc: Global,
-    store: &mut S,
-    runner: &mut R,
-    rows: &[IndexRow],
-    lists: &Lists,
-    worker: u32,
-) -> Result<(), Undone>
-    requires shows { ShowsOutcomes S.outcome_in }
-{
-    for pass in [
-        Pass::Header,
-        Pass::Methods,
-        Pass::Supers,
-        Pass::Members,
-        Pass::Faults,
-    ] {
-        bring_pass(alloc, store, runner, rows, pass, lists, worker)?;
+    /// Brings a key to done.
+    fn bring(&mut self, key: &Key) -> Result<Arc<Sealed>, Undone>
+        requires shows { ShowsOutcomes S.outcome_in }
+    {
+        Ok(ensure(self.alloc, self.store, self.runner, self.worker, key)?)
     }
-    Ok(())
-}
 
-/// Brings this of the classes that the worker takes.
-fn bring_pass<S: Store<Out = Arc<Outcome<R>>>, R: Runner>(
-    alloc: Global,
-    store: &mut S,
-    runner: &mut R,
-    rows: &[IndexRow],
-    pass: Pass,
-    lists: &Lists,
-    worker: u32,
-) -> Result<(), Undone>
-    requires shows { ShowsOutcomes S.outcome_in }
-{
-    for _ in 0..rows.len() {
-        let Some(at) = lists.class(pass, rows.len()) else {
-            return Ok(());
-        };
-        bring_class(alloc, store, runner, worker, &rows[at].class, pass)?;
+    /// Brings the trees of the files that the worker takes.
+    fn bring_trees(&mut self, project: &Project, lists: &Lists) -> Result<(), Undone>
+        requires shows { ShowsOutcomes S.outcome_in }
+    {
+        let files = project.files();
+        for _ in 0..files.len() {
+            let Some(at) = lists.tree(files.len()) else {
+                return Ok(());
+            };
+            let (name, _) = &files[at];
+            self.bring_tree(name.as_str())?;
+        }
+        Ok(())
     }
-    Ok(())
-}
 
-/// Brings this of a class.
-fn bring_class<S: Store<Out = Arc<Outcome<R>>>, R: Runner>(
-    alloc: Global,
-    store: &mut S,
-    runner: &mut R,
-    worker: u32,
-    class: &Name,
-    pass: Pass,
-) -> Result<(), Undone>
-    requires shows { ShowsOutcomes S.outcome_in }
-{
-    match pass {
-        Pass::Header => bring_of(alloc, store, runner, worker, class, Of::Header),
-        Pass::Methods => bring_methods(alloc, store, runner, worker, class, Part::Types),
-        Pass::Supers => bring_of(alloc, store, runner, worker, class, Of::Supers),
-        Pass::Members => bring_of(alloc, store, runner, worker, class, Of::Members),
-        Pass::Faults => bring_faults(alloc, store, runner, worker, class),
+    /// Brings the tree of a file.
+    fn bring_tree(&mut self, file: &str) -> Result<(), Undone>
+        requires shows { ShowsOutcomes S.outcome_in }
+        requires some { 0 < length file.now }
+        requires short { length file.now ≤ most_name_bytes }
+    {
+        let key = Key::Tree(Name::new(self.alloc, file)?);
+        self.bring(&key)?;
+        Ok(())
     }
-}
 
-/// Brings the faults of a class: of its declarations, of each of its bodies, and all of them together.
-fn bring_faults<S: Store<Out = Arc<Outcome<R>>>, R: Runner>(
-    alloc: Global,
-    store: &mut S,
-    runner: &mut R,
-    worker: u32,
-    class: &Name,
-) -> Result<(), Undone>
-    requires shows { ShowsOutcomes S.outcome_in }
-{
-    bring_of(alloc, store, runner, worker, class, Of::Declarations)?;
-    bring_methods(alloc, store, runner, worker, class, Part::Faults)?;
-    bring_of(alloc, store, runner, worker, class, Of::Faults)
+    /// Brings what the classes of the index come to, in passes, so that no run ends for want of what it reads.
+    fn bring_classes(&mut self, rows: &[IndexRow], lists: &Lists) -> Result<(), Undone>
+        requires shows { ShowsOutcomes S.outcome_in }
+    {
+        for pass in [
+            Pass::Header,
+            Pass::Methods,
+            Pass::Supers,
+            Pass::Members,
+            Pass::Faults,
+        ] {
+            self.bring_pass(rows, pass, lists)?;
+        }
+        Ok(())
+    }
+
+    /// Brings this of the classes that the worker takes.
+    fn bring_pass(&mut self, rows: &[IndexRow], pass: Pass, lists: &Lists) -> Result<(), Undone>
+        requires shows { ShowsOutcomes S.outcome_in }
+    {
+        for _ in 0..rows.len() {
+            let Some(at) = lists.class(pass, rows.len()) else {
+                return Ok(());
+            };
+            self.bring_class(&rows[at].class, pass)?;
+        }
+        Ok(())
+    }
+
+    /// Brings this of a class.
+    fn bring_class(&mut self, class: &Name, pass: Pass) -> Result<(), Undone>
+        requires shows { ShowsOutcomes S.outcome_in }
+    {
+        match pass {
+            Pass::Header => self.bring_of(class, Of::Header),
+            Pass::Methods => self.bring_methods(class, Part::Types),
+            Pass::Supers => self.bring_of(class, Of::Supers),
+            Pass::Members => self.bring_of(class, Of::Members),
+            Pass::Faults => self.bring_faults(class),
+        }
+    }
+
+    /// Brings the faults of a class: of its declarations, of each of its bodies, and all of them together.
+    fn bring_faults(&mut self, class: &Name) -> Result<(), Undone>
+        requires shows { ShowsOutcomes S.outcome_in }
+    {
+        self.bring_of(class, Of::Declarations)?;
+        self.bring_methods(class, Part::Faults)?;
+        self.bring_of(class, Of::Faults)
+    }
+
+    /// Brings this of a class.
+    fn bring_of(&mut self, class: &Name, of: Of) -> Result<(), Undone>
+        requires shows { ShowsOutcomes S.outcome_in }
+    {
+        let key = class_key(self.alloc, of, class)?;
+        self.bring(&key)?;
+        Ok(())
+    }
+
+    /// Brings this part of each method of a class, or of `main`.
+    fn bring_methods(&mut self, class: &Name, part: Part) -> Result<(), Undone>
+        requires shows { ShowsOutcomes S.outcome_in }
+    {
+        let key = class_key(self.alloc, Of::Header, class)?;
+        let header = self.bring(&key)?;
+        if is_main(header.value()) {
+            return self.bring_main(class, part);
+        }
+        for method in methods_in(header.value()) {
+            self.bring_part(class, method, part)?;
+        }
+        Ok(())
+    }
+
+    /// Brings this part of `main`, which has no types.
+    fn bring_main(&mut self, class: &Name, part: Part) -> Result<(), Undone>
+        requires shows { ShowsOutcomes S.outcome_in }
+    {
+        let main = Name::new(self.alloc, "main")?;
+        let key = part_key(self.alloc, class, &main, part)?;
+        self.bring(&key)?;
+        Ok(())
+    }
+
+    /// Brings this part of a method.
+    fn bring_part(&mut self, class: &Name, method: &Name, part: Part) -> Result<(), Undone>
+        requires shows { ShowsOutcomes S.outcome_in }
+    {
+        let key = part_key(self.alloc, class, method, part)?;
+        self.bring(&key)?;
+        if let Part::Types = part {
+            let key = Key::Sig(class.copy(self.alloc)?, method.copy(self.alloc)?);
+            self.bring(&key)?;
+        }
+        Ok(())
+    }
 }
 
 /// What is brought of a class.
@@ -222,22 +239,6 @@ fn class_key(alloc: Global, of: Of, class: &Name) -> Result<Key, AllocError> {
     }
 }
 
-/// Brings this of a class.
-fn bring_of<S: Store<Out = Arc<Outcome<R>>>, R: Runner>(
-    alloc: Global,
-    store: &mut S,
-    runner: &mut R,
-    worker: u32,
-    class: &Name,
-    of: Of,
-) -> Result<(), Undone>
-    requires shows { ShowsOutcomes S.outcome_in }
-{
-    let key = class_key(alloc, of, class)?;
-    bring(alloc, store, runner, worker, &key)?;
-    Ok(())
-}
-
 /// What is brought of each method of a class.
 #[derive(Clone, Copy)]
 enum Part {
@@ -247,28 +248,6 @@ enum Part {
     Faults,
 }
 
-/// Brings this part of each method of a class, or of `main`.
-fn bring_methods<S: Store<Out = Arc<Outcome<R>>>, R: Runner>(
-    alloc: Global,
-    store: &mut S,
-    runner: &mut R,
-    worker: u32,
-    class: &Name,
-    part: Part,
-) -> Result<(), Undone>
-    requires shows { ShowsOutcomes S.outcome_in }
-{
-    let key = class_key(alloc, Of::Header, class)?;
-    let header = bring(alloc, store, runner, worker, &key)?;
-    if is_main(header.value()) {
-        return bring_main(alloc, store, runner, worker, class, part);
-    }
-    for method in methods_in(header.value()) {
-        bring_part(alloc, store, runner, worker, class, method, part)?;
-    }
-    Ok(())
-}
-
 /// The key of this part of a method.
 fn part_key(alloc: Global, class: &Name, method: &Name, part: Part) -> Result<Key, AllocError> {
     let (class, method) = (class.copy(alloc)?, method.copy(alloc)?);
@@ -276,43 +255,6 @@ fn part_key(alloc: Global, class: &Name, method: &Name, part: Part) -> Result<Ke
         Part::Types => Ok(Key::Method(class, method)),
         Part::Faults => Ok(Key::CheckBody(class, method)),
     }
-}
-
-/// Brings this part of `main`, which has no types.
-fn bring_main<S: Store<Out = Arc<Outcome<R>>>, R: Runner>(
-    alloc: Global,
-    store: &mut S,
-    runner: &mut R,
-    worker: u32,
-    class: &Name,
-    part: Part,
-) -> Result<(), Undone>
-    requires shows { ShowsOutcomes S.outcome_in }
-{
-    let key = part_key(alloc, class, &Name::new(alloc, "main")?, part)?;
-    bring(alloc, store, runner, worker, &key)?;
-    Ok(())
-}
-
-/// Brings this part of a method.
-fn bring_part<S: Store<Out = Arc<Outcome<R>>>, R: Runner>(
-    alloc: Global,
-    store: &mut S,
-    runner: &mut R,
-    worker: u32,
-    class: &Name,
-    method: &Name,
-    part: Part,
-) -> Result<(), Undone>
-    requires shows { ShowsOutcomes S.outcome_in }
-{
-    let key = part_key(alloc, class, method, part)?;
-    bring(alloc, store, runner, worker, &key)?;
-    if let Part::Types = part {
-        let key = Key::Sig(class.copy(alloc)?, method.copy(alloc)?);
-        bring(alloc, store, runner, worker, &key)?;
-    }
-    Ok(())
 }
 
 /// Whether a header tells that the class has `main`.

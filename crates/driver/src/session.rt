@@ -8,14 +8,15 @@ ghost use Rattle.sessions.specs.Sessions.{IsSession};
 ghost use Rattle.next_sessions.specs.Nexts.{DecidesNext, IsNextSession};
 ghost use Rattle.driver.specs.Sessions.{IsCrew, DriveGives, IsSessionOf};
 
-use crate::crew::{hire, pay, work_at};
+use crate::changes::has_files;
+use crate::crew::{Crew, hire, pay, work_at};
 use crate::fault::DriveFault;
 use crate::laws::sessions_are_next;
 use crate::lists::Lists;
+use crate::reports::Reports;
 use job_table::{CloseFault, OpenFault, Table};
 use mj_project::Project;
 use recorder::Runner;
-use session_reports::Reports;
 use sessions::Session;
 use shared_table::{Counted, Gate, Naming};
 use std::alloc::{AllocError, Global};
@@ -24,8 +25,8 @@ use std::sync::ledger::Blank;
 use std::sync::{Arc, Wait};
 use std::thread::Threads;
 
-/// One session of a project over the session before it, by so many workers, for each of whom a runner is made. Each works in
-/// a thread of its own, all at one table. The gate is called round each run.
+/// One session of a project over the session before it, by a crew for each of whose workers a runner is made. All work at one
+/// table. The gate is called round each run.
 pub fn drive<
     R: Runner + Drop + Send + Sync,
     F: Fn() -> R,
@@ -37,40 +38,16 @@ pub fn drive<
     make: &F,
     prev: Option<Arc<Session>>,
     project: &Project,
-    workers: usize,
+    crew: Crew,
     gate: &G,
 ) -> Result<(Session, Reports), DriveFault>
     requires { F.IsAlwaysCallable make.now }
-    ensures gives { DriveGives R.mean R.reads (session_in prev) project.now workers result }
+    ensures gives { DriveGives R.mean R.reads (session_in prev) project.now crew.workers result }
     // Where the past and the project decide it, the session is the next one.
     ensures next { IfOk result (λ done. DecidesNext R.mean R.reads (session_in prev) project.now
         → IsNextSession R.mean R.reads (session_in prev) project.now done.0) }
 {
-    drive_in_steps(rt, alloc, make, prev, project, workers, gate, 1)
-}
-
-/// One session, as `drive` makes it, whose lists of jobs are gone through by a step. Jobs that are left out are done when
-/// another reads what they bring.
-pub fn drive_in_steps<
-    R: Runner + Drop + Send + Sync,
-    F: Fn() -> R,
-    G: Gate + Sync,
-    T: Threads + Wait + Sync,
->(
-    rt: &T,
-    alloc: Global,
-    make: &F,
-    prev: Option<Arc<Session>>,
-    project: &Project,
-    workers: usize,
-    gate: &G,
-    step: usize,
-) -> Result<(Session, Reports), DriveFault>
-    requires { F.IsAlwaysCallable make.now }
-    ensures gives { DriveGives R.mean R.reads (session_in prev) project.now workers result }
-    ensures next { IfOk result (λ done. DecidesNext R.mean R.reads (session_in prev) project.now
-        → IsNextSession R.mean R.reads (session_in prev) project.now done.0) }
-{
+    let Crew { workers, step } = crew;
     if !is_crew(workers) {
         return Err(DriveFault::Workers);
     }
@@ -151,13 +128,26 @@ fn drive_table<
 {
     let (book, mut all) = blank.open::<J>();
     let mut team = hire::<J, R, F>(alloc, &mut all, workers, make)?;
+    let alone = workers == 1 || is_unchanged(alloc, &table, project)?;
     let counted = Counted::new(table, book);
-    let counted = work_at(rt, counted, gate, project, lists, &mut team)?;
+    let counted = work_at(rt, counted, gate, project, lists, &mut team, alone)?;
     let events = pay(alloc, &mut all, team)?;
     let table = counted.end(&mut all);
     table.laws();
     let history = table.history().len();
     Ok((close(&table)?, Reports { events, history }))
+}
+
+/// Whether the session before a table has just the files of the project.
+fn is_unchanged<R: Runner>(
+    alloc: Global,
+    table: &Table<R>,
+    project: &Project,
+) -> Result<bool, AllocError> {
+    match table.past()? {
+        Some(past) => has_files(alloc, &past, project),
+        None => Ok(false),
+    }
 }
 
 /// The session of a table, when all workers have ended. It isn't closed where one of them failed, which is for want of memory.

@@ -8,9 +8,10 @@ ghost use Rattle.query_rules.specs.Meaning.{mean};
 ghost use Rattle.query_rules.specs.Reads.{reads};
 ghost use Rattle.sessions.specs.Sessions.{SessionValue, IsSession};
 ghost use Rattle.sessions.specs.Spelling.{file_of};
-ghost use Rattle.session_reports.specs.declared.reports.Reports.{Reports};
+ghost use Rattle.driver.specs.declared.reports.Reports.{Reports};
 ghost use Rattle.next_sessions.specs.Nexts.{IsNextSession, ReadsOwnFiles};
 ghost use Rattle.driver.specs.Sessions.{DriveGives};
+ghost use Rattle.cached_check.specs.Checks.{IsMadeOver, IsNextByRules};
 ghost use Rattle.audit_graph.specs.declared.fault.AuditFault.{AuditFault};
 ghost use Rattle.audit_graph.specs.declared.fault.AuditFault.TheVariants.{OutOfMemory};
 ghost use Rattle.audit_replay.specs.Audits.{AreApart, IsAccepted, AuditRefuses, last_of};
@@ -52,3 +53,16 @@ pub fn made_is_accepted()
 {
     sessions_are_next();
 }
+
+/// Over the last one of an accepted chain the session that a check makes of a project is the next one, and its answer is what
+/// the static rules give the project's files, unless two different results in all of them have one print.
+pub fn checked_is_by_the_rules()
+    ensures { (files : List (List ℕ)) (old new : List Key) (project : Project) (answer : Value)
+        (count runs : ℕ)
+        → (accepted : IsAccepted mean reads files old new project answer count runs)
+        → (p : Project) (next : SessionValue) → IsProject p
+        → IsNextSession mean reads (last_of None accepted.sessions) p next
+        → AreApart (accepted.sessions ++ next ∷ [])
+        → (made : SessionValue) → IsMadeOver (last_of None accepted.sessions) p made
+        → IsNextByRules (last_of None accepted.sessions) p made }
+{}

@@ -3,4 +3,4 @@
 
 mod laws;
 
-pub use laws::{made_is_accepted, next_is_accepted, reads_own_files};
+pub use laws::{checked_is_by_the_rules, made_is_accepted, next_is_accepted, reads_own_files};

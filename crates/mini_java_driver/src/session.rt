@@ -6,7 +6,7 @@ ghost use Rattle.job_table.specs.Tables.{session_in};
 ghost use Rattle.next_sessions.specs.Nexts.{DecidesNext, IsNextSession};
 ghost use Rattle.driver.specs.Sessions.{DriveGives};
 
-use driver::{DriveFault, Gate, Reports, drive};
+use driver::{Crew, DriveFault, Gate, Reports, drive};
 use mj_project::Project;
 use providers::MiniJava;
 use sessions::Session;
@@ -35,7 +35,7 @@ pub fn run_session<G: Gate + Sync, T: Threads + Wait + Sync>(
         &|| MiniJava::new(alloc),
         prev,
         project,
-        workers,
+        Crew::of(workers),
         gate,
     )
 }

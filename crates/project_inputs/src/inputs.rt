@@ -185,8 +185,8 @@ fn source_result(
     seal_to_share(alloc, Value::Source(Some(text)))
 }
 
-/// The past's result of a key, where it is a source with these bytes.
-fn same_source<'a>(past: &'a Session, key: &Key, bytes: &[u8]) -> Option<&'a Arc<Sealed>>
+/// The result that a session has for a key, where it is a source with these bytes.
+pub fn same_source<'a>(past: &'a Session, key: &Key, bytes: &[u8]) -> Option<&'a Arc<Sealed>>
     ensures { IfSome result (λ a. arc_value a.now ≡ values.Source (Some bytes.now)) }
 {
     let sealed = past.find(key)?.sealed();

@@ -3,4 +3,4 @@
 
 mod inputs;
 
-pub use inputs::Inputs;
+pub use inputs::{Inputs, same_source};

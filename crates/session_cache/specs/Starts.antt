@@ -5,6 +5,7 @@ use Rattle.std.specs.declared.alloc.Global.{Global}
 use Rattle.std.specs.declared.sync.Arc.{Arc}
 use Rattle.sessions.specs.Sessions.{SessionValue}
 use Rattle.session_file.specs.declared.fault.FileFault.{FileFault}
+use Rattle.session_file.specs.declared.fault.FileFault.TheVariants as refusals
 use Rattle.session_cache.specs.Names.{most, name_of}
 use Rattle.session_cache.specs.declared.names.Named.TheVariants.{Chain, Session}
 use Rattle.session_cache.specs.declared.fault.CacheFault.{CacheFault}
@@ -13,6 +14,8 @@ use Rattle.session_cache.specs.declared.place.Place.{Place}
 use Rattle.session_cache.specs.declared.start.Why.{Why}
 use Rattle.session_cache.specs.declared.start.Why.TheVariants.{Refused, Number, Full}
 use Rattle.session_cache.specs.declared.start.Start.{Start}
+use Rattle.session_cache.specs.declared.start.Last.{Last}
+use Rattle.session_cache.specs.declared.start.Last.TheVariants.{NoChain, NoSession, File}
 
 -- a chain and a session of it, by numbers up to 9999
 abbrev pub IsPlace : Place → Type 0
@@ -48,13 +51,32 @@ pub record BeginsNext (last : Place) (why : Why) (start : Start) : Type 0 where
   pub place : start.place ≡ next_chain last.chain
   pub note : start.note ≡ Some (record { place = last; why = why })
 
--- where a session begins behind the last file of the last chain, by what was read of it
-abbrev pub IsStartBehind : Place → Result SessionValue FileFault → Start → Type 0
-IsStartBehind last (Err fault) start = BeginsNext last (Refused fault) start
-IsStartBehind last (Ok s) start =
+-- It begins this chain, which has no session.
+pub record BeginsChain (chain : ℕ) (start : Start) : Type 0 where
+  pub past : session_in start.past ≡ None
+  pub place : start.place ≡ Some (record { chain = chain; number = 0 })
+  pub note : start.note ≡ None
+
+-- where a session begins behind a file, by what was read of it
+abbrev pub IsStartBehindFile : Place → Result SessionValue FileFault → Start → Type 0
+IsStartBehindFile last (Err fault) start =
+    (fault ≢ refusals.OutOfMemory) × BeginsNext last (Refused fault) start
+IsStartBehindFile last (Ok s) start =
     ((s.number ≢ last.number) × BeginsNext last Number start)
     ⊎ ((s.number ≡ last.number) × (most ≤ s.number) × BeginsNext last Full start)
     ⊎ ((s.number ≡ last.number) × (s.number < most) × GoesOn last s start)
+
+-- where a session begins in a cache, by what was read of its last chain
+abbrev pub IsStartBehind : Last → Start → Type 0
+IsStartBehind NoChain start = BeginsChain 0 start
+IsStartBehind (NoSession chain) start = BeginsChain chain start
+IsStartBehind (File last read) start = IsStartBehindFile last read start
+
+-- what is read of a cache is of a chain and a file of it, by numbers up to 9999
+abbrev pub IsLast : Last → Type 0
+IsLast NoChain = Unit {0}
+IsLast (NoSession chain) = chain ≤ most
+IsLast (File last read) = IsPlace last
 
 -- the number of the next session
 abbrev pub number_behind : Option SessionValue → ℕ
@@ -75,6 +97,12 @@ abbrev pub IsUnread : List ℕ → CacheFault → Type 0
 IsUnread path (CannotRead told) = string_bytes told ≡ path
 IsUnread path (CannotWrite told) = ⊥
 IsUnread path OutOfMemory = Unit {0}
+
+-- the session begins where what was read of the cache lets it
+pub record IsStartOf (start : Start) : Type 0 where
+  pub last : Last
+  pub read : IsLast last
+  pub behind : IsStartBehind last start
 
 -- why there is no start: the folder of the cache, or the last file in it, isn't read
 abbrev pub IsStartless : List ℕ → CacheFault → Type 0

@@ -2,12 +2,12 @@
 ghost use Rattle.std.specs.Prelude.{◌≡◌, ◌≤◌, [], IfOk, IfErr, IsErrAnd};
 ghost use Rattle.sessions.specs.Spelling.{file_of};
 ghost use Rattle.session_cache.specs.Names.{most};
-ghost use Rattle.session_cache.specs.Starts.{IsPlace, IsStart, IsStartless, IsUnread, IsUnwritten};
+ghost use Rattle.session_cache.specs.Starts.{IsLast, IsPlace, IsStart, IsStartOf, IsStartless, IsUnread, IsUnwritten};
 
 use crate::fault::CacheFault;
 use crate::names::{Named, highest};
 use crate::place::{Place, chain_path};
-use crate::start::{Start, first_of, start_behind};
+use crate::start::{Last, Start, start_behind};
 use session_file::{MemorySink, read, write};
 use sessions::Session;
 use std::alloc::{AllocError, Global};
@@ -15,10 +15,23 @@ use std::io::{ErrorKind, Write};
 use std::rt::Files;
 use std::{fs, io};
 
-/// Where the next session begins in the cache of this folder. A folder that isn't there is an empty cache; an empty word names
-/// no folder, and can't be read.
+/// Where the next session begins in the cache of this folder, by what is read of its last chain.
 pub fn find_start<R: Files + AllocGlobal>(rt: &R, dir: &str) -> Result<Start, CacheFault>
+    ensures behind { IfOk result IsStartOf }
     ensures start { IfOk result IsStart }
+    ensures startless { IfErr result (IsStartless dir.now) }
+    ensures unnamed { dir.now ≡ [] → IsErrAnd result (IsUnread []) }
+{
+    match find_last(rt, dir) {
+        Ok(last) => Ok(start_behind(rt.alloc(), last)?),
+        Err(fault) => Err(fault),
+    }
+}
+
+/// Reads the last file of the last chain in the cache of this folder. A folder that isn't there is an empty cache; an empty
+/// word names no folder, and can't be read.
+pub fn find_last<R: Files + AllocGlobal>(rt: &R, dir: &str) -> Result<Last, CacheFault>
+    ensures last { IfOk result IsLast }
     ensures startless { IfErr result (IsStartless dir.now) }
     ensures unnamed { dir.now ≡ [] → IsErrAnd result (IsUnread []) }
 {
@@ -27,19 +40,19 @@ pub fn find_start<R: Files + AllocGlobal>(rt: &R, dir: &str) -> Result<Start, Ca
     }
     let chains = match names_in(rt, dir) {
         Ok(names) => names,
-        Err(error) if error.kind() == ErrorKind::NotFound => return Ok(first_of(0)),
+        Err(error) if error.kind() == ErrorKind::NotFound => return Ok(Last::NoChain),
         Err(error) => return Err(unreadable(rt.alloc(), dir, &error)),
     };
     match highest(Named::Chain, &chains) {
-        Some(chain) => start_in(rt, dir, chain),
-        None => Ok(first_of(0)),
+        Some(chain) => last_in(rt, dir, chain),
+        None => Ok(Last::NoChain),
     }
 }
 
-/// Where the next session begins behind those of the last chain.
-fn start_in<R: Files + AllocGlobal>(rt: &R, dir: &str, chain: u32) -> Result<Start, CacheFault>
+/// Reads the last file of a chain.
+fn last_in<R: Files + AllocGlobal>(rt: &R, dir: &str, chain: u32) -> Result<Last, CacheFault>
     requires { chain ≤ most }
-    ensures start { IfOk result IsStart }
+    ensures last { IfOk result IsLast }
     ensures startless { IfErr result (IsStartless dir.now) }
 {
     let folder = chain_path(rt.alloc(), dir, chain)?;
@@ -48,21 +61,21 @@ fn start_in<R: Files + AllocGlobal>(rt: &R, dir: &str, chain: u32) -> Result<Sta
         Err(error) => return Err(unreadable(rt.alloc(), dir, &error)),
     };
     match highest(Named::Session, &sessions) {
-        Some(number) => start_at(rt, dir, Place { chain, number }),
-        None => Ok(first_of(chain)),
+        Some(number) => file_at(rt, dir, Place { chain, number }),
+        None => Ok(Last::NoSession(chain)),
     }
 }
 
-/// Where the next session begins behind the file at this place.
-fn start_at<R: Files + AllocGlobal>(rt: &R, dir: &str, last: Place) -> Result<Start, CacheFault>
-    requires { IsPlace last }
-    ensures start { IfOk result IsStart }
+/// Reads the file at this place.
+fn file_at<R: Files + AllocGlobal>(rt: &R, dir: &str, place: Place) -> Result<Last, CacheFault>
+    requires { IsPlace place }
+    ensures last { IfOk result IsLast }
     ensures startless { IfErr result (IsStartless dir.now) }
 {
     let alloc = rt.alloc();
-    let path = last.path(alloc, dir)?;
+    let path = place.path(alloc, dir)?;
     match fs::read(rt, path.as_str()) {
-        Ok(bytes) => Ok(start_behind(alloc, last, read(alloc, &bytes))?),
+        Ok(bytes) => Ok(Last::File(place, read(alloc, &bytes))),
         Err(error) => Err(unreadable(alloc, path.as_str(), &error)),
     }
 }

@@ -8,7 +8,7 @@ mod place;
 mod start;
 
 pub use fault::CacheFault;
-pub use folders::{file_bytes, find_start, write_file};
+pub use folders::{file_bytes, find_last, find_start, write_file};
 pub use names::{Named, highest};
 pub use place::Place;
-pub use start::{Note, Start, Why};
+pub use start::{Last, Note, Start, Why, start_behind};

@@ -1,7 +1,7 @@
 //! Where the next session begins.
 ghost use Rattle.std.specs.Prelude.{◌≡◌, ◌≤◌, None, IfOk};
 ghost use Rattle.session_cache.specs.Names.{most};
-ghost use Rattle.session_cache.specs.Starts.{IsPlace, IsStart, IsStartBehind, BeginsNext};
+ghost use Rattle.session_cache.specs.Starts.{IsLast, IsPlace, IsStart, IsStartBehind, IsStartBehindFile, BeginsChain, BeginsNext};
 
 use crate::names::MOST;
 use crate::place::Place;
@@ -39,10 +39,36 @@ pub struct Start {
     pub note: Option<Note>,
 }
 
+/// What was read of a cache's last chain.
+#[derive(Drop)]
+pub enum Last {
+    /// There is no chain.
+    NoChain,
+    /// The chain of this number, the greatest one, has no session.
+    NoSession(u32),
+    /// The file at this place, that of the greatest number in the chain of the greatest number, was read so.
+    File(Place, Result<Session, FileFault>),
+}
+
+/// Where the next session of a cache begins, by what was read of its last chain: there, the first chain where there is none,
+/// or in the next chain behind a file that can't be gone on from.
+pub fn start_behind(alloc: Global, last: Last) -> Result<Start, AllocError>
+    requires { IsLast last }
+    ensures behind { IfOk result (IsStartBehind last) }
+    ensures start { IfOk result IsStart }
+{
+    match last {
+        Last::NoChain => Ok(first_of(0)),
+        Last::NoSession(chain) => Ok(first_of(chain)),
+        Last::File(place, read) => start_at(alloc, place, read),
+    }
+}
+
 /// The beginning of a chain that has no session.
-pub(crate) fn first_of(chain: u32) -> Start
+fn first_of(chain: u32) -> Start
     requires { chain ≤ most }
-    ensures { IsStart result }
+    ensures first { BeginsChain chain result }
+    ensures start { IsStart result }
 {
     Start {
         past: None,
@@ -51,14 +77,14 @@ pub(crate) fn first_of(chain: u32) -> Start
     }
 }
 
-/// Where the next session begins behind the last file of the last chain, by what was read of it.
-pub(crate) fn start_behind(
+/// Where the next session begins behind a file at this place, by what was read of it.
+fn start_at(
     alloc: Global,
     last: Place,
     read: Result<Session, FileFault>,
 ) -> Result<Start, AllocError>
     requires { IsPlace last }
-    ensures behind { IfOk result (IsStartBehind last read) }
+    ensures behind { IfOk result (IsStartBehindFile last read) }
     ensures start { IfOk result IsStart }
 {
     match read {
@@ -71,7 +97,7 @@ pub(crate) fn start_behind(
 /// Where the next session begins behind a session that was read.
 fn start_after(alloc: Global, last: Place, session: Session) -> Result<Start, AllocError>
     requires { IsPlace last }
-    ensures behind { IfOk result (IsStartBehind last (Ok session)) }
+    ensures behind { IfOk result (IsStartBehindFile last (Ok session)) }
     ensures start { IfOk result IsStart }
 {
     if session.number() != last.number {

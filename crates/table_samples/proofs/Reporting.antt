@@ -6,7 +6,7 @@ use Rattle.std.specs.declared.alloc.Global.{Global}
 use Rattle.std.specs.declared.sync.Arc.{Arc}
 use Rattle.recorder.specs.Projects.{Project}
 use Rattle.sessions.specs.Sessions.{SessionValue}
-use Rattle.session_reports.specs.declared.reports.Reports.{Reports}
+use Rattle.driver.specs.declared.reports.Reports.{Reports}
 use Rattle.answer_samples.specs.declared.unfit.Unfit.{Unfit}
 use Rattle.table_samples.specs.declared.driving.Counts.{Counts}
 use Rattle.table_samples.specs.Reported.{IsMade, HasCounts, IsReported}

@@ -6,7 +6,7 @@ use Rattle.query_rules.specs.Reads.{reads}
 use Rattle.sessions.specs.Sessions.{SessionValue}
 use Rattle.driver.specs.Sessions.{DriveGives}
 use Rattle.driver.specs.declared.fault.DriveFault.{DriveFault}
-use Rattle.session_reports.specs.declared.reports.Reports.{Reports}
+use Rattle.driver.specs.declared.reports.Reports.{Reports}
 use Rattle.session_samples.specs.Telling.{IsSessionOf}
 use Rattle.table_samples.specs.declared.driving.Counts.{Counts}
 

@@ -3,8 +3,10 @@
 use crate::records::{ONE, TWO};
 use answer_samples::Unfit;
 use crew_samples::{
-    Edit, File, digest_by_steps, fault_of_failing, fellows_stop, made_by, workers_meet,
+    Edit, File, Made, digest_by, fault_of_failing, fellows_stop, made_by, made_while_held,
+    seats_meet, workers_meet,
 };
+use driver::Crew;
 use item_ids::Kind;
 use mini_java_driver::DriveFault;
 use std::alloc::Global;
@@ -67,6 +69,11 @@ fn bodies_are_checked_at_once(rt: HostRuntime) {
 }
 
 #[test]
+fn trees_are_brought_at_once(rt: HostRuntime) {
+    assert!(rt; seats_meet(&rt, rt.alloc(), EMPTY, MAIN, TURNS) == Ok(true));
+}
+
+#[test]
 fn one_worker_meets_nobody(rt: HostRuntime) {
     assert!(rt; workers_meet(&rt, rt.alloc(), &[EMPTY, MAIN], Kind::Tree, 1, 1000) == Ok(false));
 }
@@ -108,9 +115,51 @@ fn where_none_fails_there_is_a_session(rt: HostRuntime) {
 #[test]
 fn left_out_jobs_are_done(rt: HostRuntime) {
     let file = File("M.java", TWO);
-    let each = digest_by_steps(&rt, rt.alloc(), file, 1, 1);
+    let each = digest_by(&rt, rt.alloc(), file, Crew::of(1));
     assert!(rt; each.is_ok());
     for (workers, step) in [(1, 2), (2, 2), (8, 3), (8, 0)] {
-        assert!(rt; digest_by_steps(&rt, rt.alloc(), file, workers, step) == each);
+        assert!(rt; digest_by(&rt, rt.alloc(), file, Crew { workers, step }) == each);
     }
+}
+
+/// Of so many classes is the project whose runs are held.
+const CLASSES: usize = 40;
+
+const SEEDS: [u64; 4] = [1, 2, 3, 4];
+
+/// Whether both sessions have these files, and all events are counted.
+fn have_files(made: &(Made, Made), files: &([u8; 32], [u8; 32])) -> bool {
+    let (first, second) = made;
+    (first.digest, second.digest) == *files
+        && first.events == first.history
+        && second.events == second.history
+}
+
+/// Whether the sessions of a project of many classes, made by so many workers whose runs are held as this seed decides, have
+/// these files.
+fn are_held_same<T: Threads + Wait + Sync>(
+    rt: &T,
+    alloc: Global,
+    workers: usize,
+    seed: u64,
+    files: &([u8; 32], [u8; 32]),
+) -> Result<bool, Unfit> {
+    let made = made_while_held(rt, alloc, CLASSES, workers, seed)?;
+    Ok(have_files(&made, files))
+}
+
+/// The files are the same however long runs are held.
+#[test]
+fn held_workers_make_the_same_files(rt: HostRuntime) -> Result<(), Unfit> {
+    let (first, second) = made_while_held(&rt, rt.alloc(), CLASSES, 1, 0)?;
+    let files = (first.digest, second.digest);
+    for seed in SEEDS {
+        for workers in [1, 2, 3, 8, 64] {
+            assert!(rt;
+                are_held_same(&rt, rt.alloc(), workers, seed, &files) == Ok(true),
+                "{workers} workers, seed {seed}"
+            );
+        }
+    }
+    Ok(())
 }

@@ -1,7 +1,7 @@
 use Rattle.std.proofs.Common.{length, sym, ap, ◌∙◌}
 use Rattle.std.proofs.lemmas.List.{length-map}
 use Rattle.job_table.specs.Kept.{event_of}
-use Rattle.session_reports.specs.declared.reports.Reports.{Reports}
+use Rattle.driver.specs.declared.reports.Reports.{Reports}
 use Rattle.driver.proofs.SessionRules.{session_of}
 use Rattle.driver.proofs.session.drive_table.Goals as goal
 

@@ -1,7 +1,7 @@
 use Rattle.std.proofs.Common.{arith, ◌<◌, length, sym, subst}
 use Rattle.mj_project.specs.Projects.{IsProject}
 use Rattle.project_inputs.proofs.InputRules.{good_name}
-use Rattle.driver.proofs.jobs.bring_trees.Goals as goal
+use Rattle.driver.proofs.jobs.Bringer.bring_trees.Goals as goal
 
 pub bring_tree-requires-clause-some : goal.bring_tree-requires-clause-some
 bring_tree-requires-clause-some g c =

@@ -1,7 +1,7 @@
 use Rattle.std.proofs.Common.{subst}
 use Rattle.job_table.specs.Tables.{TableValue, session_in}
 use Rattle.driver.specs.Sessions.{AreEventsOf}
-use Rattle.driver.proofs.session.drive_in_steps.Goals as goal
+use Rattle.driver.proofs.session.drive.Goals as goal
 
 pub returns-in_ok-done-in-Ok-clause-next : goal.returns-in_ok-done-in-Ok-clause-next
 returns-in_ok-done-in-Ok-clause-next g c decides =

@@ -1,4 +1,4 @@
-use Rattle.driver.proofs.session.drive_in_steps.Given as goal
+use Rattle.driver.proofs.session.drive.Given as goal
 
 abbrev pub ghosts-drive_table-J-Ledger : goal.ghosts-drive_table-J-Ledger
 ghosts-drive_table-J-Ledger g a = record { name = a.blank.name; parts = a.blank.parts }

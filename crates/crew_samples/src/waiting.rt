@@ -1,0 +1,51 @@
+//! A runner that waits.
+ghost use Rattle.std.specs.Prelude.{◌≡◌};
+
+use crate::meeting::Meeting;
+use item_ids::Key;
+use providers::MiniJava;
+use recorder::{Reader, Recorder, RunFault, Runner};
+use result_bytes::Value;
+use std::alloc::Global;
+
+/// Runs as MiniJava's runner does, and tells of each run where runs wait for one another.
+#[derive(Drop)]
+pub(crate) struct Waiting<'a> {
+    runner: MiniJava,
+    meeting: &'a Meeting,
+}
+
+impl<'a> Waiting<'a> {
+    pub(crate) fn new(alloc: Global, meeting: &'a Meeting) -> Self {
+        Waiting {
+            runner: MiniJava::new(alloc),
+            meeting,
+        }
+    }
+}
+
+impl Runner for Waiting<'_> {
+    ghost use Rattle.query_rules.specs.Meaning.{mean};
+    ghost use Rattle.query_rules.specs.Reads.{reads};
+    ghost use Rattle.providers.specs.Laws.{mini_java_laws};
+
+    ghost mean = { mean };
+
+    ghost reads = { reads };
+
+    ghost log = { λ r. r.runner.log.items };
+
+    ghost laws = { mini_java_laws };
+
+    fn run<D: Reader>(
+        &mut self,
+        alloc: Global,
+        key: &Key,
+        recorder: &mut Recorder<D>,
+    ) -> Result<Value, RunFault> {
+        self.meeting.begin(key);
+        let answer = self.runner.run(alloc, key, recorder);
+        self.meeting.end(key);
+        answer
+    }
+}

@@ -1,0 +1,54 @@
+//! Whether a project has changed since the session before.
+
+use item_ids::Key;
+use mj_lexer::Name;
+use mj_project::Project;
+use project_inputs::same_source;
+use result_bytes::Value;
+use sessions::Session;
+use std::alloc::{AllocError, Global};
+
+/// Whether the session before has just the files of the project. Then nothing is run, and there is no work to be shared.
+pub(crate) fn has_files(
+    alloc: Global,
+    past: &Session,
+    project: &Project,
+) -> Result<bool, AllocError> {
+    let files = project.files();
+    let names = names_in(past);
+    if names.len() != files.len() {
+        return Ok(false);
+    }
+    for at in 0..files.len() {
+        if !has_file(alloc, past, &names[at], &files[at])? {
+            return Ok(false);
+        }
+    }
+    Ok(true)
+}
+
+/// The names of the files that a session tells.
+fn names_in(past: &Session) -> &[Name] {
+    match past.find(&Key::Files) {
+        Some(item) => match item.sealed().value() {
+            Value::Files(names) => names.names(),
+            _ => &[],
+        },
+        None => &[],
+    }
+}
+
+/// Whether a session has a file, by this name and with its bytes.
+fn has_file(
+    alloc: Global,
+    past: &Session,
+    name: &Name,
+    file: &(String, Vec<u8>),
+) -> Result<bool, AllocError> {
+    let (own, bytes) = file;
+    if name.bytes() != own.as_bytes() {
+        return Ok(false);
+    }
+    let key = Key::Source(name.copy(alloc)?);
+    Ok(same_source(past, &key, bytes.as_slice()).is_some())
+}
