@@ -1,12 +1,11 @@
 -- A session that holds the files of a project beside another project.
-use Rattle.std.proofs.Common.{◌≡◌, ℕ, suc, zero, ◌<◌, ◌+◌, Bool, true, false, cond, find, List, [], ◌∷◌, take, length, slice_get, get_or, Option, Some, None, option_map, inl, inr, refl, sym, ap, ◌∙◌, subst, arith}
+use Rattle.std.proofs.Common.{◌≡◌, ℕ, suc, true, false, cond, find, List, [], ◌∷◌, take, length, slice_get, Option, Some, option_map, inl, inr, refl, sym, ap, ◌∙◌, subst, arith}
 use Rattle.std.specs.Prelude.{Contains, bytes_eq, String, Vec}
 use Rattle.std.specs.declared.alloc.Global.{Global}
-use Rattle.std.proofs.lemmas.List.{length-map, get_or-map}
+use Rattle.std.proofs.lemmas.List.{length-map}
 use Rattle.std.proofs.lemmas.Option.{same_Some}
 use Rattle.std.proofs.lemmas.Slice.Eq.{bytes_eq-Decides}
 use Rattle.item_ids.specs.declared.key.Key.TheVariants.{Files, Source}
-use Rattle.result_bytes.specs.declared.value.Value.{Value}
 use Rattle.result_bytes.specs.declared.value.Value.TheVariants as values
 use Rattle.result_bytes.specs.Storable.{AreDistinct}
 use Rattle.mj_project.specs.Projects.{SourceFile, source_view, sources_view, names_of, IsProject}
@@ -17,7 +16,7 @@ use Rattle.graph_rules.specs.Pasts.{Past}
 use Rattle.graph_rules.specs.Next.{AreSources}
 use Rattle.audit_graph.proofs.Entries.{contains_cases, contains_first, contains_later}
 use Rattle.audit_replay.specs.Audits.{HasValue}
-use Rattle.audit_replay.specs.Projects.{IsFileOf, AreFilesOf}
+use Rattle.audit_replay.specs.Projects.{AreFilesOf}
 
 pub nowhere : {X : Type 0} (x : X) → Contains [] x → ⊥
 nowhere x c = absurd (let b = c.1 in omega arith)

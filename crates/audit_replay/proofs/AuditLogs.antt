@@ -1,11 +1,9 @@
 -- What an audit says of the runner's log, apart from all else.
-use Rattle.std.proofs.Common.{◌≡◌, inl, inr, ℕ, List, [], ◌∷◌, ◌++◌, map, length, refl, sym, ap, ◌∙◌, append_assoc, append-nil}
+use Rattle.std.proofs.Common.{◌≡◌, inl, inr, ℕ, List, [], ◌∷◌, ◌++◌, map, sym, ap, ◌∙◌, append_assoc, append-nil}
 use Rattle.std.specs.Prelude.{Option}
 use Rattle.std.specs.List.{AllByRecursion}
 use Rattle.std.proofs.lemmas.List.{map-append}
 use Rattle.item_ids.specs.declared.key.Key.{Key}
-use Rattle.result_bytes.specs.declared.value.Value.{Value}
-use Rattle.recorder.specs.Projects.{Project}
 use Rattle.recorder.specs.Backed.{Meaning, ReadLists}
 use Rattle.recorder.proofs.Recorded.{all_last}
 use Rattle.sessions.specs.Sessions.{SessionValue, IsSession}
@@ -13,14 +11,14 @@ use Rattle.sessions.specs.Spelling.{file_of}
 use Rattle.graph_rules.specs.Pasts.{Past}
 use Rattle.audit_graph.specs.declared.fault.AuditFault.{AuditFault}
 use Rattle.audit_graph.specs.declared.fault.AuditFault.TheVariants.{EmptyChain, File, NoAnswer, SourcesDiffer, OutOfMemory}
-use Rattle.audit_replay.specs.Logs.{all_executed_keys, executed_keys, GrowsWithin, RunsNoOther}
+use Rattle.audit_replay.specs.Logs.{all_executed_keys, RunsNoOther}
 use Rattle.audit_replay.specs.Passes.{RunsWithin, FileRefuses}
 use Rattle.audit_replay.specs.Audits.{AuditRefuses, IsRefusedBehind, PassesWith}
 use Rattle.audit_replay.proofs.LogRules.{executed_more, log_none}
 
 module _ (mean : Meaning) (reads : ReadLists) (files : List (List ℕ)) (old new : List Key) where
   -- all of the keys of these sessions
-  passed_log : (Holds : Past → Type 0) → PassesWith mean reads files old new Holds → RunsNoOther files old new
+  pub passed_log : (Holds : Past → Type 0) → PassesWith mean reads files old new Holds → RunsNoOther files old new
   passed_log Holds p = record {
     sessions = p.sessions;
     rest = [];

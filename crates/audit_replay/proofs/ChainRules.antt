@@ -18,8 +18,9 @@ use Rattle.audit_graph.proofs.SourceRules.{one_project}
 use Rattle.audit_graph.proofs.StepRules.{front_is_meant, step_is_right, none_graph, none_meant, none_apart}
 use Rattle.audit_replay.specs.Passes.{Passes}
 use Rattle.audit_replay.specs.Audits.{ArePassed, AreRight, AreApart, last_of}
+use Rattle.audit_replay.proofs.ApartRules.{AreOneByPrint, one_by_print}
 
-module _ (mean : Meaning) (reads : ReadLists) (laws : RunnerLaws mean reads) (all : List SessionValue) (apart : AreApart all) where
+module _ (mean : Meaning) (reads : ReadLists) (laws : RunnerLaws mean reads) (all : List SessionValue) (apart : AreOneByPrint all) where
   -- some project gives the past its values and reads, where any is one
   abbrev IsKnown : Option SessionValue → Type 0
   IsKnown past = (p : Project) → IsProject p → (old : Project) × IsProject old × AreMeant mean reads (past_entry past) old
@@ -65,8 +66,8 @@ module _ (mean : Meaning) (reads : ReadLists) (laws : RunnerLaws mean reads) (al
       → AreRight mean reads None ss × IsSound (last_of None ss)
   front_right ss inside each passed = right_from ss None 0 inside (tt, none_graph, (λ p is. (p, is, none_meant mean reads p)), (λ p sources q r has. absurd (none-some r has))) each passed
 
-  pub all_right : AllByRecursion IsSession all → ArePassed mean reads None 0 all → AreRight mean reads None all × IsMeant (last_of None all)
-  all_right each passed = let r = front_right all (λ s c. c) each passed in (r.0, r.1.3)
+  whole_right : AllByRecursion IsSession all → ArePassed mean reads None 0 all → AreRight mean reads None all × IsMeant (last_of None all)
+  whole_right each passed = let r = front_right all (λ s c. c) each passed in (r.0, r.1.3)
 
   -- the last of right sessions is one of them, and a project gives it its values and reads
   last_known : (past : Option SessionValue) (ss : List SessionValue) → IfSome past (Contains all) → IsGraph (past_entry past) → IsKnown past → ((t : SessionValue) → Contains ss t → Contains all t)
@@ -89,6 +90,11 @@ module _ (mean : Meaning) (reads : ReadLists) (laws : RunnerLaws mean reads) (al
   before_means past sound k s c session step p sources key lower replayed =
       let old = sound.2 p sources.project in
       front_is_meant mean reads laws past k s old.0 p sound.1 old.1 old.2 session step sources (pairwise past sound.0 s c) (is_before key) lower replayed
+
+-- sessions among all of which each passes over the one before are right, unless two different results in them have one print
+pub all_right : (mean : Meaning) (reads : ReadLists) → RunnerLaws mean reads → (all : List SessionValue) → AreApart all → AllByRecursion IsSession all → ArePassed mean reads None 0 all
+    → AreRight mean reads None all × ((p : Project) → AreSources (past_entry (last_of None all)) p → AreMeant mean reads (past_entry (last_of None all)) p)
+all_right mean reads laws all apart each passed = whole_right mean reads laws all (one_by_print all each apart) each passed
 
 -- the last session has the files of a project
 pub last_sources : (mean : Meaning) (reads : ReadLists) (past : Option SessionValue) (k : ℕ) (s : SessionValue) (ss : List SessionValue) → ArePassed mean reads past k (s ∷ ss)

@@ -1,5 +1,5 @@
 -- The inputs of a session that holds the files of a project, beside another project.
-use Rattle.std.proofs.Common.{◌≡◌, ℕ, suc, zero, ◌<◌, ◌+◌, Bool, true, false, cond, find, List, [], ◌∷◌, ◌++◌, map, take, length, slice_get, get_or, Option, Some, None, option_map, inl, inr, refl, sym, ap, ◌∙◌, subst, arith}
+use Rattle.std.proofs.Common.{◌≡◌, ℕ, suc, zero, ◌<◌, ◌+◌, true, false, cond, find, List, [], ◌∷◌, ◌++◌, map, take, length, get_or, Option, Some, option_map, inl, inr, refl, sym, ap, ◌∙◌, subst, arith}
 use Rattle.std.specs.Prelude.{Contains, bytes_eq, string_bytes, String, Vec, ◌↔◌}
 use Rattle.std.specs.Arc.{arc_value}
 use Rattle.std.specs.List.{AllByRecursion}
@@ -12,9 +12,7 @@ use Rattle.item_ids.specs.declared.key.Key.{Key}
 use Rattle.item_ids.specs.declared.key.Key.TheVariants.{Files, Source}
 use Rattle.result_bytes.specs.declared.value.Value.{Value}
 use Rattle.result_bytes.specs.declared.value.Value.TheVariants as values
-use Rattle.result_bytes.specs.Storable.{AreDistinct}
 use Rattle.mj_project.specs.Projects.{SourceFile, source_view, sources_view, names_of, IsProject}
-use Rattle.mj_project.proofs.Listed.{place_of}
 use Rattle.recorder.specs.Projects.{Project, bytes_at}
 use Rattle.sessions.specs.Sessions.{Entry}
 use Rattle.graph_rules.specs.Pasts.{Past}
@@ -22,7 +20,7 @@ use Rattle.graph_rules.specs.Next.{AreSources}
 use Rattle.audit_graph.proofs.Entries.{contains_cases, contains_first, contains_later}
 use Rattle.audit_graph.specs.Sources.{HasBytes, HasSources, source_keys}
 use Rattle.audit_replay.specs.Audits.{HasValue}
-use Rattle.audit_replay.specs.Projects.{IsFileOf, AreFilesOf, IsFileAlike, AreFilesAlike, IsInputsOf}
+use Rattle.audit_replay.specs.Projects.{AreFilesOf, IsFileAlike, AreFilesAlike, IsInputsOf}
 use Rattle.audit_replay.specs.Sums.{AreTexts, AreInputs}
 use Rattle.audit_replay.proofs.AgainstRules.{nowhere, same_names, are_sources, are_files}
 
@@ -134,7 +132,7 @@ inputs_alike now names texts x old p is = (
 
 -- ---- the inputs of a session that holds the files of a project
 
-bytes_named : (fs : List SourceFile) (file : List ℕ) → Contains (names_of fs) file → (b : List ℕ) × (bytes_at fs file ≡ Some b)
+pub bytes_named : (fs : List SourceFile) (file : List ℕ) → Contains (names_of fs) file → (b : List ℕ) × (bytes_at fs file ≡ Some b)
 bytes_named [] file c = absurd (nowhere file c)
 bytes_named (f ∷ fs) file c =
     (elim (bytes_eq f.name file) as (λ b. bytes_eq f.name file ≡ b → (t : List ℕ) × (option_map (λ (g : SourceFile). g.bytes) (cond b (Some f) (find (λ (g : SourceFile). bytes_eq g.name file) fs)) ≡ Some t)) [

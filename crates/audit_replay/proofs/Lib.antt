@@ -4,6 +4,7 @@ pub mod CompareRules
 pub mod OrderRules
 pub mod LogRules
 pub mod FileRules
+pub mod ApartRules
 pub mod ChainRules
 pub mod ReadRules
 pub mod SumRules
@@ -11,5 +12,9 @@ pub mod AuditLogs
 pub mod AgainstRules
 pub mod InputRules
 pub mod SumEnds
+pub mod SourceFaults
+pub mod SessionFiles
 pub mod RefusalRules
 pub mod RightRules
+pub mod OnceSteps
+pub mod OnceFiles

@@ -1,15 +1,14 @@
 -- What reading a file from a feed tells.
-use Rattle.std.proofs.Common.{◌≡◌, ◌≢◌, inl, inr, ℕ, suc, zero, ◌<◌, List, [], ◌∷◌, ◌++◌, length, Result, Ok, Err, refl, sym, ap, ◌∙◌, arith, append-nil}
+use Rattle.std.proofs.Common.{◌≡◌, ◌≢◌, inl, inr, ℕ, ◌<◌, List, [], ◌∷◌, ◌++◌, length, Err, refl, sym, ap, ◌∙◌, arith, append-nil}
 use Rattle.sessions.specs.Sessions.{SessionValue, IsSession}
 use Rattle.sessions.specs.Spelling.{file_of}
 use Rattle.session_file.specs.Feeding.{Given, CountsIf, is_device}
-use Rattle.session_file.specs.Reading.{IsUnlessStopped, front_at, file_at, session_at}
+use Rattle.session_file.specs.Reading.{IsUnlessStopped, front_at, session_at}
 use Rattle.session_file.specs.declared.fault.FileFault.{FileFault}
 use Rattle.session_file.specs.declared.fault.FileFault.TheVariants.{BadMagic, Version, Truncated, BadDigest, KeyOrder, BadEdge, Result as BadResult, InputKind, Trailing, Device, BadKey, Number, OutOfMemory}
 use Rattle.session_file.proofs.FileLaws.{front_again, file_is_longer, file_breaks}
-use Rattle.audit_graph.specs.declared.fault.AuditFault.{AuditFault}
 use Rattle.audit_graph.specs.declared.fault.AuditFault.TheVariants as faults
-use Rattle.audit_replay.specs.Sums.{IsDeviceFault, ReadFails, CountsFault, file_fault}
+use Rattle.audit_replay.specs.Sums.{ReadFails, CountsFault, file_fault}
 
 -- a file behind which the feed is at its end
 module _ (old now new : List ℕ → Type 0) (s : SessionValue) (given : Given old now (file_of s)) where

@@ -1,5 +1,5 @@
 -- Records that differ from their runs are wrong.
-use Rattle.std.proofs.Common.{◌≡◌, inl, inr, ℕ, suc, zero, ◌+◌, ◌<◌, ◌≤◌, List, [], ◌∷◌, ◌++◌, map, take, length, slice_get, Some, None, Err, refl, sym, ap, ◌∙◌, subst, arith}
+use Rattle.std.proofs.Common.{◌≡◌, inl, inr, ℕ, suc, zero, ◌<◌, ◌≤◌, List, [], ◌∷◌, ◌++◌, map, take, length, slice_get, Some, None, Err, refl, sym, ap, ◌∙◌, subst, arith}
 use Rattle.std.specs.Prelude.{◌≢◌, Contains}
 use Rattle.std.specs.List.{AllByRecursion}
 use Rattle.std.specs.declared.cmp.Ordering.TheVariants.{Less}
@@ -10,9 +10,9 @@ use Rattle.item_ids.specs.declared.key.Key.{Key}
 use Rattle.item_ids.specs.Keys.{key_cmp}
 use Rattle.recorder.specs.Projects.{Project}
 use Rattle.recorder.specs.Backed.{Meaning, ReadLists, RunnerLaws, ReadValue, rank, keys, Gives, GivesEach}
-use Rattle.sessions.specs.Sessions.{SessionValue, IsSession, Entry, entry_of, entry_at}
+use Rattle.sessions.specs.Sessions.{SessionValue, IsSession, Entry, entry_of, entry_at, past_entry}
 use Rattle.sessions.specs.Spelling.{file_of}
-use Rattle.sessions.proofs.EntryRules.{entry_of_place}
+use Rattle.sessions.proofs.EntryRules.{entry_of_place, has_key}
 use Rattle.mj_project.specs.Projects.{IsProject}
 use Rattle.graph_rules.specs.Pasts.{Past}
 use Rattle.graph_rules.proofs.NextRules.{all_at}
@@ -20,12 +20,13 @@ use Rattle.graph_rules.proofs.SessionRules.{session_graph}
 use Rattle.audit_graph.specs.Steps.{IsStep}
 use Rattle.audit_graph.specs.Replays.{AreWithLower, IsHeld, is_before}
 use Rattle.audit_graph.specs.declared.fault.AuditFault.TheVariants as faults
-use Rattle.audit_graph.proofs.Entries.{contains_first, contains_later, contains_cases}
+use Rattle.audit_graph.proofs.Entries.{all_last, contains_first, contains_later, contains_cases}
 use Rattle.audit_replay.specs.declared.mismatch.Mismatch.{Mismatch}
 use Rattle.audit_replay.specs.declared.mismatch.Mismatch.TheVariants.{OtherRead, UnreadEdges, OtherResult, OutOfMemory}
 use Rattle.audit_replay.specs.Reruns.{RerunGives, IsFirstMismatch}
 use Rattle.audit_replay.specs.Audits.{ArePassed, AreApart, AreRight, IsRefusedBehind, last_of}
 use Rattle.audit_replay.specs.Refusals.{IsFirstWrong, HasFirstWrong}
+use Rattle.audit_replay.proofs.ApartRules.{one_by_print}
 use Rattle.audit_replay.proofs.ChainRules.{front_right, before_means}
 
 contains_take : {X : Type 0} (n : ℕ) (xs : List X) (x : X) → Contains (take n xs) x → Contains xs x
@@ -96,12 +97,13 @@ module _ (mean : Meaning) (reads : ReadLists) (now : Past) (p : Project) (projec
 module _ (mean : Meaning) (reads : ReadLists) (laws : RunnerLaws mean reads) (lesser : (a b : Key) → rank a < rank b → key_cmp a b ≡ Less) (lower : (k : Key) → AreWithLower (is_before k)) where
   first_wrong : (front : List SessionValue) (s : SessionValue) → AllByRecursion IsSession front → IsSession s → ArePassed mean reads None 0 front
       → IsStep (last_of None front) (length front) s → (n : ℕ) (why : Mismatch) → (why ≢ OutOfMemory) → IsFirstMismatch mean reads s n why
-      → AreApart (front ++ s ∷ []) → AreRight mean reads None front × IsFirstWrong mean reads s n
+      → AreApart (front ++ s ∷ []) → AreRight mean reads None front × IsFirstWrong mean reads (past_entry (last_of None front)) s n
   first_wrong front s each session passed step n why other first apart =
       let all = front ++ s ∷ [] in
-      let sound = front_right mean reads laws all apart front (λ t c. contains_front front (s ∷ []) t c) each passed in
+      let by_print = one_by_print all (all_last IsSession front s each session) apart in
+      let sound = front_right mean reads laws all by_print front (λ t c. contains_front front (s ∷ []) t c) each passed in
       let p = step.sources.0 in
-      let before = before_means mean reads laws all apart (last_of None front) sound.1 (length front) s (contains_last front s) session step p step.sources.1
+      let before = before_means mean reads laws all by_print (last_of None front) sound.1 (length front) s (contains_last front s) session step p step.sources.1
       first.item.key (lower first.item.key) first.before in
       let within = slice_get_within s.records n first.item first.here in
       let has = entry_of_place s session n first.item within (get_or_from_slice_get s.records n first.item first.item first.here) in
@@ -113,7 +115,14 @@ module _ (mean : Meaning) (reads : ReadLists) (laws : RunnerLaws mean reads) (le
           sources = step.sources.1;
           item = first.item;
           here = first.here;
-          before = before;
+          before = λ q x b is.
+              let key = has_key s session q x is in
+              let means = before q x b is in
+              record {
+                value = means.0 ∙ ap (λ (e : Key). mean p e) (sym key);
+                edges = means.1 ∙ ap (λ (e : Key). reads p e) (sym key);
+                green = step.greens q x is;
+              };
           wrong = differs mean reads (entry_at s) p step.sources.1.project r
               (λ e x c is. (before e x (ap is_lt (lesser e first.item.key (all_at (λ k. rank k < rank first.item.key) r.reads below e c))) is).0)
               why other first.differs;
@@ -131,6 +140,10 @@ module _ (mean : Meaning) (reads : ReadLists) (laws : RunnerLaws mean reads) (le
       rest = rest;
       spelled = ap (λ (b : List ℕ). map file_of front ++ b ∷ rest) spells ∙ spelled;
       many = sym is;
+      each = each;
+      is = session;
+      passed = passed;
+      step = subst (λ (m : ℕ). IsStep (last_of None front) m s) (sym is) step;
       wrong = first_wrong front s each session passed step n why other first;
     }
 

@@ -1,34 +1,23 @@
 -- Chains of right sessions are refused for want of memory alone.
-use Rattle.std.proofs.Common.{◌≡◌, inl, inr, ℕ, suc, zero, ◌+◌, ◌<◌, true, false, cond, List, [], ◌∷◌, ◌++◌, map, find, length, get_or, Option, Some, None, option_map, Ok, Err, refl, sym, ap, ◌∙◌, subst, arith, append-nil, bytes_eq}
-use Rattle.std.specs.Prelude.{◌≢◌, Contains}
+use Rattle.std.proofs.Common.{◌≡◌, inl, inr, ℕ, ◌+◌, List, [], ◌∷◌, ◌++◌, map, length, Option, Some, None, Ok, Err, refl, sym, ap, ◌∙◌, subst, arith}
+use Rattle.std.specs.Prelude.{◌≢◌}
 use Rattle.std.specs.List.{AllByRecursion}
-use Rattle.std.proofs.lemmas.Option.{none-some, same_Some, slice_get_within, get_or_from_slice_get}
-use Rattle.std.proofs.lemmas.List.{get_or-map, length-map}
-use Rattle.std.proofs.lemmas.List.Elements.{at_from_Contains}
-use Rattle.std.proofs.lemmas.Slice.Eq.{bytes_eq-Decides}
+use Rattle.std.proofs.lemmas.Option.{none-some, slice_get_within, get_or_from_slice_get}
 use Rattle.item_ids.specs.declared.key.Key.{Key}
-use Rattle.item_ids.specs.declared.key.Key.TheVariants.{Files, Source, Tree, Index, Header, Method, Sig, Supers, Members, CheckClass, CheckBody, Diags, Answer}
-use Rattle.item_ids.specs.declared.kind.Kind.TheVariants as kinds
-use Rattle.item_ids.specs.Keys.{kind_of}
+use Rattle.item_ids.specs.declared.key.Key.TheVariants.{Answer}
 use Rattle.result_bytes.specs.declared.value.Value.{Value}
-use Rattle.result_bytes.specs.declared.value.Value.TheVariants as values
-use Rattle.mj_project.specs.Projects.{SourceFile, names_of}
-use Rattle.recorder.specs.Projects.{Project, bytes_at}
+use Rattle.recorder.specs.Projects.{Project}
 use Rattle.recorder.specs.Backed.{Meaning, ReadLists}
-use Rattle.sessions.specs.Sessions.{SessionValue, IsSession, Entry, entry_of, entries, entry_at, past_entry}
+use Rattle.sessions.specs.Sessions.{SessionValue, IsSession, entry_of, entries, entry_at, past_entry}
 use Rattle.sessions.specs.Spelling.{file_of}
 use Rattle.sessions.proofs.EntryRules.{entry_of_place}
-use Rattle.session_file.specs.Reading.{file_at, front_at}
-use Rattle.session_file.proofs.FileLaws.{front_again, file_is_read}
-use Rattle.graph_rules.specs.Pasts.{Past}
+use Rattle.session_file.specs.Reading.{file_at}
 use Rattle.graph_rules.specs.Next.{AreSources, IsRight}
 use Rattle.audit_graph.specs.Chains.{IsLinked, AreLinked}
-use Rattle.audit_graph.specs.Sources.{HasFiles, HasBytes, source_keys}
-use Rattle.audit_graph.specs.Steps.{IsMissing, IsStray, IsFirstLack, StepGives}
+use Rattle.audit_graph.specs.Steps.{IsFirstLack, StepGives}
 use Rattle.audit_graph.specs.declared.greens.Lack.{Lack}
 use Rattle.audit_graph.specs.declared.fault.AuditFault.{AuditFault}
 use Rattle.audit_graph.specs.declared.fault.AuditFault.TheVariants as faults
-use Rattle.audit_graph.proofs.Entries.{contains_first, contains_later, contains_cases}
 use Rattle.audit_replay.specs.declared.mismatch.Mismatch.{Mismatch}
 use Rattle.audit_replay.specs.declared.mismatch.Mismatch.TheVariants.{OtherRead, UnreadEdges, OtherResult, OutOfMemory}
 use Rattle.audit_replay.specs.Reruns.{IsFirstMismatch, RefusesPlan}
@@ -36,102 +25,14 @@ use Rattle.audit_replay.specs.Passes.{RunsWithin, SessionRefuses, FileRefuses}
 use Rattle.audit_replay.specs.Audits.{AreRight, AreApart, IsAccepted, IsRefusedBehind, AuditRefuses, last_of, last_entry}
 use Rattle.audit_replay.specs.RightChains.{IsRightChain}
 use Rattle.audit_replay.proofs.Lists.{contains_there}
+use Rattle.audit_replay.proofs.SessionFiles.{file_again, one_session, same_sessions}
+use Rattle.audit_replay.proofs.SourceFaults.{told_of_entry, not_missing, not_stray}
 use Rattle.audit_replay.proofs.RefusalRules.{differs}
-
-nowhere : {X : Type 0} (x : X) → Contains [] x → ⊥
-nowhere x h = let a = at_from_Contains [] x h in absurd (omega (arith, a.1))
-
--- ---- the files of a project
-
-bytes_named : (p : Project) (file : List ℕ) → Contains (names_of p) file → (b : List ℕ) × (bytes_at p file ≡ Some b)
-bytes_named [] file c = absurd (nowhere file c)
-bytes_named (f ∷ fs) file c =
-    (elim (bytes_eq f.name file) as (λ b. bytes_eq f.name file ≡ b → (t : List ℕ) × (option_map (λ (g : SourceFile). g.bytes) (cond b (Some f) (find (λ (g : SourceFile). bytes_eq g.name file) fs)) ≡ Some t)) [
-      | true ↦ λ same. (f.bytes, refl)
-      | false ↦ λ other. bytes_named fs file (elim (contains_cases f.name (names_of fs) file c) [
-        | inl same ↦ absurd (let t : true ≡ false = sym ((bytes_eq-Decides f.name file).1 same) ∙ other in cc)
-        | inr later ↦ later
-      ])
-    ]) refl
-
-source_there : (names : List (List ℕ)) (file : List ℕ) → Contains names file → Contains (source_keys names) (Source file)
-source_there [] file c = absurd (nowhere file c)
-source_there (n ∷ ns) file c = elim (contains_cases n ns file c) [
-  | inl same ↦ subst (λ (m : List ℕ). Contains (source_keys (n ∷ ns)) (Source m)) same (contains_first (Source n) (source_keys ns))
-  | inr later ↦ contains_later (Source n) (source_keys ns) (Source file) (source_there ns file later)
-]
-
-source_of : (names : List (List ℕ)) (q : Key) → Contains (source_keys names) q → (file : List ℕ) × Contains names file × (Source file ≡ q)
-source_of [] q c = absurd (nowhere q c)
-source_of (n ∷ ns) q c = elim (contains_cases (Source n) (source_keys ns) q c) [
-  | inl same ↦ (n, contains_first n ns, same)
-  | inr later ↦ (let h = source_of ns q later in (h.0, contains_later n ns h.0 h.1, h.2))
-]
-
-source_key : (k : Key) → kind_of k ≡ kinds.Source → (file : List ℕ) × (k ≡ Source file)
-source_key Files e = absurd (cc)
-source_key (Source file) e = (file, refl)
-source_key (Tree file) e = absurd (cc)
-source_key Index e = absurd (cc)
-source_key (Header c) e = absurd (cc)
-source_key (Method c m) e = absurd (cc)
-source_key (Sig c m) e = absurd (cc)
-source_key (Supers c) e = absurd (cc)
-source_key (Members c) e = absurd (cc)
-source_key (CheckClass c) e = absurd (cc)
-source_key (CheckBody c m) e = absurd (cc)
-source_key (Diags c) e = absurd (cc)
-source_key Answer e = absurd (cc)
-
-module _ (now : Past) (p : Project) (sources : AreSources now p) where
-  has_bytes : (q : Key) → Contains (source_keys (names_of p)) q → HasBytes now q
-  has_bytes q c =
-      let f = source_of (names_of p) q c in
-      let x = sources.each f.0 f.1 in
-      let b = bytes_named p f.0 f.1 in
-      subst (HasBytes now) f.2 (record { entry = x.0; bytes = b.0; has = x.1; value = x.2 ∙ ap (λ (o : Option (List ℕ)). values.Source o) b.1 })
-
-  held_names : (names : List (List ℕ)) → HasFiles now names → names ≡ names_of p
-  held_names names files =
-      let e : files.entry ≡ sources.files.0 = same_Some _ _ (sym files.has ∙ sources.files.1) in
-      let v : values.Files names ≡ values.Files (names_of p) = sym files.value ∙ (ap (λ (x : Entry). x.value) e ∙ sources.files.2) in
-      cc
-
--- ---- one session
-
-item_at : {X : Type 0} (xs : List X) (i : ℕ) → i < length xs → (x : X) × (get_or xs i x ≡ x)
-item_at [] i lt = absurd (omega arith)
-item_at (x ∷ xs) zero lt = (x, refl)
-item_at (x ∷ xs) (suc i) lt = item_at xs i (omega arith)
-
--- an entry is what the session tells of its key
-told_of_entry : (s : SessionValue) → IsSession s → (r : Entry) → Contains (entries s) r → entry_at s r.key ≡ Some r
-told_of_entry s session r c =
-    let lt : c.0 < length s.records = let l = c.1 in omega (arith, l, length-map s.records (entry_of s.records)) in
-    let x = item_at s.records c.0 lt in
-    let e : entry_of s.records x.0 ≡ r = ap (entry_of s.records) (sym x.1) ∙ (sym (get_or-map (entry_of s.records) s.records c.0 x.0 r lt) ∙ c.2) in
-    subst (λ (y : Entry). entry_at s y.key ≡ Some y) e (entry_of_place s session c.0 x.0 lt x.1)
 
 module _ (mean : Meaning) (reads : ReadLists) (past : Option SessionValue) (k : ℕ) (s : SessionValue) (session : IsSession s) (linked : IsLinked past k s)
     (right : IsRight mean reads (past_entry past) (entry_at s)) where
   abbrev sources : AreSources (entry_at s) right.project
   sources = right.of_project.sources
-
-  not_missing : (f : ℕ) → IsMissing s f → ⊥
-  not_missing f m =
-      let same = held_names (entry_at s) right.project sources m.names m.files in
-      let c = contains_there (source_keys m.names) f m.first.item m.first.here in
-      m.first.lacks (has_bytes (entry_at s) right.project sources m.first.item (subst (λ (ns : List (List ℕ)). Contains (source_keys ns) m.first.item) same c))
-
-  not_stray : (n : ℕ) → IsStray s n → ⊥
-  not_stray n m =
-      let same = held_names (entry_at s) right.project sources m.names m.files in
-      let c = contains_there (entries s) n m.first.item m.first.here in
-      let has = told_of_entry s session m.first.item c in
-      m.first.lacks (λ kind.
-      let f = source_key m.first.item.key kind in
-      let inn = sources.others f.0 m.first.item (ap (entry_at s) (sym f.1) ∙ has) in
-      subst (Contains (source_keys m.names)) (sym f.1) (source_there m.names f.0 (subst (λ (ns : List (List ℕ)). Contains ns f.0) (sym same) inn)))
 
   not_lack : (n : ℕ) (why : Lack) → IsFirstLack past s n why → ⊥
   not_lack n why m =
@@ -143,8 +44,8 @@ module _ (mean : Meaning) (reads : ReadLists) (past : Option SessionValue) (k : 
   not_step (faults.File j f) g = absurd g
   not_step (faults.BrokenLink j) g = absurd (g.1 linked)
   not_step (faults.NoFiles j) g = absurd (none-some sources.files.0 (sym g.2 ∙ sources.files.1))
-  not_step (faults.MissingSource j f) g = absurd (not_missing f g.2)
-  not_step (faults.StraySource j n) g = absurd (not_stray n g.2)
+  not_step (faults.MissingSource j f) g = absurd (not_missing s session right.project sources f g.2)
+  not_step (faults.StraySource j n) g = absurd (not_stray s session right.project sources n g.2)
   not_step (faults.GreenWithoutPast j n) g = absurd (not_lack n _ g.1.first)
   not_step (faults.OtherEdges j n) g = absurd (not_lack n _ g.1.first)
   not_step (faults.GreenOverRed j n i) g = absurd (not_lack n _ g.1.first)
@@ -188,12 +89,6 @@ module _ (mean : Meaning) (reads : ReadLists) (past : Option SessionValue) (k : 
 
 -- ---- files
 
-file_again : (s : SessionValue) → IsSession s → file_at (file_of s) ≡ Ok s
-file_again s h = file_is_read (file_of s) s [] (ap front_at (sym (append-nil (file_of s))) ∙ front_again s [] h) refl
-
-one_session : (s t : SessionValue) → IsSession s → IsSession t → file_of s ≡ file_of t → s ≡ t
-one_session s t a b e = let o : Ok s ≡ Ok t = sym (file_again s a) ∙ (ap file_at e ∙ file_again t b) in cc
-
 module _ (mean : Meaning) (reads : ReadLists) (past : Option SessionValue) (k : ℕ) (s : SessionValue) (session : IsSession s) (linked : IsLinked past k s)
     (right : IsRight mean reads (past_entry past) (entry_at s)) (file : List ℕ) (spelled : file_of s ≡ file) (old new : List Key) where
   some_session : (fault : AuditFault) → (t : SessionValue) × RunsWithin file old new t × SessionRefuses mean reads past k t fault → fault ≡ faults.OutOfMemory
@@ -220,16 +115,6 @@ module _ (mean : Meaning) (reads : ReadLists) (past : Option SessionValue) (k : 
   not_file faults.SourcesDiffer g = some_session faults.SourcesDiffer g
 
 -- ---- chains
-
-same_sessions : (a b : List SessionValue) → AllByRecursion IsSession a → AllByRecursion IsSession b → map file_of a ≡ map file_of b → a ≡ b
-same_sessions [] [] ia ib e = refl
-same_sessions [] (t ∷ ts) ia ib e = absurd (let h : [] ≡ (file_of t ∷ map file_of ts) = e in cc)
-same_sessions (s ∷ ss) [] ia ib e = absurd (let h : (file_of s ∷ map file_of ss) ≡ [] = e in cc)
-same_sessions (s ∷ ss) (t ∷ ts) ia ib e =
-    let h : (file_of s ∷ map file_of ss) ≡ (file_of t ∷ map file_of ts) = e in
-    let first : file_of s ≡ file_of t = cc in
-    let rest : map file_of ss ≡ map file_of ts = cc in
-    ap (λ (x : SessionValue). x ∷ ss) (one_session s t ia.0 ib.0 first) ∙ ap (λ (xs : List SessionValue). t ∷ xs) (same_sessions ss ts ia.1 ib.1 rest)
 
 module _ (mean : Meaning) (reads : ReadLists) where
   -- the file behind the first ones is that of a session which is linked to the last of those and right over it

@@ -1,5 +1,5 @@
 -- What sessions that are summed tell in the end.
-use Rattle.std.proofs.Common.{◌≡◌, ◌≢◌, ◌↔◌, ℕ, Bool, true, false, true≢false, IsTrue, List, [], ◌∷◌, ◌++◌, ◌+◌, ◌≤◌, length, map, take, slice_get, Option, Some, None, Result, Ok, Err, inl, inr, refl, sym, ap, ◌∙◌, subst, arith, append-nil}
+use Rattle.std.proofs.Common.{◌≡◌, ◌≢◌, ◌↔◌, ℕ, Bool, false, true≢false, IsTrue, List, [], ◌∷◌, ◌++◌, ◌+◌, ◌≤◌, length, map, take, slice_get, Option, Some, None, Result, Ok, Err, inl, inr, refl, sym, ap, ◌∙◌, subst, arith, append-nil}
 use Rattle.std.specs.Prelude.{IfOk, IfErr}
 use Rattle.std.specs.Arc.{arc_value}
 use Rattle.std.specs.declared.alloc.Global.{Global}
@@ -12,7 +12,7 @@ use Rattle.result_bytes.specs.declared.value.Value.{Value}
 use Rattle.mj_project.specs.Projects.{IsProject}
 use Rattle.recorder.specs.Projects.{Project}
 use Rattle.recorder.specs.Backed.{Meaning, ReadLists, RunnerLaws}
-use Rattle.sessions.specs.Sessions.{SessionValue, Entry, entry_at, past_entry}
+use Rattle.sessions.specs.Sessions.{SessionValue, entry_at, past_entry}
 use Rattle.sessions.specs.Spelling.{file_of}
 use Rattle.graph_rules.specs.Pasts.{Past}
 use Rattle.graph_rules.specs.Next.{AreSources, IsRight}
@@ -22,8 +22,7 @@ use Rattle.audit_graph.specs.declared.fault.AuditFault.TheVariants.{EmptyChain, 
 use Rattle.audit_graph.proofs.SourceRules.{one_project}
 use Rattle.session_file.specs.declared.fault.FileFault.TheVariants.{Device}
 use Rattle.audit_replay.specs.Logs.{all_executed_keys, RunsExecuted, RunsNoOther}
-use Rattle.audit_replay.specs.Passes.{FileRefuses}
-use Rattle.audit_replay.specs.Audits.{ArePassedFiles, AreRight, last_of, last_entry, HasValue, IsAccepted, IsRefusedBehind, AuditRefuses, AuditRefusesAgainst, PassesWith}
+use Rattle.audit_replay.specs.Audits.{AreRight, last_of, last_entry, HasValue, IsAccepted, IsRefusedBehind, AuditRefuses, AuditRefusesAgainst, PassesWith}
 use Rattle.audit_replay.specs.Projects.{IsInputsOf}
 use Rattle.audit_replay.specs.RightChains.{AreRightInChain}
 use Rattle.audit_replay.specs.Sums.{IsAnswer, IsLastOf, IsLast, IsSumOf, Sums, Takes, IsDeviceFault, TakeRefuses, CountsFault, Ends, EndRefuses, EndRefusesAgainst, EndGives, EndGivesAgainst, AreSummed}
@@ -33,7 +32,7 @@ use Rattle.audit_replay.specs.declared.sum.Sum.{Sum}
 use Rattle.audit_replay.proofs.FileRules.{none_last, passed_linked, file_passed, file_refused}
 use Rattle.audit_replay.proofs.ChainRules.{all_right}
 use Rattle.audit_replay.proofs.InputRules.{inputs_alike}
-use Rattle.audit_replay.proofs.AuditLogs.{refused_log}
+use Rattle.audit_replay.proofs.AuditLogs.{passed_log, refused_log}
 use Rattle.audit_replay.proofs.Lists.{take_there}
 
 -- ---- the last session
@@ -202,8 +201,11 @@ module _ (mean : Meaning) (reads : ReadLists) (laws : RunnerLaws mean reads) (fi
   audit_refuses (Ok a) e = tt
   audit_refuses (Err fault) e = refused_in_end fault e
 
+  summed_runs : (runs : ℕ) → runs ≡ length (all_executed_keys t.sessions) → RunsExecuted files old new runs
+  summed_runs runs many = record { sessions = t.sessions; each = t.passed.each; spelled = t.passed.spelled; log = t.passed.log; many = many }
+
   pub audit_logs : (r : Result Audited AuditFault) → EndGives mean reads t.sessions r → IfOk r (λ a. RunsExecuted files old new a.runs)
-  audit_logs (Ok a) e = record { sessions = t.sessions; each = t.passed.each; spelled = t.passed.spelled; log = t.passed.log; many = e.runs }
+  audit_logs (Ok a) e = summed_runs a.runs e.runs
   audit_logs (Err fault) e = tt
 
   pub audit_logs_refused : (r : Result Audited AuditFault) → EndGives mean reads t.sessions r → IfErr r (λ _. RunsNoOther files old new)
@@ -225,6 +227,15 @@ module _ (mean : Meaning) (reads : ReadLists) (laws : RunnerLaws mean reads) (fi
   pub against_refuses : (p : Project) (r : Result Audited AuditFault) → EndGivesAgainst mean reads t.sessions p r → IfErr r (AuditRefusesAgainst mean reads files old new p)
   against_refuses p (Ok a) e = tt
   against_refuses p (Err fault) e = against_in_end p fault e
+
+  pub against_logs : (p : Project) (r : Result Audited AuditFault) → EndGivesAgainst mean reads t.sessions p r → IfOk r (λ a. RunsExecuted files old new a.runs)
+  against_logs p (Ok a) e = summed_runs a.runs e.0.runs
+  against_logs p (Err fault) e = tt
+
+  -- all that passed was run, whatever is refused in the end
+  pub against_logs_refused : (p : Project) (r : Result Audited AuditFault) → EndGivesAgainst mean reads t.sessions p r → IfErr r (λ _. RunsNoOther files old new)
+  against_logs_refused p (Ok a) e = tt
+  against_logs_refused p (Err fault) e = passed_log mean reads files old new _ (with_last (λ last. Unit {0}) tt)
 
 -- a file that is refused behind others, against a project too
 pub behind_against : (mean : Meaning) (reads : ReadLists) (files : List (List ℕ)) (old new : List Key) (p : Project) (fault : AuditFault) → AuditRefuses mean reads files old new fault → AuditRefusesAgainst mean reads files old new p fault

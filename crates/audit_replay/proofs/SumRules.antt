@@ -1,6 +1,6 @@
 -- Sessions that are summed, and one more of them.
-use Rattle.std.proofs.Common.{◌≡◌, inl, inr, ℕ, ◌+◌, ◌*◌, ◌≤◌, ◌^◌, ◌-◌, min, true, List, [], ◌∷◌, ◌++◌, map, length, Option, Some, None, Result, Ok, Err, option_map, refl, sym, ap, ◌∙◌, subst, arith, append-nil, length-append}
-use Rattle.std.specs.Prelude.{IfSome, Contains}
+use Rattle.std.proofs.Common.{◌≡◌, inl, inr, ℕ, ◌+◌, ◌*◌, ◌≤◌, ◌^◌, ◌-◌, min, List, [], ◌∷◌, ◌++◌, length, Option, Some, None, Ok, Err, option_map, refl, sym, ap, ◌∙◌, subst, arith, append-nil, length-append}
+use Rattle.std.specs.Prelude.{Contains}
 use Rattle.std.specs.List.{AllByRecursion}
 use Rattle.std.proofs.lemmas.List.{length-map}
 use Rattle.std.proofs.lemmas.List.Elements.{Contains-push}
@@ -18,14 +18,15 @@ use Rattle.audit_graph.specs.Kept.{ArePastOf}
 use Rattle.audit_graph.specs.declared.fault.AuditFault.{AuditFault}
 use Rattle.audit_graph.specs.declared.fault.AuditFault.TheVariants.{File, OutOfMemory}
 use Rattle.audit_replay.specs.Logs.{executed_keys, all_executed_keys, GrowsWithin}
-use Rattle.audit_replay.specs.Passes.{Passes, RunsWithin, ReadRefuses, FileRefuses, SessionGives, SessionRefuses}
+use Rattle.audit_replay.specs.Passes.{Passes, ReadRefuses, FileRefuses, SessionGives, SessionRefuses}
 use Rattle.audit_replay.specs.Audits.{AreRight, AreApart, last_of}
 use Rattle.audit_replay.specs.RightChains.{AreRightInChain}
-use Rattle.audit_replay.specs.Sums.{IsLastOf, IsLast, IsSumOf, Sums, Takes, IsDeviceFault, ReadFails, TakeRefuses, CountsFault}
+use Rattle.audit_replay.specs.Sums.{IsLast, IsSumOf, Takes, IsDeviceFault, ReadFails, TakeRefuses, CountsFault}
 use Rattle.audit_replay.specs.declared.sum.Last.{Last}
 use Rattle.audit_replay.specs.declared.sum.Sum.{Sum}
 use Rattle.audit_replay.proofs.LogRules.{executed_more}
 use Rattle.audit_replay.proofs.FileRules.{last_more, count_fits, session_refused}
+use Rattle.audit_replay.proofs.ApartRules.{one_by_print}
 use Rattle.audit_replay.proofs.ChainRules.{right_behind}
 
 -- ---- what is kept
@@ -64,7 +65,7 @@ chain_more mean reads laws ss s c session p apart = record {
   each = all_last IsSession ss s c.each session;
   chain = linked_more None 0 (length ss) ss s (omega arith) c.chain p.step.linked;
   right = right_more mean reads None ss s c.right
-      (right_behind mean reads laws (ss ++ s ∷ []) apart ss s (front_in ss s) (Contains-push ss s) c.each c.right (length ss) session p);
+      (right_behind mean reads laws (ss ++ s ∷ []) (one_by_print (ss ++ s ∷ []) (all_last IsSession ss s c.each session) apart) ss s (front_in ss s) (Contains-push ss s) c.each c.right (length ss) session p);
 }
 
 module _ (mean : Meaning) (reads : ReadLists) (laws : RunnerLaws mean reads) (old new : Sum) (s : SessionValue) (session : IsSession s) (runs : ℕ)

@@ -4,6 +4,7 @@ use Rattle.std.specs.List.{AllByRecursion}
 use Rattle.item_ids.specs.declared.key.Key.{Key}
 use Rattle.item_ids.specs.declared.key.Key.TheVariants.{Answer}
 use Rattle.result_bytes.specs.declared.value.Value.{Value}
+use Rattle.result_bytes.specs.Values.{canon}
 use Rattle.fingerprint.specs.Prints.{print_of}
 use Rattle.recorder.specs.Projects.{Project}
 use Rattle.recorder.specs.Backed.{Meaning, ReadLists}
@@ -50,10 +51,11 @@ pub record IsRecorded (sessions : List SessionValue) (v : Value) : Type 0 where
   pub has : entry_at session key ≡ Some entry
   pub value : entry.value ≡ v
 
--- no two different results that are recorded in the sessions have one print
+-- No two different results that are recorded in the sessions have one print: those that have one have
+-- the same bytes.
 abbrev pub AreApart : List SessionValue → Type 0
 AreApart sessions =
-    (v w : Value) → IsRecorded sessions v → IsRecorded sessions w → print_of v ≡ print_of w → v ≡ w
+    (v w : Value) → IsRecorded sessions v → IsRecorded sessions w → print_of v ≡ print_of w → canon v ≡ canon w
 
 -- a session has this value for the key
 pub record HasValue (now : Past) (q : Key) (v : Value) : Type 0 where

@@ -1,5 +1,5 @@
 -- One session over the one before: its step, and its executed records run again.
-use Rattle.std.specs.Prelude.{◌≡◌, ◌⊎◌, ℕ, true, List, ◌++◌, length, Option, Result, Ok, Err}
+use Rattle.std.specs.Prelude.{◌≡◌, ◌⊎◌, ℕ, true, List, length, Option, Result, Ok, Err}
 use Rattle.item_ids.specs.declared.key.Key.{Key}
 use Rattle.recorder.specs.Backed.{Meaning, ReadLists}
 use Rattle.sessions.specs.Sessions.{SessionValue, IsSession, entry_at}

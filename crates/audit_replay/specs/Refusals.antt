@@ -1,29 +1,44 @@
 -- What it says of a chain that an executed record of it differs from its run.
 use Rattle.std.specs.Prelude.{◌≡◌, ℕ, List, [], ◌∷◌, ◌++◌, map, length, slice_get, Some, None, true}
+use Rattle.std.specs.List.{AllByRecursion}
 use Rattle.item_ids.specs.declared.key.Key.{Key}
 use Rattle.recorder.specs.Projects.{Project}
 use Rattle.recorder.specs.Backed.{Meaning, ReadLists}
-use Rattle.sessions.specs.Sessions.{RecordValue, SessionValue, Entry, key_at, entry_at}
+use Rattle.sessions.specs.Sessions.{RecordValue, SessionValue, IsSession, Entry, key_at, entry_at, past_entry}
 use Rattle.sessions.specs.Spelling.{file_of}
+use Rattle.graph_rules.specs.Pasts.{Past}
 use Rattle.graph_rules.specs.Next.{AreSources}
+use Rattle.audit_graph.specs.Greens.{StandsIfGreen}
+use Rattle.audit_graph.specs.Steps.{IsStep}
 use Rattle.audit_graph.specs.Replays.{is_before}
-use Rattle.audit_replay.specs.Audits.{AreApart, AreRight}
+use Rattle.audit_graph.specs.declared.fault.AuditFault.{AuditFault}
+use Rattle.audit_graph.specs.declared.fault.AuditFault.TheVariants.{OtherRead, UnreadEdges, OtherResult, OutOfMemory}
+use Rattle.audit_replay.specs.Audits.{ArePassed, AreApart, AreRight, last_of}
+
+-- The record has the value and the edges that its key means and reads in the project, and where it
+-- is green, it stands in the past.
+pub record IsRightRecord (mean : Meaning) (reads : ReadLists) (past now : Past) (p : Project)
+    (r : Entry) : Type 0 where
+  pub value : r.value ≡ mean p r.key
+  pub edges : r.reads ≡ reads p r.key
+  pub green : StandsIfGreen past now r
 
 -- Over the project whose files the session holds, record n hasn't the value and the edges that its
--- key means and reads, and all records in front of it have them.
-pub record IsFirstWrong (mean : Meaning) (reads : ReadLists) (s : SessionValue)
+-- key means and reads, and all records in front of it are right over the past.
+pub record IsFirstWrong (mean : Meaning) (reads : ReadLists) (past : Past) (s : SessionValue)
     (n : ℕ) : Type 0 where
   pub project : Project
   pub sources : AreSources (entry_at s) project
   pub item : RecordValue
   pub here : slice_get s.records n ≡ Some item
   pub before : (q : Key) (r : Entry) → is_before item.key q ≡ true → entry_at s q ≡ Some r
-      → (r.value ≡ mean project q) × (r.reads ≡ reads project q)
+      → IsRightRecord mean reads past (entry_at s) project r
   pub wrong : item.value ≡ mean project item.key
       → map (key_at s.records) item.edges ≡ reads project item.key → ⊥
 
--- File k is that of a session. Where no two different results in it and in the sessions before have
--- one print, those are right, and record n is the first of its session that is wrong.
+-- File k is that of a session behind sessions that pass: it is linked to them, it holds the files of
+-- a project, and its green records stand in the last of them. Where no two different results in it
+-- and in them have one print, they are right, and record n is the first of its session that is wrong.
 pub record HasFirstWrong (mean : Meaning) (reads : ReadLists) (files : List (List ℕ))
     (k n : ℕ) : Type 0 where
   pub front : List SessionValue
@@ -31,5 +46,19 @@ pub record HasFirstWrong (mean : Meaning) (reads : ReadLists) (files : List (Lis
   pub rest : List (List ℕ)
   pub spelled : map file_of front ++ file_of session ∷ rest ≡ files
   pub many : length front ≡ k
+  pub each : AllByRecursion IsSession front
+  pub is : IsSession session
+  pub passed : ArePassed mean reads None 0 front
+  pub step : IsStep (last_of None front) k session
   pub wrong : AreApart (front ++ session ∷ [])
-      → AreRight mean reads None front × IsFirstWrong mean reads session n
+      → AreRight mean reads None front
+      × IsFirstWrong mean reads (past_entry (last_of None front)) session n
+
+-- The files alone tell that they are refused so, since the fault says neither that a record differs
+-- from its run nor that memory ran out.
+abbrev pub IsToldByFiles : AuditFault → Type 0
+IsToldByFiles (OtherRead k n i) = ⊥
+IsToldByFiles (UnreadEdges k n) = ⊥
+IsToldByFiles (OtherResult k n) = ⊥
+IsToldByFiles OutOfMemory = ⊥
+IsToldByFiles fault = Unit {0}

@@ -11,9 +11,9 @@ ghost use Rattle.result_bytes.specs.declared.value.Value.{Value};
 ghost use Rattle.sessions.specs.Spelling.{file_of};
 ghost use Rattle.audit_graph.specs.declared.fault.AuditFault.{AuditFault};
 ghost use Rattle.audit_graph.specs.declared.fault.AuditFault.TheVariants.{OutOfMemory};
-ghost use Rattle.audit_replay.specs.Audits.{ArePassed, AreRight, AreApart, AuditRefuses, IsAccepted, last_entry};
+ghost use Rattle.audit_replay.specs.Audits.{ArePassed, AreRight, AreApart, AuditRefuses, AuditRefusesAgainst, IsAccepted, last_entry};
 ghost use Rattle.audit_replay.specs.RightChains.{IsRightChain};
-ghost use Rattle.audit_replay.specs.Refusals.{HasFirstWrong};
+ghost use Rattle.audit_replay.specs.Refusals.{HasFirstWrong, IsToldByFiles};
 
 use item_ids::ranks_in_order;
 
@@ -68,4 +68,40 @@ pub fn accepted_are_right_chains()
         → (accepted : IsAccepted mean reads files old new project answer count runs)
         → AreApart accepted.sessions
         → IsRightChain mean reads accepted.sessions }
+{}
+
+/// A file is that of one session, and a list of files that of one list of sessions.
+pub fn files_tell_their_sessions()
+    ensures one { (s t : SessionValue) → IsSession s → IsSession t → file_of s ≡ file_of t → s ≡ t }
+    ensures each { (ss ts : List SessionValue) → AllByRecursion IsSession ss
+        → AllByRecursion IsSession ts → map file_of ss ≡ map file_of ts → ss ≡ ts }
+{}
+
+/// Of all refusals that the files alone tell one at most holds, whatever was run before, so that an audit which answers
+/// one of them answers it exactly where it holds.
+pub fn one_refusal_holds()
+    ensures alone { (mean : Meaning) (reads : ReadLists) (files : List (List ℕ))
+        (old new before after : List Key) (one other : AuditFault)
+        → IsToldByFiles one → IsToldByFiles other
+        → AuditRefuses mean reads files old new one
+        → AuditRefuses mean reads files before after other → one ≡ other }
+    ensures against { (mean : Meaning) (reads : ReadLists) (files : List (List ℕ))
+        (project : Project) (old new before after : List Key) (one other : AuditFault)
+        → IsToldByFiles one → IsToldByFiles other
+        → AuditRefusesAgainst mean reads files old new project one
+        → AuditRefusesAgainst mean reads files before after project other → one ≡ other }
+{}
+
+/// None of them holds of files that are accepted.
+pub fn accepted_are_not_refused()
+    ensures alone { (mean : Meaning) (reads : ReadLists) (files : List (List ℕ))
+        (old new : List Key) (project : Project) (answer : Value) (count runs : ℕ)
+        → IsAccepted mean reads files old new project answer count runs
+        → (before after : List Key) (fault : AuditFault) → IsToldByFiles fault
+        → ¬ AuditRefuses mean reads files before after fault }
+    ensures against { (mean : Meaning) (reads : ReadLists) (files : List (List ℕ))
+        (old new : List Key) (project : Project) (answer : Value) (count runs : ℕ)
+        → IsAccepted mean reads files old new project answer count runs
+        → (before after : List Key) (fault : AuditFault) → IsToldByFiles fault
+        → ¬ AuditRefusesAgainst mean reads files before after project fault }
 {}

@@ -24,6 +24,7 @@ use Rattle.audit_graph.specs.declared.fault.AuditFault.TheVariants.{OutOfMemory}
 use Rattle.audit_graph.proofs.Entries.{contains_first, contains_later, all_last}
 use Rattle.audit_replay.specs.Audits.{AreRight, AreApart, IsRecorded, IsAccepted, AuditRefuses, last_of}
 use Rattle.audit_replay.specs.RightChains.{IsRightChain}
+use Rattle.audit_replay.proofs.ApartRules.{one_by_print}
 use Rattle.audit_replay.proofs.FileRules.{last_more}
 use Rattle.audit_replay.proofs.RightRules.{refused, accepted_right}
 
@@ -86,7 +87,7 @@ module _ (mean : Meaning) (reads : ReadLists) where
     no_clash (Some t) last q k r inn has same =
         let x = told mean reads laws (last_of None sessions) p next project own is q inn in
         let there = within sessions next t (last_in None sessions t (λ y e _. none-some y e) last) in
-        apart r.value (mean p q)
+        one_by_print (sessions ++ next ∷ []) (all_last IsSession sessions next chain.each is.session) apart r.value (mean p q)
         (record { session = t; there = there; key = k; entry = r; has = has; value = refl })
         (record { session = next; there = at_last sessions next; key = q; entry = x.0; has = x.1; value = x.2 }) same
 

@@ -1,1 +1,2 @@
 mod Headline
+mod TakenRules

@@ -1,6 +1,8 @@
 -- What an accepted chain of sessions of MiniJava projects tells.
-use Rattle.std.specs.Prelude.{◌≡◌, ℕ, List, []}
+use Rattle.std.specs.Prelude.{◌≡◌, ℕ, List, [], map, length}
+use Rattle.std.specs.List.{AllByRecursion}
 use Rattle.item_ids.specs.declared.key.Key.{Key}
+use Rattle.item_ids.specs.declared.key.Key.TheVariants.{Answer}
 use Rattle.mj_answer.specs.AnswerValues.{AnswerValue}
 use Rattle.mj_rules.specs.Rules.{Rules}
 use Rattle.result_bytes.specs.declared.value.Value.{Value}
@@ -9,7 +11,12 @@ use Rattle.recorder.specs.Projects.{Project}
 use Rattle.query_rules.specs.Meaning.{mean}
 use Rattle.query_rules.specs.Reads.{reads}
 use Rattle.providers.specs.AnswerValues.{IsAnswerValue}
-use Rattle.audit_replay.specs.Audits.{IsAccepted, AreApart}
+use Rattle.sessions.specs.Sessions.{SessionValue, IsSession}
+use Rattle.sessions.specs.Spelling.{file_of}
+use Rattle.graph_rules.specs.Next.{AreSources}
+use Rattle.audit_graph.specs.Chains.{IsChain}
+use Rattle.audit_graph.specs.declared.fault.AuditFault.{AuditFault}
+use Rattle.audit_replay.specs.Audits.{ArePassedFiles, AuditRefuses, HasValue, last_entry}
 
 -- it is the answer that the static rules give the files
 pub record IsOfTheRules (files : Project) (v : Value) : Type 0 where
@@ -17,13 +24,27 @@ pub record IsOfTheRules (files : Project) (v : Value) : Type 0 where
   pub value : v ≡ values.Answer answer
   pub rules : Rules files answer
 
--- The audit accepts the files with this answer, with a runner that was asked nothing before. Where
--- no two different results in the files have one print, it is what the static rules give the
--- project whose files the last session holds.
+-- the files are those of the sessions
+pub record AreFilesOf (sessions : List SessionValue) (files : List (List ℕ)) : Type 0 where
+  pub each : AllByRecursion IsSession sessions
+  pub spelled : map file_of sessions ≡ files
+
+-- The audit accepts the files with this answer, with a runner that was asked nothing before: they
+-- are those of a chain of sessions, of which the last holds the files of a project and the answer.
+-- Each session passes over the one before, and just the executed records were run.
 pub record IsAcceptedChain (files : List (List ℕ)) (answer : Value) (count runs : ℕ)
     : Type 0 where
-  pub project : Project
+  pub sessions : List SessionValue
   pub log : List Key
-  pub accepted : IsAccepted mean reads files [] log project answer count runs
+  pub passed : ArePassedFiles mean reads files [] log sessions runs
+  pub many : count ≡ length sessions
+  pub chain : IsChain sessions
+  pub project : Project
+  pub sources : AreSources (last_entry sessions) project
+  pub held : HasValue (last_entry sessions) Answer answer
   pub value : IsAnswerValue answer
-  pub rules : AreApart accepted.sessions → IsOfTheRules project answer
+
+-- the audit refuses the files with this fault, with a runner that was asked nothing before
+pub record ChainRefuses (files : List (List ℕ)) (fault : AuditFault) : Type 0 where
+  pub log : List Key
+  pub refused : AuditRefuses mean reads files [] log fault

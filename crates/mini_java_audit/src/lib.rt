@@ -2,8 +2,10 @@
 #![tactic(auto)]
 
 mod audit;
+mod auditor;
 mod laws;
 
 pub use audit::{audit_chain, audited_answer};
 pub use audit_replay::Audited;
-pub use laws::accepted_are_the_rules;
+pub use auditor::ChainAuditor;
+pub use laws::{accepted_are_the_rules, accepted_chains_are_the_rules};

@@ -1,6 +1,7 @@
 use Rattle.std.proofs.Common.{ℕ, List, map}
 use Rattle.std.specs.Borrow.{Bor}
-use Rattle.audit_replay.proofs.SumEnds.{against_accepts, against_refuses, behind, behind_against}
+use Rattle.audit_replay.proofs.AuditLogs.{refused_log}
+use Rattle.audit_replay.proofs.SumEnds.{against_accepts, against_refuses, against_logs, against_logs_refused, behind, behind_against}
 use Rattle.audit_replay.proofs.against.audit_against.Goals as goal
 
 pub returns-in-Ok-clause-accepted : goal.returns-in-Ok-clause-accepted
@@ -21,3 +22,22 @@ returns-in-Err-clause-refused g c =
     let old = g.R.Runner.log c.args.runner.now in
     let new = g.R.Runner.log c.audit_files.new.runner in
     behind_against g.R.Runner.mean g.R.Runner.reads files old new c.args.project.now c.in-Err.fault (behind g.R.Runner.mean g.R.Runner.reads files old new c.in-Err.fault c.in-Err.ensures.refused)
+
+pub returns-in-Ok-clause-log : goal.returns-in-Ok-clause-log
+returns-in-Ok-clause-log g c =
+    let t = c.in-Ok.ensures.summed in
+    against_logs g.R.Runner.mean g.R.Runner.reads g.met.R.Runner.laws (map (λ (f : Bor (List ℕ)). f.now) c.args.chain.now) (g.R.Runner.log c.args.runner.now) (g.R.Runner.log c.audit_files.new.runner)
+    c.in-Ok.auditor.state t c.args.project.now c.end_against.result (c.end_against.ensures.gives t.sessions t.sums)
+
+pub returns-in-Ok-clause-log_refused : goal.returns-in-Ok-clause-log_refused
+returns-in-Ok-clause-log_refused g c =
+    let t = c.in-Ok.ensures.summed in
+    against_logs_refused g.R.Runner.mean g.R.Runner.reads g.met.R.Runner.laws (map (λ (f : Bor (List ℕ)). f.now) c.args.chain.now) (g.R.Runner.log c.args.runner.now) (g.R.Runner.log c.audit_files.new.runner)
+    c.in-Ok.auditor.state t c.args.project.now c.end_against.result (c.end_against.ensures.gives t.sessions t.sums)
+
+pub returns-in-Err-clause-log_refused : goal.returns-in-Err-clause-log_refused
+returns-in-Err-clause-log_refused g c =
+    let files : List (List ℕ) = map (λ (f : Bor (List ℕ)). f.now) c.args.chain.now in
+    let old = g.R.Runner.log c.args.runner.now in
+    let new = g.R.Runner.log c.audit_files.new.runner in
+    refused_log g.R.Runner.mean g.R.Runner.reads files old new c.in-Err.fault (behind g.R.Runner.mean g.R.Runner.reads files old new c.in-Err.fault c.in-Err.ensures.refused)

@@ -1,4 +1,4 @@
-use Rattle.std.proofs.Common.{◌≤◌, ℕ, List, map, length, sym, subst, arith}
+use Rattle.std.proofs.Common.{◌≤◌, ℕ, List, map, length, arith}
 use Rattle.std.specs.Borrow.{Bor}
 use Rattle.std.proofs.lemmas.List.{length-map}
 use Rattle.audit_replay.proofs.FileRules.{file_there}

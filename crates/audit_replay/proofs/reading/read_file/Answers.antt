@@ -1,4 +1,3 @@
-use Rattle.std.proofs.Common.{rules}
 use Rattle.audit_replay.proofs.ReadRules.{is_trailing, file_fails, file_counts}
 use Rattle.audit_replay.proofs.reading.read_file.Goals as goal
 
