@@ -1,4 +1,7 @@
-pub mod Chains
+pub mod Added
 pub mod Clean
+pub mod Failures
+pub mod Opened
 pub mod Runs
 pub mod Streams
+pub mod Taking

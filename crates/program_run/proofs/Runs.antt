@@ -3,7 +3,7 @@ use Rattle.std.proofs.Common.{◌≡◌, ◌⊎◌, inl, inr, ℕ, List, [], ◌
 use Rattle.std.specs.declared.alloc.Global.{Global}
 use Rattle.mj_project.specs.Projects.{names_of, sources_view}
 use Rattle.command_line.specs.declared.asked.Subcommand.{Subcommand}
-use Rattle.program_run.specs.Runs.{Reports, ReportsCheck, TellsHelp, IsWritten, Prints, PrintsCheck, status_number}
+use Rattle.program_run.specs.Runs.{EndsWithAnswer, HasAnswer, Reports, ReportsCheck, ReportsRefusal, TellsHelp, IsWritten, Prints, PrintsCheck, PrintsRefusal, status_number}
 use Rattle.program_run.specs.Statuses.{IsStatus}
 use Rattle.program_run.specs.declared.report.Report.{Report}
 use Rattle.program_run.specs.declared.report.Status.{Status}
@@ -22,9 +22,9 @@ is_status status.OutOfMemory = (4, omega arith, refl)
 
 -- a delivered report that ends clean or with diagnostics says what such a report says
 delivered : (Says : Report → Type 0) (report : Report) (s : Status) (out_old out_new err_old err_new : Option (List ℕ))
-    → ((report.status ≡ status.Clean) ⊎ (report.status ≡ status.Diagnostics) → Says report)
+    → (HasAnswer report.status → Says report)
     → (s ≡ status.Refused) ⊎ ((s ≡ report.status) × IsWritten report out_old out_new err_old err_new)
-    → (status_number s ≡ 0) ⊎ (status_number s ≡ 1)
+    → EndsWithAnswer (status_number s)
     → Says report × IsWritten report out_old out_new err_old err_new × (status_number s ≡ status_number report.status)
 delivered Says report s a b c d says (inl refused) (inl ends) = absurd cc
 delivered Says report s a b c d says (inl refused) (inr ends) = absurd cc
@@ -39,9 +39,9 @@ delivered Says report status.OutOfMemory a b c d says (inr written) (inr ends) =
 
 -- the report of a subcommand that has FILEs alone
 pub prints : (subcommand : Subcommand) (names : List (List ℕ)) (report : Report) (s : Status) (out_old out_new err_old err_new : Option (List ℕ))
-    → ((report.status ≡ status.Clean) ⊎ (report.status ≡ status.Diagnostics) → Reports subcommand names report)
+    → (HasAnswer report.status → Reports subcommand names report)
     → (s ≡ status.Refused) ⊎ ((s ≡ report.status) × IsWritten report out_old out_new err_old err_new)
-    → (status_number s ≡ 0) ⊎ (status_number s ≡ 1)
+    → EndsWithAnswer (status_number s)
     → Prints subcommand names (status_number s) out_old out_new err_old err_new
 prints subcommand names report s a b c d reports ends number =
     let all = delivered (Reports subcommand names) report s a b c d reports ends number in
@@ -49,17 +49,36 @@ prints subcommand names report s a b c d reports ends number =
 
 -- the report of a check, or help
 pub prints_check : (given : List (List ℕ)) (report : Report) (s : Status) (out_old out_new err_old err_new : Option (List ℕ))
-    → ((report.status ≡ status.Clean) ⊎ (report.status ≡ status.Diagnostics) → ReportsCheck given report ⊎ TellsHelp report)
+    → (HasAnswer report.status → ReportsCheck given report ⊎ TellsHelp report)
     → (s ≡ status.Refused) ⊎ ((s ≡ report.status) × IsWritten report out_old out_new err_old err_new)
-    → (status_number s ≡ 0) ⊎ (status_number s ≡ 1)
+    → EndsWithAnswer (status_number s)
     → PrintsCheck given (status_number s) out_old out_new err_old err_new
 prints_check given report s a b c d reports ends number =
     let all = delivered (λ r. ReportsCheck given r ⊎ TellsHelp r) report s a b c d reports ends number in
     record { report = report; reports = all.0; written = all.1; ends = all.2 }
 
 -- want of memory ends neither so nor so
-pub silent : (s : Status) (Said : Type 0) → (s ≡ status.Refused) ⊎ ((s ≡ status.OutOfMemory) × Said) → (status_number s ≡ 0) ⊎ (status_number s ≡ 1) → ⊥
+pub silent : (s : Status) (Said : Type 0) → (s ≡ status.Refused) ⊎ ((s ≡ status.OutOfMemory) × Said) → EndsWithAnswer (status_number s) → ⊥
 silent s Said (inl refused) (inl ends) = absurd cc
 silent s Said (inl refused) (inr ends) = absurd cc
 silent s Said (inr said) (inl ends) = let out : s ≡ status.OutOfMemory = said.0 in absurd cc
 silent s Said (inr said) (inr ends) = let out : s ≡ status.OutOfMemory = said.0 in absurd cc
+
+-- the report on a chain that is refused
+pub prints_refusal : {File : Type 0} (held : File → Option (List ℕ)) (given : List (List ℕ)) (report : Report) (s : Status) (out_old out_new err_old err_new : Option (List ℕ))
+    → (report.status ≡ status.ChainRefused → ReportsRefusal held given report)
+    → (s ≡ status.Refused) ⊎ ((s ≡ report.status) × IsWritten report out_old out_new err_old err_new)
+    → status_number s ≡ 3
+    → PrintsRefusal held given out_old out_new err_old err_new
+prints_refusal held given report status.Clean a b c d reports written number = absurd cc
+prints_refusal held given report status.Diagnostics a b c d reports written number = absurd cc
+prints_refusal held given report status.Refused a b c d reports written number = absurd cc
+prints_refusal held given report status.ChainRefused a b c d reports (inl refused) number = absurd cc
+prints_refusal held given report status.ChainRefused a b c d reports (inr written) number =
+    record { report = report; reports = reports (sym written.0); written = written.1 }
+prints_refusal held given report status.OutOfMemory a b c d reports written number = absurd cc
+
+-- want of memory is no refused chain
+pub no_refusal : (s : Status) (Said : Type 0) → (s ≡ status.Refused) ⊎ ((s ≡ status.OutOfMemory) × Said) → status_number s ≡ 3 → ⊥
+no_refusal s Said (inl refused) number = absurd cc
+no_refusal s Said (inr said) number = let out : s ≡ status.OutOfMemory = said.0 in absurd cc

@@ -1,12 +1,22 @@
--- What is written of a chain of session files that is accepted, and of a session file that is shown.
-use Rattle.std.specs.Prelude.{◌≡◌, ℕ, List, [], ◌++◌, codes, decimal, length, string_bytes}
+-- What an audit of files of these names ends with, and what is written of a session file that is shown.
+use Rattle.std.specs.Prelude.{◌≡◌, ◌⊎◌, ℕ, List, [], ◌∷◌, ◌++◌, Option, Some, codes, decimal, length, slice_get, String, string_bytes}
+use Rattle.std.specs.declared.alloc.Global.{Global}
 use Rattle.mj_rules.specs.AnswerWords.{AnswerValue, text_of}
 use Rattle.result_bytes.specs.declared.value.Value.{Value}
 use Rattle.result_bytes.specs.declared.value.Value.TheVariants as values
 use Rattle.session_text.specs.SessionText.{IsTextOfFile}
-use Rattle.mini_java_audit.specs.Headline.{IsAcceptedChain}
+use Rattle.audit_graph.specs.declared.fault.AuditFault.{AuditFault}
+use Rattle.audit_graph.specs.declared.fault.AuditFault.TheVariants as chain
+use Rattle.session_file.specs.declared.fault.FileFault.TheVariants as file
+use Rattle.mini_java_audit.specs.Headline.{ChainRefuses, IsAcceptedChain}
+use Rattle.mini_java_audit.specs.Taken.{HasTaken}
+use Rattle.mini_java_audit.specs.declared.auditor.ChainAuditor.{ChainAuditor}
+use Rattle.program_run.specs.declared.failure.Failure.{Failure}
+use Rattle.program_run.specs.declared.failure.Failure.TheVariants as failure
 use Rattle.program_run.specs.declared.report.Report.{Report}
 use Rattle.program_run.specs.declared.report.Status.TheVariants as status
+
+-- ---- accepted
 
 -- accepted: 3 sessions, 22 runs
 abbrev pub accepted_line : ℕ → ℕ → List ℕ
@@ -31,6 +41,67 @@ pub record AuditsTo (names : List (List ℕ)) (report : Report) : Type 0 where
   pub runs : ℕ
   pub accepted : IsAcceptedChain files v sessions runs
   pub written : IsAcceptedReport v sessions runs report
+
+-- ---- refused
+
+-- the files were taken: they are those of sessions each of which passes over the one before
+pub record WereTaken (files : List (List ℕ)) : Type 0 where
+  pub auditor : ChainAuditor
+  pub taken : HasTaken files auditor
+
+-- The auditor took all these files.
+pub record TookAll (names : List (List ℕ)) (auditor : ChainAuditor) : Type 0 where
+  pub files : List (List ℕ)
+  pub many : length files ≡ length names
+  pub taken : HasTaken files auditor
+
+-- Behind the files taken an opened file is refused, by the bytes that it held where its type tells
+-- them, whatever may follow.
+pub record RefusesOpened {File : Type 0} (held : File → Option (List ℕ)) (front : List (List ℕ))
+    (fault : AuditFault) : Type 0 where
+  pub opened : File
+  pub refused : (bytes : List ℕ) → held opened ≡ Some bytes → (rest : List (List ℕ))
+      → ChainRefuses (front ++ bytes ∷ rest) fault
+
+-- a file whose reading failed can't be read, and any other fault is the chain's
+abbrev pub failure_of : String Global → AuditFault → Failure
+failure_of name (chain.File k file.Device) = failure.CannotRead name
+failure_of name fault = failure.Chain fault
+
+-- Why the file of this name isn't taken behind these: it can't be read, it is refused, or memory
+-- ran out.
+abbrev pub FailsBehind : {File : Type 0} → (File → Option (List ℕ)) → List (List ℕ) → List ℕ
+    → Failure → Type 0
+FailsBehind held front name (failure.CannotRead path) = string_bytes path ≡ name
+FailsBehind held front name (failure.Chain fault) = RefusesOpened held front fault
+FailsBehind held front name failure.OutOfMemory = Unit {0}
+FailsBehind held front name _ = ⊥
+
+-- The files in front of the first name that fails were taken.
+pub record StopsAt {File : Type 0} (held : File → Option (List ℕ)) (names : List (List ℕ))
+    (failure : Failure) : Type 0 where
+  pub front : List (List ℕ)
+  pub taken : WereTaken front
+  pub name : List ℕ
+  pub here : slice_get names (length front) ≡ Some name
+  pub fails : FailsBehind held front name failure
+
+-- all files were taken, and the chain of them is refused
+pub record RefusesAll (names : List (List ℕ)) (fault : AuditFault) : Type 0 where
+  pub files : List (List ℕ)
+  pub many : length files ≡ length names
+  pub refused : ChainRefuses files fault
+
+-- Why files of these names aren't accepted: one of them stops the audit, or all were taken and their
+-- chain is refused.
+abbrev pub AuditFails : {File : Type 0} → (File → Option (List ℕ)) → List (List ℕ) → Failure
+    → Type 0
+AuditFails held names (failure.Chain fault) =
+    StopsAt held names (failure.Chain fault) ⊎ RefusesAll names fault
+AuditFails held names failure.OutOfMemory = Unit {0}
+AuditFails held names why = StopsAt held names why
+
+-- ---- shown
 
 -- The text of the session whose file it is stands on standard output alone.
 pub record ShowsFile (report : Report) : Type 0 where

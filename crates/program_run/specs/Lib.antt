@@ -2,5 +2,6 @@ pub mod Audits
 pub mod Checks
 pub mod Endings
 pub mod Lines
+pub mod Refusals
 pub mod Runs
 pub mod Statuses

@@ -1,17 +1,23 @@
 -- What a run writes.
-use Rattle.std.specs.Prelude.{◌≡◌, ◌⊎◌, ℕ, List, [], Option, drop, map, string_bytes}
+use Rattle.std.specs.Prelude.{◌≡◌, ◌⊎◌, ℕ, List, [], IsTrue, Option, Some, String, drop, map, string_bytes}
 use Rattle.std.specs.Io.KnownBytes.{Appends}
+use Rattle.std.specs.declared.alloc.Global.{Global}
 use Rattle.mj_project.specs.Projects.{SourceFile, names_of}
 use Rattle.mj_rules.specs.AnswerWords.{AnswerValue, text_of}
 use Rattle.mj_rules.specs.Rules.{Rules}
+use Rattle.audit_graph.specs.declared.fault.AuditFault.{AuditFault}
+use Rattle.command_line.specs.CommandLine.{asks_plainly, files_for}
 use Rattle.command_line.specs.Given.{IsGivenBy}
 use Rattle.command_line.specs.declared.asked.CheckWords.{CheckWords}
 use Rattle.command_line.specs.declared.asked.Subcommand.{Subcommand}
 use Rattle.command_line.specs.declared.asked.Subcommand.TheVariants.{Scratch, Audit, Show}
-use Rattle.program_run.specs.Audits.{AuditsTo, ShowsFile}
+use Rattle.program_run.specs.Audits.{AuditFails, AuditsTo, ShowsFile, StopsAt}
 use Rattle.program_run.specs.Checks.{ChecksTo}
 use Rattle.program_run.specs.Endings.{status_of_answer}
 use Rattle.program_run.specs.Lines.{is_clean, IsFaultText}
+use Rattle.program_run.specs.Refusals.{chain_words, refused_line, unreadable_line}
+use Rattle.program_run.specs.declared.failure.Failure.{Failure}
+use Rattle.program_run.specs.declared.failure.Failure.TheVariants as failure
 use Rattle.program_run.specs.declared.report.Report.{Report}
 use Rattle.program_run.specs.declared.report.Status.{Status}
 use Rattle.program_run.specs.declared.report.Status.TheVariants as status
@@ -32,6 +38,18 @@ pub record IsWritten (report : Report)
     (out_old out_new err_old err_new : Option (List ℕ)) : Type 0 where
   pub notes : Appends err_old err_new (string_bytes report.notes)
   pub answer : Appends out_old out_new (string_bytes report.answer)
+
+-- the words give this subcommand these files, and no option
+abbrev pub AsksPlainly : List (List ℕ) → Subcommand → List (List ℕ) → Type 0
+AsksPlainly given subcommand names =
+    (files_for subcommand given ≡ Some names) × IsTrue (asks_plainly subcommand given)
+
+-- the run has an answer, with diagnostics or without
+abbrev pub HasAnswer : Status → Type 0
+HasAnswer s = (s ≡ status.Clean) ⊎ (s ≡ status.Diagnostics)
+
+abbrev pub EndsWithAnswer : ℕ → Type 0
+EndsWithAnswer number = (number ≡ 0) ⊎ (number ≡ 1)
 
 -- the exit status
 abbrev pub status_number : Status → ℕ
@@ -73,3 +91,42 @@ pub record PrintsCheck (given : List (List ℕ)) (status : ℕ)
   pub reports : ReportsCheck given report ⊎ TellsHelp report
   pub written : IsWritten report out_old out_new err_old err_new
   pub ends : status ≡ status_number report.status
+
+-- ---- audits without an answer
+
+-- The words ask for an audit of files of these names, which refuses their chain with this fault.
+pub record RefusesAudit {File : Type 0} (held : File → Option (List ℕ)) (given : List (List ℕ))
+    (fault : AuditFault) : Type 0 where
+  pub names : List (List ℕ)
+  pub asked : files_for Audit given ≡ Some names
+  pub fails : AuditFails held names (failure.Chain fault)
+
+-- a run that fails for a chain's fault is an audit of it
+abbrev pub MayFail : {File : Type 0} → (File → Option (List ℕ)) → List (List ℕ) → Failure → Type 0
+MayFail held given (failure.Chain fault) = RefusesAudit held given fault
+MayFail held given why = Unit {0}
+
+-- The fault of a refused chain stands on standard error alone.
+pub record ReportsRefusal {File : Type 0} (held : File → Option (List ℕ)) (given : List (List ℕ))
+    (report : Report) : Type 0 where
+  pub fault : AuditFault
+  pub refuses : RefusesAudit held given fault
+  pub line : string_bytes report.notes ≡ refused_line (chain_words fault)
+  pub silent : string_bytes report.answer ≡ []
+  pub ends : report.status ≡ status.ChainRefused
+
+-- The report on a refused chain is written, and the run ends with its status.
+pub record PrintsRefusal {File : Type 0} (held : File → Option (List ℕ)) (given : List (List ℕ))
+    (out_old out_new err_old err_new : Option (List ℕ)) : Type 0 where
+  pub report : Report
+  pub reports : ReportsRefusal held given report
+  pub written : IsWritten report out_old out_new err_old err_new
+
+-- The audit of files of these names stops at one that can't be read, whose name stands on standard
+-- error alone.
+pub record ReportsUnreadable {File : Type 0} (held : File → Option (List ℕ))
+    (names : List (List ℕ)) (report : Report) : Type 0 where
+  pub path : String Global
+  pub stops : StopsAt held names (failure.CannotRead path)
+  pub line : string_bytes report.notes ≡ unreadable_line (string_bytes path)
+  pub silent : string_bytes report.answer ≡ []

@@ -1,8 +1,8 @@
 //! The check of a project over a cache.
-ghost use Rattle.std.specs.Prelude.{◌≡◌, ◌≢◌, ◌≤◌, IfOk, IfErr, map, string_bytes};
+ghost use Rattle.std.specs.Prelude.{◌≡◌, ◌≤◌, IfOk, IfErr, map, string_bytes};
 ghost use Rattle.cached_check.specs.Checks.{IsAnswered};
 ghost use Rattle.program_run.specs.Checks.{ChecksTo, TellsSession};
-ghost use Rattle.program_run.specs.Endings.{status_of_failure};
+ghost use Rattle.program_run.specs.Endings.{IsPlainFailure};
 
 use crate::failure::Failure;
 use crate::files::read_files;
@@ -29,7 +29,7 @@ pub(crate) fn check<R: Files + AllocGlobal, T: Threads + Wait + Sync>(
     requires most { asked.jobs ≤ 64 }
     ensures reports { IfOk result
         (ChecksTo (string_bytes asked.cache) (map string_bytes asked.files.items)) }
-    ensures failed { IfErr result (λ failure. status_of_failure failure ≢ Status.Clean) }
+    ensures failed { IfErr result IsPlainFailure }
 {
     let alloc = rt.alloc();
     let CheckWords { cache, jobs, files } = asked;

@@ -1,12 +1,13 @@
 //! The files that the words name.
 ghost use Rattle.std.specs.Prelude.{◌≡◌, ◌≢◌, IfOk, IfErr, map, string_bytes};
-ghost use Rattle.program_run.specs.Endings.{status_of_failure};
-ghost use Rattle.program_run.specs.declared.report.Status.TheVariants as status;
+ghost use Rattle.std.specs.IoError.{error_kind};
+ghost use Rattle.program_run.specs.Endings.{IsFileFailure};
+ghost use Rattle.program_run.specs.declared.failure.Failure.TheVariants as failures;
 
 use crate::failure::Failure;
-use std::fs;
 use std::io::ErrorKind;
 use std::rt::Files;
+use std::{fs, io};
 
 /// The files with their bytes, in the order given.
 pub(crate) fn read_files<R: Files + AllocGlobal>(
@@ -15,7 +16,7 @@ pub(crate) fn read_files<R: Files + AllocGlobal>(
 ) -> Result<Vec<(String, Vec<u8>)>, Failure>
     ensures named { IfOk result (λ files.
         map (λ file. string_bytes file.0) files.items ≡ map string_bytes names.items) }
-    ensures failed { IfErr result (λ failure. status_of_failure failure ≢ status.Clean) }
+    ensures failed { IfErr result IsFileFailure }
 {
     let mut files = Vec::new(rt.alloc());
     for name in names {
@@ -30,11 +31,23 @@ pub(crate) fn read_file<R: Files + AllocGlobal>(
     name: String,
 ) -> Result<(String, Vec<u8>), Failure>
     ensures named { IfOk result (λ file. string_bytes file.0 ≡ string_bytes name) }
-    ensures failed { IfErr result (λ failure. status_of_failure failure ≢ status.Clean) }
+    ensures failed { IfErr result IsFileFailure }
 {
     match fs::read(rt, name.as_str()) {
         Ok(bytes) => Ok((name, bytes)),
-        Err(error) if error.kind() == ErrorKind::OutOfMemory => Err(Failure::OutOfMemory),
-        Err(_) => Err(Failure::CannotRead(name)),
+        Err(error) => Err(failure_to_read(&error, name)),
     }
+}
+
+/// The failure of a run that can't open or read the file of this name.
+pub(crate) fn failure_to_read(error: &io::Error, name: String) -> Failure
+    ensures memory { error_kind error.now ≡ ErrorKind.OutOfMemory
+        → result ≡ failures.OutOfMemory }
+    ensures other { error_kind error.now ≢ ErrorKind.OutOfMemory
+        → result ≡ failures.CannotRead name }
+{
+    if error.kind() == ErrorKind::OutOfMemory {
+        return Failure::OutOfMemory;
+    }
+    Failure::CannotRead(name)
 }

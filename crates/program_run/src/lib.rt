@@ -6,6 +6,7 @@ mod checking;
 mod failure;
 mod files;
 mod lines;
+mod refusals;
 mod report;
 mod running;
 mod showing;

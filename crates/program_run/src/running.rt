@@ -1,11 +1,13 @@
 //! One run of the program.
-ghost use Rattle.std.specs.Prelude.{◌≡◌, ◌≢◌, ◌⊎◌, ℕ, List, map, Some, [], IfOk, IfErr, IsTrue, string_bytes};
-ghost use Rattle.command_line.specs.CommandLine.{AsksCheck, files_for, asks_plainly};
+ghost use Rattle.std.specs.Prelude.{◌≡◌, ◌≢◌, ◌⊎◌, ℕ, List, map, Some, [], IfOk, IfErr, string_bytes};
+ghost use Rattle.command_line.specs.CommandLine.{AsksCheck, files_for};
 ghost use Rattle.command_line.specs.declared.asked.Subcommand.{Subcommand};
 ghost use Rattle.mj_rules.specs.AnswerWords.{text_of};
-ghost use Rattle.program_run.specs.Endings.{status_of_answer, status_of_failure};
+ghost use Rattle.program_run.specs.Audits.{StopsAt};
+ghost use Rattle.program_run.specs.Endings.{IsPlainFailure, status_of_answer, status_of_failure};
 ghost use Rattle.program_run.specs.Lines.{is_clean, IsFaultText};
-ghost use Rattle.program_run.specs.Runs.{ReportsOn, Prints, PrintsCheck, Reports, ReportsCheck, TellsHelp};
+ghost use Rattle.program_run.specs.Refusals.{AreNotes};
+ghost use Rattle.program_run.specs.Runs.{AsksPlainly, EndsWithAnswer, HasAnswer, MayFail, Prints, PrintsCheck, PrintsRefusal, Reports, ReportsCheck, ReportsOn, ReportsRefusal, ReportsUnreadable, TellsHelp};
 ghost use Rattle.program_run.specs.Statuses.{IsStatus};
 
 use crate::auditing::audit;
@@ -13,14 +15,12 @@ use crate::checking::check;
 use crate::failure::Failure;
 use crate::files::read_files;
 use crate::lines::{fault_text, refusal_text};
+use crate::refusals::{cache_refusal, chain_refusal, file_refusal, unreadable};
 use crate::report::{Report, Status, deliver, no_memory};
 use crate::showing::show;
-use audit_graph::AuditFault;
-use cached_check::CheckFault;
 use command_line::{Words, WordsFault, words};
 use fault_lines::ReadProject;
 use mj_rules::{Answer, Project, answer_for, render};
-use session_file::FileFault;
 use std::alloc::{AllocError, Global};
 use std::io::Write;
 use std::rt::Files;
@@ -38,15 +38,16 @@ pub fn run<R: Files + AllocGlobal, T: Threads + Wait + Sync, W: Write, E: Write>
 ) -> u8
     ensures status { IsStatus result }
     ensures answer { (subcommand : Subcommand) (names : List (List ℕ))
-        → files_for subcommand (map string_bytes list.items) ≡ Some names
-        → IsTrue (asks_plainly subcommand (map string_bytes list.items))
-        → (result ≡ 0) ⊎ (result ≡ 1)
+        → AsksPlainly (map string_bytes list.items) subcommand names → EndsWithAnswer result
         → Prints subcommand names result (W.contents out.old) (W.contents out.new)
         (E.contents err.old) (E.contents err.new) }
-    ensures check { AsksCheck (map string_bytes list.items)
-        → (result ≡ 0) ⊎ (result ≡ 1)
+    ensures check { AsksCheck (map string_bytes list.items) → EndsWithAnswer result
         → PrintsCheck (map string_bytes list.items) result (W.contents out.old)
         (W.contents out.new) (E.contents err.old) (E.contents err.new) }
+    // Why an audit refuses a chain, by the bytes of the files that were opened, where their type tells them.
+    ensures refused { result ≡ 3 → PrintsRefusal R.File.Read.remaining
+        (map string_bytes list.items) (W.contents out.old) (W.contents out.new)
+        (E.contents err.old) (E.contents err.new) }
 {
     let status = match report_of(rt, threads, list) {
         Ok(report) => deliver(&report, out, err),
@@ -56,20 +57,25 @@ pub fn run<R: Files + AllocGlobal, T: Threads + Wait + Sync, W: Write, E: Write>
 }
 
 // The texts of a run, whose words are these, and its end.
+#[tactic(auto, using(crate::proofs::Failures::reports_refusal))]
 fn report_of<R: Files + AllocGlobal, T: Threads + Wait + Sync>(
     rt: &R,
     threads: &T,
     list: Vec<String>,
 ) -> Result<Report, AllocError>
     ensures answer { (subcommand : Subcommand) (names : List (List ℕ))
-        → files_for subcommand (map string_bytes list.items) ≡ Some names
-        → IsTrue (asks_plainly subcommand (map string_bytes list.items))
-        → IfOk result (λ report.
-        (report.status ≡ Status.Clean) ⊎ (report.status ≡ Status.Diagnostics)
-        → Reports subcommand names report) }
+        → AsksPlainly (map string_bytes list.items) subcommand names → IfOk result (λ report.
+        HasAnswer report.status → Reports subcommand names report) }
     ensures check { AsksCheck (map string_bytes list.items) → IfOk result (λ report.
-        (report.status ≡ Status.Clean) ⊎ (report.status ≡ Status.Diagnostics)
+        HasAnswer report.status
         → ReportsCheck (map string_bytes list.items) report ⊎ TellsHelp report) }
+    ensures refused { IfOk result (λ report. report.status ≡ Status.ChainRefused
+        → ReportsRefusal R.File.Read.remaining (map string_bytes list.items) report) }
+    // An audit is refused in no other way than by a file that can't be read.
+    ensures unreadable { (names : List (List ℕ))
+        → AsksPlainly (map string_bytes list.items) Subcommand.Audit names → IfOk result (λ report.
+        report.status ≡ Status.Refused
+        → ReportsUnreadable R.File.Read.remaining names report) }
 {
     match perform(rt, threads, list) {
         Ok(report) => Ok(report),
@@ -78,6 +84,7 @@ fn report_of<R: Files + AllocGlobal, T: Threads + Wait + Sync>(
 }
 
 // What the words ask for.
+#[tactic(auto, using(crate::proofs::Failures::has_answer, crate::proofs::Failures::plain_not_clean, crate::proofs::Failures::audit_not_clean, crate::proofs::Failures::plain_may_fail, crate::proofs::Failures::refused_stops,))]
 fn perform<R: Files + AllocGlobal, T: Threads + Wait + Sync>(
     rt: &R,
     threads: &T,
@@ -88,9 +95,16 @@ fn perform<R: Files + AllocGlobal, T: Threads + Wait + Sync>(
         → IfOk result (Reports subcommand names) }
     ensures check { AsksCheck (map string_bytes list.items)
         → IfOk result (ReportsCheck (map string_bytes list.items)) }
-    ensures plain { (subcommand : Subcommand)
-        → IsTrue (asks_plainly subcommand (map string_bytes list.items))
+    ensures answered { IfOk result (λ report. HasAnswer report.status) }
+    ensures plain { (subcommand : Subcommand) (names : List (List ℕ))
+        → AsksPlainly (map string_bytes list.items) subcommand names
         → IfErr result (λ failure. status_of_failure failure ≢ Status.Clean) }
+    ensures refused { IfErr result
+        (MayFail R.File.Read.remaining (map string_bytes list.items)) }
+    ensures audit { (names : List (List ℕ))
+        → AsksPlainly (map string_bytes list.items) Subcommand.Audit names
+        → IfErr result (λ failure. status_of_failure failure ≡ Status.Refused
+        → StopsAt R.File.Read.remaining names failure) }
 {
     match words(rt.alloc(), list)? {
         Words::Scratch(names) => scratch(rt, names),
@@ -103,7 +117,7 @@ fn perform<R: Files + AllocGlobal, T: Threads + Wait + Sync>(
 // The report on the files of these names.
 fn scratch<R: Files + AllocGlobal>(rt: &R, names: Vec<String>) -> Result<Report, Failure>
     ensures reports { IfOk result (ReportsOn (map string_bytes names.items)) }
-    ensures failed { IfErr result (λ failure. status_of_failure failure ≢ Status.Clean) }
+    ensures failed { IfErr result IsPlainFailure }
 {
     let alloc = rt.alloc();
     let project = Project::new(alloc, read_files(rt, names)?)?;
@@ -136,9 +150,8 @@ fn failure_report(alloc: Global, failure: Failure) -> Result<Report, AllocError>
     ensures status { IfOk result (λ report. report.status ≡ status_of_failure failure) }
     ensures no_answer { IfOk result (λ report.
         report.status ≢ Status.Clean → string_bytes report.answer ≡ []) }
-    ensures help { IfOk result (λ report.
-        (report.status ≡ Status.Clean) ⊎ (report.status ≡ Status.Diagnostics)
-        → TellsHelp report) }
+    ensures help { IfOk result (λ report. HasAnswer report.status → TellsHelp report) }
+    ensures notes { IfOk result (λ report. AreNotes failure (string_bytes report.notes)) }
 {
     match failure {
         Failure::Words(WordsFault::Help(text)) => Ok(Report::help(alloc, text)),
@@ -149,43 +162,5 @@ fn failure_report(alloc: Global, failure: Failure) -> Result<Report, AllocError>
         Failure::Chain(fault) => Ok(Report::chain_refusal(alloc, chain_refusal(alloc, fault)?)),
         Failure::SessionFile(fault) => Ok(Report::refusal(alloc, file_refusal(alloc, fault)?)),
         Failure::Words(WordsFault::OutOfMemory) | Failure::OutOfMemory => Err(AllocError),
-    }
-}
-
-// What is said of a file or folder that can't be read.
-fn unreadable(alloc: Global, name: &str) -> Result<String, AllocError> {
-    format!(in alloc; "cannot read {name}\n")
-}
-
-// Why no session is kept. Want of memory has no text.
-fn cache_refusal(alloc: Global, fault: CheckFault) -> Result<String, AllocError>
-    ensures { IfOk result (λ _. status_of_failure (Failure.Cache fault) ≡ Status.Refused) }
-{
-    match fault {
-        CheckFault::CannotRead(path) => unreadable(alloc, &path),
-        CheckFault::CannotWrite(notes, path) => format!(in alloc; "{notes}cannot write {path}\n"),
-        CheckFault::OutOfMemory => Err(AllocError),
-    }
-}
-
-// Why a chain is refused. Want of memory has no text.
-fn chain_refusal(alloc: Global, fault: AuditFault) -> Result<String, AllocError>
-    ensures { IfOk result (λ _.
-        status_of_failure (Failure.Chain fault) ≡ Status.ChainRefused) }
-{
-    match fault {
-        AuditFault::OutOfMemory => Err(AllocError),
-        fault => format!(in alloc; "refused: {fault}\n"),
-    }
-}
-
-// Why a file is that of no session. Want of memory has no text.
-fn file_refusal(alloc: Global, fault: FileFault) -> Result<String, AllocError>
-    ensures { IfOk result (λ _.
-        status_of_failure (Failure.SessionFile fault) ≡ Status.Refused) }
-{
-    match fault {
-        FileFault::OutOfMemory => Err(AllocError),
-        fault => format!(in alloc; "refused: {fault}\n"),
     }
 }

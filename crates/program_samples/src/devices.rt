@@ -12,6 +12,8 @@ use std::rt::Files;
 #[derive(Clone, Copy)]
 pub struct Memory<'a> {
     pub files: &'a [(&'a str, &'a [u8])],
+    /// How many bytes a read gives at most.
+    pub most: usize,
     /// How many reads there were, over all files.
     pub reads: &'a Cell<usize>,
     /// The number of the read that fails, counted from 0, and how.
@@ -37,7 +39,10 @@ impl Read for Opened<'_> {
         self.memory.reads.set(number.wrapping_add(1));
         match self.memory.failing {
             Some((failing, kind)) if failing == number => Err(io::Error::from(kind)),
-            _ => self.rest.read(buf),
+            _ => {
+                let most = self.memory.most.min(buf.len());
+                self.rest.read(&mut buf[..most])
+            }
         }
     }
 }

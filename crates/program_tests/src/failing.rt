@@ -86,6 +86,7 @@ fn ends<T: Threads + Wait + Sync>(
     let reads = Cell::new(0);
     let memory = Memory {
         files: FILES,
+        most: usize::MAX,
         reads: &reads,
         failing,
     };
@@ -123,6 +124,7 @@ const ERR: &str = "project: E102\na:1:7: E202\n";
 fn faulty(reads: &Cell<usize>) -> Memory<'_> {
     Memory {
         files: FAULTY,
+        most: usize::MAX,
         reads,
         failing: None,
     }

@@ -1,19 +1,27 @@
-use Rattle.std.proofs.Common.{map}
 use Rattle.std.specs.Arc.{arc_value}
-use Rattle.program_run.proofs.Chains.{as_many}
+use Rattle.std.proofs.Common.{inr}
 use Rattle.program_run.proofs.auditing.audit.Goals as goal
 
-pub returns-clause-reports : goal.returns-clause-reports
-returns-clause-reports g c =
-    let v = arc_value c.in_ok-audited.audited.answer in
-    let sessions = c.in_ok-audited.audited.sessions in
-    let runs = c.in_ok-audited.audited.runs in
+pub returns-in_ok-accepted_report-in-Ok-clause-reports : goal.returns-in_ok-accepted_report-in-Ok-clause-reports
+returns-in_ok-accepted_report-in-Ok-clause-reports g c =
+    let all = c.in_ok-auditor.ensures.taken in
+    let audited = c.in-Ok.audited in
     record {
-      files = map (λ bytes. bytes.now) c.in_ok-chain.chain.items;
-      many = as_many _ _ _ _ c.deref.ensures.value c.in_ok-chain.ensures c.in_ok-files.ensures.named;
-      v = v;
-      sessions = sessions;
-      runs = runs;
-      accepted = rw c.as_slice.ensures.value at c.in_ok-audited.ensures.accepted;
-      written = c.in_ok-accepted_report.ensures;
+      files = all.files;
+      many = all.many;
+      v = arc_value audited.answer;
+      sessions = audited.sessions;
+      runs = audited.runs;
+      accepted = c.in-Ok.ensures.accepted all.files all.taken;
+      written = c.in_ok-accepted_report-in-Ok.ensures;
     }
+
+pub accepted_report-requires : goal.accepted_report-requires
+accepted_report-requires g c =
+    let all = c.in_ok-auditor.ensures.taken in
+    (c.in-Ok.ensures.accepted all.files all.taken).value
+
+pub returns-in-Err-clause-failed : goal.returns-in-Err-clause-failed
+returns-in-Err-clause-failed g c =
+    let all = c.in_ok-auditor.ensures.taken in
+    inr (record { files = all.files; many = all.many; refused = c.in-Err.ensures.refused all.files all.taken })

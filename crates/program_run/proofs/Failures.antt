@@ -1,0 +1,194 @@
+-- Which failures end a run in which way, and what is written of them.
+use Rattle.std.proofs.Common.{◌≡◌, ◌≢◌, ◌⊎◌, inl, inr, ◌∙◌, ℕ, Bool, true, false, List, [], Option, Result, Ok, Err, string_bytes, refl, sym}
+use Rattle.std.specs.Prelude.{IfOk}
+use Rattle.audit_graph.specs.declared.fault.AuditFault.{AuditFault}
+use Rattle.audit_graph.specs.declared.fault.AuditFault.TheVariants as chain
+use Rattle.mj_rules.specs.AnswerWords.{ProjectFault, RepeatedFile, NoFiles, TooManyFiles, BadFileName, OutOfMemory}
+use Rattle.session_file.specs.declared.fault.FileFault.{FileFault}
+use Rattle.session_file.specs.declared.fault.FileFault.TheVariants as file
+use Rattle.cached_check.specs.declared.fault.CheckFault.{CheckFault}
+use Rattle.cached_check.specs.declared.fault.CheckFault.TheVariants as cache
+use Rattle.command_line.specs.declared.asked.WordsFault.{WordsFault}
+use Rattle.command_line.specs.declared.asked.WordsFault.TheVariants as words
+use Rattle.program_run.specs.Audits.{AuditFails, StopsAt}
+use Rattle.program_run.specs.Endings.{IsPlainFailure, status_of_answer, status_of_failure}
+use Rattle.program_run.specs.Refusals.{AreNotes}
+use Rattle.program_run.specs.Runs.{HasAnswer, MayFail, ReportsRefusal, ReportsUnreadable}
+use Rattle.program_run.specs.declared.failure.Failure.{Failure}
+use Rattle.program_run.specs.declared.failure.Failure.TheVariants as failure
+use Rattle.program_run.specs.declared.report.Report.{Report}
+use Rattle.program_run.specs.declared.report.Status.{Status}
+use Rattle.program_run.specs.declared.report.Status.TheVariants as status
+
+pub has_answer : (clean : Bool) (s : Status) → s ≡ status_of_answer clean → HasAnswer s
+has_answer true s e = inl e
+has_answer false s e = inr e
+
+-- ---- ends
+
+abbrev Ends : Status → Status → Type 0
+Ends one s = (s ≡ one) ⊎ (s ≡ status.OutOfMemory)
+
+project_ends : (fault : ProjectFault) → Ends status.Refused (status_of_failure (failure.Project fault))
+project_ends (RepeatedFile n) = inl refl
+project_ends NoFiles = inl refl
+project_ends TooManyFiles = inl refl
+project_ends (BadFileName n) = inl refl
+project_ends OutOfMemory = inr refl
+
+file_ends : (fault : FileFault) → Ends status.Refused (status_of_failure (failure.SessionFile fault))
+file_ends file.BadMagic = inl refl
+file_ends file.Version = inl refl
+file_ends file.Truncated = inl refl
+file_ends file.BadDigest = inl refl
+file_ends (file.KeyOrder n) = inl refl
+file_ends (file.BadEdge n i) = inl refl
+file_ends (file.Result n) = inl refl
+file_ends (file.InputKind n) = inl refl
+file_ends file.Trailing = inl refl
+file_ends file.Device = inl refl
+file_ends (file.BadKey n) = inl refl
+file_ends file.Number = inl refl
+file_ends file.OutOfMemory = inr refl
+
+cache_ends : (fault : CheckFault) → Ends status.Refused (status_of_failure (failure.Cache fault))
+cache_ends (cache.CannotRead path) = inl refl
+cache_ends (cache.CannotWrite notes path) = inl refl
+cache_ends cache.OutOfMemory = inr refl
+
+chain_ends : (fault : AuditFault) → Ends status.ChainRefused (status_of_failure (failure.Chain fault))
+chain_ends chain.EmptyChain = inl refl
+chain_ends (chain.File k why) = inl refl
+chain_ends (chain.BrokenLink k) = inl refl
+chain_ends (chain.NoFiles k) = inl refl
+chain_ends (chain.MissingSource k f) = inl refl
+chain_ends (chain.StraySource k f) = inl refl
+chain_ends (chain.GreenWithoutPast k n) = inl refl
+chain_ends (chain.OtherEdges k n) = inl refl
+chain_ends (chain.GreenOverRed k n i) = inl refl
+chain_ends (chain.GreenPrint k n) = inl refl
+chain_ends (chain.OtherRead k n i) = inl refl
+chain_ends (chain.UnreadEdges k n) = inl refl
+chain_ends (chain.OtherResult k n) = inl refl
+chain_ends chain.NoAnswer = inl refl
+chain_ends chain.SourcesDiffer = inl refl
+chain_ends chain.OutOfMemory = inr refl
+
+words_not_chain : (fault : WordsFault) → status_of_failure (failure.Words fault) ≢ status.ChainRefused
+words_not_chain (words.Help text) = λ e. absurd cc
+words_not_chain (words.Refused text) = λ e. absurd cc
+words_not_chain words.OutOfMemory = λ e. absurd cc
+
+-- a run that ends so ends in no third way
+not_third : (one s t : Status) → Ends one s → t ≢ one → t ≢ status.OutOfMemory → s ≢ t
+not_third one s t (inl e) other never = λ same. other (sym same ∙ e)
+not_third one s t (inr e) other never = λ same. never (sym same ∙ e)
+
+pub plain_not_clean : (why : Failure) → IsPlainFailure why → status_of_failure why ≢ status.Clean
+plain_not_clean (failure.Words fault) p = absurd p
+plain_not_clean (failure.CannotRead path) p = λ e. absurd cc
+plain_not_clean (failure.Project fault) p = not_third status.Refused _ status.Clean (project_ends fault) (λ e. absurd cc) (λ e. absurd cc)
+plain_not_clean (failure.Chain fault) p = absurd p
+plain_not_clean (failure.SessionFile fault) p = not_third status.Refused _ status.Clean (file_ends fault) (λ e. absurd cc) (λ e. absurd cc)
+plain_not_clean (failure.Cache fault) p = not_third status.Refused _ status.Clean (cache_ends fault) (λ e. absurd cc) (λ e. absurd cc)
+plain_not_clean failure.OutOfMemory p = λ e. absurd cc
+
+no_diagnostics : (why : Failure) → status_of_failure why ≢ status.Diagnostics
+no_diagnostics (failure.Words (words.Help text)) = λ e. absurd cc
+no_diagnostics (failure.Words (words.Refused text)) = λ e. absurd cc
+no_diagnostics (failure.Words words.OutOfMemory) = λ e. absurd cc
+no_diagnostics (failure.CannotRead path) = λ e. absurd cc
+no_diagnostics (failure.Project fault) = not_third status.Refused _ status.Diagnostics (project_ends fault) (λ e. absurd cc) (λ e. absurd cc)
+no_diagnostics (failure.Chain fault) = not_third status.ChainRefused _ status.Diagnostics (chain_ends fault) (λ e. absurd cc) (λ e. absurd cc)
+no_diagnostics (failure.SessionFile fault) = not_third status.Refused _ status.Diagnostics (file_ends fault) (λ e. absurd cc) (λ e. absurd cc)
+no_diagnostics (failure.Cache fault) = not_third status.Refused _ status.Diagnostics (cache_ends fault) (λ e. absurd cc) (λ e. absurd cc)
+no_diagnostics failure.OutOfMemory = λ e. absurd cc
+
+-- a failure that isn't clean has no answer
+pub no_answer : (why : Failure) (s : Status) → s ≡ status_of_failure why → status_of_failure why ≢ status.Clean → HasAnswer s → ⊥
+no_answer why s ends never (inl clean) = never (sym ends ∙ clean)
+no_answer why s ends never (inr found) = no_diagnostics why (sym ends ∙ found)
+
+module _ {File : Type 0} (held : File → Option (List ℕ)) where
+  pub audit_not_clean : (names : List (List ℕ)) (why : Failure) → AuditFails held names why → status_of_failure why ≢ status.Clean
+  audit_not_clean names (failure.Words fault) f = absurd f.fails
+  audit_not_clean names (failure.CannotRead path) f = λ e. absurd cc
+  audit_not_clean names (failure.Project fault) f = absurd f.fails
+  audit_not_clean names (failure.Chain fault) f = not_third status.ChainRefused _ status.Clean (chain_ends fault) (λ e. absurd cc) (λ e. absurd cc)
+  audit_not_clean names (failure.SessionFile fault) f = absurd f.fails
+  audit_not_clean names (failure.Cache fault) f = absurd f.fails
+  audit_not_clean names failure.OutOfMemory f = λ e. absurd cc
+
+  -- what stops an audit is why it fails
+  pub stopped : (names : List (List ℕ)) (why : Failure) → StopsAt held names why → AuditFails held names why
+  stopped names (failure.Words fault) s = s
+  stopped names (failure.CannotRead path) s = s
+  stopped names (failure.Project fault) s = s
+  stopped names (failure.Chain fault) s = inl s
+  stopped names (failure.SessionFile fault) s = s
+  stopped names (failure.Cache fault) s = s
+  stopped names failure.OutOfMemory s = tt
+
+  -- an audit that is refused as no chain stops at a file
+  pub refused_stops : (names : List (List ℕ)) (why : Failure) → AuditFails held names why → status_of_failure why ≡ status.Refused → StopsAt held names why
+  refused_stops names (failure.Words fault) f e = f
+  refused_stops names (failure.CannotRead path) f e = f
+  refused_stops names (failure.Project fault) f e = f
+  refused_stops names (failure.Chain fault) f e = absurd (not_third status.ChainRefused _ status.Refused (chain_ends fault) (λ e. absurd cc) (λ e. absurd cc) e)
+  refused_stops names (failure.SessionFile fault) f e = f
+  refused_stops names (failure.Cache fault) f e = f
+  refused_stops names failure.OutOfMemory f e = absurd cc
+
+  pub plain_may_fail : (given : List (List ℕ)) (why : Failure) → IsPlainFailure why → MayFail held given why
+  plain_may_fail given (failure.Words fault) p = tt
+  plain_may_fail given (failure.CannotRead path) p = tt
+  plain_may_fail given (failure.Project fault) p = tt
+  plain_may_fail given (failure.Chain fault) p = absurd p
+  plain_may_fail given (failure.SessionFile fault) p = tt
+  plain_may_fail given (failure.Cache fault) p = tt
+  plain_may_fail given failure.OutOfMemory p = tt
+
+  -- ---- what is written
+
+  pub reports_refusal : (given : List (List ℕ)) (why : Failure) (report : Report) → report.status ≡ status_of_failure why
+      → (report.status ≢ status.Clean → string_bytes report.answer ≡ []) → MayFail held given why → AreNotes why (string_bytes report.notes)
+      → report.status ≡ status.ChainRefused → ReportsRefusal held given report
+  reports_refusal given (failure.Words fault) report ends silent may notes e = absurd (words_not_chain fault (sym ends ∙ e))
+  reports_refusal given (failure.CannotRead path) report ends silent may notes e = let r : status.Refused ≡ status.ChainRefused = sym ends ∙ e in absurd cc
+  reports_refusal given (failure.Project fault) report ends silent may notes e =
+      absurd (not_third status.Refused _ status.ChainRefused (project_ends fault) (λ e. absurd cc) (λ e. absurd cc) (sym ends ∙ e))
+  reports_refusal given (failure.Chain fault) report ends silent may notes e = record {
+    fault = fault;
+    refuses = may;
+    line = notes;
+    silent = silent (λ clean. let r : status.Clean ≡ status.ChainRefused = sym clean ∙ e in absurd cc);
+    ends = e;
+  }
+  reports_refusal given (failure.SessionFile fault) report ends silent may notes e =
+      absurd (not_third status.Refused _ status.ChainRefused (file_ends fault) (λ e. absurd cc) (λ e. absurd cc) (sym ends ∙ e))
+  reports_refusal given (failure.Cache fault) report ends silent may notes e =
+      absurd (not_third status.Refused _ status.ChainRefused (cache_ends fault) (λ e. absurd cc) (λ e. absurd cc) (sym ends ∙ e))
+  reports_refusal given failure.OutOfMemory report ends silent may notes e = let r : status.OutOfMemory ≡ status.ChainRefused = sym ends ∙ e in absurd cc
+
+  reports_unreadable : (names : List (List ℕ)) (why : Failure) (report : Report) → report.status ≡ status_of_failure why
+      → (report.status ≢ status.Clean → string_bytes report.answer ≡ []) → (status_of_failure why ≡ status.Refused → StopsAt held names why)
+      → AreNotes why (string_bytes report.notes) → report.status ≡ status.Refused → ReportsUnreadable held names report
+  reports_unreadable names (failure.Words fault) report ends silent stops notes e = absurd (stops (sym ends ∙ e)).fails
+  reports_unreadable names (failure.CannotRead path) report ends silent stops notes e = record {
+    path = path;
+    stops = stops refl;
+    line = notes;
+    silent = silent (λ clean. let r : status.Clean ≡ status.Refused = sym clean ∙ e in absurd cc);
+  }
+  reports_unreadable names (failure.Project fault) report ends silent stops notes e = absurd (stops (sym ends ∙ e)).fails
+  reports_unreadable names (failure.Chain fault) report ends silent stops notes e =
+      absurd (not_third status.ChainRefused _ status.Refused (chain_ends fault) (λ e. absurd cc) (λ e. absurd cc) (sym ends ∙ e))
+  reports_unreadable names (failure.SessionFile fault) report ends silent stops notes e = absurd (stops (sym ends ∙ e)).fails
+  reports_unreadable names (failure.Cache fault) report ends silent stops notes e = absurd (stops (sym ends ∙ e)).fails
+  reports_unreadable names failure.OutOfMemory report ends silent stops notes e = let r : status.OutOfMemory ≡ status.Refused = sym ends ∙ e in absurd cc
+
+  pub unreadable_report : {E : Type 0} (names : List (List ℕ)) (why : Failure) (r : Result Report E) → IfOk r (λ report. report.status ≡ status_of_failure why)
+      → IfOk r (λ report. report.status ≢ status.Clean → string_bytes report.answer ≡ []) → IfOk r (λ report. AreNotes why (string_bytes report.notes))
+      → (status_of_failure why ≡ status.Refused → StopsAt held names why) → IfOk r (λ report. report.status ≡ status.Refused → ReportsUnreadable held names report)
+  unreadable_report names why (Ok report) ends silent notes stops = reports_unreadable names why report ends silent stops notes
+  unreadable_report names why (Err e) ends silent notes stops = tt

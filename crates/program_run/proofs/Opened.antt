@@ -1,0 +1,63 @@
+-- A file that is opened and taken.
+use Rattle.std.proofs.Common.{◌≡◌, ◌≢◌, ◌∙◌, inl, inr, ℕ, List, [], ◌∷◌, ◌++◌, Option, Some, None, String, string_bytes, refl, ap}
+use Rattle.std.specs.Prelude.{if◌then◌else◌, ◌==◌}
+use Rattle.std.specs.Io.Buffered.{reader_buffer, reader_capacity, reader_inner, reader_remaining}
+use Rattle.std.specs.Io.KnownBytes.{prepend_known}
+use Rattle.std.specs.declared.alloc.Global.{Global}
+use Rattle.std.specs.declared.io.buffered.BufReader.{BufReader}
+use Rattle.audit_graph.specs.declared.fault.AuditFault.{AuditFault}
+use Rattle.audit_graph.specs.declared.fault.AuditFault.TheVariants as chain
+use Rattle.session_file.specs.declared.fault.FileFault.TheVariants as file
+use Rattle.mini_java_audit.specs.Headline.{ChainRefuses}
+use Rattle.mini_java_audit.specs.Taken.{RefusesBehind}
+use Rattle.program_run.specs.Audits.{FailsBehind, RefusesOpened, failure_of}
+
+-- behind a buffer that holds nothing yet a file holds what it held
+pub buffered_holds : {T A : Type 0} (held : T → Option (List ℕ)) (r : BufReader T A) (file : T) (bytes : List ℕ)
+    → reader_inner r ≡ file → reader_buffer r ≡ [] → reader_capacity r ≡ 8192 → held file ≡ Some bytes → reader_remaining held r ≡ Some bytes
+buffered_holds held r file bytes inner empty size told =
+    ap (λ (n : ℕ). if n == 0 then None else prepend_known (reader_buffer r) (held r.inner)) size
+    ∙ (ap (λ (buffer : List ℕ). prepend_known buffer (held r.inner)) empty
+    ∙ (ap (λ t. prepend_known [] (held t)) inner ∙ ap (λ (known : Option (List ℕ)). prepend_known [] known) told))
+
+-- what isn't a failure of the device is a refusal of all files that begin so
+no_device : (front : List (List ℕ)) (bytes : List ℕ) (fault : AuditFault) → ((k : ℕ) → fault ≢ chain.File k file.Device)
+    → RefusesBehind front bytes fault → (rest : List (List ℕ)) → ChainRefuses (front ++ bytes ∷ rest) fault
+no_device front bytes fault never (inl device) = absurd (never _ device.is)
+no_device front bytes fault never (inr refused) = refused
+
+module _ {File : Type 0} (held : File → Option (List ℕ)) (front : List (List ℕ)) (name : String Global) (opened : File) where
+  other : (fault : AuditFault) → ((k : ℕ) → fault ≢ chain.File k file.Device)
+      → ((bytes : List ℕ) → held opened ≡ Some bytes → RefusesBehind front bytes fault) → RefusesOpened held front fault
+  other fault never refuses = record { opened = opened; refused = λ bytes told. no_device front bytes fault never (refuses bytes told) }
+
+  pub fails_behind : (fault : AuditFault) → ((bytes : List ℕ) → held opened ≡ Some bytes → RefusesBehind front bytes fault)
+      → FailsBehind held front (string_bytes name) (failure_of name fault)
+  fails_behind chain.EmptyChain refuses = other chain.EmptyChain (λ j e. absurd cc) refuses
+  fails_behind (chain.File k file.BadMagic) refuses = other (chain.File k file.BadMagic) (λ j e. absurd cc) refuses
+  fails_behind (chain.File k file.Version) refuses = other (chain.File k file.Version) (λ j e. absurd cc) refuses
+  fails_behind (chain.File k file.Truncated) refuses = other (chain.File k file.Truncated) (λ j e. absurd cc) refuses
+  fails_behind (chain.File k file.BadDigest) refuses = other (chain.File k file.BadDigest) (λ j e. absurd cc) refuses
+  fails_behind (chain.File k (file.KeyOrder n)) refuses = other (chain.File k (file.KeyOrder n)) (λ j e. absurd cc) refuses
+  fails_behind (chain.File k (file.BadEdge n i)) refuses = other (chain.File k (file.BadEdge n i)) (λ j e. absurd cc) refuses
+  fails_behind (chain.File k (file.Result n)) refuses = other (chain.File k (file.Result n)) (λ j e. absurd cc) refuses
+  fails_behind (chain.File k (file.InputKind n)) refuses = other (chain.File k (file.InputKind n)) (λ j e. absurd cc) refuses
+  fails_behind (chain.File k file.Trailing) refuses = other (chain.File k file.Trailing) (λ j e. absurd cc) refuses
+  fails_behind (chain.File k file.Device) refuses = refl
+  fails_behind (chain.File k (file.BadKey n)) refuses = other (chain.File k (file.BadKey n)) (λ j e. absurd cc) refuses
+  fails_behind (chain.File k file.Number) refuses = other (chain.File k file.Number) (λ j e. absurd cc) refuses
+  fails_behind (chain.File k file.OutOfMemory) refuses = other (chain.File k file.OutOfMemory) (λ j e. absurd cc) refuses
+  fails_behind (chain.BrokenLink k) refuses = other (chain.BrokenLink k) (λ j e. absurd cc) refuses
+  fails_behind (chain.NoFiles k) refuses = other (chain.NoFiles k) (λ j e. absurd cc) refuses
+  fails_behind (chain.MissingSource k f) refuses = other (chain.MissingSource k f) (λ j e. absurd cc) refuses
+  fails_behind (chain.StraySource k f) refuses = other (chain.StraySource k f) (λ j e. absurd cc) refuses
+  fails_behind (chain.GreenWithoutPast k n) refuses = other (chain.GreenWithoutPast k n) (λ j e. absurd cc) refuses
+  fails_behind (chain.OtherEdges k n) refuses = other (chain.OtherEdges k n) (λ j e. absurd cc) refuses
+  fails_behind (chain.GreenOverRed k n i) refuses = other (chain.GreenOverRed k n i) (λ j e. absurd cc) refuses
+  fails_behind (chain.GreenPrint k n) refuses = other (chain.GreenPrint k n) (λ j e. absurd cc) refuses
+  fails_behind (chain.OtherRead k n i) refuses = other (chain.OtherRead k n i) (λ j e. absurd cc) refuses
+  fails_behind (chain.UnreadEdges k n) refuses = other (chain.UnreadEdges k n) (λ j e. absurd cc) refuses
+  fails_behind (chain.OtherResult k n) refuses = other (chain.OtherResult k n) (λ j e. absurd cc) refuses
+  fails_behind chain.NoAnswer refuses = other chain.NoAnswer (λ j e. absurd cc) refuses
+  fails_behind chain.SourcesDiffer refuses = other chain.SourcesDiffer (λ j e. absurd cc) refuses
+  fails_behind chain.OutOfMemory refuses = other chain.OutOfMemory (λ j e. absurd cc) refuses

@@ -1,0 +1,133 @@
+//! The lines of a run that is refused.
+ghost use Rattle.std.specs.Prelude.{◌≡◌, ◌++◌, IfOk, OnOk, string_bytes};
+ghost use Rattle.program_run.specs.Endings.{status_of_failure};
+ghost use Rattle.program_run.specs.Refusals.{chain_words, file_words, one, refused_line, three, two, unreadable_line};
+ghost use Rattle.program_run.specs.declared.failure.Failure.TheVariants as failure;
+ghost use Rattle.program_run.specs.declared.report.Status.TheVariants as status;
+
+use audit_graph::AuditFault;
+use cached_check::CheckFault;
+use session_file::FileFault;
+use std::alloc::{AllocError, Global};
+use std::fmt::Write;
+
+/// What is said of a file or folder that can't be read.
+pub(crate) fn unreadable(alloc: Global, name: &str) -> Result<String, AllocError>
+    ensures { IfOk result (λ text. string_bytes text ≡ unreadable_line name.now) }
+{
+    format!(in alloc; "cannot read {name}\n")
+}
+
+/// Why no session is kept. Want of memory has no text.
+pub(crate) fn cache_refusal(alloc: Global, fault: CheckFault) -> Result<String, AllocError>
+    ensures { IfOk result (λ _. status_of_failure (failure.Cache fault) ≡ status.Refused) }
+{
+    match fault {
+        CheckFault::CannotRead(path) => unreadable(alloc, &path),
+        CheckFault::CannotWrite(notes, path) => format!(in alloc; "{notes}cannot write {path}\n"),
+        CheckFault::OutOfMemory => Err(AllocError),
+    }
+}
+
+/// Why a chain is refused. Want of memory has no text.
+pub(crate) fn chain_refusal(alloc: Global, fault: AuditFault) -> Result<String, AllocError>
+    ensures text { IfOk result (λ text. string_bytes text ≡ refused_line (chain_words fault)) }
+    ensures refused { IfOk result (λ _.
+        status_of_failure (failure.Chain fault) ≡ status.ChainRefused) }
+{
+    let mut text = String::from_str(alloc, "refused: ")?;
+    add_chain_fault(&mut text, fault)?;
+    text.push_str("\n")?;
+    Ok(text)
+}
+
+/// Why a file is that of no session. Want of memory has no text.
+pub(crate) fn file_refusal(alloc: Global, fault: FileFault) -> Result<String, AllocError>
+    ensures text { IfOk result (λ text. string_bytes text ≡ refused_line (file_words fault)) }
+    ensures refused { IfOk result (λ _.
+        status_of_failure (failure.SessionFile fault) ≡ status.Refused) }
+{
+    let mut text = String::from_str(alloc, "refused: ")?;
+    add_file_fault(&mut text, fault)?;
+    text.push_str("\n")?;
+    Ok(text)
+}
+
+// Adds why a chain is refused.
+fn add_chain_fault(text: &mut String, fault: AuditFault) -> Result<(), AllocError>
+    ensures added { OnOk result
+        (string_bytes text.new ≡ string_bytes text.old ++ chain_words fault) }
+    ensures refused { OnOk result
+        (status_of_failure (failure.Chain fault) ≡ status.ChainRefused) }
+{
+    match fault {
+        AuditFault::EmptyChain => text.push_str("14.1 EmptyChain"),
+        AuditFault::File(k, why) => {
+            write!(text, "14.2 File({k}, ")?;
+            add_file_fault(text, why)?;
+            text.push_str(")")
+        }
+        AuditFault::BrokenLink(k) => add_one(text, "14.3 BrokenLink", k),
+        AuditFault::NoFiles(k) => add_one(text, "14.4 NoFiles", k),
+        AuditFault::MissingSource(k, f) => add_two(text, "14.5 MissingSource", k, f),
+        AuditFault::StraySource(k, f) => add_two(text, "14.6 StraySource", k, f),
+        AuditFault::GreenWithoutPast(k, n) => add_two(text, "14.7 GreenWithoutPast", k, n),
+        AuditFault::OtherEdges(k, n) => add_two(text, "14.8 OtherEdges", k, n),
+        AuditFault::GreenOverRed(k, n, i) => add_three(text, "14.9 GreenOverRed", k, n, i),
+        AuditFault::GreenPrint(k, n) => add_two(text, "14.10 GreenPrint", k, n),
+        AuditFault::OtherRead(k, n, i) => add_three(text, "14.11 OtherRead", k, n, i),
+        AuditFault::UnreadEdges(k, n) => add_two(text, "14.12 UnreadEdges", k, n),
+        AuditFault::OtherResult(k, n) => add_two(text, "14.13 OtherResult", k, n),
+        AuditFault::NoAnswer => text.push_str("14.14 NoAnswer"),
+        AuditFault::SourcesDiffer => text.push_str("14.15 SourcesDiffer"),
+        AuditFault::OutOfMemory => Err(AllocError),
+    }
+}
+
+// Adds why a file is that of no session.
+fn add_file_fault(text: &mut String, fault: FileFault) -> Result<(), AllocError>
+    ensures added { OnOk result
+        (string_bytes text.new ≡ string_bytes text.old ++ file_words fault) }
+    ensures refused { OnOk result
+        (status_of_failure (failure.SessionFile fault) ≡ status.Refused) }
+{
+    match fault {
+        FileFault::BadMagic => text.push_str("11.1 BadMagic"),
+        FileFault::Version => text.push_str("11.2 Version"),
+        FileFault::Truncated => text.push_str("11.3 Truncated"),
+        FileFault::BadDigest => text.push_str("11.4 BadDigest"),
+        FileFault::KeyOrder(n) => add_one(text, "11.5 KeyOrder", n),
+        FileFault::BadEdge(n, i) => add_two(text, "11.6 BadEdge", n, i),
+        FileFault::Result(n) => add_one(text, "11.7 Result", n),
+        FileFault::InputKind(n) => add_one(text, "11.8 InputKind", n),
+        FileFault::Trailing => text.push_str("11.9 Trailing"),
+        FileFault::Device => text.push_str("11.10 Device"),
+        FileFault::BadKey(n) => add_one(text, "11.11 BadKey", n),
+        FileFault::Number => text.push_str("11.12 Number"),
+        FileFault::OutOfMemory => Err(AllocError),
+    }
+}
+
+// Adds a name and its argument.
+fn add_one(text: &mut String, name: &str, a: usize) -> Result<(), AllocError>
+    ensures { OnOk result
+        (string_bytes text.new ≡ string_bytes text.old ++ name.now ++ one a) }
+{
+    write!(text, "{name}({a})")
+}
+
+// Adds a name and its two arguments.
+fn add_two(text: &mut String, name: &str, a: usize, b: usize) -> Result<(), AllocError>
+    ensures { OnOk result
+        (string_bytes text.new ≡ string_bytes text.old ++ name.now ++ two a b) }
+{
+    write!(text, "{name}({a}, {b})")
+}
+
+// Adds a name and its three arguments.
+fn add_three(text: &mut String, name: &str, a: usize, b: usize, c: usize) -> Result<(), AllocError>
+    ensures { OnOk result
+        (string_bytes text.new ≡ string_bytes text.old ++ name.now ++ three a b c) }
+{
+    write!(text, "{name}({a}, {b}, {c})")
+}
