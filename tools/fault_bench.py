@@ -101,11 +101,29 @@ Outcome = collections.namedtuple("Outcome", "status error output files folders")
 Counts = collections.namedtuple("Counts", "allocations refused calls failed first")
 
 
+class Faults:
+    """The faults of a program's runs, and what is counted of them in a file of this folder."""
+
+    def __init__(self, shim, folder):
+        self.shim, self.file = str(shim), os.open(Path(folder) / "counts", os.O_RDWR | os.O_CREAT)
+        os.truncate(self.file, struct.calcsize("=5Q"))
+        self.shared = mmap.mmap(self.file, struct.calcsize("=5Q"))
+
+    def begin(self, numbers):
+        """Begins to count anew. Returns the environment for a run with these faults, told by the environment's names."""
+        self.shared[:] = bytes(len(self.shared))
+        numbers = {name: str(number) for name, number in numbers.items()}
+        return {"LD_PRELOAD": self.shim, "FAULTS_FD": str(self.file), **numbers}
+
+    def counts(self):
+        return Counts(*struct.unpack("=5Q", self.shared))
+
+
 class Bench:
     """A folder in which one command is run again and again, each time on what was there first."""
 
     def __init__(self, program, shim, command, folder):
-        self.shim, self.command, self.folder = str(shim), command, Path(folder)
+        self.command, self.folder, self.faults = command, Path(folder), Faults(shim, folder)
         self.words, self.before = [str(program), *command.words], {}
         for version in command.checked:
             self.write(version)
@@ -114,9 +132,6 @@ class Bench:
         self.write(command.version)
         if command.cut is not None:
             os.truncate(self.folder / command.chain[-1], command.cut)
-        self.file = os.open(self.folder / "counts", os.O_RDWR | os.O_CREAT)
-        os.truncate(self.file, struct.calcsize("=5Q"))
-        self.shared = mmap.mmap(self.file, struct.calcsize("=5Q"))
         self.before = self.entries()
         self.right = self.run(self.words)
         self.clear()
@@ -135,7 +150,7 @@ class Bench:
 
         Raises TimeoutExpired where it doesn't end."""
         done = subprocess.run(words, cwd=self.folder, stdin=subprocess.DEVNULL, stdout=output, stderr=subprocess.PIPE,
-                              check=False, timeout=SECONDS, pass_fds=[self.file],
+                              check=False, timeout=SECONDS, pass_fds=[self.faults.file],
                               env={**os.environ, **dict(environment)}, **(user or {}))
         now = self.entries()
         made = {path: data for path, data in now.items() if path not in self.before or self.before[path] != data}
@@ -151,10 +166,8 @@ class Bench:
 
     def faulty(self, **numbers):
         """Runs the command with faults, told by the environment's names. Returns what came, and the counts."""
-        self.shared[:] = bytes(len(self.shared))
-        numbers = {name: str(number) for name, number in numbers.items()}
-        done = self.run(self.words, environment={"LD_PRELOAD": self.shim, "FAULTS_FD": str(self.file), **numbers})
-        return done, Counts(*struct.unpack("=5Q", self.shared))
+        done = self.run(self.words, environment=self.faults.begin(numbers))
+        return done, self.faults.counts()
 
 
 def tried(ways, program, shim_path, command):

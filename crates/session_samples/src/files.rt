@@ -3,6 +3,7 @@ ghost use Rattle.std.specs.Prelude.{◌≡◌, ℕ, List, Ok, Err, IsTrue, IfOk,
 ghost use Rattle.sessions.specs.Sessions.{SessionValue, IsSession};
 ghost use Rattle.sessions.specs.Spelling.{file_of, digest_of};
 ghost use Rattle.session_file.specs.Devices.{Counts, Puts};
+ghost use Rattle.session_file.specs.Feeding.{CountsDevice, Given};
 ghost use Rattle.session_file.specs.Reading.{IsUnlessMemory, file_at};
 ghost use Rattle.session_file.specs.declared.fault.FileFault.{FileFault as SpecFault};
 ghost use Rattle.session_file.specs.declared.fault.FileFault.TheVariants.{Device, OutOfMemory};
@@ -10,7 +11,7 @@ ghost use Rattle.session_samples.specs.Telling.{IsSessionOf, IsFirstOf, IsFileOf
 
 use crate::records::{Kept, session_of};
 use answer_samples::Unfit;
-use session_file::{FileFault, MemorySink, Sink, digest, read, write};
+use session_file::{Feed, FileFault, MemorySink, Sink, digest, read, read_from, write};
 use sessions::Session;
 use std::alloc::Global;
 
@@ -80,6 +81,18 @@ pub fn is_read_again(alloc: Global, bytes: &[u8]) -> bool
     match read(alloc, bytes) {
         Ok(session) => is_file(alloc, &session, bytes),
         Err(_) => false,
+    }
+}
+
+/// The SHA-256 of its file that a session tells which was taken from a feed.
+pub fn digest_of_taken<F: Feed>(alloc: Global, feed: &mut F) -> Result<[u8; 32], FileFault>
+    ensures taken { IfOk result (λ digest. (s : SessionValue) × IsSession s
+        × Given (F.holds feed.old) (F.holds feed.new) (file_of s) × (digest ≡ digest_of s)) }
+    ensures counted { CountsDevice result (F.failed feed.old) (F.failed feed.new) }
+{
+    match read_from(alloc, feed) {
+        Ok(session) => Ok(digest(&session)),
+        Err(fault) => Err(fault),
     }
 }
 

@@ -1,10 +1,14 @@
 //! Sessions for tests: made from short texts, written and read, and asked what tests want to know of them.
 #![tactic(auto)]
 
+mod failing;
 mod files;
 mod first;
 mod records;
 
-pub use files::{digest_of, digest_of_read, fault_of, file_of, is_read_again, write_to};
+pub use failing::{Failing, FailingFeed, FailingSink, Manner};
+pub use files::{
+    digest_of, digest_of_read, digest_of_taken, fault_of, file_of, is_read_again, write_to,
+};
 pub use first::FIRST;
 pub use records::{Kept, session_of};

@@ -1,0 +1,15 @@
+//! Sessions that are refused memory, and made again.
+
+use session_samples::FIRST;
+use std::test::*;
+use worker_samples::run_again;
+
+/// The text of the file of the first session.
+const ONE: &str = "class M { public static void main(String[] a) { System.out.println(1); } }";
+
+#[test]
+fn sessions_are_made_again(rt: HostRuntime) {
+    for workers in [1, 2, 8] {
+        assert!(rt; run_again(&rt, rt.alloc(), ONE, FIRST, workers) == Ok(true));
+    }
+}

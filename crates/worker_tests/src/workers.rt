@@ -1,0 +1,24 @@
+//! Workers one of whom is refused memory.
+
+use driver::DriveFault;
+use std::test::*;
+use worker_samples::{all_stop, fault_of_worker};
+
+#[test]
+fn all_others_stop(rt: HostRuntime) {
+    for workers in [2, 8, 64] {
+        for failing in 0..workers {
+            assert!(rt; all_stop(&rt, rt.alloc(), workers, failing) == Ok(true));
+        }
+    }
+}
+
+#[test]
+fn each_worker_in_turn_ends_the_session(rt: HostRuntime) {
+    for workers in [2, 8, 64] {
+        for failing in 0..workers {
+            let fault = fault_of_worker(&rt, rt.alloc(), workers, failing as u64);
+            assert!(rt; fault == Ok(Some(DriveFault::OutOfMemory)));
+        }
+    }
+}
