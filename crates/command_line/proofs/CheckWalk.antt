@@ -8,11 +8,10 @@ use Rattle.clap.specs.Faults.{check_fault, defaults_fault, flag_word_fault, leve
 use Rattle.clap.specs.Kinds.{or_else}
 use Rattle.clap.specs.Lexer.{long_of, short_of}
 use Rattle.clap.specs.Simple.{filled, with_index}
-use Rattle.clap.specs.Walk.{Held, Row, Step, Waiting, Walk, after_flag, after_step, arg_by_long, finished, first_of, has_row, idle, long_met, long_or_other, more_values, next, nothing_held, rows_after, subcommand_or_other, trailing, option, plain_word, positional, reading_by, settled, settled_rows, subcommand_met, used, value, walked, with_values, without, word_met}
+use Rattle.clap.specs.Walk.{Held, Row, Step, Waiting, Walk, after_flag, after_step, arg_by_long, finished, first_of, has_row, idle, long_met, long_or_other, next, nothing_held, rows_after, subcommand_or_other, trailing, option, plain_word, positional, reading_by, settled, settled_rows, subcommand_met, used, value, walked, with_values, without, word_met}
 use Rattle.clap.specs.Words.{Kinds, Rule, Text, all_of}
 use Rattle.clap.specs.declared.builder.value_parser.Reading.{Reading}
 use Rattle.clap.specs.declared.error.ErrorKind.TheVariants.{ArgumentConflict}
-use Rattle.clap.specs.declared.parser.ValueSource.{ValueSource}
 use Rattle.clap.specs.declared.parser.ValueSource.TheVariants.{CommandLine, DefaultValue}
 use Rattle.command_line.specs.CommandLine.{dashes}
 use Rattle.command_line.specs.Given.{Given, IsGivenBy, IsNumberOf, decimal, given_by, given_in, given_to, values_of}
@@ -21,7 +20,7 @@ use Rattle.command_line.specs.Program.{cache_rule, files_rule, jobs_rule}
 use Rattle.command_line.proofs.Faults.{IsFault, is_fault, no_faults}
 use Rattle.command_line.proofs.FileWords.{check_shape}
 use Rattle.command_line.proofs.ToldRows.{others_told, told, told_none, values_in, values_told, without_none}
-use Rattle.command_line.proofs.Options.{HasShortHelp, flag_fault, flag_met, help, long_is_fault, quiet, short_read}
+use Rattle.command_line.proofs.Options.{HasShortFlags, flag_fault, flag_met, help, long_is_fault, quiet, short_read}
 
 -- ---- the arguments of `check`
 
@@ -346,9 +345,9 @@ no_command (some f files) word = refl
 no_command (waits o) word = refl
 no_command (has o v) word = refl
 
-short_help : HasShortHelp check_shape
+short_flags : HasShortFlags check_shape
 unfolding check_shape
-short_help x = (104 == x || false, refl)
+short_flags x = (104 == x || false, (false, refl))
 
 -- where no option waits
 idle_where_settled : (p : Pending) (rows : List Row) → settle rows p ≡ [] → mode_of p ≡ None
@@ -560,7 +559,7 @@ module _ (rows : List Row) (p : Pending) (word : Text) (rest : List Text) where
     long_read : (name : Text) (v : Option Text) → long_of word ≡ Some (name, v) → IsReadTo rows p false (word ∷ rest) (given_in (mode_of p) (word ∷ rest))
     long_read name v long = elim (is_long name) [
       | inl is ↦ option_read is.0 v (long ∙ ap (λ n. Some (n, v)) is.1)
-      | inr other ↦ absurd (long_is_fault rules again other.0 v (held rows p)
+      | inr other ↦ absurd (long_is_fault rules again other.0 false v (held rows p)
           (long_passes rows p word rest no_dashes name v (cond other.0 (Some help) None) long other.1 turn_is))
     ]
 
@@ -640,7 +639,7 @@ module _ (rows : List Row) (word : Text) (rest : List Text) (behind : IsReadBehi
   other_read p None long no_dashes pass =
       let m = word_met rules [] false (waiting_of p) 1 word (held rows p) in
       let none = (no_faults (word_fault check_shape [] false (waiting_of p) word (held rows p)) (step_fault check_shape 1 m.0 m.1) (turn_passes rows p false word rest pass)).0 in
-      elim (short_read check_shape [] (waiting_of p) 1 word rows (pending_of p) (no_command p word) no_dashes short_help (short_of word) refl long) [
+      elim (short_read check_shape [] (waiting_of p) 1 word rows (pending_of p) (no_command p word) no_dashes short_flags (short_of word) refl long) [
         | inl fault ↦ absurd (fault none)
         | inr met ↦ plain_read p met no_dashes long pass
       ]

@@ -18,7 +18,7 @@ use Rattle.command_line.specs.Subcommands.{takes}
 use Rattle.command_line.specs.declared.asked.Subcommand.{Subcommand}
 use Rattle.command_line.specs.declared.asked.Subcommand.TheVariants.{Scratch, Audit, Show}
 use Rattle.command_line.proofs.Faults.{IsFault, is_fault, no_faults}
-use Rattle.command_line.proofs.Options.{HasHelpAlone, plain_fault, plain_met, quiet, read_plain}
+use Rattle.command_line.proofs.Options.{HasFlagsAlone, plain_fault, plain_met, quiet, read_plain}
 
 -- ---- the subcommand
 
@@ -42,19 +42,19 @@ reading Scratch = reading_by (with_index 1 (filled (rule_of_files Scratch)))
 reading Audit = reading_by (with_index 1 (filled (rule_of_files Audit)))
 reading Show = reading_by (with_index 1 (filled (rule_of_files Show)))
 
-help_alone : (c : Subcommand) → HasHelpAlone (shape c)
+flags_alone : (c : Subcommand) → HasFlagsAlone (shape c)
 unfolding shape
-help_alone Scratch = record {
-  long = λ name. (bytes_eq (codes "help") name || false, refl);
-  short = λ x. (104 == x || false, refl);
+flags_alone Scratch = record {
+  long = λ name. (bytes_eq (codes "help") name || false, (false, refl));
+  short = λ x. (104 == x || false, (false, refl));
 }
-help_alone Audit = record {
-  long = λ name. (bytes_eq (codes "help") name || false, refl);
-  short = λ x. (104 == x || false, refl);
+flags_alone Audit = record {
+  long = λ name. (bytes_eq (codes "help") name || false, (false, refl));
+  short = λ x. (104 == x || false, (false, refl));
 }
-help_alone Show = record {
-  long = λ name. (bytes_eq (codes "help") name || false, refl);
-  short = λ x. (104 == x || false, refl);
+flags_alone Show = record {
+  long = λ name. (bytes_eq (codes "help") name || false, (false, refl));
+  short = λ x. (104 == x || false, (false, refl));
 }
 
 -- ---- where the walk stands between two words
@@ -236,7 +236,7 @@ module _ (c : Subcommand) where
       → met_at c files word ≡ (held c files, value)
   any_is_value files word no_dashes none =
       let first = (no_faults (word_fault (shape c) [] false (waiting_of c files) word (held c files)) (step_fault (shape c) (position_of c files) (met_at c files word).0 (met_at c files word).1) none).0 in
-      elim (read_plain (shape c) [] (waiting_of c files) (position_of c files) word [] (pending_of c files) (no_command c files word) no_dashes (help_alone c)) [
+      elim (read_plain (shape c) [] (waiting_of c files) (position_of c files) word [] (pending_of c files) (no_command c files word) no_dashes (flags_alone c)) [
         | inl fault ↦ absurd (fault first)
         | inr is ↦ is ∙ is_value c files word
       ]

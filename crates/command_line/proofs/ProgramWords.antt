@@ -30,7 +30,7 @@ use Rattle.command_line.specs.Subcommands.{command_name, name_of, takes}
 use Rattle.command_line.specs.declared.asked.Subcommand.{Subcommand}
 use Rattle.command_line.specs.declared.asked.Subcommand.TheVariants.{Scratch, Audit, Show}
 use Rattle.command_line.proofs.Faults.{IsFault, first_fault, is_fault, next_fault}
-use Rattle.command_line.proofs.Options.{HasHelpAlone, read_plain}
+use Rattle.command_line.proofs.Options.{HasFlagsAlone, read_plain}
 use Rattle.command_line.proofs.CheckWalk.{check_given, check_level, check_rows}
 use Rattle.command_line.proofs.FileWords.{check_shape, file_row, files_within, level_found, level_of, level_taken, rules, shape}
 
@@ -45,10 +45,10 @@ top = program.top
 abbrev commands : Names
 commands = names_of program
 
-help_alone : HasHelpAlone top
-help_alone = record {
-  long = λ name. (bytes_eq (codes "help") name || false, refl);
-  short = λ x. (104 == x || false, refl);
+flags_alone : HasFlagsAlone top
+flags_alone = record {
+  long = λ name. (bytes_eq (codes "help") name || false, (bytes_eq (codes "version") name || false, refl));
+  short = λ x. (104 == x || false, (86 == x || false, refl));
 }
 
 -- the kinds at the end of a walk with these kinds
@@ -244,7 +244,7 @@ module _ (name command : Text) (no_scratch : bytes_eq (codes "scratch") command 
     word_refused no_dashes rest =
         let met = word_met top.rules commands false idle 1 command nothing_held in
         let first = word_fault top commands false idle command nothing_held in
-        elim (read_plain top commands idle 1 command [] None no_command no_dashes help_alone) [
+        elim (read_plain top commands idle 1 command [] None no_command no_dashes flags_alone) [
           | inl fault ↦ turn_is_fault rest (first_fault first (step_fault top 1 met.0 met.1) fault)
           | inr is ↦ turn_is_fault rest (next_fault first (step_fault top 1 met.0 met.1)
               (λ none. stray nothing_held (sym (ap (λ (m : Held × Step). step_fault top 1 m.0 m.1) is) ∙ none)))

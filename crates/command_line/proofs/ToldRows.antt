@@ -1,19 +1,12 @@
 -- What the rows of a parse have of an argument.
-use Rattle.std.proofs.Common.{◌≡◌, ◌∙◌, ◌⊎◌, ◌||◌, ◌&&◌, ◌==◌, ◌++◌, inl, inr, ℕ, Bool, true, false, List, [], ◌∷◌, Option, Some, None, cond, codes, refl, sym, ap, ap₂, subst, map, append-nil, append_assoc, true≢false}
+use Rattle.std.proofs.Common.{◌≡◌, ◌∙◌, ◌||◌, ◌++◌, Bool, true, false, List, [], ◌∷◌, Option, Some, cond, refl, ap, true≢false}
 use Rattle.std.proofs.lemmas.Slice.Eq.{bytes_eq-Decides}
-use Rattle.std.proofs.lemmas.Option.{none-some, same_Some}
-use Rattle.std.specs.Prelude.{find, fold, if◌then◌else◌, option_and_then, option_map, slice_get, string_bytes, unwrap_or}
+use Rattle.std.specs.Prelude.{find, if◌then◌else◌, option_map, unwrap_or}
 use Rattle.std.specs.Str.{bytes_eq}
-use Rattle.clap.specs.Faults.{check_fault, defaults_fault, flag_word_fault, level_fault, long_fault, settle_fault, step_fault, turn_fault, use_fault, walk_fault, word_fault}
-use Rattle.clap.specs.Kinds.{or_else}
-use Rattle.clap.specs.Lexer.{long_of, short_of}
-use Rattle.clap.specs.Simple.{filled, with_index}
-use Rattle.clap.specs.Walk.{Held, Row, Step, Waiting, Walk, after_flag, after_step, arg_by_long, finished, first_of, has_row, idle, long_met, long_or_other, more_values, next, nothing_held, rows_after, subcommand_or_other, trailing, option, plain_word, positional, reading_by, settled, settled_rows, subcommand_met, used, value, walked, with_values, without, word_met}
-use Rattle.clap.specs.Words.{Kinds, Rule, Text, all_of}
+use Rattle.clap.specs.Walk.{Row, has_row, more_values, with_values, without}
+use Rattle.clap.specs.Words.{Text, all_of}
 use Rattle.clap.specs.declared.builder.value_parser.Reading.{Reading}
-use Rattle.clap.specs.declared.error.ErrorKind.TheVariants.{ArgumentConflict}
 use Rattle.clap.specs.declared.parser.ValueSource.{ValueSource}
-use Rattle.clap.specs.declared.parser.ValueSource.TheVariants.{CommandLine, DefaultValue}
 
 -- ---- what the rows have of an argument
 

@@ -51,7 +51,10 @@ check_app =
 
 -- the program, before its subcommands
 abbrev pub required_app : App
-required_app = on_top (λ s. record s { subcommand_required = true }) (new_app (codes "mjrg"))
+required_app = on_top (λ s. record s {
+  has_version = true;
+  subcommand_required = true;
+}) (new_app (codes "mjrg"))
 
 abbrev pub program_app : App
 program_app = with_subcommand

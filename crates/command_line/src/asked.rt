@@ -71,7 +71,7 @@ pub enum Words {
 /// Why the words ask for no subcommand.
 #[derive(Debug, Drop, Error)]
 pub enum WordsFault {
-    /// Help was asked for. This is its text, which is for standard output.
+    /// Help was asked for, or the version. This is its text, which is for standard output.
     #[error("{0}")]
     Help(String),
     /// The words are refused. This says why, and is for standard error.

@@ -7,7 +7,7 @@ ghost use Rattle.command_line.specs.Program.{jobs_rule, program_app, rule_of_fil
 
 use crate::asked::Subcommand;
 use crate::help;
-use crate::help::{PURPOSE, STATUSES, files, outcome, purpose};
+use crate::help::{PURPOSE, STATUSES, VERSION, files, outcome, purpose};
 use clap::{Arg, ArgAction, Command, value_parser};
 use std::alloc::{AllocError, Global};
 
@@ -40,6 +40,7 @@ pub(crate) fn program<'a>(alloc: Global) -> Result<Command<'a>, AllocError>
     let program = Command::new(alloc, PROGRAM).bin_name(PROGRAM)?;
     program
         .about(PURPOSE)
+        .version(VERSION)
         .after_help(STATUSES)
         .subcommand_required(true)
         .subcommand(scratch)?

@@ -18,7 +18,7 @@ use std::alloc::{AllocError, Global};
 /// Reads a command line, whose first word is the program's name. An empty list is read as the name
 /// alone. Of `check` the folder of the cache is the value of `--cache`, the number of workers that of
 /// `--jobs`, or 1, and the files are all other words. Which other words are refused, and which ask for
-/// help, is `clap`'s to say.
+/// help or for the version, is `clap`'s to say.
 pub fn words(alloc: Global, list: Vec<String>) -> Result<Words, WordsFault>
     ensures runnable { IfOk result IsRunnable }
     ensures asked { IfOk result (Asks (map string_bytes list.items)) }
@@ -188,7 +188,9 @@ fn refusal(alloc: Global, error: &Error) -> WordsFault
         return WordsFault::OutOfMemory;
     }
     match format!(in alloc; "{error}") {
-        Ok(text) if kind == ErrorKind::DisplayHelp => WordsFault::Help(text),
+        Ok(text) if kind == ErrorKind::DisplayHelp || kind == ErrorKind::DisplayVersion => {
+            WordsFault::Help(text)
+        }
         Ok(text) => WordsFault::Refused(text),
         Err(_) => WordsFault::OutOfMemory,
     }

@@ -200,6 +200,33 @@ fn tells_of_other_words(rt: HostRuntime) -> Result<(), Fail> {
     Ok(())
 }
 
+/// What is told of the version, under whatever name the program runs.
+const VERSION: &str = "mjrg 0.1.0\nsession files: version 1\nlanguage: profile 1\n";
+
+/// Command lines that ask for the version.
+const VERSIONS: &[&[&str]] = &[
+    &["another", "--version"],
+    &["mjrg", "-V"],
+    &["mjrg", "-Vh"],
+    &["mjrg", "--version", "scratch", "M.java"],
+];
+
+/// Whether the version is told in place of files.
+fn is_version(alloc: Global, given: &[&str]) -> Result<bool, Fail> {
+    match words(alloc, list(alloc, given)?) {
+        Err(WordsFault::Help(text)) => Ok(text.as_str() == VERSION),
+        _ => Ok(false),
+    }
+}
+
+#[test]
+fn tells_the_version(rt: HostRuntime) -> Result<(), Fail> {
+    for given in VERSIONS {
+        assert!(rt; is_version(rt.alloc(), given)?, "{given:?}");
+    }
+    Ok(())
+}
+
 /// Whether the fault is shown so.
 fn is_shown(alloc: Global, fault: &WordsFault, want: &str) -> Result<bool, AllocError> {
     Ok(format!(in alloc; "{fault}")?.as_str() == want)
