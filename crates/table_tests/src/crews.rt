@@ -135,28 +135,35 @@ fn have_files(made: &(Made, Made), files: &([u8; 32], [u8; 32])) -> bool {
         && second.events == second.history
 }
 
+/// Whether the sessions that were made have the files of others, and all events are counted.
+fn have_files_of(made: &(Made, Made), others: &(Made, Made)) -> bool {
+    made.0.digest == others.0.digest
+        && made.1.digest == others.1.digest
+        && made.0.events == made.0.history
+        && made.1.events == made.1.history
+}
+
 /// Whether the sessions of a project of many classes, made by so many workers whose runs are held as this seed decides, have
-/// these files.
+/// the files of these.
 fn are_held_same<T: Threads + Wait + Sync>(
     rt: &T,
     alloc: Global,
     workers: usize,
     seed: u64,
-    files: &([u8; 32], [u8; 32]),
+    others: &(Made, Made),
 ) -> Result<bool, Unfit> {
     let made = made_while_held(rt, alloc, CLASSES, workers, seed)?;
-    Ok(have_files(&made, files))
+    Ok(have_files_of(&made, others))
 }
 
 /// The files are the same however long runs are held.
 #[test]
 fn held_workers_make_the_same_files(rt: HostRuntime) -> Result<(), Unfit> {
-    let (first, second) = made_while_held(&rt, rt.alloc(), CLASSES, 1, 0)?;
-    let files = (first.digest, second.digest);
+    let by_one = made_while_held(&rt, rt.alloc(), CLASSES, 1, 0)?;
     for seed in SEEDS {
         for workers in [1, 2, 3, 8, 64] {
             assert!(rt;
-                are_held_same(&rt, rt.alloc(), workers, seed, &files) == Ok(true),
+                are_held_same(&rt, rt.alloc(), workers, seed, &by_one) == Ok(true),
                 "{workers} workers, seed {seed}"
             );
         }
