@@ -1,4 +1,6 @@
 //! Projects of many classes.
+ghost use Rattle.std.specs.Prelude.{◌≡◌, [], ◌∷◌, codes, IfOk};
+ghost use Rattle.mj_project.specs.Projects.{names_of, sources_view};
 
 use answer_samples::Unfit;
 use mj_project::Project;
@@ -8,7 +10,10 @@ use std::alloc::{AllocError, Global};
 const MAIN: &str = "class M { public static void main(String[] a) { System.out.println(1); } }\n";
 
 /// One file of this text.
-fn files_of(alloc: Global, text: String) -> Result<Vec<(String, Vec<u8>)>, AllocError> {
+fn files_of(alloc: Global, text: String) -> Result<Vec<(String, Vec<u8>)>, AllocError>
+    ensures { IfOk result (λ files.
+        names_of (sources_view files.items) ≡ codes "M.java" ∷ []) }
+{
     let mut files = Vec::new(alloc);
     let name = String::from_str(alloc, "M.java")?;
     files.push((name, text.into_bytes()))?;
@@ -16,7 +21,9 @@ fn files_of(alloc: Global, text: String) -> Result<Vec<(String, Vec<u8>)>, Alloc
 }
 
 /// The project of one file of this text.
-fn project_of_text(alloc: Global, text: String) -> Result<Project, Unfit> {
+fn project_of_text(alloc: Global, text: String) -> Result<Project, Unfit>
+    ensures { IfOk result (λ p. names_of p ≡ codes "M.java" ∷ []) }
+{
     let files = files_of(alloc, text)?;
     match Project::new(alloc, files) {
         Ok(project) => Ok(project),
@@ -73,19 +80,25 @@ fn body_text(alloc: Global, classes: usize) -> Result<String, AllocError> {
 }
 
 /// The project of so many classes of a field and a method, each of which extends the one before it.
-pub fn chain(alloc: Global, classes: usize) -> Result<Project, Unfit> {
+pub fn chain(alloc: Global, classes: usize) -> Result<Project, Unfit>
+    ensures { IfOk result (λ p. names_of p ≡ codes "M.java" ∷ []) }
+{
     let text = chain_text(alloc, classes, None)?;
     project_of_text(alloc, text)
 }
 
 /// The same project, but that the class of this number extends none.
-pub(crate) fn cut_chain(alloc: Global, classes: usize, cut: usize) -> Result<Project, Unfit> {
+pub(crate) fn cut_chain(alloc: Global, classes: usize, cut: usize) -> Result<Project, Unfit>
+    ensures { IfOk result (λ p. names_of p ≡ codes "M.java" ∷ []) }
+{
     let text = chain_text(alloc, classes, Some(cut))?;
     project_of_text(alloc, text)
 }
 
 /// The project of so many classes of a method, and one whose body makes an object of each.
-pub fn one_body(alloc: Global, classes: usize) -> Result<Project, Unfit> {
+pub fn one_body(alloc: Global, classes: usize) -> Result<Project, Unfit>
+    ensures { IfOk result (λ p. names_of p ≡ codes "M.java" ∷ []) }
+{
     let text = body_text(alloc, classes)?;
     project_of_text(alloc, text)
 }

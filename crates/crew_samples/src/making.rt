@@ -1,7 +1,12 @@
 //! Sessions by several workers.
-ghost use Rattle.std.specs.Prelude.{◌≡◌, IfOk, IfSome, sum};
+ghost use Rattle.std.specs.Prelude.{◌≡◌, None, IfOk, IfSome, sum};
 ghost use Rattle.std.specs.Arc.{arc_value};
+ghost use Rattle.query_rules.specs.Meaning.{mean};
+ghost use Rattle.query_rules.specs.Reads.{reads};
+ghost use Rattle.job_table.specs.Tables.{session_in};
 ghost use Rattle.sessions.specs.Spelling.{digest_of};
+ghost use Rattle.driver.specs.Sessions.{IsSessionOf};
+ghost use Rattle.crew_samples.specs.Made.{AreMade, IsMadeOf, after, before};
 
 use crate::files::{File, project_of};
 use crate::holding::Holding;
@@ -74,7 +79,10 @@ fn session_over<T: Threads + Wait + Sync, G: Gate + Sync>(
     project: &Project,
     workers: usize,
     gate: &G,
-) -> Result<(Arc<Session>, Made), Unfit> {
+) -> Result<(Arc<Session>, Made), Unfit>
+    ensures { IfOk result (λ both.
+        IsMadeOf (session_in past) project.now workers (arc_value both.0) both.1) }
+{
     match run_session(rt, alloc, past, project, workers, gate) {
         Ok((session, reports)) => {
             let made = made_of(&session, &reports)?;
@@ -92,7 +100,9 @@ fn made_of_both<T: Threads + Wait + Sync, G: Gate + Sync>(
     second: &Project,
     workers: usize,
     gate: &G,
-) -> Result<(Made, Made), Unfit> {
+) -> Result<(Made, Made), Unfit>
+    ensures { IfOk result (λ both. AreMade first.now second.now workers both.0 both.1) }
+{
     let (past, first) = session_over(rt, alloc, None, first, workers, gate)?;
     let (_session, second) = session_over(rt, alloc, Some(past), second, workers, gate)?;
     Ok((first, second))
@@ -104,7 +114,9 @@ pub fn made_by<T: Threads + Wait + Sync>(
     alloc: Global,
     edit: &Edit,
     workers: usize,
-) -> Result<(Made, Made), Unfit> {
+) -> Result<(Made, Made), Unfit>
+    ensures { IfOk result (λ both. AreMade (before edit.now) (after edit.now) workers both.0 both.1) }
+{
     let project = project_of(alloc, &[edit.file])?;
     let edited = project_of(alloc, &[File(edit.file.0, edit.edited)])?;
     made_of_both(rt, alloc, &project, &edited, workers, &Open)
@@ -112,13 +124,16 @@ pub fn made_by<T: Threads + Wait + Sync>(
 
 /// What is made of a first session of a chain of so many classes, and of the one over it after the chain is cut in the middle,
 /// by so many workers, whose runs are held as this seed decides.
+#[tactic(auto, using(crate::proofs::SomeProjects::of_some))]
 pub fn made_while_held<T: Threads + Wait + Sync>(
     rt: &T,
     alloc: Global,
     classes: usize,
     workers: usize,
     seed: u64,
-) -> Result<(Made, Made), Unfit> {
+) -> Result<(Made, Made), Unfit>
+    ensures { IfOk result (λ both. (p : Project) × (q : Project) × AreMade p q workers both.0 both.1) }
+{
     let project = chain(alloc, classes)?;
     let edited = cut_chain(alloc, classes, classes / 2)?;
     made_of_both(rt, alloc, &project, &edited, workers, &Holding::new(seed))

@@ -1,4 +1,5 @@
 //! Runs that wait for one another.
+ghost use Rattle.std.specs.Prelude.{◌≡◌};
 
 use item_ids::{Key, Kind};
 use mini_java_driver::Gate;
@@ -17,7 +18,10 @@ pub struct Meeting {
 
 impl Meeting {
     /// No run has begun.
-    pub fn new(kind: Kind, turns: u64) -> Self {
+    pub fn new(kind: Kind, turns: u64) -> Self
+        ensures kind { result.kind ≡ kind }
+        ensures turns { result.turns ≡ turns }
+    {
         Meeting {
             kind,
             turns,

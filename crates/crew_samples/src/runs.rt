@@ -1,4 +1,9 @@
 //! Runs that are counted, and one that fails.
+ghost use Rattle.std.specs.Prelude.{◌≡◌, ◌∷◌, [], None, IfOk};
+ghost use Rattle.std.specs.Arc.{arc_value};
+ghost use Rattle.sessions.specs.Sessions.{SessionValue};
+ghost use Rattle.job_table.specs.Tables.{session_in};
+ghost use Rattle.crew_samples.specs.Made.{HasExecuted, HaveExecuted, IsDigestOf, IsFaultOf, file_told, files_told, has_mark, many_of};
 
 use crate::counting::Counting;
 use crate::files::{File, project_of};
@@ -20,14 +25,18 @@ pub struct Runs {
     pub executed: usize,
 }
 
-/// How many records are executed.
-fn executed_in(records: &[Record]) -> usize {
-    records.iter().filter(|item| is_executed(item)).count()
+/// How many records have this mark.
+fn count_in(records: &[Record], mark: Mark) -> usize
+    ensures { result ≡ many_of mark records.now }
+{
+    records.iter().filter(|item| has_mark(item, mark)).count()
 }
 
-/// Whether a record is executed.
-fn is_executed(item: &Record) -> bool {
-    item.mark().number() == Mark::Executed.number()
+/// Whether a record has this mark.
+fn has_mark(item: &Record, mark: Mark) -> bool
+    ensures { result ≡ has_mark mark item.now }
+{
+    item.mark().number() == mark.number()
 }
 
 /// The session of a project over the past by one worker, and its runs.
@@ -36,7 +45,9 @@ fn counted_over<T: Threads + Wait + Sync>(
     alloc: Global,
     past: Option<Arc<Session>>,
     project: &Project,
-) -> Result<(Session, Runs), Unfit> {
+) -> Result<(Session, Runs), Unfit>
+    ensures { IfOk result (λ both. HasExecuted (session_in past) project.now both.0 both.1) }
+{
     let runs = AtomicU64::new(0);
     match drive(
         rt,
@@ -48,7 +59,7 @@ fn counted_over<T: Threads + Wait + Sync>(
         &Open,
     ) {
         Ok((session, _)) => {
-            let executed = executed_in(session.records());
+            let executed = count_in(session.records(), Mark::Executed);
             Ok((
                 session,
                 Runs {
@@ -67,7 +78,10 @@ pub fn runs_of<T: Threads + Wait + Sync>(
     alloc: Global,
     files: &[File],
     edited: &[File],
-) -> Result<(Runs, Runs), Unfit> {
+) -> Result<(Runs, Runs), Unfit>
+    ensures { IfOk result (λ both.
+        HaveExecuted (files_told files.now) (files_told edited.now) both.0 both.1) }
+{
     let project = project_of(alloc, files)?;
     let (past, first) = counted_over(rt, alloc, None, &project)?;
     let past = share(alloc, past)?;
@@ -81,7 +95,9 @@ pub fn runs_in<T: Threads + Wait + Sync>(
     rt: &T,
     alloc: Global,
     project: &Project,
-) -> Result<Runs, Unfit> {
+) -> Result<Runs, Unfit>
+    ensures { IfOk result (λ runs. (s : SessionValue) × HasExecuted None project.now s runs) }
+{
     let (_session, runs) = counted_over(rt, alloc, None, project)?;
     Ok(runs)
 }
@@ -94,7 +110,9 @@ pub fn fault_of_failing<T: Threads + Wait + Sync>(
     file: File,
     workers: usize,
     failing: u64,
-) -> Result<Option<DriveFault>, Unfit> {
+) -> Result<Option<DriveFault>, Unfit>
+    ensures { IfOk result (IsFaultOf (file_told file ∷ []) workers) }
+{
     let project = project_of(alloc, &[file])?;
     let runs = AtomicU64::new(0);
     match drive(
@@ -117,7 +135,9 @@ pub fn digest_by<T: Threads + Wait + Sync>(
     alloc: Global,
     file: File,
     crew: Crew,
-) -> Result<[u8; 32], Unfit> {
+) -> Result<[u8; 32], Unfit>
+    ensures { IfOk result (IsDigestOf (file_told file ∷ []) crew.workers) }
+{
     let project = project_of(alloc, &[file])?;
     let runs = AtomicU64::new(0);
     match drive(
