@@ -5,7 +5,7 @@ ghost use Rattle.session_cache.specs.Starts.{session_in};
 ghost use Rattle.driver.specs.Sessions.{IsCrew};
 ghost use Rattle.cached_check.specs.Checks.{IsMadeOver};
 
-use mini_java_driver::{DriveFault, Open, run_session};
+use mini_java::{DriveFault, Open, run_session};
 use mj_project::Project;
 use mj_rules::answer_laws;
 use sessions::Session;

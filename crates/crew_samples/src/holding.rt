@@ -1,7 +1,7 @@
 //! Runs that are held for a while.
 
 use item_ids::Key;
-use mini_java_driver::Gate;
+use mini_java::Gate;
 use std::sync::atomic::{AtomicU64, Ordering};
 use std::thread;
 

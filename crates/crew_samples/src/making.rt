@@ -14,7 +14,7 @@ use crate::large::{chain, cut_chain};
 use crate::meeting::Meeting;
 use answer_samples::Unfit;
 use item_ids::Kind;
-use mini_java_driver::{Gate, Open, Reports, run_session};
+use mini_java::{Gate, Open, Reports, run_session};
 use mj_project::Project;
 use session_file::digest;
 use sessions::Session;

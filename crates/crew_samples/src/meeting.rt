@@ -2,7 +2,7 @@
 ghost use Rattle.std.specs.Prelude.{◌≡◌};
 
 use item_ids::{Key, Kind};
-use mini_java_driver::Gate;
+use mini_java::Gate;
 use std::sync::atomic::{AtomicU64, Ordering};
 use std::thread;
 

@@ -8,7 +8,7 @@ use answer_samples::{Asked, Unfit, key_of};
 use item_ids::Kind;
 use job_table::Table;
 use mark_green::ensure;
-use mini_java_driver::{Open, Shared};
+use mini_java::{Open, Shared};
 use recorder::Runner;
 use shared_table::{Counted, Naming, Tally};
 use std::alloc::{AllocError, Global};

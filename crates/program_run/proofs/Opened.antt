@@ -8,8 +8,8 @@ use Rattle.std.specs.declared.io.buffered.BufReader.{BufReader}
 use Rattle.audit_graph.specs.declared.fault.AuditFault.{AuditFault}
 use Rattle.audit_graph.specs.declared.fault.AuditFault.TheVariants as chain
 use Rattle.session_file.specs.declared.fault.FileFault.TheVariants as file
-use Rattle.mini_java_audit.specs.Headline.{ChainRefuses}
-use Rattle.mini_java_audit.specs.Taken.{RefusesBehind}
+use Rattle.mini_java.specs.Headline.{ChainRefuses}
+use Rattle.mini_java.specs.Taken.{RefusesBehind}
 use Rattle.program_run.specs.Audits.{FailsBehind, RefusesOpened, failure_of}
 
 -- behind a buffer that holds nothing yet a file holds what it held

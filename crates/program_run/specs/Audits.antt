@@ -8,9 +8,9 @@ use Rattle.session_text.specs.SessionText.{IsTextOfFile}
 use Rattle.audit_graph.specs.declared.fault.AuditFault.{AuditFault}
 use Rattle.audit_graph.specs.declared.fault.AuditFault.TheVariants as chain
 use Rattle.session_file.specs.declared.fault.FileFault.TheVariants as file
-use Rattle.mini_java_audit.specs.Headline.{ChainRefuses, IsAcceptedChain}
-use Rattle.mini_java_audit.specs.Taken.{HasTaken}
-use Rattle.mini_java_audit.specs.declared.auditor.ChainAuditor.{ChainAuditor}
+use Rattle.mini_java.specs.Headline.{ChainRefuses, IsAcceptedChain}
+use Rattle.mini_java.specs.Taken.{HasTaken}
+use Rattle.mini_java.specs.declared.auditor.ChainAuditor.{ChainAuditor}
 use Rattle.program_run.specs.declared.failure.Failure.{Failure}
 use Rattle.program_run.specs.declared.failure.Failure.TheVariants as failure
 use Rattle.program_run.specs.declared.report.Report.{Report}

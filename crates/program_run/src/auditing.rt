@@ -2,14 +2,14 @@
 ghost use Rattle.std.specs.Prelude.{◌≡◌, ◌++◌, ◌∷◌, [], ℕ, List, Some, IfOk, IfErr, OnOk, map, string_bytes};
 ghost use Rattle.std.specs.Arc.{arc_value};
 ghost use Rattle.providers.specs.AnswerValues.{IsAnswerValue};
-ghost use Rattle.mini_java_audit.specs.Taken.{HasTaken};
+ghost use Rattle.mini_java.specs.Taken.{HasTaken};
 ghost use Rattle.program_run.specs.Audits.{AuditFails, AuditsTo, FailsBehind, IsAcceptedReport, StopsAt, TookAll, accepted_line, failure_of};
 
 use crate::failure::Failure;
 use crate::files::failure_to_read;
 use crate::report::{Report, Status};
 use audit_graph::AuditFault;
-use mini_java_audit::{Audited, ChainAuditor, audited_answer};
+use mini_java::{Audited, ChainAuditor, audited_answer};
 use mj_rules::render;
 use session_file::{FileFault, ReaderFeed};
 use std::alloc::{AllocError, Global};

@@ -11,7 +11,7 @@ use Rattle.mj_rules.specs.Sentences.{classes_in}
 use Rattle.mj_rules.specs.Rules.{AreTheFaults, Rules}
 use Rattle.mj_phrases.specs.declared.verdict.Mistake.{Mistake}
 use Rattle.rule_laws.specs.Typing.{IsFaultIn}
-use Rattle.rule_laws.specs.Laws.{fault_inside}
+use Rattle.rule_laws.specs.ProjectLaws.{fault_inside}
 use Rattle.tree_bytes.specs.Bodies.{BodyValue}
 use Rattle.result_bytes.specs.declared.value.Value.{Value}
 use Rattle.result_bytes.specs.declared.value.Value.TheVariants as values

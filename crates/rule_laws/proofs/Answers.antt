@@ -19,10 +19,10 @@ use Rattle.mj_rules.specs.ClassFaults.{FaultOfClass, UndeclaredSuperclass, Cycli
 use Rattle.mj_rules.specs.Rules.{IsAnswerFor, Rules}
 use Rattle.mj_rules.proofs.Overriding.{decl-name}
 use Rattle.mj_rules.proofs.Declared.{IsOrderly, orderly_class}
-use Rattle.fault_rules.specs.Faults.{FaultInMethod, FaultInMain}
-use Rattle.fault_rules.proofs.Bodies.{in_method, from_method, in_main, from_main}
+use Rattle.rule_laws.specs.Faults.{FaultInMethod, FaultInMain}
 use Rattle.rule_laws.specs.Typing.{world_in, IsMethodIn, IsMainIn, IsFaultIn, FaultOfMethod, FaultOfMain}
-use Rattle.rule_laws.specs.Laws.{fault_inside}
+use Rattle.rule_laws.specs.ProjectLaws.{fault_inside}
+use Rattle.rule_laws.proofs.Bodies.{in_method, from_method, in_main, from_main}
 use Rattle.rule_laws.proofs.Scopes.{one_first, no_method}
 
 same_name : {a b : Name} {i j : ℕ} → place.Inside a i ≡ place.Inside b j → a ≡ b

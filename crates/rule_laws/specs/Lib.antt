@@ -1,2 +1,5 @@
+pub mod Demands
+pub mod Faults
+pub mod PhraseLaws
 pub mod Typing
-pub mod Laws
+pub mod ProjectLaws

@@ -8,12 +8,12 @@ use Rattle.mj_phrases.specs.declared.verdict.Mistake.{Mistake}
 use Rattle.mj_phrases.specs.Inquiries.{World}
 use Rattle.mj_phrases.specs.Table.{Scope, method_scope, main_scope}
 use Rattle.mj_phrases.specs.Cases.{HasTypeByCases}
-use Rattle.fault_rules.specs.Demands.{BodyPhrase}
-use Rattle.fault_rules.specs.Faults.{IsWell, FaultInMethod, FaultInMain}
 use Rattle.mj_project.specs.Projects.{SourceFile}
 use Rattle.mj_rules.specs.Sentences.{classes_in}
 use Rattle.mj_rules.specs.Worlds.{world_of}
 use Rattle.mj_rules.specs.ClassFaults.{IsFirstMethod, main_word}
+use Rattle.rule_laws.specs.Demands.{BodyPhrase}
+use Rattle.rule_laws.specs.Faults.{IsWell, FaultInMethod, FaultInMain}
 
 -- what the declarations of a project say
 abbrev pub world_in : List SourceFile → World

@@ -1,19 +1,9 @@
-//! What the rules say of a project: the types in its methods, and their faults.
+//! What the rules say of phrases and of projects: what each phrase of a body demands, each demand with its code; the types in
+//! a project's methods, and their faults.
 #![tactic(auto)]
 
-ghost use Rattle.rule_laws.specs.Laws.{ScopeLaws, TypeLaws, MethodFaultLaw};
+mod phrase_laws;
+mod project_laws;
 
-/// A name in a class stands for one method at most, or for main, and so for one scope.
-pub fn scope_laws()
-    ensures { ScopeLaws }
-{}
-
-/// An expression of a method has one type at most, the one that a check computes, and a phrase is well where a check finds so.
-pub fn type_laws()
-    ensures { TypeLaws }
-{}
-
-/// The answer that the rules give has just the faults in a method that the demands of its phrases give.
-pub fn method_fault_laws()
-    ensures { MethodFaultLaw }
-{}
+pub use phrase_laws::{fault_laws, well_laws};
+pub use project_laws::{method_fault_laws, scope_laws, type_laws};

@@ -8,7 +8,7 @@ ghost use Rattle.table_samples.specs.Reported.{HasCounts, IsReported, AreReporte
 
 use crate::changes::share;
 use answer_samples::{Unfit, project_of};
-use mini_java_driver::{DriveFault, Open, Reports, run_session};
+use mini_java::{DriveFault, Open, Reports, run_session};
 use mj_project::Project;
 use session_samples::session_of;
 use sessions::Session;

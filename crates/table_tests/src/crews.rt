@@ -8,7 +8,7 @@ use crew_samples::{
 };
 use driver::Crew;
 use item_ids::Kind;
-use mini_java_driver::DriveFault;
+use mini_java::DriveFault;
 use std::alloc::Global;
 use std::sync::Wait;
 use std::test::*;

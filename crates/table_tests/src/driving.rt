@@ -2,7 +2,7 @@
 
 use crate::records::ONE;
 use mark_green::Fault;
-use mini_java_driver::DriveFault;
+use mini_java::DriveFault;
 use std::alloc::Global;
 use std::sync::Wait;
 use std::test::*;

@@ -6,7 +6,7 @@ use answer_samples::{Asked, Unfit, key_of};
 use item_ids::{Key, Kind};
 use job_table::{Asked as Told, Table};
 use mark_green::Store;
-use mini_java_driver::{Open, Shared};
+use mini_java::{Open, Shared};
 use providers::MiniJava;
 use shared_table::{Counted, Naming, Tally};
 use std::alloc::{AllocError, Global};

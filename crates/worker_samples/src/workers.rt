@@ -4,7 +4,7 @@ use crate::twice::twice;
 use answer_samples::{Unfit, project_of};
 use driver::{Crew, DriveFault, Open, drive};
 use item_ids::Key;
-use mini_java_driver::run_session;
+use mini_java::run_session;
 use mj_project::Project;
 use providers::MiniJava;
 use recorder::{Reader, Recorder, RunFault, Runner};

@@ -1,5 +1,0 @@
-pub mod Verdicts
-pub mod Rows
-pub mod Phrases
-pub mod Bodies
-pub mod Wells

@@ -1,3 +1,0 @@
-pub mod Demands
-pub mod Faults
-pub mod Laws

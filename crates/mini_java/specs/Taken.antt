@@ -1,0 +1,32 @@
+-- What an auditor of MiniJava sessions has taken, and what one more call tells of it.
+use Rattle.std.specs.Prelude.{◌≡◌, ◌⊎◌, ℕ, List, [], ◌∷◌, ◌++◌, length, Err}
+use Rattle.query_rules.specs.Meaning.{mean}
+use Rattle.query_rules.specs.Reads.{reads}
+use Rattle.session_file.specs.Feeding.{Given}
+use Rattle.audit_graph.specs.declared.fault.AuditFault.{AuditFault}
+use Rattle.audit_replay.specs.Sums.{AreSummed, IsDeviceFault}
+use Rattle.mini_java.specs.Headline.{ChainRefuses}
+use Rattle.mini_java.specs.declared.auditor.ChainAuditor.{ChainAuditor}
+
+-- The auditor took these files, in this order, and refused none: they are those of sessions, each of
+-- which passes over the one before, and just their executed records were run.
+abbrev pub HasTaken : List (List ℕ) → ChainAuditor → Type 0
+HasTaken files a = AreSummed mean reads files [] a.runner.log.items a.auditor.state
+
+-- the auditor has refused with this fault
+abbrev pub HasRefused : AuditFault → ChainAuditor → Type 0
+HasRefused fault a = a.auditor.state ≡ Err fault
+
+-- The file was taken behind those taken before. It is all that the feed held, where that is told.
+pub record TakesFile (old new : ChainAuditor) (held left : List ℕ → Type 0) (file : List ℕ)
+    : Type 0 where
+  pub taken : (files : List (List ℕ)) → HasTaken files old → HasTaken (files ++ file ∷ []) new
+  pub whole : (bytes : List ℕ) → held bytes → bytes ≡ file
+  pub given : Given held left file
+
+-- The device failed at the file behind these, or all files are refused that begin with these and
+-- this one, whatever follows.
+abbrev pub RefusesBehind : List (List ℕ) → List ℕ → AuditFault → Type 0
+RefusesBehind files file fault =
+    IsDeviceFault (length files) fault
+    ⊎ ((rest : List (List ℕ)) → ChainRefuses (files ++ file ∷ rest) fault)

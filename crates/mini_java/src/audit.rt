@@ -1,0 +1,50 @@
+//! The audit by MiniJava's queries.
+ghost use Rattle.std.specs.Prelude.{◌≡◌, None, List, map, IfOk, IfErr};
+ghost use Rattle.std.specs.Arc.{arc_value};
+ghost use Rattle.result_bytes.specs.declared.value.Value.TheVariants as values;
+ghost use Rattle.recorder.specs.Projects.{Project};
+ghost use Rattle.sessions.specs.Sessions.{SessionValue};
+ghost use Rattle.graph_rules.specs.Next.{AreSources};
+ghost use Rattle.query_rules.specs.Meaning.{mean};
+ghost use Rattle.query_rules.specs.Reads.{reads};
+ghost use Rattle.audit_replay.specs.Audits.{AreApart, AreRight, last_entry};
+ghost use Rattle.providers.specs.AnswerValues.{IsAnswerValue};
+ghost use Rattle.mini_java.specs.Headline.{AreFilesOf, ChainRefuses, IsAcceptedChain, IsOfTheRules};
+
+use audit_graph::AuditFault;
+use audit_replay::{Audited, audit};
+use mj_answer::Answer;
+use mj_rules::answer_laws;
+use providers::{MiniJava, answer_of};
+use std::alloc::Global;
+
+/// Audits the files of a chain of sessions of MiniJava projects. Where no two different results that they record have one
+/// print, the answer of an accepted chain is what the static rules give the last session's files.
+pub fn audit_chain(alloc: Global, chain: &[&[u8]]) -> Result<Audited, AuditFault>
+    // What was checked.
+    ensures accepted { IfOk result (λ a.
+        IsAcceptedChain (map (λ f. f.now) chain.now) (arc_value a.answer) a.sessions a.runs) }
+    // What follows of the sessions whose files these are, where no two different results in them have one print: each is
+    // right over the one before,
+    ensures right { IfOk result (λ _. (sessions : List SessionValue)
+        → AreFilesOf sessions (map (λ f. f.now) chain.now) → AreApart sessions
+        → AreRight mean reads None sessions) }
+    // and the answer is what the static rules give the files of the last one.
+    ensures headline { IfOk result (λ a. (sessions : List SessionValue) (project : Project)
+        → AreFilesOf sessions (map (λ f. f.now) chain.now) → AreApart sessions
+        → AreSources (last_entry sessions) project
+        → IsOfTheRules project (arc_value a.answer)) }
+    ensures refused { IfErr result (ChainRefuses (map (λ f. f.now) chain.now)) }
+{
+    answer_laws();
+    let mut runner = MiniJava::new(alloc);
+    audit(alloc, &mut runner, chain)
+}
+
+/// The answer that an accepted chain ends with.
+pub fn audited_answer(audited: &Audited) -> &Answer
+    requires { IsAnswerValue (arc_value audited.now.answer) }
+    ensures { arc_value audited.now.answer ≡ values.Answer result.now }
+{
+    answer_of(audited.answer.value())
+}

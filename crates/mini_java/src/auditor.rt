@@ -1,0 +1,85 @@
+//! The audit of one file after the other by MiniJava's queries.
+ghost use Rattle.std.specs.Prelude.{◌≡◌, ℕ, List, [], map, OnOk, IfOk, IfErr};
+ghost use Rattle.std.specs.Arc.{arc_value};
+ghost use Rattle.recorder.specs.Projects.{Project};
+ghost use Rattle.sessions.specs.Sessions.{SessionValue};
+ghost use Rattle.graph_rules.specs.Next.{AreSources};
+ghost use Rattle.query_rules.specs.Meaning.{mean};
+ghost use Rattle.query_rules.specs.Reads.{reads};
+ghost use Rattle.audit_graph.specs.declared.fault.AuditFault.{AuditFault as Fault};
+ghost use Rattle.audit_replay.specs.Audits.{AreApart, AreRight, last_entry};
+ghost use Rattle.audit_replay.specs.Sums.{CountsTake};
+ghost use Rattle.mini_java.specs.Headline.{AreFilesOf, ChainRefuses, IsAcceptedChain, IsOfTheRules};
+ghost use Rattle.mini_java.specs.Taken.{HasRefused, HasTaken, RefusesBehind, TakesFile};
+
+use audit_graph::AuditFault;
+use audit_replay::{Audited, Auditor};
+use mj_rules::answer_laws;
+use providers::MiniJava;
+use session_file::Feed;
+use std::alloc::Global;
+
+/// Audits the files of a chain of sessions of MiniJava projects one by one, without holding them. Once it has refused it
+/// answers the same again, and reads and runs nothing.
+#[derive(Drop)]
+pub struct ChainAuditor {
+    runner: MiniJava,
+    auditor: Auditor<MiniJava>,
+}
+
+impl ChainAuditor {
+    /// An auditor that has taken no file.
+    pub fn new(alloc: Global) -> Self
+        ensures { HasTaken [] result }
+    {
+        ChainAuditor {
+            runner: MiniJava::new(alloc),
+            auditor: Auditor::new(),
+        }
+    }
+
+    /// Takes the next file, behind which the feed may hold nothing, and audits its session over the one before.
+    pub fn take<F: Feed>(&mut self, alloc: Global, feed: &mut F) -> Result<(), AuditFault>
+        // A file was taken, whole.
+        ensures taken { OnOk result ((file : List ℕ)
+            × TakesFile self.old self.new (F.holds feed.old) (F.holds feed.new) file) }
+        // Why it is refused behind the files taken before, by the bytes that the feed held, where it tells them.
+        ensures refused { IfErr result (λ fault. (files : List (List ℕ)) (bytes : List ℕ)
+            → HasTaken files self.old → F.holds feed.old bytes
+            → RefusesBehind files bytes fault) }
+        ensures kept { IfErr result (λ fault. HasRefused fault self.new) }
+        // What was refused once is refused again.
+        ensures again { (fault : Fault) → HasRefused fault self.old
+            → (result ≡ Err fault) × (feed.new ≡ feed.old)
+            × (self.new.runner ≡ self.old.runner) }
+        // A failure of the device is answered just where it was counted.
+        ensures counted { (files : List (List ℕ)) → HasTaken files self.old
+            → CountsTake result (F.failed feed.old) (F.failed feed.new) }
+    {
+        self.auditor.take(alloc, &mut self.runner, feed)
+    }
+
+    /// The answer that the chain of the files taken ends with, and how many there are and records were run.
+    pub fn end(self) -> Result<Audited, AuditFault>
+        // What was checked.
+        ensures accepted { IfOk result (λ a. (files : List (List ℕ)) → HasTaken files self
+            → IsAcceptedChain files (arc_value a.answer) a.sessions a.runs) }
+        // What follows of the sessions whose files were taken, where no two different results in them have one print:
+        // each is right over the one before,
+        ensures right { IfOk result (λ _. (files : List (List ℕ)) (sessions : List SessionValue)
+            → HasTaken files self → AreFilesOf sessions files → AreApart sessions
+            → AreRight mean reads None sessions) }
+        // and the answer is what the static rules give the files of the last one.
+        ensures headline { IfOk result (λ a. (files : List (List ℕ)) (sessions : List SessionValue)
+            (project : Project) → HasTaken files self → AreFilesOf sessions files
+            → AreApart sessions → AreSources (last_entry sessions) project
+            → IsOfTheRules project (arc_value a.answer)) }
+        ensures refused { IfErr result (λ fault. (files : List (List ℕ)) → HasTaken files self
+            → ChainRefuses files fault) }
+        ensures again { (fault : Fault) → HasRefused fault self → result ≡ Err fault }
+    {
+        answer_laws();
+        let ChainAuditor { auditor, .. } = self;
+        auditor.end()
+    }
+}

@@ -1,0 +1,15 @@
+//! One session of a MiniJava project, and the audit of chains of sessions, by MiniJava's queries, and what they say in the
+//! words of the static rules.
+#![tactic(auto)]
+
+mod audit;
+mod auditor;
+mod laws;
+mod session;
+
+pub use audit::{audit_chain, audited_answer};
+pub use audit_replay::Audited;
+pub use auditor::ChainAuditor;
+pub use driver::{DriveFault, Gate, Open, Reports, Shared};
+pub use laws::{accepted_are_the_rules, accepted_chains_are_the_rules};
+pub use session::run_session;

@@ -1,8 +1,0 @@
-use Rattle.mini_java_audit.proofs.Headline.{audit_accepts_chain, chain_rules}
-use Rattle.mini_java_audit.proofs.laws.accepted_chains_are_the_rules.Goals as goal
-
-pub returns-clause-accepted : goal.returns-clause-accepted
-returns-clause-accepted c = audit_accepts_chain
-
-pub returns-clause-headline : goal.returns-clause-headline
-returns-clause-headline c = λ files answer count runs chain. chain_rules files answer count runs chain c.answer_laws.ensures
