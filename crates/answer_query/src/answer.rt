@@ -11,9 +11,10 @@ use crate::facts::{ascending_rows, names_in};
 use crate::project_faults::project_faults;
 use crate::trees::ask_all_trees;
 use answer_bytes::WholeAnswer;
+use body_questions::read;
 use item_ids::Key;
 use mj_answer::{Answer, ClassAnswer, Diagnostic, fault_set};
-use recorder::{Reader, Recorder, RunFault, ask_key};
+use recorder::{Reader, Recorder, RunFault};
 use result_bytes::Value;
 use std::alloc::Global;
 
@@ -40,7 +41,7 @@ fn ask_classes<D: Reader>(
         recorder.new) }
     ensures follows { D.follows recorder.old.inner recorder.new.inner }
 {
-    let index = ask_key(recorder, &Key::Index)?;
+    let index = read(recorder, Key::Index)?;
     let classes = ask_all_classes(alloc, recorder, ascending_rows(&index))?;
     Ok(whole_answer(faults, classes))
 }
@@ -51,7 +52,7 @@ pub fn run_answer<D: Reader>(alloc: Global, recorder: &mut Recorder<D>) -> Resul
     ensures err { IfErr result (λ e. GivesUp answer_steps recorder.old e recorder.new) }
     ensures follows { D.follows recorder.old.inner recorder.new.inner }
 {
-    let names = ask_key(recorder, &Key::Files)?;
+    let names = read(recorder, Key::Files)?;
     let files = ask_all_trees(alloc, recorder, names_in(names.value()))?;
     let faults = project_faults(alloc, &files)?;
     let whole = ask_classes(alloc, recorder, faults)?;

@@ -6,10 +6,11 @@ ghost use Rattle.recorder.specs.Programs.{Goes, GivesUp, each};
 ghost use Rattle.answer_query.specs.Answer.{class_answer as class_told, class_step};
 
 use crate::facts::class_answer;
+use body_questions::read;
 use fingerprint::Sealed;
+use item_ids::Key;
 use mj_answer::ClassAnswer;
 use mj_lexer::Name;
-use name_reads::{read_diags, read_members};
 use recorder::{Reader, Recorder, RunFault};
 use result_bytes::IndexRow;
 use std::alloc::{AllocError, Global};
@@ -50,8 +51,8 @@ fn ask_class<D: Reader>(
     ensures storable { OnOk result (AllByRecursion IsClassStorable classes.new.items) }
     ensures follows { D.follows recorder.old.inner recorder.new.inner }
 {
-    let members = read_members(alloc, recorder, &row.class)?;
-    let diags = read_diags(alloc, recorder, &row.class)?;
+    let members = read(recorder, Key::Members(row.class.copy(alloc)?))?;
+    let diags = read(recorder, Key::Diags(row.class.copy(alloc)?))?;
     add_class(alloc, classes, &row.class, &members, &diags)?;
     Ok(())
 }

@@ -6,9 +6,10 @@ ghost use Rattle.text_queries.specs.Facts.{tree_in as tree_told};
 ghost use Rattle.answer_query.specs.Trees.{named_tree, named_trees, tree_step};
 
 use crate::facts::tree_in;
+use body_questions::read;
 use fingerprint::Sealed;
+use item_ids::Key;
 use mj_lexer::Name;
-use name_reads::read_tree;
 use recorder::{Reader, Recorder, RunFault};
 use std::alloc::{AllocError, Global};
 use std::sync::Arc;
@@ -59,7 +60,7 @@ fn ask_tree<D: Reader>(
         recorder.old e recorder.new) }
     ensures follows { D.follows recorder.old.inner recorder.new.inner }
 {
-    let tree = read_tree(alloc, recorder, file)?;
+    let tree = read(recorder, Key::Tree(file.copy(alloc)?))?;
     add_file(alloc, files, file, tree)?;
     Ok(())
 }

@@ -14,10 +14,10 @@ ghost use Rattle.body_questions.specs.Facts.{body_in as body_told};
 use crate::faults::{class_faults, faults_in};
 use crate::reads::{check_main_by_reads, check_method_by_reads};
 use answer_bytes::Faults;
+use body_questions::read;
 use item_ids::Key;
 use mj_lexer::Name;
 use mj_phrases::Mistake;
-use name_reads::read_method;
 use recorder::{Reader, Recorder, RunFault};
 use result_bytes::Value;
 use std::alloc::{AllocError, AllocFailed, Global};
@@ -75,7 +75,8 @@ fn check_body_steps<D: Reader>(
         recorder.new) }
     ensures follows { D.follows recorder.old.inner recorder.new.inner }
 {
-    let sealed = read_method(alloc, recorder, class, method)?;
+    let key = Key::Method(class.copy(alloc)?, method.copy(alloc)?);
+    let sealed = read(recorder, key)?;
     let mistakes = check_told(alloc, recorder, class, sealed.value())?;
     let faults = faults_for(alloc, method, &mistakes)?;
     Ok(Value::CheckBody(faults))

@@ -4,10 +4,11 @@ ghost use Rattle.recorder.specs.Programs.{Goes, GivesUp};
 ghost use Rattle.body_questions.specs.Questions.{declared_step, descends_step, field_step, method_step};
 
 use crate::facts::{MethodTypes, descends_in, field_in, is_declared_in, method_in};
+use crate::reads::read;
+use item_ids::Key;
 use mj_lexer::Name;
 use mj_phrases::Signature;
 use mj_tree::Ty;
-use name_reads::{read_header, read_members, read_supers};
 use recorder::{Reader, Recorder, RunFault};
 use std::alloc::Global;
 
@@ -23,7 +24,7 @@ pub fn ask_declared<D: Reader>(
         recorder.new) }
     ensures follows { D.follows recorder.old.inner recorder.new.inner }
 {
-    let header = read_header(alloc, recorder, class)?;
+    let header = read(recorder, Key::Header(class.copy(alloc)?))?;
     Ok(is_declared_in(header.value()))
 }
 
@@ -40,7 +41,7 @@ pub fn ask_descends<D: Reader>(
         e recorder.new) }
     ensures follows { D.follows recorder.old.inner recorder.new.inner }
 {
-    let chain = read_supers(alloc, recorder, class)?;
+    let chain = read(recorder, Key::Supers(class.copy(alloc)?))?;
     Ok(descends_in(chain.value(), ancestor))
 }
 
@@ -57,7 +58,7 @@ pub fn ask_field<D: Reader>(
         recorder.new) }
     ensures follows { D.follows recorder.old.inner recorder.new.inner }
 {
-    let fields = read_members(alloc, recorder, class)?;
+    let fields = read(recorder, Key::Members(class.copy(alloc)?))?;
     let ty = field_in(alloc, fields.value(), name)?;
     Ok(ty)
 }
@@ -75,7 +76,7 @@ pub fn ask_method<D: Reader>(
         recorder.new) }
     ensures follows { D.follows recorder.old.inner recorder.new.inner }
 {
-    let methods = read_members(alloc, recorder, class)?;
+    let methods = read(recorder, Key::Members(class.copy(alloc)?))?;
     let types = method_in(alloc, methods.value(), name)?;
     Ok(types)
 }

@@ -4,8 +4,9 @@ ghost use Rattle.recorder.specs.Programs.{Goes, GivesUp, each};
 ghost use Rattle.body_questions.specs.Facts.{is_declared_in as declared_told};
 ghost use Rattle.class_query.specs.CheckClass.{type_step, field_step};
 
+use body_questions::read;
+use item_ids::Key;
 use mj_tree::{Field, Ty};
-use name_reads::read_header;
 use recorder::{Reader, Recorder, RunFault};
 use result_bytes::Value;
 use std::alloc::{AllocError, Global};
@@ -28,7 +29,7 @@ fn ask_type<D: Reader>(alloc: Global, recorder: &mut Recorder<D>, ty: &Ty) -> Re
 {
     match ty {
         Ty::Class(class) => {
-            let header = read_header(alloc, recorder, class)?;
+            let header = read(recorder, Key::Header(class.copy(alloc)?))?;
             Ok(!is_declared_in(header.value()))
         }
         Ty::Int | Ty::Boolean | Ty::IntArray => Ok(false),

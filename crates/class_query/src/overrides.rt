@@ -9,10 +9,11 @@ ghost use Rattle.body_questions.specs.Facts.{methods_in as methods_told, method_
 ghost use Rattle.class_query.specs.Signatures.{same_types as are_same_types, differ as do_differ};
 ghost use Rattle.class_query.specs.CheckClass.{overridden_class as overridden, differ_in as flags_in, override_step};
 
+use body_questions::read;
+use item_ids::Key;
 use mj_answer::{MethodRow, find_by_name};
 use mj_lexer::Name;
 use mj_tree::Ty;
-use name_reads::read_members;
 use recorder::{Reader, Recorder, RunFault};
 use result_bytes::Value;
 use std::alloc::{AllocError, Global};
@@ -124,8 +125,8 @@ fn compare_classes<D: Reader>(
         recorder.old e recorder.new) }
     ensures follows { D.follows recorder.old.inner recorder.new.inner }
 {
-    let own = read_members(alloc, recorder, class)?;
-    let other = read_members(alloc, recorder, other)?;
+    let own = read(recorder, Key::Members(class.copy(alloc)?))?;
+    let other = read(recorder, Key::Members(other.copy(alloc)?))?;
     let flags = differ_in(alloc, own.value(), other.value(), methods)?;
     Ok(flags)
 }

@@ -10,8 +10,9 @@ use crate::fields::ask_fields;
 use crate::overrides::{ask_overrides, overridden_class};
 use crate::told::faults_of;
 use answer_bytes::Faults;
+use body_questions::read;
+use item_ids::Key;
 use mj_lexer::Name;
-use name_reads::{read_header, read_supers};
 use recorder::{Reader, Recorder, RunFault};
 use result_bytes::{Header, Supers, Value};
 use std::alloc::Global;
@@ -65,7 +66,7 @@ fn check_header<D: Reader>(
         recorder.new) }
     ensures follows { D.follows recorder.old.inner recorder.new.inner }
 {
-    let answer = read_supers(alloc, recorder, class)?;
+    let answer = read(recorder, Key::Supers(class.copy(alloc)?))?;
     check_declared(alloc, recorder, class, header, chain_in(answer.value()))
 }
 
@@ -107,6 +108,6 @@ pub fn run_check_class<D: Reader>(
         recorder.new) }
     ensures follows { D.follows recorder.old.inner recorder.new.inner }
 {
-    let answer = read_header(alloc, recorder, class)?;
+    let answer = read(recorder, Key::Header(class.copy(alloc)?))?;
     check_told(alloc, recorder, class, header_in(answer.value()))
 }

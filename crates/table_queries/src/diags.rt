@@ -9,9 +9,10 @@ ghost use Rattle.table_queries.specs.Diags.{bodies_in, body_step, declared_steps
 use crate::facts::{faults_in, header_in};
 use answer_bytes::Faults;
 use body_query::class_faults;
+use body_questions::read;
+use item_ids::Key;
 use mj_answer::{Diagnostic, copy_faults};
 use mj_lexer::Name;
-use name_reads::{read_check_body, read_check_class, read_header};
 use recorder::{Reader, Recorder, RunFault};
 use result_bytes::{Header, Value};
 use std::alloc::{AllocError, Global};
@@ -97,7 +98,8 @@ fn ask_body<D: Reader>(
         recorder.old e recorder.new) }
     ensures follows { D.follows recorder.old.inner recorder.new.inner }
 {
-    let answer = read_check_body(alloc, recorder, class, method)?;
+    let key = Key::CheckBody(class.copy(alloc)?, method.copy(alloc)?);
+    let answer = read(recorder, key)?;
     add_faults(alloc, faults, faults_in(answer.value()))?;
     Ok(())
 }
@@ -140,7 +142,7 @@ fn declared_faults<D: Reader>(
     ensures follows { D.follows recorder.old.inner recorder.new.inner }
 {
     let bodies = bodies_in(alloc, header)?;
-    let answer = read_check_class(alloc, recorder, class)?;
+    let answer = read(recorder, Key::CheckClass(class.copy(alloc)?))?;
     let faults = ask_bodies(alloc, recorder, class, &bodies, faults_in(answer.value()))?;
     Ok(class_faults(faults))
 }
@@ -179,6 +181,6 @@ pub fn run_diags<D: Reader>(
         recorder.new) }
     ensures follows { D.follows recorder.old.inner recorder.new.inner }
 {
-    let answer = read_header(alloc, recorder, class)?;
+    let answer = read(recorder, Key::Header(class.copy(alloc)?))?;
     faults_by(alloc, recorder, class, header_in(answer.value()))
 }

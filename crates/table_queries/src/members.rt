@@ -16,12 +16,13 @@ ghost use Rattle.table_queries.specs.MemberTables.{member_name_view, member_name
 
 use crate::facts::{chain_in, header_in, signature_in};
 use answer_bytes::Members;
+use body_questions::read;
 use fingerprint::Sealed;
+use item_ids::Key;
 use mj_answer::{ClassTable, FieldRow, MethodRow};
 use mj_classes::FieldMember;
 use mj_lexer::Name;
 use mj_tree::{Field, copy_types};
-use name_reads::{read_header, read_sig, read_supers};
 use recorder::{Reader, Recorder, RunFault};
 use result_bytes::{Signature, Supers, Value};
 use std::alloc::{AllocError, Global};
@@ -108,7 +109,7 @@ fn ask_link<'c, D: Reader>(
         recorder.new) }
     ensures follows { D.follows recorder.old.inner recorder.new.inner }
 {
-    let answer = read_header(alloc, recorder, class)?;
+    let answer = read(recorder, Key::Header(class.copy(alloc)?))?;
     add_link(links, class, answer)?;
     Ok(())
 }
@@ -281,7 +282,8 @@ fn ask_types<D: Reader>(
         rows.old.items) recorder.old e recorder.new) }
     ensures follows { D.follows recorder.old.inner recorder.new.inner }
 {
-    let answer = read_sig(alloc, recorder, method.owner, method.name)?;
+    let key = Key::Sig(method.owner.copy(alloc)?, method.name.copy(alloc)?);
+    let answer = read(recorder, key)?;
     add_types(alloc, rows, method, signature_in(answer.value()))?;
     Ok(())
 }
@@ -387,6 +389,6 @@ pub fn run_members<D: Reader>(
         recorder.new) }
     ensures follows { D.follows recorder.old.inner recorder.new.inner }
 {
-    let answer = read_supers(alloc, recorder, class)?;
+    let answer = read(recorder, Key::Supers(class.copy(alloc)?))?;
     members_for(alloc, recorder, chain_in(answer.value()))
 }

@@ -7,10 +7,10 @@ ghost use Rattle.table_queries.specs.Facts.{is_listed as listed, header_in as he
 ghost use Rattle.table_queries.specs.Supers.{chain, climb_by as climb_told, climb_step, chain_steps, listed_steps, supers_steps};
 
 use crate::facts::{header_in, is_listed, rows_in};
+use body_questions::read;
 use item_ids::Key;
 use mj_lexer::Name;
-use name_reads::read_header;
-use recorder::{Reader, Recorder, RunFault, ask_key};
+use recorder::{Reader, Recorder, RunFault};
 use result_bytes::{ChainEnd, IndexRow, Supers, Value};
 use std::alloc::{AllocError, Global};
 use std::collections::BTreeSet;
@@ -130,7 +130,7 @@ fn ask_next<D: Reader>(
         recorder.new) }
     ensures follows { D.follows recorder.old.inner recorder.new.inner }
 {
-    let answer = read_header(alloc, recorder, &class)?;
+    let answer = read(recorder, Key::Header(class.copy(alloc)?))?;
     let ascent = ascent.add(alloc, class)?;
     let climb = climb_by(alloc, rows, &ascent, answer.value())?;
     Ok((ascent, climb))
@@ -196,6 +196,6 @@ pub fn run_supers<D: Reader>(
         recorder.new) }
     ensures follows { D.follows recorder.old.inner recorder.new.inner }
 {
-    let index = ask_key(recorder, &Key::Index)?;
+    let index = read(recorder, Key::Index)?;
     chain_among(alloc, recorder, rows_in(index.value()), class)
 }

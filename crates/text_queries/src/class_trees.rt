@@ -6,11 +6,11 @@ ghost use Rattle.text_queries.specs.Facts.{tree_in as tree_told};
 ghost use Rattle.text_queries.specs.ClassTrees.{file_step, class_tree_step};
 
 use crate::facts::{file_in, tree_in};
+use body_questions::read;
 use fingerprint::Sealed;
 use item_ids::Key;
 use mj_lexer::Name;
-use name_reads::read_tree;
-use recorder::{Reader, Recorder, RunFault, ask_key};
+use recorder::{Reader, Recorder, RunFault};
 use std::alloc::Global;
 use std::sync::Arc;
 use tree_bytes::Tree;
@@ -39,7 +39,7 @@ fn ask_file<D: Reader>(
 {
     match file {
         Some(file) => {
-            let tree = read_tree(alloc, recorder, file)?;
+            let tree = read(recorder, Key::Tree(file.copy(alloc)?))?;
             Ok(Some(tree))
         }
         None => Ok(None),
@@ -58,6 +58,6 @@ pub fn ask_class_tree<D: Reader>(
         recorder.new) }
     ensures follows { D.follows recorder.old.inner recorder.new.inner }
 {
-    let index = ask_key(recorder, &Key::Index)?;
+    let index = read(recorder, Key::Index)?;
     ask_file(alloc, recorder, file_in(index.value(), class))
 }

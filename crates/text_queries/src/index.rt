@@ -9,11 +9,11 @@ ghost use Rattle.recorder.specs.Programs.{Goes, GivesUp, each};
 ghost use Rattle.text_queries.specs.Index.{row_in, file_rows, rows_step, first_file, first_rows, index_steps};
 
 use crate::facts::{names_in, tree_in};
+use body_questions::read;
 use item_ids::Key;
 use mj_lexer::Name;
 use mj_tree::ClassTree;
-use name_reads::read_tree;
-use recorder::{Reader, Recorder, RunFault, ask_key};
+use recorder::{Reader, Recorder, RunFault};
 use result_bytes::{Index, IndexRow, Value};
 use std::alloc::{AllocError, Global};
 use std::collections::BTreeMap;
@@ -100,7 +100,7 @@ fn ask_rows<D: Reader>(
         recorder.new) }
     ensures follows { D.follows recorder.old.inner recorder.new.inner }
 {
-    let answer = read_tree(alloc, recorder, file)?;
+    let answer = read(recorder, Key::Tree(file.copy(alloc)?))?;
     add_file(alloc, rows, file, tree_in(answer.value()))?;
     Ok(())
 }
@@ -181,7 +181,7 @@ pub fn run_index<D: Reader>(alloc: Global, recorder: &mut Recorder<D>) -> Result
     ensures err { IfErr result (λ e. GivesUp index_steps recorder.old e recorder.new) }
     ensures follows { D.follows recorder.old.inner recorder.new.inner }
 {
-    let answer = ask_key(recorder, &Key::Files)?;
+    let answer = read(recorder, Key::Files)?;
     let rows = ask_all_rows(alloc, recorder, names_in(answer.value()))?;
     let index = index_of(alloc, rows)?;
     Ok(Value::Index(index))

@@ -6,9 +6,10 @@ ghost use Rattle.query_rules.specs.Items.{signature_of};
 ghost use Rattle.text_queries.specs.Sig.{sig_steps};
 
 use crate::facts::body_in;
+use body_questions::read;
+use item_ids::Key;
 use mj_lexer::Name;
 use mj_tree::{MethodTree, Ty, Variable};
-use name_reads::read_method;
 use recorder::{Reader, Recorder, RunFault};
 use result_bytes::{Signature, Value};
 use std::alloc::{AllocError, Global};
@@ -63,7 +64,8 @@ pub fn run_sig<D: Reader>(
         recorder.new) }
     ensures follows { D.follows recorder.old.inner recorder.new.inner }
 {
-    let body = read_method(alloc, recorder, class, method)?;
+    let key = Key::Method(class.copy(alloc)?, method.copy(alloc)?);
+    let body = read(recorder, key)?;
     let signature = signature_for(alloc, body_in(body.value()))?;
     Ok(Value::Sig(signature))
 }
