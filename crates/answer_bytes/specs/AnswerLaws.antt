@@ -15,7 +15,7 @@ use Rattle.byte_readers.specs.Laws.{IsBytes-rest, bind_ok, ok_is, takes_nothing,
 use Rattle.tree_bytes.specs.TypeLaws.{lawful_ty}
 use Rattle.answer_bytes.specs.Canon.{field_row, method_row, table, project_place, class_place, project_fault, class_fault, class_answer, answer}
 use Rattle.answer_bytes.specs.Storable.{FieldRowFits, MethodRowFits, TableFits, IsProjectPlace, IsClassPlace, PlaceNameFits, ProjectFaultFits, ClassFaultFits, ProjectFaultsFit, ClassFaultsFit, ClassAnswerFits, AnswerFits}
-use Rattle.answer_bytes.specs.Reading.{field_row_of, field_row_at, method_row_of, method_row_at, table_of, table_at, class_of, project_place_at, inside_of, class_place_at, known_code, code_at, fault_of, project_fault_at, class_fault_at, project_faults_at, class_faults_at, class_answer_of, class_answer_at, answer_of, answer_at}
+use Rattle.answer_bytes.specs.Reading.{field_row_of, field_row_at, method_row_of, method_row_at, table_of, table_at, class_of, project_place_at, inside_of, class_place_at, known_code, code_at, diagnostic_of, project_fault_at, class_fault_at, project_faults_at, class_faults_at, class_answer_of, class_answer_at, answer_of, answer_at}
 use Rattle.answer_bytes.specs.OrderLaws.{lawful_by_name, lawful_by_place}
 
 abbrev done : {A : Type 0} → A → Result A Breach
@@ -196,12 +196,12 @@ lawful_code = record { takes = code_takes; again = code_again }
 
 pub lawful_project_fault : Lawful project_fault_at project_fault ProjectFaultFits
 lawful_project_fault =
-    lawful_where (lawful_made (lawful_pair lawful_project_place lawful_code) fault_of
+    lawful_where (lawful_made (lawful_pair lawful_project_place lawful_code) diagnostic_of
     (λ d. (d.place, d.code)) (λ _. refl) (λ _. refl)) (λ d f. f.0) (λ d f. (f, tt))
 
 pub lawful_class_fault : Lawful class_fault_at class_fault ClassFaultFits
 lawful_class_fault =
-    lawful_where (lawful_made (lawful_pair lawful_class_place lawful_code) fault_of
+    lawful_where (lawful_made (lawful_pair lawful_class_place lawful_code) diagnostic_of
     (λ d. (d.place, d.code)) (λ _. refl) (λ _. refl)) (λ d f. f.0) (λ d f. (f, tt))
 
 pub lawful_project_faults : Lawful project_faults_at (list project_fault) ProjectFaultsFit

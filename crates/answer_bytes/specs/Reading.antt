@@ -71,14 +71,14 @@ known_code bytes (Some code) rest = Ok (code, rest)
 unfoldable pub code_at : Decoder Code
 code_at bytes = two_at bytes >>= λ n. known_code bytes (code_of n.0) n.1
 
-abbrev pub fault_of : Place × Code → Diagnostic
-fault_of x = record { place = x.0; code = x.1 }
+abbrev pub diagnostic_of : Place × Code → Diagnostic
+diagnostic_of x = record { place = x.0; code = x.1 }
 
 abbrev pub project_fault_at : Decoder Diagnostic
-project_fault_at bytes = made_at fault_of (pair_at project_place_at code_at) bytes
+project_fault_at bytes = made_at diagnostic_of (pair_at project_place_at code_at) bytes
 
 abbrev pub class_fault_at : Decoder Diagnostic
-class_fault_at bytes = made_at fault_of (pair_at class_place_at code_at) bytes
+class_fault_at bytes = made_at diagnostic_of (pair_at class_place_at code_at) bytes
 
 -- by place, then by code
 abbrev pub by_place : Diagnostic → Diagnostic → Bool

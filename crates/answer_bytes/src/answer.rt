@@ -41,6 +41,7 @@ impl Members {
         requires { IsTableInOrder table }
         ensures { result ≡ table }
     {
+        // What the spelling demands of names and types they keep in their types.
         check_table(&table);
         Members { table }
     }
@@ -79,6 +80,7 @@ impl Faults {
         requires places { AreClassFaults list.items }
         ensures { result ≡ list.items }
     {
+        // What the spelling demands of the parts they keep in their types.
         check_list::<ClassFaultFormat>(&list);
         Faults { list }
     }
@@ -118,6 +120,7 @@ impl WholeAnswer {
         requires each { AllByRecursion IsClassStorable answer.classes }
         ensures { result ≡ answer }
     {
+        // What the spelling demands of the parts they keep in their types.
         check_list::<ProjectFaultFormat>(answer.faults());
         check_list::<ClassFormat>(answer.classes());
         WholeAnswer { answer }

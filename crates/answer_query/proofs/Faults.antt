@@ -14,7 +14,7 @@ use Rattle.mj_rules.specs.FaultLists as rules
 use Rattle.mj_rules.specs.FaultLists.{fault, when_fault, each_numbered, has_main, file_faults, class_names}
 use Rattle.recorder.specs.Projects.{Project}
 use Rattle.body_query.proofs.Bounds.{same_number}
-use Rattle.answer_query.specs.ProjectFaults.{any_main, files_faults, repeated_class, class_faults, classes_faults, project_faults}
+use Rattle.answer_query.specs.ProjectFaults.{any_main, files_faults, repeated_class, repeat_faults, classes_faults, project_faults}
 use Rattle.answer_query.proofs.FileTrees.{read_file, read_files, trees_same}
 use Rattle.answer_query.proofs.Numbers.{IsSmall, small_numbers}
 
@@ -31,12 +31,12 @@ module _ (p : Project) where
   repeated_same None number small = refl
   repeated_same (Some f) number small = ap (λ n. fault (places.ClassOf f.name n) E104 ∷ []) (same_number number small)
 
-  class_same : (n : ℕ) (repeated : Bool) (k : ClassDecl) → IsSmall k → class_faults (read_files p) n repeated k ≡ rules.repeated_class_faults p n repeated k
+  class_same : (n : ℕ) (repeated : Bool) (k : ClassDecl) → IsSmall k → repeat_faults (read_files p) n repeated k ≡ rules.repeated_class_faults p n repeated k
   class_same n repeated k small =
       ap (λ (ds : List Diagnostic). if repeated then ds else [])
       (ap (λ o. repeated_class o k.number) (slice_get-map read_file p k.file) ∙ repeated_same (slice_get p k.file) k.number small)
 
-  classes_same : (n : ℕ) (ks : List ClassDecl) (flags : List Bool) → AllByRecursion IsSmall ks → each_numbered (class_faults (read_files p)) n ks flags ≡ each_numbered (rules.repeated_class_faults p) n ks flags
+  classes_same : (n : ℕ) (ks : List ClassDecl) (flags : List Bool) → AllByRecursion IsSmall ks → each_numbered (repeat_faults (read_files p)) n ks flags ≡ each_numbered (rules.repeated_class_faults p) n ks flags
   classes_same n [] flags h = refl
   classes_same n (k ∷ ks) [] h = refl
   classes_same n (k ∷ ks) (flag ∷ flags) h = ap₂ (λ (xs ys : List Diagnostic). xs ++ ys) (class_same n flag k h.0) (classes_same (n + 1) ks flags h.1)

@@ -17,7 +17,7 @@ use Rattle.body_query.proofs.Bounds.{small}
 use Rattle.body_query.proofs.Sets.{Same}
 use Rattle.table_queries.proofs.Tables.{all_from}
 use Rattle.answer_query.specs.Trees.{NamedTree, trees_of}
-use Rattle.answer_query.specs.ProjectFaults.{any_main, files_faults, repeated_class, class_faults, classes_faults, project_faults}
+use Rattle.answer_query.specs.ProjectFaults.{any_main, files_faults, repeated_class, repeat_faults, classes_faults, project_faults}
 
 abbrev InProject : Diagnostic → Type 0
 InProject fault = IsProjectPlace fault.place
@@ -39,14 +39,14 @@ module _ (files : List NamedTree) where
   repeated_placed None number = tt
   repeated_placed (Some f) number = (small number, tt)
 
-  class_placed : (n : ℕ) (repeated : Bool) (k : ClassDecl) → AreProjectFaults (class_faults files n repeated k)
+  class_placed : (n : ℕ) (repeated : Bool) (k : ClassDecl) → AreProjectFaults (repeat_faults files n repeated k)
   class_placed n true k = repeated_placed (slice_get files k.file) k.number
   class_placed n false k = tt
 
-  each_placed : (n : ℕ) (ks : List ClassDecl) (flags : List Bool) → AreProjectFaults (each_numbered (class_faults files) n ks flags)
+  each_placed : (n : ℕ) (ks : List ClassDecl) (flags : List Bool) → AreProjectFaults (each_numbered (repeat_faults files) n ks flags)
   each_placed n [] flags = tt
   each_placed n (k ∷ ks) [] = tt
-  each_placed n (k ∷ ks) (flag ∷ flags) = all_append InProject (class_faults files n flag k) (each_numbered (class_faults files) (n + 1) ks flags) (class_placed n flag k) (each_placed (n + 1) ks flags)
+  each_placed n (k ∷ ks) (flag ∷ flags) = all_append InProject (repeat_faults files n flag k) (each_numbered (repeat_faults files) (n + 1) ks flags) (class_placed n flag k) (each_placed (n + 1) ks flags)
 
   pub all_placed : AreProjectFaults (project_faults files)
   unfolding project_faults

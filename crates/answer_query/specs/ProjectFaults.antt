@@ -29,13 +29,13 @@ abbrev pub repeated_class : Option NamedTree → ℕ → List Diagnostic
 repeated_class None number = []
 repeated_class (Some f) number = fault (places.ClassOf f.0 (bound number)) E104 ∷ []
 
-abbrev pub class_faults : List NamedTree → ℕ → Bool → ClassDecl → List Diagnostic
-class_faults files n repeated d =
+abbrev pub repeat_faults : List NamedTree → ℕ → Bool → ClassDecl → List Diagnostic
+repeat_faults files n repeated d =
     if repeated then repeated_class (slice_get files d.file) d.number else []
 
 abbrev pub classes_faults : List NamedTree → List ClassDecl → List Diagnostic
 classes_faults files classes =
-    each_numbered (class_faults files) 0 classes (repeats (class_names classes))
+    each_numbered (repeat_faults files) 0 classes (repeats (class_names classes))
 
 -- ---- all of them
 

@@ -102,6 +102,7 @@ fn is_below(key: &Key, other: &Key) -> bool
 pub fn is_copy(alloc: Global, asked: Asked, other: Asked) -> Result<bool, Unfit>
     ensures { IfOk result (λ b. IsTrue b ↔ AreAlike asked.entry other.entry) }
 {
+    // Keys are equal where their kinds, classes and members are.
     keys_in_order();
     let key = key_of(alloc, asked)?;
     let other = key_of(alloc, other)?;
@@ -112,6 +113,7 @@ pub fn is_copy(alloc: Global, asked: Asked, other: Asked) -> Result<bool, Unfit>
 fn equals_copy(alloc: Global, key: &Key, other: &Key) -> Result<bool, AllocError>
     ensures { IfOk result (λ b. IsTrue b ↔ (key.now ≡ other.now)) }
 {
+    // `==` on keys is equality.
     keys_in_order();
     let copy = key.copy(alloc)?;
     Ok(copy == *other)

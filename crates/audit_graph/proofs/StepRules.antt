@@ -13,7 +13,7 @@ use Rattle.sessions.specs.Sessions.{Entry, SessionValue, IsSession, entry_at, pa
 use Rattle.graph_rules.specs.Pasts.{Past, IsGraph}
 use Rattle.graph_rules.specs.Next.{AreMeant, AreSources, IsRight}
 use Rattle.graph_rules.proofs.SessionRules.{session_graph}
-use Rattle.audit_graph.specs.Steps.{IsStep}
+use Rattle.audit_graph.specs.Steps.{IsSessionStep}
 use Rattle.audit_graph.specs.Replays.{AreReplayed, AreValuesApart, AreWithLower, is_before}
 use Rattle.audit_graph.proofs.Entries.{marked}
 use Rattle.audit_graph.proofs.Meant.{front_meant}
@@ -21,7 +21,7 @@ use Rattle.audit_graph.proofs.Meant.{front_meant}
 pub front_is_meant : (mean : Meaning) (reads : ReadLists) → RunnerLaws mean reads
     → (past : Option SessionValue) (k : ℕ) (s : SessionValue) (old p : Project)
     → IsGraph (past_entry past) → IsProject old → AreMeant mean reads (past_entry past) old
-    → IsSession s → IsStep past k s → AreSources (entry_at s) p
+    → IsSession s → IsSessionStep past k s → AreSources (entry_at s) p
     → AreValuesApart (past_entry past) (entry_at s)
     → (front : Key → Bool) → AreWithLower front → AreReplayed mean reads (entry_at s) front
     → (q : Key) (r : Entry) → front q ≡ true → entry_at s q ≡ Some r → (r.value ≡ mean p q) × (r.reads ≡ reads p q)
@@ -32,7 +32,7 @@ front_is_meant mean reads laws past k s old p graph old_project meant session st
 pub step_is_right : (mean : Meaning) (reads : ReadLists) → RunnerLaws mean reads
     → (past : Option SessionValue) (k : ℕ) (s : SessionValue) (old : Project)
     → IsGraph (past_entry past) → IsProject old → AreMeant mean reads (past_entry past) old
-    → IsSession s → IsStep past k s
+    → IsSession s → IsSessionStep past k s
     → AreValuesApart (past_entry past) (entry_at s)
     → AreReplayed mean reads (entry_at s) (λ _. true)
     → IsRight mean reads (past_entry past) (entry_at s)

@@ -1,17 +1,12 @@
 -- Chains of sessions: their numbers and links.
-use Rattle.std.specs.Prelude.{◌≡◌, ℕ, ◌+◌, List, [], ◌∷◌, Option, Some, None, replicate}
+use Rattle.std.specs.Prelude.{◌≡◌, ℕ, ◌+◌, List, [], ◌∷◌, Option, Some, None}
 use Rattle.sessions.specs.Sessions.{SessionValue}
-use Rattle.sessions.specs.Spelling.{digest_of}
-
--- the SHA-256 of the file of the session before, or zeros where there is none
-abbrev pub link_behind : Option SessionValue → List ℕ
-link_behind None = replicate 32 0
-link_behind (Some past) = digest_of past
+use Rattle.sessions.specs.Spelling.{next_link}
 
 -- the session has this number, and its link is that behind the past
 pub record IsLinked (past : Option SessionValue) (k : ℕ) (s : SessionValue) : Type 0 where
   pub number : s.number ≡ k
-  pub link : s.link ≡ link_behind past
+  pub link : s.link ≡ next_link past
 
 -- behind the past and from number k on each session is linked to the one before
 abbrev pub AreLinked : Option SessionValue → ℕ → List SessionValue → Type 0

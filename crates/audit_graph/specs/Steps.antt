@@ -18,7 +18,7 @@ use Rattle.audit_graph.specs.declared.fault.AuditFault.TheVariants.{BrokenLink, 
 
 -- Session k over the past, but for what its executed keys are: it is linked to the past, it holds
 -- the files of a project, and its green keys stand in the past.
-pub record IsStep (past : Option SessionValue) (k : ℕ) (s : SessionValue) : Type 0 where
+pub record IsSessionStep (past : Option SessionValue) (k : ℕ) (s : SessionValue) : Type 0 where
   pub linked : IsLinked past k s
   pub sources : HasSources (entry_at s)
   pub greens : GreensStand (past_entry past) (entry_at s)
@@ -54,7 +54,7 @@ pub record IsFirstLack (past : Option SessionValue) (s : SessionValue) (n : ℕ)
   pub lack : IsLack (past_entry past) (entry_at s) first.item why
 
 -- linked to the past, with the files of a project, but with a green record that doesn't stand there
-pub record IsRefused (past : Option SessionValue) (k : ℕ) (s : SessionValue) (n : ℕ)
+pub record RefusesGreen (past : Option SessionValue) (k : ℕ) (s : SessionValue) (n : ℕ)
     (why : Lack) : Type 0 where
   pub linked : IsLinked past k s
   pub sources : HasSources (entry_at s)
@@ -62,21 +62,21 @@ pub record IsRefused (past : Option SessionValue) (k : ℕ) (s : SessionValue) (
 
 -- The plan of a step is its executed records. Else the first fault: of the link, then of the files,
 -- then of the green records.
-abbrev pub StepGives
+abbrev pub CheckStepGives
     : Option SessionValue → ℕ → SessionValue → Result (List ℕ) AuditFault → Type 0
-StepGives past k s (Ok plan) = IsStep past k s × (plan ≡ executed_in s)
-StepGives past k s (Err (BrokenLink j)) = (j ≡ k) × ¬ IsLinked past k s
-StepGives past k s (Err (NoFiles j)) =
+CheckStepGives past k s (Ok plan) = IsSessionStep past k s × (plan ≡ executed_in s)
+CheckStepGives past k s (Err (BrokenLink j)) = (j ≡ k) × ¬ IsLinked past k s
+CheckStepGives past k s (Err (NoFiles j)) =
     (j ≡ k) × IsLinked past k s × (entry_at s Files ≡ None)
-StepGives past k s (Err (MissingSource j f)) = (j ≡ k) × IsLinked past k s × IsMissing s f
-StepGives past k s (Err (StraySource j n)) = (j ≡ k) × IsLinked past k s × IsStray s n
-StepGives past k s (Err (GreenWithoutPast j n)) =
-    (j ≡ k) × IsRefused past k s n lacks.WithoutPast
-StepGives past k s (Err (OtherEdges j n)) = (j ≡ k) × IsRefused past k s n lacks.OtherEdges
-StepGives past k s (Err (GreenOverRed j n i)) = (j ≡ k) × IsRefused past k s n (lacks.OverRed i)
-StepGives past k s (Err (GreenPrint j n)) = (j ≡ k) × IsRefused past k s n lacks.OtherPrint
-StepGives past k s (Err OutOfMemory) = IsLinked past k s
-StepGives past k s (Err _) = ⊥
+CheckStepGives past k s (Err (MissingSource j f)) = (j ≡ k) × IsLinked past k s × IsMissing s f
+CheckStepGives past k s (Err (StraySource j n)) = (j ≡ k) × IsLinked past k s × IsStray s n
+CheckStepGives past k s (Err (GreenWithoutPast j n)) =
+    (j ≡ k) × RefusesGreen past k s n lacks.WithoutPast
+CheckStepGives past k s (Err (OtherEdges j n)) = (j ≡ k) × RefusesGreen past k s n lacks.OtherEdges
+CheckStepGives past k s (Err (GreenOverRed j n i)) = (j ≡ k) × RefusesGreen past k s n (lacks.OverRed i)
+CheckStepGives past k s (Err (GreenPrint j n)) = (j ≡ k) × RefusesGreen past k s n lacks.OtherPrint
+CheckStepGives past k s (Err OutOfMemory) = IsLinked past k s
+CheckStepGives past k s (Err _) = ⊥
 
 -- ---- the faults of session k
 

@@ -131,6 +131,7 @@ fn first_red(past: &Past, old: &[usize], session: &Session, edges: &[usize]) -> 
 fn same_key(a: &Key, b: &Key) -> bool
     ensures { MatchBool result (a.now ≡ b.now) (a.now ≢ b.now) }
 {
+    // `==` on keys is equality.
     keys_in_order();
     a == b
 }

@@ -9,7 +9,7 @@ ghost use Rattle.sessions.specs.Sessions.{RecordValue, Entry, SessionValue, IsSe
 ghost use Rattle.graph_rules.specs.Pasts.{Past, IsGraph};
 ghost use Rattle.graph_rules.specs.Next.{AreMeant, AreSources, IsRight, StandsIn};
 ghost use Rattle.audit_graph.specs.Plans.{executed_in};
-ghost use Rattle.audit_graph.specs.Steps.{IsStep};
+ghost use Rattle.audit_graph.specs.Steps.{IsSessionStep};
 ghost use Rattle.audit_graph.specs.Replays.{AreReplayed, AreValuesApart, AreWithLower, is_before};
 
 use item_ids::ranks_in_order;
@@ -32,7 +32,7 @@ pub fn front_is_meant()
     ensures { (mean : Meaning) (reads : ReadLists) → RunnerLaws mean reads
         → (past : Option SessionValue) (k : ℕ) (s : SessionValue) (old p : Project)
         → IsGraph (past_entry past) → IsProject old → AreMeant mean reads (past_entry past) old
-        → IsSession s → IsStep past k s → AreSources (entry_at s) p
+        → IsSession s → IsSessionStep past k s → AreSources (entry_at s) p
         → AreValuesApart (past_entry past) (entry_at s)
         → (front : Key → Bool) → AreWithLower front
         → AreReplayed mean reads (entry_at s) front
@@ -45,7 +45,7 @@ pub fn step_is_right()
     ensures { (mean : Meaning) (reads : ReadLists) → RunnerLaws mean reads
         → (past : Option SessionValue) (k : ℕ) (s : SessionValue) (old : Project)
         → IsGraph (past_entry past) → IsProject old → AreMeant mean reads (past_entry past) old
-        → IsSession s → IsStep past k s
+        → IsSession s → IsSessionStep past k s
         → AreValuesApart (past_entry past) (entry_at s)
         → AreReplayed mean reads (entry_at s) (λ _. true)
         → IsRight mean reads (past_entry past) (entry_at s) }

@@ -36,6 +36,7 @@ pub enum SourceFault {
 pub(crate) fn check_sources(alloc: Global, session: &Session) -> Result<(), SourceFault>
     ensures { SourcesGive session.now result }
 {
+    // A session keeps in its type what its records are.
     let _records = session.records();
     let Some(names) = file_names(session) else {
         return Err(SourceFault::NoFiles);
@@ -60,6 +61,7 @@ fn file_names(session: &Session) -> Option<&[Name]>
         (λ names. HasFiles (entry_at session.now) names.now) }
     ensures fit { IfSome result (λ names. FileNamesFit names.now) }
 {
+    // A session keeps in its type what its records are.
     let _records = session.records();
     let Some(item) = session.find(&Key::Files) else {
         return None;

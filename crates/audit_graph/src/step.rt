@@ -1,12 +1,13 @@
 //! The check of one session over the one before.
 ghost use Rattle.std.specs.Prelude.{◌≡◌, ◌↔◌, IsTrue, IfOk, Option};
 ghost use Rattle.sessions.specs.Sessions.{SessionValue, entry_at};
+ghost use Rattle.sessions.specs.Spelling.{next_link};
 ghost use Rattle.audit_graph.specs.Sources.{HasSources};
 ghost use Rattle.audit_graph.specs.Kept.{ArePastOf};
 ghost use Rattle.std.specs.Option.{option_copied};
-ghost use Rattle.audit_graph.specs.Chains.{IsLinked, link_behind};
+ghost use Rattle.audit_graph.specs.Chains.{IsLinked};
 ghost use Rattle.audit_graph.specs.Plans.{executed_in};
-ghost use Rattle.audit_graph.specs.Steps.{StepGives, source_fault, green_fault};
+ghost use Rattle.audit_graph.specs.Steps.{CheckStepGives, source_fault, green_fault};
 
 use crate::fault::AuditFault;
 use crate::greens::{Lack, first_lack};
@@ -25,7 +26,7 @@ pub fn check_step(
     session: &Session,
 ) -> Result<Plan, AuditFault>
     ensures gives { (was : Option SessionValue) → ArePastOf (option_copied past.entry) was
-        → StepGives was k session.now result }
+        → CheckStepGives was k session.now result }
     ensures sources { IfOk result
         (λ _. (session.now.number ≡ k) × HasSources (entry_at session.now)) }
     ensures plan { IfOk result (λ plan. plan ≡ executed_in session.now) }
@@ -57,7 +58,7 @@ fn is_linked(past: Option<&Past>, k: usize, session: &Session) -> bool
 /// The link of the session behind the past.
 fn link_behind(past: Option<&Past>) -> [u8; 32]
     ensures { (was : Option SessionValue) → ArePastOf (option_copied past.entry) was
-        → result ≡ link_behind was }
+        → result ≡ next_link was }
 {
     match past {
         Some(past) => *past.digest(),

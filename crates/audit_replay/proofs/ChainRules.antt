@@ -11,7 +11,7 @@ use Rattle.sessions.specs.Sessions.{SessionValue, IsSession, Entry, entry_at, pa
 use Rattle.graph_rules.specs.Pasts.{Past, IsGraph}
 use Rattle.graph_rules.specs.Next.{AreSources, AreMeant, IsRight}
 use Rattle.graph_rules.proofs.SessionRules.{session_graph}
-use Rattle.audit_graph.specs.Steps.{IsStep}
+use Rattle.audit_graph.specs.Steps.{IsSessionStep}
 use Rattle.audit_graph.specs.Replays.{AreValuesApart, AreReplayed, AreWithLower, is_before}
 use Rattle.audit_graph.proofs.Entries.{contains_first, contains_later}
 use Rattle.audit_graph.proofs.SourceRules.{one_project}
@@ -84,7 +84,7 @@ module _ (mean : Meaning) (reads : ReadLists) (laws : RunnerLaws mean reads) (al
       right_over (last_of None ss) k s l.1 l.2 l.0 c session p
 
   -- the keys before a key, where the executed ones among them follow from their edges
-  pub before_means : (past : Option SessionValue) → IsSound past → (k : ℕ) (s : SessionValue) → Contains all s → IsSession s → IsStep past k s → (p : Project) → AreSources (entry_at s) p
+  pub before_means : (past : Option SessionValue) → IsSound past → (k : ℕ) (s : SessionValue) → Contains all s → IsSession s → IsSessionStep past k s → (p : Project) → AreSources (entry_at s) p
       → (key : Key) → AreWithLower (is_before key) → AreReplayed mean reads (entry_at s) (is_before key)
       → (q : Key) (r : Entry) → is_before key q ≡ true → entry_at s q ≡ Some r → (r.value ≡ mean p q) × (r.reads ≡ reads p q)
   before_means past sound k s c session step p sources key lower replayed =

@@ -15,7 +15,7 @@ use Rattle.sessions.specs.Sessions.{Entry, RecordValue}
 use Rattle.graph_rules.specs.Pasts.{Past}
 use Rattle.audit_graph.specs.Greens.{keys_at}
 use Rattle.audit_graph.specs.Replays.{IsHeld, FollowsFromEdges}
-use Rattle.audit_replay.specs.Reruns.{AreFirstEdges, ReadsOther, LeavesEdges, HasOtherResult, IsBeginning, IsFirstOther}
+use Rattle.audit_replay.specs.Reruns.{AreFirstEdges, ReadsOther, LeavesEdges, HasOtherResult, AreFirstKeys, IsFirstOther}
 use Rattle.audit_replay.proofs.Lists.{take_there, all_take}
 
 -- ---- a walk over the reads
@@ -25,7 +25,7 @@ beginning_more told all i k t a same =
     let lt = slice_get_within all i k a in
     (omega (arith, lt), take_there told i k t ∙ (ap (λ ks. ks ++ k ∷ []) same ∙ sym (take_there all i k a)))
 
-pub beginning_all : (told all : List Key) (i : ℕ) → length told ≤ i → i ≤ length told → i ≤ length all → take i told ≡ take i all → IsBeginning told all
+pub beginning_all : (told all : List Key) (i : ℕ) → length told ≤ i → i ≤ length told → i ≤ length all → take i told ≡ take i all → AreFirstKeys told all
 beginning_all told all i up down within same =
     let e : i ≡ length told = omega arith in
     (omega (arith, within, up), sym (take_all i told up) ∙ (same ∙ ap (λ n. take n all) e))
@@ -37,9 +37,9 @@ other_in told read edges es records i a b h =
     subst (λ (xs : List ℕ). IsFirstOther (keys told) (keys_at records xs) i) b (subst (λ (xs : List ReadValue). IsFirstOther (keys xs) (keys_at records es) i) a h)
 
 pub begins_in : (told read : List ReadValue) (edges es : List ℕ) (records : List RecordValue) → read ≡ told → es ≡ edges
-    → IsBeginning (keys read) (keys_at records es) → IsBeginning (keys told) (keys_at records edges)
+    → AreFirstKeys (keys read) (keys_at records es) → AreFirstKeys (keys told) (keys_at records edges)
 begins_in told read edges es records a b h =
-    subst (λ (xs : List ℕ). IsBeginning (keys told) (keys_at records xs)) b (subst (λ (xs : List ReadValue). IsBeginning (keys xs) (keys_at records es)) a h)
+    subst (λ (xs : List ℕ). AreFirstKeys (keys told) (keys_at records xs)) b (subst (λ (xs : List ReadValue). AreFirstKeys (keys xs) (keys_at records es)) a h)
 
 -- ---- refused reads
 
@@ -89,14 +89,14 @@ module _ (mean : Meaning) (reads : ReadLists) (now : Past) (r : Entry) (told : L
         other = f.other;
       }
 
-  begun : IsBeginning (keys told) r.reads → keys told ≡ take (length told) r.reads
+  begun : AreFirstKeys (keys told) r.reads → keys told ≡ take (length told) r.reads
   begun b = b.1 ∙ ap (λ n. take n r.reads) (length-map told (λ (t : ReadValue). t.key))
 
-  begun_edges : IsBeginning (keys told) r.reads → AreFirstEdges now r (length told) told
+  begun_edges : AreFirstKeys (keys told) r.reads → AreFirstEdges now r (length told) told
   begun_edges b = record { within = omega (arith, b.0, length-map told (λ (t : ReadValue). t.key)); edges = begun b; held = held }
 
   -- the read that is refused is none of the edges
-  pub reads_more : IsBeginning (keys told) r.reads → (script : List ReadValue) → keys script ≡ r.reads → (k : Key) → IsUnread k script → IsNext mean reads r.key told k → ReadsOther mean reads now r (length told)
+  pub reads_more : AreFirstKeys (keys told) r.reads → (script : List ReadValue) → keys script ≡ r.reads → (k : Key) → IsUnread k script → IsNext mean reads r.key told k → ReadsOther mean reads now r (length told)
   reads_more b script edges k unread next = record {
     told = told;
     first = begun_edges b;
@@ -111,7 +111,7 @@ module _ (mean : Meaning) (reads : ReadLists) (now : Past) (r : Entry) (told : L
       not_there (t ∷ ts) (suc i) u h = not_there ts i u.1 h
 
   -- fewer reads than edges
-  pub leaves_edges : IsBeginning (keys told) r.reads → length told < length r.reads → (v : Value) → Backed mean reads r.key told v → LeavesEdges mean reads now r
+  pub leaves_edges : AreFirstKeys (keys told) r.reads → length told < length r.reads → (v : Value) → Backed mean reads r.key told v → LeavesEdges mean reads now r
   leaves_edges b few v backed = record {
     count = length told;
     few = few;
@@ -120,10 +120,10 @@ module _ (mean : Meaning) (reads : ReadLists) (now : Past) (r : Entry) (told : L
     whole = backed.whole;
   }
 
-  all_edges : IsBeginning (keys told) r.reads → length r.reads ≤ length told → keys told ≡ r.reads
+  all_edges : AreFirstKeys (keys told) r.reads → length r.reads ≤ length told → keys told ≡ r.reads
   all_edges b many = begun b ∙ take_all (length told) r.reads many
 
-  pub other_result : IsBeginning (keys told) r.reads → length r.reads ≤ length told → (v : Value) → Backed mean reads r.key told v → (v ≢ r.value) → HasOtherResult mean reads now r
+  pub other_result : AreFirstKeys (keys told) r.reads → length r.reads ≤ length told → (v : Value) → Backed mean reads r.key told v → (v ≢ r.value) → HasOtherResult mean reads now r
   other_result b many v backed other = record {
     told = told;
     edges = record { edges = all_edges b many; held = held };
@@ -132,7 +132,7 @@ module _ (mean : Meaning) (reads : ReadLists) (now : Past) (r : Entry) (told : L
     other = other;
   }
 
-  pub follows : IsBeginning (keys told) r.reads → length r.reads ≤ length told → (v : Value) → Backed mean reads r.key told v → v ≡ r.value → FollowsFromEdges mean reads now r
+  pub follows : AreFirstKeys (keys told) r.reads → length r.reads ≤ length told → (v : Value) → Backed mean reads r.key told v → v ≡ r.value → FollowsFromEdges mean reads now r
   follows b many v backed same = record {
     told = told;
     edges = all_edges b many;

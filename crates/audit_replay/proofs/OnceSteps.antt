@@ -13,7 +13,7 @@ use Rattle.audit_graph.specs.Firsts.{IsFirstWithout}
 use Rattle.audit_graph.specs.Chains.{IsLinked}
 use Rattle.audit_graph.specs.Sources.{HasFiles, HasBytes, HasSources, IsNoStray, source_keys}
 use Rattle.audit_graph.specs.Greens.{HasSamePrint, HasSameEdges, IsLack, StandsIfGreen}
-use Rattle.audit_graph.specs.Steps.{IsStep, IsMissing, IsStray, IsRefused, StepGives, green_fault}
+use Rattle.audit_graph.specs.Steps.{IsSessionStep, IsMissing, IsStray, RefusesGreen, CheckStepGives, green_fault}
 use Rattle.audit_graph.specs.declared.greens.Lack.{Lack}
 use Rattle.audit_graph.specs.declared.greens.Lack.TheVariants as lacks
 use Rattle.audit_graph.specs.declared.fault.AuditFault.{AuditFault}
@@ -83,7 +83,7 @@ module _ (past : Option SessionValue) (k : ℕ) (s : SessionValue) where
   Holds files = IsLinked past k s × (entry_at s Files ≡ None)
   Holds (missing f) = IsLinked past k s × IsMissing s f
   Holds (stray n) = IsLinked past k s × IsStray s n
-  Holds (green n why) = IsRefused past k s n why
+  Holds (green n why) = RefusesGreen past k s n why
 
   abbrev pub fault_of_reason : Reason → AuditFault
   fault_of_reason link = faults.BrokenLink k
@@ -98,7 +98,7 @@ module _ (past : Option SessionValue) (k : ℕ) (s : SessionValue) where
     pub holds : Holds reason
     pub is : fault ≡ fault_of_reason reason
 
-  reason_of : (fault : AuditFault) → IsToldByFiles fault → StepGives past k s (Err fault) → HasReason fault
+  reason_of : (fault : AuditFault) → IsToldByFiles fault → CheckStepGives past k s (Err fault) → HasReason fault
   reason_of faults.EmptyChain t g = absurd g
   reason_of (faults.File j f) t g = absurd g
   reason_of (faults.BrokenLink j) t g = record { reason = link; holds = g.1; is = ap faults.BrokenLink g.0 }
@@ -154,7 +154,7 @@ module _ (past : Option SessionValue) (k : ℕ) (s : SessionValue) where
       let all = subst (λ (ns : List (List ℕ)). AllByRecursion (HasBytes (entry_at s)) (source_keys ns)) (one_names b.names a.names b.files a.files) b.each in
       a.first.lacks (all_at (HasBytes (entry_at s)) (source_keys a.names) all a.first.item (contains_there (source_keys a.names) f a.first.item a.first.here))
 
-  one_green : (n m : ℕ) (why other : Lack) → IsRefused past k s n why → IsRefused past k s m other → green n why ≡ green m other
+  one_green : (n m : ℕ) (why other : Lack) → RefusesGreen past k s n why → RefusesGreen past k s m other → green n why ≡ green m other
   one_green n m why other a b =
       let place = once (StandsIfGreen (past_entry past) (entry_at s)) (entries s) n m a.first.first b.first.first in
       let here = subst (λ (i : ℕ). slice_get (entries s) i ≡ Some a.first.first.item) place a.first.first.here in
@@ -194,7 +194,7 @@ module _ (past : Option SessionValue) (k : ℕ) (s : SessionValue) where
     one_fault f g a b = a.is ∙ (ap fault_of_reason (one_reason a.reason b.reason a.holds b.holds) ∙ sym b.is)
 
     -- a session that passes has no reason
-    no_reason : IsStep past k s → (r : Reason) → Holds r → ⊥
+    no_reason : IsSessionStep past k s → (r : Reason) → Holds r → ⊥
     no_reason step link h = h step.linked
     no_reason step files h = named_in step.sources h.1
     no_reason step (missing f) h = not_missing s session step.sources.0 step.sources.1 f h.1

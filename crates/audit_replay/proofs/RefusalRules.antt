@@ -17,7 +17,7 @@ use Rattle.mj_project.specs.Projects.{IsProject}
 use Rattle.graph_rules.specs.Pasts.{Past}
 use Rattle.graph_rules.proofs.NextRules.{all_at}
 use Rattle.graph_rules.proofs.SessionRules.{session_graph}
-use Rattle.audit_graph.specs.Steps.{IsStep}
+use Rattle.audit_graph.specs.Steps.{IsSessionStep}
 use Rattle.audit_graph.specs.Replays.{AreWithLower, IsHeld, is_before}
 use Rattle.audit_graph.specs.declared.fault.AuditFault.TheVariants as faults
 use Rattle.audit_graph.proofs.Entries.{all_last, contains_first, contains_later, contains_cases}
@@ -96,7 +96,7 @@ module _ (mean : Meaning) (reads : ReadLists) (now : Past) (p : Project) (projec
 
 module _ (mean : Meaning) (reads : ReadLists) (laws : RunnerLaws mean reads) (lesser : (a b : Key) → rank a < rank b → key_cmp a b ≡ Less) (lower : (k : Key) → AreWithLower (is_before k)) where
   first_wrong : (front : List SessionValue) (s : SessionValue) → AllByRecursion IsSession front → IsSession s → ArePassed mean reads None 0 front
-      → IsStep (last_of None front) (length front) s → (n : ℕ) (why : Mismatch) → (why ≢ OutOfMemory) → IsFirstMismatch mean reads s n why
+      → IsSessionStep (last_of None front) (length front) s → (n : ℕ) (why : Mismatch) → (why ≢ OutOfMemory) → IsFirstMismatch mean reads s n why
       → AreApart (front ++ s ∷ []) → AreRight mean reads None front × IsFirstWrong mean reads (past_entry (last_of None front)) s n
   first_wrong front s each session passed step n why other first apart =
       let all = front ++ s ∷ [] in
@@ -132,7 +132,7 @@ module _ (mean : Meaning) (reads : ReadLists) (laws : RunnerLaws mean reads) (le
   -- file k is refused for its record n
   module _ (files : List (List ℕ)) (old new : List Key) (k n : ℕ) (why : Mismatch) (other : why ≢ OutOfMemory) where
     refused_at : (front : List SessionValue) (s : SessionValue) (bytes : List ℕ) (rest : List (List ℕ)) → file_of s ≡ bytes → map file_of front ++ bytes ∷ rest ≡ files
-        → AllByRecursion IsSession front → IsSession s → ArePassed mean reads None 0 front → IsStep (last_of None front) (length front) s
+        → AllByRecursion IsSession front → IsSession s → ArePassed mean reads None 0 front → IsSessionStep (last_of None front) (length front) s
         → k ≡ length front → IsFirstMismatch mean reads s n why → HasFirstWrong mean reads files k n
     refused_at front s bytes rest spells spelled each session passed step is first = record {
       front = front;
@@ -143,7 +143,7 @@ module _ (mean : Meaning) (reads : ReadLists) (laws : RunnerLaws mean reads) (le
       each = each;
       is = session;
       passed = passed;
-      step = subst (λ (m : ℕ). IsStep (last_of None front) m s) (sym is) step;
+      step = subst (λ (m : ℕ). IsSessionStep (last_of None front) m s) (sym is) step;
       wrong = first_wrong front s each session passed step n why other first;
     }
 

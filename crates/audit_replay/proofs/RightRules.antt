@@ -14,7 +14,7 @@ use Rattle.sessions.proofs.EntryRules.{entry_of_place}
 use Rattle.session_file.specs.Reading.{file_at}
 use Rattle.graph_rules.specs.Next.{AreSources, IsRight}
 use Rattle.audit_graph.specs.Chains.{IsLinked, AreLinked}
-use Rattle.audit_graph.specs.Steps.{IsFirstLack, StepGives}
+use Rattle.audit_graph.specs.Steps.{IsFirstLack, CheckStepGives}
 use Rattle.audit_graph.specs.declared.greens.Lack.{Lack}
 use Rattle.audit_graph.specs.declared.fault.AuditFault.{AuditFault}
 use Rattle.audit_graph.specs.declared.fault.AuditFault.TheVariants as faults
@@ -39,7 +39,7 @@ module _ (mean : Meaning) (reads : ReadLists) (past : Option SessionValue) (k : 
       let c = contains_there (entries s) n m.first.item m.first.here in
       m.first.lacks (right.greens m.first.item.key m.first.item (told_of_entry s session m.first.item c))
 
-  not_step : (fault : AuditFault) → StepGives past k s (Err fault) → fault ≡ faults.OutOfMemory
+  not_step : (fault : AuditFault) → CheckStepGives past k s (Err fault) → fault ≡ faults.OutOfMemory
   not_step faults.EmptyChain g = absurd g
   not_step (faults.File j f) g = absurd g
   not_step (faults.BrokenLink j) g = absurd (g.1 linked)

@@ -6,7 +6,7 @@ use Rattle.sessions.specs.Sessions.{SessionValue, IsSession, entry_at}
 use Rattle.sessions.specs.Spelling.{file_of}
 use Rattle.session_file.specs.Reading.{file_at}
 use Rattle.audit_graph.specs.Plans.{executed_in}
-use Rattle.audit_graph.specs.Steps.{IsStep, StepGives}
+use Rattle.audit_graph.specs.Steps.{IsSessionStep, CheckStepGives}
 use Rattle.audit_graph.specs.Replays.{AreReplayed}
 use Rattle.audit_graph.specs.declared.fault.AuditFault.{AuditFault}
 use Rattle.audit_graph.specs.declared.fault.AuditFault.TheVariants.{File, OutOfMemory}
@@ -17,14 +17,14 @@ use Rattle.audit_replay.specs.Logs.{executed_keys, GrowsWithin}
 -- stand in the past, and its executed ones follow from their edges.
 pub record Passes (mean : Meaning) (reads : ReadLists) (past : Option SessionValue) (k : ℕ)
     (s : SessionValue) : Type 0 where
-  pub step : IsStep past k s
+  pub step : IsSessionStep past k s
   pub replayed : AreReplayed mean reads (entry_at s) (λ _. true)
 
 -- the first fault of session k over the past: of its step, then of its executed records
 abbrev pub SessionRefuses
     : Meaning → ReadLists → Option SessionValue → ℕ → SessionValue → AuditFault → Type 0
 SessionRefuses mean reads past k s fault =
-    StepGives past k s (Err fault) ⊎ (IsStep past k s × RefusesPlan mean reads k s fault)
+    CheckStepGives past k s (Err fault) ⊎ (IsSessionStep past k s × RefusesPlan mean reads k s fault)
 
 -- a session passes, and so many records were run; else its first fault
 abbrev pub SessionGives

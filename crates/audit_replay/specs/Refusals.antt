@@ -9,7 +9,7 @@ use Rattle.sessions.specs.Spelling.{file_of}
 use Rattle.graph_rules.specs.Pasts.{Past}
 use Rattle.graph_rules.specs.Next.{AreSources}
 use Rattle.audit_graph.specs.Greens.{StandsIfGreen}
-use Rattle.audit_graph.specs.Steps.{IsStep}
+use Rattle.audit_graph.specs.Steps.{IsSessionStep}
 use Rattle.audit_graph.specs.Replays.{is_before}
 use Rattle.audit_graph.specs.declared.fault.AuditFault.{AuditFault}
 use Rattle.audit_graph.specs.declared.fault.AuditFault.TheVariants.{OtherRead, UnreadEdges, OtherResult, OutOfMemory}
@@ -49,7 +49,7 @@ pub record HasFirstWrong (mean : Meaning) (reads : ReadLists) (files : List (Lis
   pub each : AllByRecursion IsSession front
   pub is : IsSession session
   pub passed : ArePassed mean reads None 0 front
-  pub step : IsStep (last_of None front) k session
+  pub step : IsSessionStep (last_of None front) k session
   pub wrong : AreApart (front ++ session ∷ [])
       → AreRight mean reads None front
       × IsFirstWrong mean reads (past_entry (last_of None front)) session n

@@ -21,7 +21,7 @@ pub record AreFirstEdges (now : Past) (r : Entry) (i : ℕ) (told : List ReadVal
   pub held : AllByRecursion (IsHeld now) told
 
 -- all edges, with the values that the session holds
-pub record AreEdges (now : Past) (r : Entry) (told : List ReadValue) : Type 0 where
+pub record AreAllEdges (now : Past) (r : Entry) (told : List ReadValue) : Type 0 where
   pub edges : keys told ≡ r.reads
   pub held : AllByRecursion (IsHeld now) told
 
@@ -46,7 +46,7 @@ pub record LeavesEdges (mean : Meaning) (reads : ReadLists) (now : Past) (r : En
 pub record HasOtherResult (mean : Meaning) (reads : ReadLists) (now : Past)
     (r : Entry) : Type 0 where
   pub told : List ReadValue
-  pub edges : AreEdges now r told
+  pub edges : AreAllEdges now r told
   pub value : Value
   pub backed : Backed mean reads r.key told value
   pub other : value ≢ r.value
@@ -54,7 +54,7 @@ pub record HasOtherResult (mean : Meaning) (reads : ReadLists) (now : Past)
 -- ---- steps on the way
 
 -- the session has this record, and it is executed
-pub record IsExecuted (s : SessionValue) (item : RecordValue) : Type 0 where
+pub record IsExecutedIn (s : SessionValue) (item : RecordValue) : Type 0 where
   pub at : ℕ
   pub here : slice_get s.records at ≡ Some item
   pub mark : item.mark ≡ Executed
@@ -71,8 +71,8 @@ pub record AddsEdge (s : SessionValue) (edge : ℕ) (old new : List ReadValue) :
   pub held : IsHeld (entry_at s) told
 
 -- the keys are the first of these
-abbrev pub IsBeginning : List Key → List Key → Type 0
-IsBeginning front all = (length front ≤ length all) × (front ≡ take (length front) all)
+abbrev pub AreFirstKeys : List Key → List Key → Type 0
+AreFirstKeys front all = (length front ≤ length all) × (front ≡ take (length front) all)
 
 -- the keys in front of this place are the first of these, and the one there isn't
 pub record IsFirstOther (told all : List Key) (i : ℕ) : Type 0 where

@@ -3,7 +3,7 @@ ghost use Rattle.std.specs.Prelude.{◌≡◌, ◌≢◌, ◌↔◌, ◌<◌, So
 ghost use Rattle.sessions.specs.Sessions.{AreInside, key_at};
 ghost use Rattle.recorder.specs.Backed.{keys};
 ghost use Rattle.audit_graph.specs.Greens.{keys_at};
-ghost use Rattle.audit_replay.specs.Reruns.{IsBeginning, IsFirstOther};
+ghost use Rattle.audit_replay.specs.Reruns.{AreFirstKeys, IsFirstOther};
 
 use item_ids::{Key, keys_in_order};
 use recorder::Read;
@@ -13,7 +13,7 @@ use sessions::Session;
 pub(crate) fn first_other(session: &Session, edges: &[usize], reads: &[Read]) -> Option<usize>
     requires { AreInside session.now.records edges.now }
     ensures { MatchOption result
-        (IsBeginning (keys reads.now) (keys_at session.now.records edges.now))
+        (AreFirstKeys (keys reads.now) (keys_at session.now.records edges.now))
         (IsFirstOther (keys reads.now) (keys_at session.now.records edges.now)) }
 {
     for (i, read) in reads.iter().enumerate() {
@@ -41,6 +41,7 @@ fn is_at(session: &Session, at: usize, key: &Key) -> bool
     requires { at < length session.now.records }
     ensures { IsTrue result ↔ (key_at session.now.records at ≡ key.now) }
 {
+    // `==` on keys is equality.
     keys_in_order();
     session.records()[at].key() == key
 }

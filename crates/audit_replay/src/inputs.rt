@@ -34,6 +34,7 @@ impl Inputs {
         ensures { IfOk result (λ inputs. AreInputs (entry_at session.now)
             (arc_value inputs.names) (map arc_value inputs.texts.items)) }
     {
+        // A session keeps in its type what its records are.
         let _records = session.records();
         let Some(item) = session.find(&Key::Files) else {
             unreachable!();

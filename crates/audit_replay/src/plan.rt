@@ -29,6 +29,7 @@ pub(crate) fn run_plan<R: Runner>(
     ensures log { LogGives (executed_keys session.now) (R.log runner.old) (R.log runner.new)
         result }
 {
+    // A session keeps in its type what its records are.
     let _records = session.records();
     for n in plan {
         match rerun_at(alloc, runner, session, *n) {

@@ -6,7 +6,7 @@ ghost use Rattle.recorder.specs.Recording.{fault_of};
 ghost use Rattle.recorder.specs.Runs.{IsNextRefused, Logs};
 ghost use Rattle.recorder.specs.declared.reader.ReadFault.{ReadFault as FaultValue};
 ghost use Rattle.sessions.specs.Sessions.{AreInside, entry_at, entry_of};
-ghost use Rattle.audit_replay.specs.Reruns.{AreEdges, IsExecuted, RerunGives};
+ghost use Rattle.audit_replay.specs.Reruns.{AreAllEdges, IsExecutedIn, RerunGives};
 
 use crate::compare::first_other;
 use crate::mismatch::Mismatch;
@@ -23,13 +23,14 @@ pub(crate) fn rerun<R: Runner>(
     session: &Session,
     item: &Record,
 ) -> Result<(), Mismatch>
-    requires { IsExecuted session.now item.now }
+    requires { IsExecutedIn session.now item.now }
     ensures run { RerunGives R.mean R.reads (entry_at session.now)
         (entry_of session.now.records item.now) result }
     ensures ok { OnOk result (Logs item.now.key (R.log runner.old) (R.log runner.new)) }
     ensures log { Logs item.now.key (R.log runner.old) (R.log runner.new)
         ⊎ (R.log runner.new ≡ R.log runner.old) }
 {
+    // A session keeps in its type what its records are.
     let _records = session.records();
     let script = match script_of(alloc, session, item) {
         Ok(script) => script,
@@ -55,7 +56,7 @@ fn compare<R: Runner>(
     outcome: &Outcome<R>,
 ) -> Result<(), Mismatch>
     requires inside { AreInside session.now.records item.now.edges }
-    requires script { AreEdges (entry_at session.now) (entry_of session.now.records item.now)
+    requires script { AreAllEdges (entry_at session.now) (entry_of session.now.records item.now)
         recorder.now.inner }
     requires key { outcome.now.key ≡ item.now.key }
     requires told { outcome.now.told ≡ recorder.now.told }
@@ -84,7 +85,7 @@ fn refused_read<R: Runner>(
     fault: ReadFault,
 ) -> Mismatch
     requires inside { AreInside session.now.records item.now.edges }
-    requires script { AreEdges (entry_at session.now) (entry_of session.now.records item.now)
+    requires script { AreAllEdges (entry_at session.now) (entry_of session.now.records item.now)
         recorder.now.inner }
     requires asked { Asked R.mean R.reads item.now.key recorder.now.told }
     requires next { IsNextRefused R.mean R.reads item.now.key recorder.now }

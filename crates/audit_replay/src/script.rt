@@ -3,7 +3,7 @@ ghost use Rattle.std.specs.Prelude.{◌≡◌, ◌∷◌, ◌++◌, ◌<◌, [],
 ghost use Rattle.sessions.specs.Sessions.{AreInside, key_at, entry_at, entry_of};
 ghost use Rattle.audit_graph.specs.Replays.{IsHeld};
 ghost use Rattle.recorder.specs.Backed.{ReadValue};
-ghost use Rattle.audit_replay.specs.Reruns.{AreEdges, AddsEdge};
+ghost use Rattle.audit_replay.specs.Reruns.{AreAllEdges, AddsEdge};
 
 use recorder::AnswerList;
 use sessions::{Record, Session};
@@ -18,7 +18,7 @@ pub(crate) fn script_of(
 ) -> Result<AnswerList, AllocError>
     requires { AreInside session.now.records item.now.edges }
     ensures { IfOk result
-        (AreEdges (entry_at session.now) (entry_of session.now.records item.now)) }
+        (AreAllEdges (entry_at session.now) (entry_of session.now.records item.now)) }
 {
     let mut script = AnswerList::new(alloc);
     for edge in item.edges() {

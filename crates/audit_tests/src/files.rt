@@ -69,7 +69,7 @@ pub(crate) fn file_of_first(alloc: Global, first: &Turned) -> Result<MemorySink,
 }
 
 /// The digest of the first session of a chain.
-fn link_behind(alloc: Global, first: &Turned) -> Result<[u8; 32], Unfit> {
+fn digest_of_first(alloc: Global, first: &Turned) -> Result<[u8; 32], Unfit> {
     let records = records_of(alloc, first)?;
     digest_of(alloc, 0, [0; 32], records.as_slice())
 }
@@ -80,7 +80,7 @@ pub(crate) fn file_behind(
     first: &Turned,
     second: &Turned,
 ) -> Result<MemorySink, Unfit> {
-    let link = link_behind(alloc, first)?;
+    let link = digest_of_first(alloc, first)?;
     let records = records_of(alloc, second)?;
     file_with_link(alloc, link, records.as_slice())
 }

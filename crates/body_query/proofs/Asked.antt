@@ -16,9 +16,10 @@ use Rattle.mj_phrases.specs.Table.{Scope, own_phrase, statement_phrases, stateme
 use Rattle.mj_phrases.specs.Variables.{variables_of, add_repeated_each}
 use Rattle.mj_typing.specs.Bodies.{return_type_mark, add_undeclared, add_undeclared_each, type_step, types_step, statement_step, statements_step, declared_step, method_step, main_step, method_check, main_check}
 use Rattle.result_bytes.specs.declared.value.Value.{Value}
-use Rattle.recorder.specs.Programs.{Prog, Ret, runs, asks, is_seen}
+use Rattle.recorder.specs.Programs.{Prog, Ret, runs, asks}
+use Rattle.recorder.specs.Backed.{is_seen}
 use Rattle.query_rules.specs.BodyReads.{type_reads, types_reads}
-use Rattle.query_rules.specs.Reads.{firsts}
+use Rattle.query_rules.specs.Reads.{first_keys}
 use Rattle.body_questions.specs.Facts.{is_declared_in, descends_in, field_in, method_in}
 use Rattle.body_query.specs.Programs.{reads_of}
 
@@ -78,7 +79,7 @@ module _ (m : Key → Value) where
   both : (seen : List Key) (k : Key) (a b c d : List Key) → a ≡ b → c ≡ d → (if is_seen seen k then a else k ∷ c) ≡ (if is_seen seen k then b else k ∷ d)
   both seen k a b c d e f = ap₂ (λ x y. if is_seen seen k then x else k ∷ y) e f
 
-  pub asks_reads : (i : Check) (value : List Mistake → Value) (seen : List Key) → asks (reads_of i (λ ms. Ret (value ms))) m seen ≡ firsts seen (asked_in (world_in m) i)
+  pub asks_reads : (i : Check) (value : List Mistake → Value) (seen : List Key) → asks (reads_of i (λ ms. Ret (value ms))) m seen ≡ first_keys seen (asked_in (world_in m) i)
   unfolding asks reads_of
   asks_reads (Concludes ms) value seen = refl
   asks_reads (AsksDescent c d f) value seen = both seen (keys.Supers c) _ _ _ _ (asks_reads (f (descends_in (m (keys.Supers c)) d)) value seen) (asks_reads (f (descends_in (m (keys.Supers c)) d)) value (seen ++ keys.Supers c ∷ []))

@@ -20,7 +20,7 @@ use Rattle.mj_rules.proofs.RowLemmas.{found_stands}
 use Rattle.tree_bytes.specs.Bodies.{OfMain, OfMethod}
 use Rattle.recorder.specs.Projects.{Project}
 use Rattle.recorder.proofs.Recorded.{all_at}
-use Rattle.query_rules.specs.Items.{class_at, body_by, body_in, body_at, mistakes_in}
+use Rattle.query_rules.specs.Items.{class_at, body_by, own_body, body_at, mistakes_in}
 use Rattle.query_rules.proofs.Firsts.{all_append}
 use Rattle.body_query.proofs.Marks.{method_small, main_small}
 
@@ -84,6 +84,6 @@ module _ (w : World) (c m : Name) (k : ClassDecl) (n : ℕ) (few : n ≤ limit) 
 pub small_mistakes : (w : World) (p : Project) (c m : Name) → Small (mistakes_in w c (body_at p c m))
 small_mistakes w p c m = by_class (class_at p c) refl
   where
-    by_class : (o : Option ClassDecl) → class_at p c ≡ o → Small (mistakes_in w c (option_and_then (body_in m) o))
+    by_class : (o : Option ClassDecl) → class_at p c ≡ o → Small (mistakes_in w c (option_and_then (own_body m) o))
     by_class None e = tt
     by_class (Some k) e = let h = class_fits p c k e in any_body w c m k h.0 h.1 k.main h.2.main h.2.methods

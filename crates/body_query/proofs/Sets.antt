@@ -12,10 +12,10 @@ use Rattle.mj_phrases.specs.declared.verdict.Mistake.{Mistake}
 use Rattle.answer_bytes.specs.Storable.{AreClassFaults, IsClassPlace}
 use Rattle.recorder.proofs.Recorded.{all_at}
 use Rattle.query_rules.specs.Items.{fault_set}
-use Rattle.body_query.specs.Body.{faults_in}
+use Rattle.body_query.specs.Body.{faults_of_mistakes}
 use Rattle.body_query.proofs.Bounds.{small}
 
-pub in_class : (m : Name) (ms : List Mistake) → AreClassFaults (faults_in m ms)
+pub in_class : (m : Name) (ms : List Mistake) → AreClassFaults (faults_of_mistakes m ms)
 in_class m [] = tt
 in_class m (x ∷ ms) = (small x.mark, in_class m ms)
 

@@ -15,7 +15,7 @@ use Rattle.mj_phrases.specs.Inquiries.{Sig, Concludes, AsksDescent, AsksField, A
 use Rattle.mj_phrases.specs.Steps.{Check, Proceeds, Aborts}
 use Rattle.body_questions.specs.Questions.{descends_step, field_step, method_step, declared_step}
 use Rattle.body_query.specs.Programs.{reads_of}
-use Rattle.body_query.specs.Steps.{Comes, Ends, fault_of}
+use Rattle.body_query.specs.Steps.{Comes, Ends, run_fault_of}
 
 -- each question is its step
 pub reads_descends : (c d : Name) (f : Bool → Check) (k : List Mistake → Prog) → reads_of (AsksDescent c d f) k ≡ descends_step c d (λ answer. reads_of (f answer) k)
@@ -63,7 +63,7 @@ module _ {S D : Type 0} (told : List ReadValue) (refused : Option Refused) (at :
     goes = λ prog k h. (g.goes (step (λ ms. Concludes ms)) (λ ms. Concludes ms) (record { comes = λ prog k b. record { reached = subst (λ t. Reached prog t (reads_of (step (λ ms. Concludes ms)) k)) (sym same) b.0; unrefused = none ∙ b.1 } })).comes prog k (subst (λ t. Reached prog t (reads_of (step (λ ms. Concludes ms)) k)) same h.reached, sym none ∙ h.unrefused);
   }
 
-  pub check_gives_up : (step : (List Mistake → Check) → Check) (old new : S) (e : Stop RunFault) → (at old).told ≡ told → (at old).refused ≡ refused → Aborts StandsAt HaltsAt step old e new → GivesUp (reads_of (step (λ ms. Concludes ms))) (at old) (fault_of e) (at new)
+  pub check_gives_up : (step : (List Mistake → Check) → Check) (old new : S) (e : Stop RunFault) → (at old).told ≡ told → (at old).refused ≡ refused → Aborts StandsAt HaltsAt step old e new → GivesUp (reads_of (step (λ ms. Concludes ms))) (at old) (run_fault_of e) (at new)
   check_gives_up step old new e same none g = record {
     halts = λ prog k h. (g.ends (step (λ ms. Concludes ms)) (λ ms. Concludes ms) (record { comes = λ prog k b. record { reached = subst (λ t. Reached prog t (reads_of (step (λ ms. Concludes ms)) k)) (sym same) b.0; unrefused = none ∙ b.1 } })).ends prog k (subst (λ t. Reached prog t (reads_of (step (λ ms. Concludes ms)) k)) same h.reached, sym none ∙ h.unrefused);
   }

@@ -24,11 +24,11 @@ use Rattle.recorder.specs.Programs.{Prog, Ret, runs, asks, Fits}
 use Rattle.query_rules.specs.Items.{body_at, mistakes_in, fault_set}
 use Rattle.query_rules.specs.BodyReads.{body_reads}
 use Rattle.query_rules.specs.Meaning.{mean}
-use Rattle.query_rules.specs.Reads.{asked_keys, firsts, reads}
+use Rattle.query_rules.specs.Reads.{asked_keys, first_keys, reads}
 use Rattle.query_rules.specs.Ties.{Ties}
 use Rattle.body_questions.specs.Facts.{is_declared_in, descends_in, field_in, method_in, body_in}
 use Rattle.body_query.specs.Programs.{reads_of}
-use Rattle.body_query.specs.Body.{fault_in, faults_in, check_of, body_prog}
+use Rattle.body_query.specs.Body.{fault_of_mistake, faults_of_mistakes, check_of, body_prog}
 use Rattle.body_query.specs.Laws.{BodyTies}
 use Rattle.body_query.proofs.Asked.{world_in, asked_in, runs_reads, asks_reads, method_asked, main_asked}
 use Rattle.body_query.proofs.Texts.{main_same, method_same}
@@ -61,15 +61,15 @@ fits_reads q h (AsksDeclared c f) k g = (omega (arith, h), λ v. fits_reads q h 
 
 -- ---- in a project marks have four bytes
 
-same_fault : (m : Name) (x : Mistake) → x.mark < 2 ^ 32 → fault_in m x ≡ fault (Inside m x.mark) x.code
+same_fault : (m : Name) (x : Mistake) → x.mark < 2 ^ 32 → fault_of_mistake m x ≡ fault (Inside m x.mark) x.code
 same_fault m x h = ap (λ n. fault (Inside m n) x.code) (same_number x.mark h)
 
-same_faults : (m : Name) (ms : List Mistake) → Small ms → faults_in m ms ≡ inside m ms
+same_faults : (m : Name) (ms : List Mistake) → Small ms → faults_of_mistakes m ms ≡ inside m ms
 same_faults m [] h = refl
 same_faults m (x ∷ xs) h = ap₂ (λ d ds. d ∷ ds) (same_fault m x h.0) (same_faults m xs h.1)
 
 abbrev value_of : Name → List Mistake → Value
-value_of x ms = values.CheckBody (fault_set (faults_in x ms))
+value_of x ms = values.CheckBody (fault_set (faults_of_mistakes x ms))
 
 module _ (c x : Name) (p : Project) where
   means : mean p (keys.CheckBody c x) ≡ runs (body_prog (keys.CheckBody c x)) (mean p)
@@ -83,7 +83,7 @@ module _ (c x : Name) (p : Project) where
   unfolding mean asks reads asked_keys
   are_asked = sym (ap (λ ks. keys.Method c x ∷ ks)
       (asks_reads (mean p) (check_of c (body_at p c x)) (value_of x) (keys.Method c x ∷ [])
-      ∙ ap (firsts (keys.Method c x ∷ [])) (asked (world_in (mean p)) c (body_at p c x) ∙ ap (λ w. body_reads w c (body_at p c x)) (world_same p))))
+      ∙ ap (first_keys (keys.Method c x ∷ [])) (asked (world_in (mean p)) c (body_at p c x) ∙ ap (λ w. body_reads w c (body_at p c x)) (world_same p))))
 
 fits : (c x : Name) → Fits (keys.CheckBody c x) (body_prog (keys.CheckBody c x))
 unfolding Fits

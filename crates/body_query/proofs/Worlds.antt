@@ -18,11 +18,11 @@ use Rattle.mj_rules.proofs.RowLemmas.{sig_in-rows}
 use Rattle.recorder.specs.Projects.{Project}
 use Rattle.query_rules.specs.Items.{class_at, header_of, chain_value}
 use Rattle.query_rules.specs.Meaning.{mean}
-use Rattle.body_questions.specs.Facts.{classes_of, fields_of, methods_of, is_declared_in, descends_in, field_in, method_in}
+use Rattle.body_questions.specs.Facts.{chain_classes, fields_of, methods_of, is_declared_in, descends_in, field_in, method_in}
 use Rattle.body_query.proofs.Asked.{world_in}
 use Rattle.body_query.proofs.FieldRows.{type_in-rows}
 
-names_told : (o : Option Chain) → classes_of (option_map chain_value o) ≡ chain_names o
+names_told : (o : Option Chain) → chain_classes (option_map chain_value o) ≡ chain_names o
 names_told None = refl
 names_told (Some chain) = refl
 

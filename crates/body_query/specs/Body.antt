@@ -20,11 +20,11 @@ use Rattle.body_query.specs.Bounds.{bound}
 use Rattle.body_query.specs.Programs.{reads_of}
 
 -- a mistake as a fault in the method
-abbrev pub fault_in : Name → Mistake → Diagnostic
-fault_in m x = record { place = Inside m (bound x.mark); code = x.code }
+abbrev pub fault_of_mistake : Name → Mistake → Diagnostic
+fault_of_mistake m x = record { place = Inside m (bound x.mark); code = x.code }
 
-abbrev pub faults_in : Name → List Mistake → List Diagnostic
-faults_in m mistakes = map (fault_in m) mistakes
+abbrev pub faults_of_mistakes : Name → List Mistake → List Diagnostic
+faults_of_mistakes m mistakes = map (fault_of_mistake m) mistakes
 
 -- what is asked of a body
 abbrev pub check_of : Name → Option BodyValue → Check
@@ -37,7 +37,7 @@ check_of c (Some (OfMethod tree)) = method_check c tree
 abbrev pub body_steps : Name → Name → (Value → Prog) → Prog
 body_steps c m k =
     Ask (keys.Method c m) (λ v. reads_of (check_of c (body_in v))
-    (λ mistakes. k (values.CheckBody (fault_set (faults_in m mistakes)))))
+    (λ mistakes. k (values.CheckBody (fault_set (faults_of_mistakes m mistakes)))))
 
 -- the program of a key of this kind
 abbrev pub body_prog : Key → Prog

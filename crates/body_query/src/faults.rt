@@ -3,7 +3,7 @@ ghost use Rattle.std.specs.Prelude.{◌≡◌, ◌++◌, ◌∷◌, [], IfOk, On
 ghost use Rattle.answer_bytes.specs.Storable.{AreClassFaults};
 ghost use Rattle.query_rules.specs.Items.{fault_set as fault_set_of};
 ghost use Rattle.body_query.specs.Bounds.{bound, bounded_place};
-ghost use Rattle.body_query.specs.Body.{faults_in};
+ghost use Rattle.body_query.specs.Body.{faults_of_mistakes};
 
 use answer_bytes::Faults;
 use mj_answer::{Code, Diagnostic, fault_set};
@@ -46,12 +46,12 @@ pub fn note_fault(faults: &mut Vec<Diagnostic>, place: Place, code: Code) -> Res
 }
 
 /// The faults for mistakes in a method.
-pub(crate) fn faults_in(
+pub(crate) fn faults_of_mistakes(
     alloc: Global,
     method: &Name,
     mistakes: &[Mistake],
 ) -> Result<Vec<Diagnostic>, AllocError>
-    ensures value { IfOk result (λ faults. faults.items ≡ faults_in method.now mistakes.now) }
+    ensures value { IfOk result (λ faults. faults.items ≡ faults_of_mistakes method.now mistakes.now) }
     ensures places { IfOk result (λ faults. AreClassFaults faults.items) }
 {
     let mut faults = Vec::new(alloc);
@@ -63,7 +63,7 @@ pub(crate) fn faults_in(
 }
 
 /// These faults of a class as a set.
-pub fn class_faults(faults: Vec<Diagnostic>) -> Faults
+pub fn class_fault_set(faults: Vec<Diagnostic>) -> Faults
     requires { AreClassFaults faults.items }
     ensures { result ≡ fault_set_of faults.items }
 {

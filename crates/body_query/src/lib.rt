@@ -6,6 +6,6 @@ mod laws;
 mod query;
 mod reads;
 
-pub use faults::{class_faults, note_fault};
+pub use faults::{class_fault_set, note_fault};
 pub use laws::{body_ties, bounds_law};
 pub use query::{body_in, check_body};

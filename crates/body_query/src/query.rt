@@ -8,10 +8,10 @@ ghost use Rattle.query_rules.specs.Items.{fault_set};
 ghost use Rattle.query_rules.specs.Meaning.{mean};
 ghost use Rattle.query_rules.specs.Reads.{reads};
 ghost use Rattle.body_query.specs.Programs.{reads_of};
-ghost use Rattle.body_query.specs.Body.{faults_in as faults_told, check_of, body_steps, body_prog};
+ghost use Rattle.body_query.specs.Body.{faults_of_mistakes as faults_told, check_of, body_steps, body_prog};
 ghost use Rattle.body_questions.specs.Facts.{body_in as body_told};
 
-use crate::faults::{class_faults, faults_in};
+use crate::faults::{class_fault_set, faults_of_mistakes};
 use crate::reads::{check_main_by_reads, check_method_by_reads};
 use answer_bytes::Faults;
 use body_questions::read;
@@ -59,7 +59,7 @@ fn check_told<D: Reader>(
 fn faults_for(alloc: Global, method: &Name, mistakes: &[Mistake]) -> Result<Faults, AllocError>
     ensures { IfOk result (λ faults. faults ≡ fault_set (faults_told method.now mistakes.now)) }
 {
-    Ok(class_faults(faults_in(alloc, method, mistakes)?))
+    Ok(class_fault_set(faults_of_mistakes(alloc, method, mistakes)?))
 }
 
 /// The mistakes in a method of a class.

@@ -18,17 +18,17 @@ is_declared_in (Header h) = is_some h
 is_declared_in _ = false
 
 -- the classes of a chain
-abbrev pub classes_of : Option ChainValue → List Name
-classes_of None = []
-classes_of (Some chain) = chain.classes
+abbrev pub chain_classes : Option ChainValue → List Name
+chain_classes None = []
+chain_classes (Some chain) = chain.classes
 
-abbrev pub chain_in : Value → List Name
-chain_in (Supers chain) = classes_of chain
-chain_in _ = []
+abbrev pub chain_classes_in : Value → List Name
+chain_classes_in (Supers chain) = chain_classes chain
+chain_classes_in _ = []
 
 -- a class stands in the chain
 abbrev pub descends_in : Value → Name → Bool
-descends_in v d = list_any (λ c. bytes_eq c d) (chain_in v)
+descends_in v d = list_any (λ c. bytes_eq c d) (chain_classes_in v)
 
 abbrev pub fields_of : Option ClassTableValue → List FieldRow
 fields_of None = []

@@ -5,7 +5,7 @@ use Rattle.byte_readers.specs.declared.breach.ReadError.{ReadError}
 use Rattle.byte_readers.specs.declared.breach.ReadError.TheVariants as errors
 use Rattle.std.specs.List.{slice_get}
 use Rattle.byte_readers.specs.Orders.{is_after}
-use Rattle.byte_readers.specs.Views.{Tells}
+use Rattle.byte_readers.specs.Views.{ReadsAsSeen}
 use Rattle.byte_readers.specs.Reading.{Decoder, Fails, not_canonical, list_from}
 
 pub goes_on : {A : Type 0} (part : Decoder A) (admits : List A → A → Bool) (front : List A) (count i : ℕ) (bytes : List ℕ) (item : A) (after : List ℕ) (total : Result (List A × List ℕ) Breach) → i < count → part bytes ≡ Ok (item, after) → admits front item ≡ true
@@ -61,6 +61,6 @@ one_more one [] item = refl
 one_more one (a ∷ items) item = ap (λ bs. one a ∷ bs) (one_more one items item)
 
 -- what ends the reading of what is seen ends that of the items
-pub ends_both : {A B : Type 0} {one : A → B} {seen : Decoder B} {itself : Decoder A} (tells : Tells one seen itself) (e : ReadError) (bytes : List ℕ) → Fails e (seen bytes) → Fails e (itself bytes)
+pub ends_both : {A B : Type 0} {one : A → B} {seen : Decoder B} {itself : Decoder A} (tells : ReadsAsSeen one seen itself) (e : ReadError) (bytes : List ℕ) → Fails e (seen bytes) → Fails e (itself bytes)
 ends_both tells errors.Memory bytes fails = tt
 ends_both tells (errors.Breach b) bytes fails = tells.refuses bytes b fails

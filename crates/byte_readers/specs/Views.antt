@@ -40,12 +40,12 @@ seen_by see = record {
 }
 
 -- a reader of items answers what the reader of what is seen answers of them
-pub record Tells {A B : Type 0} (one : A → B) (seen : Decoder B) (itself : Decoder A) : Type 0 where
+pub record ReadsAsSeen {A B : Type 0} (one : A → B) (seen : Decoder B) (itself : Decoder A) : Type 0 where
   pub reads : (bytes : List ℕ) (a : A) (rest : List ℕ) → seen bytes ≡ Ok (one a, rest)
       → itself bytes ≡ Ok (a, rest)
   pub refuses : (bytes : List ℕ) (breach : Breach) → seen bytes ≡ Err breach
       → itself bytes ≡ Err breach
 
-pub tells_plain : {A : Type 0} (reading : Decoder A) → Tells (λ a. a) reading reading
+pub tells_plain : {A : Type 0} (reading : Decoder A) → ReadsAsSeen (λ a. a) reading reading
 tells_plain reading =
     record { reads = λ bytes a rest same. same; refuses = λ bytes breach same. same }

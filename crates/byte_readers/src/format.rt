@@ -1,7 +1,7 @@
 //! How items are written as bytes.
 ghost use Rattle.std.specs.Prelude.{◌≡◌, ◌++◌, List, ℕ, OnOk, Bool};
 ghost use Rattle.byte_readers.specs.Reading.{Decodes, Decoder};
-ghost use Rattle.byte_readers.specs.Views.{View, Tells};
+ghost use Rattle.byte_readers.specs.Views.{View, ReadsAsSeen};
 ghost use Rattle.byte_readers.specs.Lawful.{Lawful};
 
 use crate::breach::ReadError;
@@ -50,5 +50,5 @@ pub trait Ordered: Format {
     fn precedes(item: &Self::Item, other: &Self::Item) -> bool
         ensures { result ≡ precedes item.now other.now };
 
-    ghost tells: { Tells Self.Format.view.one Self.Format.reading item_reading };
+    ghost tells: { ReadsAsSeen Self.Format.view.one Self.Format.reading item_reading };
 }

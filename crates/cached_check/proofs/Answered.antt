@@ -1,5 +1,5 @@
 -- A session that was closed has a record of the answer.
-use Rattle.std.proofs.Common.{◌≡◌, ◌∙◌, ℕ, zero, suc, ◌<◌, List, [], ◌∷◌, map, length, get_or, Option, Some, None, refl, sym, ap, subst, arith}
+use Rattle.std.proofs.Common.{◌≡◌, ◌∙◌, ℕ, zero, suc, ◌<◌, List, [], ◌∷◌, map, length, get_or, Option, Some, None, refl, sym, ap, arith}
 use Rattle.std.specs.Prelude.{Contains, IfSome}
 use Rattle.std.specs.declared.alloc.Global.{Global}
 use Rattle.std.specs.declared.sync.Arc.{Arc}
@@ -12,15 +12,14 @@ use Rattle.recorder.specs.Projects.{Project}
 use Rattle.query_rules.specs.Meaning.{mean}
 use Rattle.query_rules.specs.Reads.{reads}
 use Rattle.providers.proofs.AnswerKind.{answer_value}
-use Rattle.sessions.specs.Sessions.{RecordValue, SessionValue, IsSession, Entry, entries, entry_at, entry_of}
+use Rattle.sessions.specs.Sessions.{RecordValue, SessionValue, IsSession, Entry, entries, entry_at, entry_of, session_in}
 use Rattle.sessions.proofs.EntryRules.{entry_of_place, has_key}
 use Rattle.graph_rules.specs.Steps.{State}
 use Rattle.graph_rules.specs.Graphs.{AreClosed, answer}
 use Rattle.graph_rules.specs.Graphs.IsReached.{root as starts}
 use Rattle.graph_rules.proofs.SessionRules.{session_graph}
-use Rattle.job_table.specs.Tables.{IsFull, session_in as session_at_table}
+use Rattle.job_table.specs.Tables.{IsFull}
 use Rattle.session_cache.specs.Names.{most}
-use Rattle.session_cache.specs.Starts.{session_in}
 use Rattle.next_sessions.specs.Nexts.{DecidesNext, IsNextSession}
 use Rattle.next_sessions.proofs.NextRight.{entry_told}
 use Rattle.driver.specs.Sessions.{IsSessionOf}
@@ -54,11 +53,7 @@ closed_answered p s session state closed =
 
 -- ---- the past
 
-pub same_past : (past : Option (Arc SessionValue Global)) → session_at_table past ≡ session_in past
-same_past None = refl
-same_past (Some s) = refl
-
-pub has_room : (past : Option (Arc SessionValue Global)) → IfSome (session_in past) (λ s. s.number < most) → IsFull (session_at_table past) → ⊥
+pub has_room : (past : Option (Arc SessionValue Global)) → IfSome (session_in past) (λ s. s.number < most) → IsFull (session_in past) → ⊥
 has_room None room full = full
 has_room (Some s) room full = omega arith
 
@@ -88,18 +83,12 @@ of_the_rules law past p s is = record {
 }
 
 module _ (law : AnswerLaw) (past : Option (Arc SessionValue Global)) (p : Project) (workers : ℕ) (s : SessionValue) (r : Reports) where
-  made : IsSession s → IsSessionOf mean reads (session_at_table past) p workers s r
-      → (DecidesNext mean reads (session_at_table past) p → IsNextSession mean reads (session_at_table past) p s)
-      → IsMadeOver (session_at_table past) p s
-  made session of next = record {
+  pub made_over : IsSession s → IsSessionOf mean reads (session_in past) p workers s r
+      → (DecidesNext mean reads (session_in past) p → IsNextSession mean reads (session_in past) p s)
+      → IsMadeOver (session_in past) p s
+  made_over session of next = record {
     history = of.history;
     events = of.events;
     answered = closed_answered p s session _ of.events.closing.closed;
-    decided = λ d. of_the_rules law (session_at_table past) p s (next d);
+    decided = λ d. of_the_rules law (session_in past) p s (next d);
   }
-
-  pub made_over : IsSession s → IsSessionOf mean reads (session_at_table past) p workers s r
-      → (DecidesNext mean reads (session_at_table past) p → IsNextSession mean reads (session_at_table past) p s)
-      → IsMadeOver (session_in past) p s
-  made_over session of next =
-      subst (λ (o : Option SessionValue). IsMadeOver o p s) (same_past past) (made session of next)

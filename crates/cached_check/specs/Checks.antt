@@ -8,11 +8,11 @@ use Rattle.mj_rules.specs.Rules.{Rules}
 use Rattle.recorder.specs.Projects.{Project}
 use Rattle.query_rules.specs.Meaning.{mean}
 use Rattle.query_rules.specs.Reads.{reads}
-use Rattle.sessions.specs.Sessions.{Entry, SessionValue, entry_at}
+use Rattle.sessions.specs.Sessions.{Entry, SessionValue, entry_at, session_in}
 use Rattle.graph_rules.specs.Steps.{Event}
 use Rattle.next_sessions.specs.Nexts.{DecidesNext, IsNextSession}
 use Rattle.driver.specs.Sessions.{AreEventsOf}
-use Rattle.session_cache.specs.Starts.{IsLast, IsStart, IsStartBehind, IsStartless, path_of, session_in}
+use Rattle.session_cache.specs.Starts.{IsLast, IsStart, IsStartBehind, IsStartless, path_of}
 use Rattle.session_cache.specs.declared.fault.CacheFault.TheVariants as cache
 use Rattle.session_cache.specs.declared.place.Place.{Place}
 use Rattle.session_cache.specs.declared.start.Last.{Last}

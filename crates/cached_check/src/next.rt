@@ -1,7 +1,7 @@
 //! The session that comes next.
 ghost use Rattle.std.specs.Prelude.{◌<◌, IfOk, IfSome};
 ghost use Rattle.session_cache.specs.Names.{most};
-ghost use Rattle.session_cache.specs.Starts.{session_in};
+ghost use Rattle.sessions.specs.Sessions.{session_in};
 ghost use Rattle.driver.specs.Sessions.{IsCrew};
 ghost use Rattle.cached_check.specs.Checks.{IsMadeOver};
 
@@ -27,9 +27,11 @@ pub fn next_session<T: Threads + Wait + Sync>(
     requires room { IfSome (session_in past) (λ s. s.number < most) }
     ensures { IfOk result (IsMadeOver (session_in past) project.now) }
 {
+    // The answer that the queries mean is that of the rules.
     answer_laws();
     match run_session(rt, alloc, past, project, workers, &Open) {
         Ok((session, _)) => {
+            // A session keeps in its type what its records are.
             let _records = session.records();
             Ok(session)
         }

@@ -10,15 +10,14 @@ use Rattle.result_bytes.specs.declared.value.Value.{Value}
 use Rattle.mj_project.specs.Projects.{IsProject}
 use Rattle.recorder.specs.Projects.{Project}
 use Rattle.recorder.specs.Backed.{Meaning, ReadLists, RunnerLaws}
-use Rattle.sessions.specs.Sessions.{SessionValue, IsSession, entry_at, past_entry}
+use Rattle.sessions.specs.Sessions.{SessionValue, IsSession, entry_at, past_entry, next_number}
 use Rattle.sessions.specs.Spelling.{file_of}
-use Rattle.job_table.specs.Closes.{next_number, next_link}
 use Rattle.graph_rules.specs.Graphs.IsRoot.{answer as answer_root}
 use Rattle.graph_rules.specs.Next.{IsRight, HasNoClash}
 use Rattle.graph_rules.specs.Next.IsReadIn.{root}
 use Rattle.next_sessions.specs.Nexts.{IsOfSomeProject, DecidesNext, IsNextSession, ReadsOwnFiles}
 use Rattle.next_sessions.proofs.NextRight.{told, next_right}
-use Rattle.audit_graph.specs.Chains.{link_behind, IsLinked, AreLinked}
+use Rattle.audit_graph.specs.Chains.{IsLinked, AreLinked}
 use Rattle.audit_graph.specs.declared.fault.AuditFault.{AuditFault}
 use Rattle.audit_graph.specs.declared.fault.AuditFault.TheVariants.{OutOfMemory}
 use Rattle.audit_graph.proofs.Entries.{contains_first, contains_later, all_last}
@@ -50,10 +49,6 @@ last_in past (s ∷ u ∷ us) t other is = contains_later s (u ∷ us) t (behind
     behind s u (v ∷ vs) is = contains_later u (v ∷ vs) t (behind u v vs is)
 
 -- ---- numbers and links
-
-same_link : (past : Option SessionValue) → next_link past ≡ link_behind past
-same_link None = refl
-same_link (Some s) = refl
 
 number_behind : (past : Option SessionValue) (k n : ℕ) (ss : List SessionValue) → next_number past ≡ k → AreLinked past k ss → n ≡ k + length ss → next_number (last_of past ss) ≡ n
 number_behind past k n [] is linked many = omega (arith, is, many)
@@ -100,7 +95,7 @@ module _ (mean : Meaning) (reads : ReadLists) where
       chain = linked_more None 0 (length sessions) sessions next chain.chain (omega arith)
           (record {
             number = is.number ∙ number_behind None 0 (length sessions) sessions refl chain.chain (omega arith);
-            link = is.link ∙ same_link (last_of None sessions);
+            link = is.link;
           });
       right = right_more None sessions next chain.right
           (next_right mean reads laws (last_of None sessions) p next project (last_session None sessions tt chain.each) decides own is);

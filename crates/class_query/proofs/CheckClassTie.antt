@@ -33,7 +33,7 @@ use Rattle.query_rules.specs.Meaning.{mean}
 use Rattle.query_rules.specs.BodyReads.{type_reads}
 use Rattle.query_rules.specs.Reads.{field_headers, overriding, class_check_reads, asked_keys, reads}
 use Rattle.body_query.specs.Bounds.{bound}
-use Rattle.body_questions.specs.Facts.{is_declared_in, classes_of, method_in}
+use Rattle.body_questions.specs.Facts.{is_declared_in, chain_classes, method_in}
 use Rattle.body_query.proofs.Bounds.{same_number}
 use Rattle.body_query.proofs.Worlds.{world_same}
 use Rattle.table_queries.specs.Facts.{header_in, chain_in}
@@ -43,7 +43,7 @@ use Rattle.table_queries.proofs.FaultSets.{fold_append}
 use Rattle.table_queries.proofs.Tables.{all_from}
 use Rattle.class_query.specs.Signatures.{differ}
 use Rattle.class_query.specs.Told.{superclass_told, cycle_told, chain_told, field_told, method_told, faults_told}
-use Rattle.class_query.specs.CheckClass.{type_step, field_step, overridden_class, differ_in, override_step, declared_steps, check_class_by, check_class_steps}
+use Rattle.class_query.specs.CheckClass.{type_step, field_type_step, overridden_class, differ_in, override_step, declared_steps, check_class_by, check_class_steps}
 use Rattle.class_query.specs.Laws.{CheckClassTies}
 use Rattle.class_query.proofs.Counts.{class_few}
 use Rattle.class_query.proofs.Overriding.{override_told, rest_along, own_nearest, second_alike}
@@ -73,11 +73,11 @@ module _ (p : Project) where
   abbrev undeclared : List Field → List Bool
   undeclared fs = map (λ (f : Field). is_undeclared cs f.ty) fs
 
-  fields_pass : (fs : List Field) (g : List Bool → Prog) → Passes (mean p) (each field_step fs [] g) (field_headers fs) (g (undeclared fs))
+  fields_pass : (fs : List Field) (g : List Bool → Prog) → Passes (mean p) (each field_type_step fs [] g) (field_headers fs) (g (undeclared fs))
   fields_pass fs g =
-      subst (λ (flags : List Bool). Passes (mean p) (each field_step fs [] g) (field_headers fs) (g flags)) (fold_append (λ (f : Field). is_undeclared cs f.ty ∷ []) fs [] ∙ flat_one (λ (f : Field). is_undeclared cs f.ty) fs)
-      (passes_each (mean p) field_step (λ (f : Field). type_reads f.ty) (λ (f : Field) flags. flags ++ is_undeclared cs f.ty ∷ []) fs
-      (all_from (λ (f : Field). (flags : List Bool) (q : List Bool → Prog) → Passes (mean p) (field_step f flags q) (type_reads f.ty) (q (flags ++ is_undeclared cs f.ty ∷ []))) fs
+      subst (λ (flags : List Bool). Passes (mean p) (each field_type_step fs [] g) (field_headers fs) (g flags)) (fold_append (λ (f : Field). is_undeclared cs f.ty ∷ []) fs [] ∙ flat_one (λ (f : Field). is_undeclared cs f.ty) fs)
+      (passes_each (mean p) field_type_step (λ (f : Field). type_reads f.ty) (λ (f : Field) flags. flags ++ is_undeclared cs f.ty ∷ []) fs
+      (all_from (λ (f : Field). (flags : List Bool) (q : List Bool → Prog) → Passes (mean p) (field_type_step f flags q) (type_reads f.ty) (q (flags ++ is_undeclared cs f.ty ∷ []))) fs
       (λ f h flags q. one_type f.ty (λ b. q (flags ++ b ∷ [])))) [] g)
 
   each_field : (fs : List Field) (n : ℕ) (flags : List Bool) → n + length fs ≤ limit → each_numbered field_told n (undeclared fs) flags ≡ each_numbered (field_faults cs) n fs flags
@@ -212,8 +212,8 @@ module _ (p : Project) where
         let last : List Bool → List Bool → Prog = λ flags others. Ret (values.CheckClass (fault_set (faults_told (header_of k) chain flags others))) in
         let on : List Bool → Prog = λ flags. override_step c (method_names k) (overridden_class (method_names k) (c ∷ rest)) (last flags) in
         let w = compared k.methods refl rest end is (last (undeclared k.fields)) in
-        subst (λ (ds : List Diagnostic). Passes (mean p) (each field_step k.fields [] on) (field_headers k.fields ++ overriding k.methods (c ∷ rest)) (Ret (values.CheckClass (fault_set ds)))) (all_same rest end w.flags is w.same)
-        (passes_then (mean p) (each field_step k.fields [] on) (field_headers k.fields) (on (undeclared k.fields)) (overriding k.methods (c ∷ rest)) (last (undeclared k.fields) w.flags) (fields_pass k.fields on) w.passed)
+        subst (λ (ds : List Diagnostic). Passes (mean p) (each field_type_step k.fields [] on) (field_headers k.fields ++ overriding k.methods (c ∷ rest)) (Ret (values.CheckClass (fault_set ds)))) (all_same rest end w.flags is w.same)
+        (passes_then (mean p) (each field_type_step k.fields [] on) (field_headers k.fields) (on (undeclared k.fields)) (overriding k.methods (c ∷ rest)) (last (undeclared k.fields) w.flags) (fields_pass k.fields on) w.passed)
 
     chain_pass : (names : List Name) (end : EndOf) → IsChain cs c names end
         → Passes (mean p) (declared_steps c (header_of k) (Some (chain_value (names, end))) Ret) (field_headers k.fields ++ overriding k.methods names) (Ret (values.CheckClass (fault_set (declaration_faults cs k))))
@@ -257,9 +257,9 @@ fits c = (omega arith, λ v. by_header (header_in v))
 
     by_chain : (h : HeaderValue) (chain : Option ChainValue) → Fits (keys.CheckClass c) (declared_steps c h chain Ret)
     by_chain h chain =
-        each_fits (keys.CheckClass c) field_step (λ (f : Field) flags q g. by_type f.ty (λ b. q (flags ++ b ∷ [])) (λ b. g (flags ++ b ∷ []))) h.fields []
-        (λ flags. override_step c h.methods (overridden_class h.methods (classes_of chain)) (λ others. Ret (values.CheckClass (fault_set (faults_told h chain flags others)))))
-        (λ flags. by_second h.methods (overridden_class h.methods (classes_of chain)) (λ others. Ret (values.CheckClass (fault_set (faults_told h chain flags others)))) (λ others. refl))
+        each_fits (keys.CheckClass c) field_type_step (λ (f : Field) flags q g. by_type f.ty (λ b. q (flags ++ b ∷ [])) (λ b. g (flags ++ b ∷ []))) h.fields []
+        (λ flags. override_step c h.methods (overridden_class h.methods (chain_classes chain)) (λ others. Ret (values.CheckClass (fault_set (faults_told h chain flags others)))))
+        (λ flags. by_second h.methods (overridden_class h.methods (chain_classes chain)) (λ others. Ret (values.CheckClass (fault_set (faults_told h chain flags others)))) (λ others. refl))
 
     by_header : (o : Option HeaderValue) → Fits (keys.CheckClass c) (check_class_by c o Ret)
     by_header None = refl

@@ -12,7 +12,7 @@ use Rattle.result_bytes.specs.declared.value.Value.{Value}
 use Rattle.result_bytes.specs.declared.value.Value.TheVariants as values
 use Rattle.recorder.specs.Programs.{Prog, Ask, each}
 use Rattle.query_rules.specs.Items.{fault_set}
-use Rattle.body_questions.specs.Facts.{is_declared_in, classes_of, method_in}
+use Rattle.body_questions.specs.Facts.{is_declared_in, chain_classes, method_in}
 use Rattle.table_queries.specs.Facts.{header_in, chain_in}
 use Rattle.class_query.specs.Signatures.{differ}
 use Rattle.class_query.specs.Told.{faults_told}
@@ -27,8 +27,8 @@ type_step types.Boolean k = k false
 type_step types.IntArray k = k false
 
 -- the flags with that of one more field
-abbrev pub field_step : Field → List Bool → (List Bool → Prog) → Prog
-field_step f flags k = type_step f.ty (λ undeclared. k (flags ++ undeclared ∷ []))
+abbrev pub field_type_step : Field → List Bool → (List Bool → Prog) → Prog
+field_type_step f flags k = type_step f.ty (λ undeclared. k (flags ++ undeclared ∷ []))
 
 -- ---- methods
 
@@ -54,8 +54,8 @@ override_step c methods (Some s) k =
 -- a class with this header and this chain
 abbrev pub declared_steps : Name → HeaderValue → Option ChainValue → (Value → Prog) → Prog
 declared_steps c h chain k =
-    each field_step h.fields []
-    (λ undeclared. override_step c h.methods (overridden_class h.methods (classes_of chain))
+    each field_type_step h.fields []
+    (λ undeclared. override_step c h.methods (overridden_class h.methods (chain_classes chain))
     (λ others. k (values.CheckClass (fault_set (faults_told h chain undeclared others)))))
 
 abbrev pub check_class_by : Name → Option HeaderValue → (Value → Prog) → Prog

@@ -2,7 +2,7 @@
 ghost use Rattle.std.specs.Prelude.{◌≡◌, ◌++◌, ◌∷◌, [], IfOk, IfErr, OnOk};
 ghost use Rattle.recorder.specs.Programs.{Goes, GivesUp, each};
 ghost use Rattle.body_questions.specs.Facts.{is_declared_in as declared_told};
-ghost use Rattle.class_query.specs.CheckClass.{type_step, field_step};
+ghost use Rattle.class_query.specs.CheckClass.{type_step, field_type_step};
 
 use body_questions::read;
 use item_ids::Key;
@@ -51,9 +51,9 @@ fn ask_field<D: Reader>(
     field: &Field,
     flags: &mut Vec<bool>,
 ) -> Result<(), RunFault>
-    ensures ok { OnOk result (Goes (field_step field.now flags.old.items) recorder.old
+    ensures ok { OnOk result (Goes (field_type_step field.now flags.old.items) recorder.old
         flags.new.items recorder.new) }
-    ensures err { IfErr result (λ e. GivesUp (field_step field.now flags.old.items) recorder.old e
+    ensures err { IfErr result (λ e. GivesUp (field_type_step field.now flags.old.items) recorder.old e
         recorder.new) }
     ensures follows { D.follows recorder.old.inner recorder.new.inner }
 {
@@ -69,9 +69,9 @@ pub fn ask_fields<D: Reader>(
     recorder: &mut Recorder<D>,
     fields: &[Field],
 ) -> Result<Vec<bool>, RunFault>
-    ensures ok { IfOk result (λ flags. Goes (each field_step fields.now []) recorder.old
+    ensures ok { IfOk result (λ flags. Goes (each field_type_step fields.now []) recorder.old
         flags.items recorder.new) }
-    ensures err { IfErr result (λ e. GivesUp (each field_step fields.now []) recorder.old e
+    ensures err { IfErr result (λ e. GivesUp (each field_type_step fields.now []) recorder.old e
         recorder.new) }
     ensures follows { D.follows recorder.old.inner recorder.new.inner }
 {

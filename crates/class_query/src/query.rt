@@ -3,7 +3,7 @@ ghost use Rattle.std.specs.Prelude.{◌≡◌, [], IfOk, IfErr, option_copied};
 ghost use Rattle.item_ids.specs.declared.key.Key.TheVariants as keys;
 ghost use Rattle.recorder.specs.Programs.{Goes, GivesUp, Ask};
 ghost use Rattle.table_queries.specs.Facts.{chain_in as chain_told};
-ghost use Rattle.body_questions.specs.Facts.{classes_of};
+ghost use Rattle.body_questions.specs.Facts.{chain_classes};
 ghost use Rattle.class_query.specs.CheckClass.{declared_steps, check_class_by, check_class_steps};
 
 use crate::fields::ask_fields;
@@ -20,7 +20,7 @@ use table_queries::{chain_in, header_in};
 
 /// The classes of a chain.
 fn classes_in(chain: Option<&Supers>) -> &[Name]
-    ensures { result.now ≡ classes_of (option_copied chain.entry) }
+    ensures { result.now ≡ chain_classes (option_copied chain.entry) }
 {
     match chain {
         Some(chain) => chain.classes(),

@@ -6,7 +6,7 @@ ghost use Rattle.query_rules.specs.Items.{fault_set};
 ghost use Rattle.class_query.specs.Told.{superclass_told, cycle_told, chain_told, field_told, method_told, fields_told, methods_told, faults_told};
 
 use answer_bytes::Faults;
-use body_query::{class_faults, note_fault};
+use body_query::{class_fault_set, note_fault};
 use mj_answer::{Code, Diagnostic};
 use mj_lexer::Name;
 use mj_project::repeats;
@@ -192,5 +192,5 @@ pub fn faults_of(
         others.now)) }
 {
     let faults = all_faults(alloc, header, chain, undeclared, others)?;
-    Ok(class_faults(faults))
+    Ok(class_fault_set(faults))
 }

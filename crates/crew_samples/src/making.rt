@@ -3,8 +3,8 @@ ghost use Rattle.std.specs.Prelude.{◌≡◌, None, IfOk, IfSome, sum};
 ghost use Rattle.std.specs.Arc.{arc_value};
 ghost use Rattle.query_rules.specs.Meaning.{mean};
 ghost use Rattle.query_rules.specs.Reads.{reads};
-ghost use Rattle.job_table.specs.Tables.{session_in};
 ghost use Rattle.sessions.specs.Spelling.{digest_of};
+ghost use Rattle.sessions.specs.Sessions.{session_in};
 ghost use Rattle.driver.specs.Sessions.{IsSessionOf};
 ghost use Rattle.crew_samples.specs.Made.{AreMade, IsMadeOf, after, before};
 

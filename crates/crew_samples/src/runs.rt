@@ -1,8 +1,7 @@
 //! Runs that are counted, and one that fails.
 ghost use Rattle.std.specs.Prelude.{◌≡◌, ◌∷◌, [], None, IfOk};
 ghost use Rattle.std.specs.Arc.{arc_value};
-ghost use Rattle.sessions.specs.Sessions.{SessionValue};
-ghost use Rattle.job_table.specs.Tables.{session_in};
+ghost use Rattle.sessions.specs.Sessions.{SessionValue, session_in};
 ghost use Rattle.crew_samples.specs.Made.{HasExecuted, HaveExecuted, IsDigestOf, IsFaultOf, file_told, files_told, has_mark, many_of};
 
 use crate::counting::Counting;

@@ -1,10 +1,10 @@
 //! One session.
 ghost use Rattle.std.specs.Prelude.{◌≡◌, ◌↔◌, ◌≤◌, map, IsTrue, IfOk, IfSome, length, []};
 ghost use Rattle.item_ids.specs.declared.key.Key.TheVariants.{Answer};
-ghost use Rattle.job_table.specs.Tables.{session_in, state_of};
+ghost use Rattle.job_table.specs.Tables.{state_of};
 ghost use Rattle.job_table.specs.Closes.{MayClose, IsClosing};
 ghost use Rattle.recorder.specs.Backed.{RunnerLaws};
-ghost use Rattle.sessions.specs.Sessions.{IsSession};
+ghost use Rattle.sessions.specs.Sessions.{IsSession, session_in};
 ghost use Rattle.next_sessions.specs.Nexts.{DecidesNext, IsNextSession};
 ghost use Rattle.driver.specs.Sessions.{IsCrew, DriveGives, IsSessionOf};
 
@@ -51,6 +51,7 @@ pub fn drive<
     if !is_crew(workers) {
         return Err(DriveFault::Workers);
     }
+    // What the types of the project, the past and the runner keep, from which the law on sessions has the clause `next`.
     let _files = project.files();
     past_is_session(&prev);
     keeps_laws::<R>();
@@ -68,6 +69,7 @@ pub fn drive<
                 &Lists::new(step),
                 Blank::new(workers as u64),
             )?;
+            // A session keeps in its type what its records are.
             let _records = done.0.records();
             Ok(done)
         }
@@ -133,6 +135,7 @@ fn drive_table<
     let counted = work_at(rt, counted, gate, project, lists, &mut team, alone)?;
     let events = pay(alloc, &mut all, team)?;
     let table = counted.end(&mut all);
+    // A table's history is legal, by its type.
     table.laws();
     let history = table.history().len();
     Ok((close(&table)?, Reports { events, history }))

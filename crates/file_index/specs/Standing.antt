@@ -27,8 +27,8 @@ abbrev pub class_at : List Token → ℕ → ClassStart
 class_at tokens start = record { tokens = tokens; start = start }
 
 -- the classes of a file
-abbrev pub classes_of : List Token → List ClassStart
-classes_of ts = map (class_at ts) (all_of ts terminals.Class 0 (length ts))
+abbrev pub class_starts : List Token → List ClassStart
+class_starts ts = map (class_at ts) (all_of ts terminals.Class 0 (length ts))
 
 -- where the first method of a name begins in the class that begins at a place
 abbrev pub first_method : List Token → ℕ → Name → Option ℕ

@@ -25,7 +25,7 @@ impl<'a> Model for TokenIndex<'a> {
     ghost use Rattle.std.specs.Prelude.{◌≡◌, List};
     ghost use Rattle.mj_lexer.specs.declared.token.Token.{Token};
     ghost use Rattle.mj_lexer.specs.declared.token.Terminal.TheVariants as terminals;
-    ghost use Rattle.file_index.specs.Standing.{Standing, standing, classes_of};
+    ghost use Rattle.file_index.specs.Standing.{Standing, standing, class_starts};
 
     ghost Value = { List Token };
 
@@ -35,7 +35,7 @@ impl<'a> Model for TokenIndex<'a> {
         (t.classes ≡ standing t.tokens.now terminals.Class)
         × (t.semicolons ≡ standing t.tokens.now terminals.Semicolon)
         × (t.publics ≡ standing t.tokens.now terminals.Public)
-        × (t.methods.items ≡ classes_of t.tokens.now) };
+        × (t.methods.items ≡ class_starts t.tokens.now) };
 }
 
 impl<'a> TokenIndex<'a> {

@@ -8,7 +8,7 @@ ghost use Rattle.std.specs.Cmp.Lexicographic.{slice_cmp};
 ghost use Rattle.std.specs.Ordering.{nat_cmp};
 ghost use Rattle.mj_lexer.specs.declared.token.Terminal.TheVariants as terminals;
 ghost use Rattle.mj_parser.specs.Locations.{all_in_class};
-ghost use Rattle.file_index.specs.Standing.{standing, is_named, first_method, class_at, classes_of};
+ghost use Rattle.file_index.specs.Standing.{standing, is_named, first_method, class_at, class_starts};
 
 use crate::terminals::TerminalPlaces;
 use mj_expressions::name;
@@ -79,7 +79,7 @@ pub fn index_classes<'a>(
 ) -> Result<Vec<ClassMethods<'a>>, AllocError>
     requires classes { classes.now ≡ standing tokens.now terminals.Class }
     requires publics { publics.now ≡ standing tokens.now terminals.Public }
-    ensures { IfOk result (λ methods. methods.items ≡ classes_of tokens.now) }
+    ensures { IfOk result (λ methods. methods.items ≡ class_starts tokens.now) }
 {
     let mut methods = Vec::new(alloc);
     let starts = classes.within(0, tokens.len());

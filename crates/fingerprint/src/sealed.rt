@@ -54,6 +54,7 @@ impl Sealed {
         ensures value { result.now ≡ self.now }
         ensures kept { IsValue self.now }
     {
+        // A value keeps in its type what its spelling demands.
         is_value(&self.value);
         &self.value
     }
@@ -76,6 +77,7 @@ impl Sealed {
     pub fn same_result(&self, other: &Sealed) -> bool
         ensures { IsTrue result ↔ (self.now ≡ other.now) }
     {
+        // No spelling has two values, and both values keep what theirs demands.
         one_spelling();
         is_value(self.value());
         is_value(other.value());
@@ -96,6 +98,7 @@ pub fn seal(alloc: Global, value: Value) -> Result<Sealed, AllocError>
     ensures sealed { IfOk result (λ sealed. sealed ≡ value) }
     ensures kept { IfOk result IsValue }
 {
+    // A value keeps in its type what its spelling demands.
     is_value(&value);
     let bytes = encode(alloc, &value)?;
     let print = Print::of(&bytes);

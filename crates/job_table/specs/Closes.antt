@@ -1,10 +1,10 @@
 -- What a table closes with.
-use Rattle.std.specs.Prelude.{◌≡◌, ℕ, ◌+◌, false, true, List, Result, Ok, Err, Option, Some, None, replicate}
+use Rattle.std.specs.Prelude.{◌≡◌, false, true, Result, Ok, Err, Option}
 use Rattle.item_ids.specs.declared.key.Key.{Key}
 use Rattle.item_ids.specs.declared.key.Key.TheVariants.{Answer}
 use Rattle.recorder.specs.Projects.{Project}
-use Rattle.sessions.specs.Sessions.{SessionValue, entries}
-use Rattle.sessions.specs.Spelling.{digest_of}
+use Rattle.sessions.specs.Sessions.{SessionValue, entries, next_number}
+use Rattle.sessions.specs.Spelling.{next_link}
 use Rattle.graph_rules.specs.Steps.{Status, Unknown, Claimed, Running, Done, State, IsDone, IsNotDone}
 use Rattle.graph_rules.specs.Graphs.{AreClosed}
 use Rattle.job_table.specs.Tables.{TableValue, state_of}
@@ -25,16 +25,6 @@ AreQuiet s = (q : Key) → IsQuiet (s.at q)
 -- no worker failed, no key is claimed or running, and Answer is done
 abbrev pub MayClose : State → Type 0
 MayClose s = (s.failed ≡ false) × AreQuiet s × IsDone (s.at Answer)
-
--- the number behind the past's, or 0
-abbrev pub next_number : Option SessionValue → ℕ
-next_number None = 0
-next_number (Some past) = past.number + 1
-
--- the SHA-256 of the past's file, or zeros
-abbrev pub next_link : Option SessionValue → List ℕ
-next_link None = replicate 32 0
-next_link (Some past) = digest_of past
 
 -- Number and link follow the past, and the session tells how just the keys are done that the inputs
 -- and Answer lead to.

@@ -1,8 +1,5 @@
 -- What callers see of a table: the past and the project that it was opened with, and its events.
 use Rattle.std.specs.Prelude.{◌≤◌, List, [], ◌∷◌, ◌++◌, Option, Some, None}
-use Rattle.std.specs.Arc.{arc_value}
-use Rattle.std.specs.declared.alloc.Global.{Global}
-use Rattle.std.specs.declared.sync.Arc.{Arc}
 use Rattle.recorder.specs.Projects.{Project}
 use Rattle.sessions.specs.Sessions.{SessionValue, most_number, past_entry}
 use Rattle.graph_rules.specs.Pasts.{Past}
@@ -12,11 +9,6 @@ pub record TableValue : Type 0 where
   pub past : Option SessionValue
   pub project : Project
   pub history : List Event
-
--- the session behind an owner
-abbrev pub session_in : Option (Arc SessionValue Global) → Option SessionValue
-session_in None = None
-session_in (Some s) = Some (arc_value s)
 
 abbrev pub past_of : TableValue → Past
 past_of t = past_entry t.past

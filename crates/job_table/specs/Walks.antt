@@ -8,10 +8,10 @@ use Rattle.job_table.specs.declared.walks.WalkEnd.TheVariants as ends
 use Rattle.job_table.specs.declared.fault.TableFault.{TableFault}
 use Rattle.job_table.specs.declared.fault.TableFault.TheVariants as fault
 
-abbrev pub edge_of : Edge → EdgeState
-edge_of edge.Open = Open
-edge_of edge.Unchanged = Unchanged
-edge_of edge.Changed = Changed
+abbrev pub edge_state_of : Edge → EdgeState
+edge_state_of edge.Open = Open
+edge_state_of edge.Unchanged = Unchanged
+edge_state_of edge.Changed = Changed
 
 abbrev pub walk_of : WalkEnd → Walk
 walk_of ends.AllUnchanged = AllUnchanged

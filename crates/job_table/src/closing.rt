@@ -3,13 +3,14 @@ ghost use Rattle.std.specs.Prelude.{◌≡◌, ◌↔◌, ◌<◌, ◌≤◌, []
 ghost use Rattle.std.specs.List.{AllByRecursion};
 ghost use Rattle.item_ids.specs.declared.key.Key.{Key as KeyValue};
 ghost use Rattle.item_ids.specs.declared.key.Key.TheVariants.{Answer};
-ghost use Rattle.sessions.specs.Sessions.{most_number, past_entry};
+ghost use Rattle.sessions.specs.Sessions.{most_number, past_entry, session_in, next_number};
+ghost use Rattle.sessions.specs.Spelling.{next_link};
 ghost use Rattle.graph_rules.specs.Pasts.{IsGraph};
 ghost use Rattle.graph_rules.specs.Steps.{IsDone};
 ghost use Rattle.graph_rules.specs.Sound.{IsInOrder};
-ghost use Rattle.job_table.specs.Tables.{session_in, IsFull};
+ghost use Rattle.job_table.specs.Tables.{IsFull};
 ghost use Rattle.job_table.specs.Nodes.{status_at, state_of_nodes, AreInputs};
-ghost use Rattle.job_table.specs.Closes.{next_number, next_link, IsClosing};
+ghost use Rattle.job_table.specs.Closes.{IsClosing};
 ghost use Rattle.job_table.specs.Reached.{Ascend, key_in, AreRoots, AreReached, HasEdges, Adds, IsRecordOf, AreRecordsOf};
 
 use crate::node_map::NodeMap;
@@ -38,6 +39,7 @@ pub fn session_of(
 {
     let mut keys = reach(alloc, inputs, nodes)?;
     sort(&mut keys)?;
+    // A key of lower rank is a lesser key, so that each edge leads to a record in front.
     ranks_in_order();
     let records = records_of(alloc, inputs, nodes, &keys)?;
     Ok(Session::of(number_behind(past), link_behind(past), records))
@@ -148,6 +150,7 @@ fn record_of(
     let sealed = Arc::try_clone(entry.sealed)?;
     let own = key.copy(alloc)?;
     let record = Record::new(own, entry.mark, edges, sealed);
+    // A record keeps in its type what its spelling demands.
     check_kept(&record);
     Ok(record)
 }

@@ -67,6 +67,7 @@ impl NodeMap {
         for key in &keys {
             nodes.add_input(alloc, inputs, key)?;
         }
+        // No key stands twice, by the type of the nodes.
         nodes.check_apart();
         Ok(nodes)
     }

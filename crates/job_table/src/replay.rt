@@ -1,6 +1,6 @@
 //! Tables by their events.
 ghost use Rattle.std.specs.Prelude.{◌≡◌, map};
-ghost use Rattle.job_table.specs.Tables.{session_in};
+ghost use Rattle.sessions.specs.Sessions.{session_in};
 ghost use Rattle.job_table.specs.Kept.{event_of};
 ghost use Rattle.job_table.specs.Replays.{step_of_ask, step_of_mark, step_of_call, refusal_of};
 
@@ -38,6 +38,7 @@ impl<R: Runner> Table<R> {
                 Err(StepFault::OutOfMemory) => return Err(ReplayFault::OutOfMemory),
             }
         }
+        // A table's history is legal, by its type.
         table.laws();
         Ok(table)
     }

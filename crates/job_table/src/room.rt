@@ -39,6 +39,7 @@ pub fn room_for_opening<R: Runner>(
 {
     let history = Vec::with_capacity(alloc, 1).ok()?;
     let inputs = Inputs::new(alloc, past, project).ok()?;
+    // Inputs are those of a project, by their type.
     inputs.project();
     Some((inputs, history))
 }
@@ -151,6 +152,7 @@ pub fn room_for_finish<R: Runner>(
     ensures outcome { IsOutcome R.mean R.reads outcome.now }
     ensures room { IfSome result (λ _. vec_len history.new + 1 < vec_capacity history.new) }
 {
+    // An outcome follows from its reads, by its type.
     let _result = outcome.sealed();
     history.reserve(2).ok()?;
     finish_parts(alloc, outcome).ok()

@@ -1,7 +1,7 @@
 //! Tables.
 ghost use Rattle.std.specs.Prelude.{◌≡◌, ◌↔◌, map, IfOk, IsTrue};
 ghost use Rattle.std.specs.Arc.{arc_value};
-ghost use Rattle.job_table.specs.Tables.{session_in, IsFull};
+ghost use Rattle.job_table.specs.Tables.{IsFull};
 ghost use Rattle.job_table.specs.Kept.{event_of};
 
 use crate::closing::{check_past, session_of};
@@ -40,9 +40,10 @@ impl<R: Runner> Model for Table<R> {
     ghost use Rattle.std.specs.Prelude.{◌≡◌, ◌<◌, false, map, vec_len, vec_capacity};
     ghost use Rattle.std.specs.Coded.{codes};
     ghost use Rattle.result_bytes.specs.contracts.value.Value as value_contracts;
-    ghost use Rattle.sessions.specs.Sessions.{past_entry};
+    ghost use Rattle.sessions.specs.Sessions.{past_entry, session_in};
     ghost use Rattle.graph_rules.specs.Sound.{AreBacked};
-    ghost use Rattle.job_table.specs.Tables.{TableValue, session_in, IsFull};
+    ghost use Rattle.sessions.specs.Sessions.{session_in};
+    ghost use Rattle.job_table.specs.Tables.{TableValue, IsFull};
     ghost use Rattle.job_table.specs.Kept.{event_of, IsKept};
 
     ghost Value = { TableValue };
@@ -254,6 +255,7 @@ impl<R: Runner> Table<R> {
         let Some(_) = result_of(&self.inputs, &self.nodes, &Key::Answer) else {
             return Err(CloseFault::NoAnswer);
         };
+        // A past is a graph, by its type.
         check_past(&self.past);
         match session_of(self.alloc, &self.past, &self.inputs, &self.nodes) {
             Ok(session) => Ok(session),

@@ -1,11 +1,10 @@
 //! Walks over past edges.
 ghost use Rattle.std.specs.Prelude.{◌≡◌, ◌<◌, Some, false, map, length, option_map};
-ghost use Rattle.sessions.specs.Sessions.{AreInside, key_at, past_entry};
+ghost use Rattle.sessions.specs.Sessions.{AreInside, key_at, past_entry, session_in};
 ghost use Rattle.graph_rules.specs.Pasts.{print_in};
 ghost use Rattle.graph_rules.specs.Steps.{edge_at, walk, past_walk, AllUnchanged};
-ghost use Rattle.job_table.specs.Tables.{session_in};
 ghost use Rattle.job_table.specs.Nodes.{status_at, state_of_nodes, AreInputs};
-ghost use Rattle.job_table.specs.Walks.{edge_of, walk_of, IsWhyNot};
+ghost use Rattle.job_table.specs.Walks.{edge_state_of, walk_of, IsWhyNot};
 
 use crate::fault::TableFault;
 use crate::node_map::NodeMap;
@@ -35,7 +34,7 @@ pub enum WalkEnd {
 fn past_edge(inputs: &Inputs, nodes: &NodeMap, past: &Session, at: usize) -> Edge
     requires inputs { AreInputs inputs.now nodes.now }
     requires place { at < length past.now.records }
-    ensures { edge_of result ≡ edge_at
+    ensures { edge_state_of result ≡ edge_at
         (print_in (past_entry (Some past.now)) (key_at past.now.records at))
         (status_at inputs.now nodes.now (key_at past.now.records at)) }
 {

@@ -19,7 +19,7 @@ use Rattle.job_table.specs.Calls.{walk_in}
 use Rattle.job_table.proofs.WalkRules.{edge_with, edge_same, edge_other}
 use Rattle.mark_green.specs.declared.fault.Fault.{Fault}
 use Rattle.mark_green.specs.Leaves.{GoesOn, Leaves, HasStatus}
-use Rattle.mark_green.specs.Ensures.{EnsureGives, EdgeGives, WalkGives, walk_over, HasEdges}
+use Rattle.mark_green.specs.Ensures.{EnsureGives, EdgeGives, WalkGives, walk_over, PastHasEdges}
 use Rattle.mark_green.specs.Moves.{keeps_on}
 use Rattle.mark_green.proofs.GoingOn.{leaves_none, leaves_then, leaves_gives_up, stands_on}
 use Rattle.mark_green.proofs.Calling.{edge_gives_up}
@@ -131,7 +131,7 @@ module _ (s : SessionValue) (q : Key) (t : TableValue) (has : t.past ≡ Some s)
   walk_absent none =
       ap (option_map (λ (r : Entry). walk (past_of t) (state_of t) r.reads)) (ap (λ (o : Option SessionValue). past_entry o q) has ∙ none)
 
-  pub walk_found : (edges : List ℕ) → HasEdges s q edges → walk_in t q ≡ Some (walk_over t (map (key_at s.records) edges))
+  pub walk_found : (edges : List ℕ) → PastHasEdges s q edges → walk_in t q ≡ Some (walk_over t (map (key_at s.records) edges))
   walk_found edges h =
       ap (option_map (λ (r : Entry). walk (past_of t) (state_of t) r.reads)) (ap (λ (o : Option SessionValue). past_entry o q) has ∙ h.1)
       ∙ ap (λ (es : List Key). Some (walk_over t es)) h.2

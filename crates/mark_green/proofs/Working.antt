@@ -8,10 +8,10 @@ use Rattle.std.specs.Arc.{arc_value}
 use Rattle.item_ids.specs.declared.key.Key.{Key}
 use Rattle.result_bytes.specs.declared.value.Value.{Value}
 use Rattle.fingerprint.specs.Prints.{print_of}
-use Rattle.sessions.specs.Sessions.{SessionValue, RecordValue, Entry, IsSession, AreInside, AreBelow, key_at, entry_at, past_entry}
+use Rattle.sessions.specs.Sessions.{SessionValue, RecordValue, Entry, IsSession, AreInside, AreBelow, key_at, entry_at, past_entry, session_in}
 use Rattle.sessions.proofs.EntryRules.{key_of_place}
 use Rattle.graph_rules.specs.Steps.{Claimed, AllUnchanged, MayRun, walk}
-use Rattle.job_table.specs.Tables.{TableValue, past_of, state_of, session_in}
+use Rattle.job_table.specs.Tables.{TableValue, past_of, state_of}
 use Rattle.job_table.specs.Calls.{AskGives, walk_in}
 use Rattle.job_table.specs.declared.fault.Asked.{Asked}
 use Rattle.job_table.specs.declared.fault.Asked.TheVariants as asked
@@ -19,7 +19,7 @@ use Rattle.job_table.specs.declared.fault.TableFault.{TableFault}
 use Rattle.mark_green.specs.declared.fault.Fault.{Fault}
 use Rattle.mark_green.specs.declared.fault.Fault.TheVariants as fault
 use Rattle.mark_green.specs.Leaves.{Knows, Tells, GivesUp, HasStatus}
-use Rattle.mark_green.specs.Ensures.{EnsureGives, WorkGives, EdgeGives, WalkGives, HasEdges, IsRecordUnder, IsFaultOf}
+use Rattle.mark_green.specs.Ensures.{EnsureGives, WorkGives, EdgeGives, WalkGives, PastHasEdges, IsRecordUnder, IsFaultOf}
 use Rattle.mark_green.proofs.GoingOn.{leaves_work, stands_on, tells_map, tells_then, tells_here, tells_with}
 use Rattle.mark_green.proofs.Calling.{work_memory, ask_work, ask_done, ask_stopped, ask_busy, ask_refused}
 use Rattle.mark_green.proofs.Turning.{Works, Starts}
@@ -94,7 +94,7 @@ module _ (w : ℕ) (q : Key) (r : Result (Arc Value Global) Fault) where
     pub over_absent : entry_at s q ≡ None → (a b : Option TableValue) → Starts w q r a b → Overs (Some s) w q r a b
     over_absent none a b h = tells_map _ _ (λ t u go has st. go st (subst MayRun (sym (walk_absent s q t (sym has) none)) tt)) a b h
 
-    module _ (edges : List ℕ) (found : HasEdges s q edges) (a b c : Option TableValue) where
+    module _ (edges : List ℕ) (found : PastHasEdges s q edges) (a b c : Option TableValue) where
       pub over_marked : Walks s w q edges (Ok true) a b → Tells (λ t u. HasStatus (Claimed w) w q t → walk_in t q ≡ Some AllUnchanged → WorkGives t w q r u) b c → Overs (Some s) w q r a c
       over_marked walks marks = tells_then _ _ _ (λ t u v h m has st. (
           let l = h (sym has) st in
@@ -109,9 +109,9 @@ module _ (w : ℕ) (q : Key) (r : Result (Arc Value Global) Fault) where
 
 -- the same, of the past as a table hands it out
 module _ (w : ℕ) (q : Key) (r : Result (Arc Value Global) Fault) (past : Option (Arc SessionValue Global)) (p : Arc SessionValue Global) (is : past ≡ Some p) where
-  module _ (s z : SessionValue) (s_is : s ≡ arc_value p) (z_is : z ≡ arc_value p) (edges : List ℕ) (found : HasEdges s q edges) (x : Result Bool Fault) (a b c : Option TableValue) (walks : Walks z w q edges x a b) where
-    there : HasEdges z q edges
-    there = subst (λ (y : SessionValue). HasEdges y q edges) (s_is ∙ sym z_is) found
+  module _ (s z : SessionValue) (s_is : s ≡ arc_value p) (z_is : z ≡ arc_value p) (edges : List ℕ) (found : PastHasEdges s q edges) (x : Result Bool Fault) (a b c : Option TableValue) (walks : Walks z w q edges x a b) where
+    there : PastHasEdges z q edges
+    there = subst (λ (y : SessionValue). PastHasEdges y q edges) (s_is ∙ sym z_is) found
 
     of_past : Overs (Some z) w q r a c → Overs (session_in past) w q r a c
     of_past h = subst (λ (o : Option SessionValue). Overs o w q r a c) (ap Some z_is ∙ sym (ap session_in is)) h

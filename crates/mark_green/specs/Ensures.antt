@@ -60,8 +60,8 @@ WalkGives t w es (Ok false) u = Leaves t u × MayRun (Some (walk_over u es))
 WalkGives t w es (Err f) u = IsGivenUp t w f u × Stays t u
 
 -- the past has the key with these edges
-abbrev pub HasEdges : SessionValue → Key → List ℕ → Type 0
-HasEdges s q edges =
+abbrev pub PastHasEdges : SessionValue → Key → List ℕ → Type 0
+PastHasEdges s q edges =
     (r : Entry) × (entry_at s q ≡ Some r) × (r.reads ≡ map (key_at s.records) edges)
 
 -- a record of the past whose key is of lower rank than q

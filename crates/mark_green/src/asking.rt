@@ -76,7 +76,7 @@ impl<S: Store> Reader for Asking<'_, S> {
 
     fn read(&mut self, key: &Key) -> Result<Arc<Sealed>, ReadFault> {
         if let Some(stop) = &self.stop {
-            return Err(fault_of(stop));
+            return Err(fault_of_read(stop));
         }
         if let Some(read) = self.held.find(key) {
             return match Arc::try_clone(read.answer()) {
@@ -90,7 +90,7 @@ impl<S: Store> Reader for Asking<'_, S> {
         match answer_of(self.alloc, self.store, self.w, key) {
             Ok(sealed) => Ok(sealed),
             Err(stop) => {
-                let fault = fault_of(&stop);
+                let fault = fault_of_read(&stop);
                 self.stop = Some(stop);
                 Err(fault)
             }
@@ -99,7 +99,7 @@ impl<S: Store> Reader for Asking<'_, S> {
 }
 
 /// What a run's read is refused with, by what stopped the run: only a key that a worker has isn't held.
-fn fault_of(stop: &Stop) -> ReadFault
+fn fault_of_read(stop: &Stop) -> ReadFault
     ensures { IsFaultOfRead stop.now result }
 {
     match stop {

@@ -2,9 +2,9 @@
 ghost use Rattle.std.specs.Prelude.{◌≡◌, ◌<◌, [], Some, IfOk, IfSome, length, map};
 ghost use Rattle.std.specs.List.{AllByRecursion};
 ghost use Rattle.recorder.specs.Backed.{rank as rank_of_key};
-ghost use Rattle.sessions.specs.Sessions.{key_at};
+ghost use Rattle.sessions.specs.Sessions.{key_at, session_in};
 ghost use Rattle.graph_rules.specs.Steps.{Claimed, Running, MayRun, AreHeld};
-ghost use Rattle.job_table.specs.Tables.{session_in, state_of};
+ghost use Rattle.job_table.specs.Tables.{state_of};
 ghost use Rattle.job_table.specs.Calls.{walk_in};
 ghost use Rattle.mark_green.specs.Leaves.{Knows, Tells, HasStatus};
 ghost use Rattle.mark_green.specs.Ensures.{EnsureGives, WorkGives, EdgeGives, WalkGives, FetchGives, TurnGives, RunGives, told_or, IsRecordUnder, ShowsOutcomes};

@@ -4,7 +4,7 @@ ghost use Rattle.std.specs.Arc.{arc_value};
 ghost use Rattle.std.specs.List.{AllByRecursion};
 ghost use Rattle.fingerprint.specs.Prints.{print_of};
 ghost use Rattle.sessions.specs.Sessions.{entry_at};
-ghost use Rattle.mark_green.specs.Ensures.{HasEdges, IsRecordUnder};
+ghost use Rattle.mark_green.specs.Ensures.{PastHasEdges, IsRecordUnder};
 
 use fingerprint::Sealed;
 use item_ids::Key;
@@ -14,10 +14,11 @@ use std::sync::Arc;
 /// The edges of a key in the past, where the past has it, as indices of records.
 pub(crate) fn past_edges<'a>(past: &'a Session, key: &Key) -> Option<&'a [usize]>
     ensures found { MatchOption result (entry_at past.now key.now ≡ None)
-        (λ edges. HasEdges past.now key.now edges.now) }
+        (λ edges. PastHasEdges past.now key.now edges.now) }
     ensures under { IfSome result
         (λ edges. AllByRecursion (IsRecordUnder past.now.records key.now) edges.now) }
 {
+    // The past is a session, by its type, in which keys that were read are of lower rank.
     edges_are_below();
     let _records = past.records();
     match past.find(key) {

@@ -40,6 +40,7 @@ pub(crate) fn run_once<S: Store, R: Runner>(
     };
     let mut recorder = Recorder::new(alloc, reader);
     let outcome = record(alloc, runner, key, &mut recorder);
+    // What was read is answered by the reader, by the recorder's type.
     let _reads = recorder.reads();
     let Asking {
         alloc: _,

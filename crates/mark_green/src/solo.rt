@@ -96,6 +96,7 @@ pub fn ask_table<R: Runner>(table: &mut Table<R>, w: u32, key: &Key) -> Result<A
     ensures gives { AskGives table.old w key.now result table.new }
     ensures claims { ClaimsNoInput key.now result }
 {
+    // A table's history is legal, by its type, so that its inputs are done.
     table.laws();
     table.ask(w, key)
 }

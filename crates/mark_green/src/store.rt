@@ -1,7 +1,8 @@
 //! What a worker does with a table.
 ghost use Rattle.std.specs.Prelude.{◌≡◌, IfOk, Option};
 ghost use Rattle.graph_rules.specs.Steps.{AreHeld};
-ghost use Rattle.job_table.specs.Tables.{session_in, state_of};
+ghost use Rattle.sessions.specs.Sessions.{session_in};
+ghost use Rattle.job_table.specs.Tables.{state_of};
 ghost use Rattle.job_table.specs.Calls.{AskGives, MarkGives, BeginGives, FinishGives, FailGives};
 ghost use Rattle.mark_green.specs.Leaves.{Knows, Tells, ClaimsNoInput};
 

@@ -36,6 +36,7 @@ pub fn audit_chain(alloc: Global, chain: &[&[u8]]) -> Result<Audited, AuditFault
         → IsOfTheRules project (arc_value a.answer)) }
     ensures refused { IfErr result (ChainRefuses (map (λ f. f.now) chain.now)) }
 {
+    // The answer that the queries mean is that of the rules.
     answer_laws();
     let mut runner = MiniJava::new(alloc);
     audit(alloc, &mut runner, chain)

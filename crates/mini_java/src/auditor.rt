@@ -78,6 +78,7 @@ impl ChainAuditor {
             → ChainRefuses files fault) }
         ensures again { (fault : Fault) → HasRefused fault self → result ≡ Err fault }
     {
+        // The answer that the queries mean is that of the rules.
         answer_laws();
         let ChainAuditor { auditor, .. } = self;
         auditor.end()

@@ -16,7 +16,7 @@ use Rattle.mj_lexer.specs.declared.lexer.LexFault.TheVariants.{BadByte, OpenComm
 use Rattle.mj_lexer.specs.Fronts.{front_of, IsWithin}
 use Rattle.mj_lexer.specs.Pieces.{Stands}
 use Rattle.mj_lexer.specs.Lexes.{limit, Cuts, here, blank, word, Lexes, BreaksAt, Breaks, fault_at}
-use Rattle.mj_lexer.specs.Lexing.{Lexing, put_first, lexing_from, lexing_of, tokens_of, fault_of}
+use Rattle.mj_lexer.specs.Lexing.{Lexing, put_first, lexing_from, lexing_of, tokens_of, lex_fault_of}
 use Rattle.mj_lexer.proofs.Within.{front_within}
 use Rattle.mj_lexer.proofs.Only.{stands_there, front_is}
 
@@ -163,8 +163,8 @@ fault_agrees text (Err other) fault agrees e = let same : other ≡ fault = cc i
 pub Lexes-tokens_of : (text : List ℕ) (tokens : List Token) → Lexes text tokens ↔ (tokens_of text ≡ Some tokens)
 Lexes-tokens_of text tokens = (λ l. ap result_ok (lexes_gives text tokens l), tokens_agree text (lexing_of text) tokens (computed_agrees text))
 
-pub Breaks-fault_of : (text : List ℕ) (fault : LexFault) → Breaks text fault ↔ (fault_of text ≡ Some fault)
-Breaks-fault_of text fault = (λ b. ap result_err (breaks_gives text fault b), fault_agrees text (lexing_of text) fault (computed_agrees text))
+pub Breaks-lex_fault_of : (text : List ℕ) (fault : LexFault) → Breaks text fault ↔ (lex_fault_of text ≡ Some fault)
+Breaks-lex_fault_of text fault = (λ b. ap result_err (breaks_gives text fault b), fault_agrees text (lexing_of text) fault (computed_agrees text))
 
 pub tokens_or_fault : (lexing : Lexing) → IsSome (result_ok lexing) ↔ IsNone (result_err lexing)
 tokens_or_fault (Ok tokens) = (λ _. refl, λ _. refl)

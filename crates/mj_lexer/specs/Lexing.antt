@@ -39,5 +39,5 @@ lexing_of text =
 abbrev pub tokens_of : List ℕ → Option (List Token)
 tokens_of text = result_ok (lexing_of text)
 
-abbrev pub fault_of : List ℕ → Option LexFault
-fault_of text = result_err (lexing_of text)
+abbrev pub lex_fault_of : List ℕ → Option LexFault
+lex_fault_of text = result_err (lexing_of text)

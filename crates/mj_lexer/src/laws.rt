@@ -8,7 +8,7 @@ ghost use Rattle.mj_lexer.specs.declared.lexer.LexFault.{LexFault};
 ghost use Rattle.mj_lexer.specs.Fronts.{front_of};
 ghost use Rattle.mj_lexer.specs.Pieces.{Stands};
 ghost use Rattle.mj_lexer.specs.Lexes.{Lexes, Breaks};
-ghost use Rattle.mj_lexer.specs.Lexing.{tokens_of, fault_of};
+ghost use Rattle.mj_lexer.specs.Lexing.{tokens_of, lex_fault_of};
 
 use crate::name::Name;
 
@@ -17,8 +17,8 @@ use crate::name::Name;
 pub fn lexing_laws(text: &[u8])
     ensures tokens { (tokens : List Token)
         → Lexes text.now tokens ↔ (tokens_of text.now ≡ Some tokens) }
-    ensures fault { (fault : LexFault) → Breaks text.now fault ↔ (fault_of text.now ≡ Some fault) }
-    ensures one { IsSome (tokens_of text.now) ↔ IsNone (fault_of text.now) }
+    ensures fault { (fault : LexFault) → Breaks text.now fault ↔ (lex_fault_of text.now ≡ Some fault) }
+    ensures one { IsSome (tokens_of text.now) ↔ IsNone (lex_fault_of text.now) }
 {}
 
 /// What is read at the front of a text is what stands there and nothing else: the longest piece, or what is wrong.

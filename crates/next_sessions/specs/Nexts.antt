@@ -4,10 +4,10 @@ use Rattle.item_ids.specs.declared.key.Key.TheVariants.{Source}
 use Rattle.mj_project.specs.Projects.{names_of}
 use Rattle.recorder.specs.Projects.{Project}
 use Rattle.recorder.specs.Backed.{Meaning, ReadLists}
-use Rattle.sessions.specs.Sessions.{SessionValue, IsSession, entries, entry_at, past_entry}
+use Rattle.sessions.specs.Sessions.{SessionValue, IsSession, entries, entry_at, past_entry, next_number}
+use Rattle.sessions.specs.Spelling.{next_link}
 use Rattle.graph_rules.specs.Pasts.{Past}
 use Rattle.graph_rules.specs.Next.{IsOfProject, IsReadIn, HasNoClash, AreNext}
-use Rattle.job_table.specs.Closes.{next_number, next_link}
 
 -- a session of some project: it holds its files, and its keys have the project's values and reads
 abbrev pub IsOfSomeProject : Meaning → ReadLists → Past → Type 0

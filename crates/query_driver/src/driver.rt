@@ -41,6 +41,7 @@ impl<R: Runner> Driver<R> {
     pub fn new(alloc: Global, inputs: Inputs, runner: R) -> Self
         ensures { result ≡ inputs }
     {
+        // Inputs are those of a project, by their type.
         inputs.project();
         Driver {
             alloc,

@@ -15,7 +15,7 @@ use Rattle.tree_bytes.specs.Bodies.{BodyValue}
 use Rattle.tree_bytes.specs.Bodies as bodies
 use Rattle.result_bytes.specs.Payloads.{SignatureValue}
 use Rattle.recorder.specs.Projects.{Project}
-use Rattle.query_rules.specs.Items.{class_at, body_by, body_in, body_at, signature_of}
+use Rattle.query_rules.specs.Items.{class_at, body_by, own_body, body_at, signature_of}
 use Rattle.query_laws.specs.Given.{Counts, IsBodyOf, OfMethod, OfMain, IsSignatureOf}
 use Rattle.query_laws.proofs.Ones.{from_map}
 use Rattle.query_laws.proofs.Found.{own_of, own_is}
@@ -38,13 +38,13 @@ module _ (p : Project) (c m : Name) where
   pub method_body : (a : Method) → IsMethodIn p c a → a.name ≡ m → body_at p c m ≡ Some (bodies.OfMethod a)
   method_body a is named =
       let k = is.declaration in
-      ap (option_and_then (body_in m)) is.first_class
+      ap (option_and_then (own_body m)) is.first_class
       ∙ (ap (λ o. body_by o m k) (no_main k is.first_class is.number a is.first_method.here) ∙ ap (option_map bodies.OfMethod) (own_of k m is.number a is.first_method named))
 
   pub main_body : (s : Statement) → IsMainIn p c s → main_word ≡ m → body_at p c m ≡ Some (bodies.OfMain s)
   main_body s is named =
       let k = is.declaration in
-      ap (option_and_then (body_in m)) is.first_class
+      ap (option_and_then (own_body m)) is.first_class
       ∙ (ap (λ o. body_by o m k) is.main ∙ ap (λ (b : Bool). if b then Some (bodies.OfMain s) else None) ((bytes_eq-Decides m main_word).1 (sym named)))
 
   body_to : (b : BodyValue) → IsBodyOf p c m b → body_at p c m ≡ Some b
@@ -63,7 +63,7 @@ module _ (p : Project) (c m : Name) where
         let f = own_is k m a.0 a.1 in
         subst (IsBodyOf p c m) a.2 (OfMethod a.0 (record { declaration = k; first_class = e; number = f.0; first_method = f.1 }) f.2)
 
-    by_class : (o : Option ClassDecl) → class_at p c ≡ o → option_and_then (body_in m) o ≡ Some b → IsBodyOf p c m b
+    by_class : (o : Option ClassDecl) → class_at p c ≡ o → option_and_then (own_body m) o ≡ Some b → IsBodyOf p c m b
     by_class None e h = absurd (none-some b h)
     by_class (Some k) e h = by_main k e k.main refl h
 

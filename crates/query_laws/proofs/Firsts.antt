@@ -12,10 +12,11 @@ use Rattle.mj_answer.specs.Order.{IsAscendingBy}
 use Rattle.mj_answer.proofs.Alike.{one_list, Contains-cases, Contains-first, Contains-later}
 use Rattle.mj_rules.proofs.Numbered.{nowhere}
 use Rattle.mj_project.proofs.Listed.{contains_at}
-use Rattle.recorder.specs.Programs.{Prog, Ret, Ask, asks, is_seen}
+use Rattle.recorder.specs.Programs.{Prog, Ret, Ask, asks}
 use Rattle.recorder.proofs.Recorded.{all_at}
 use Rattle.recorder.proofs.Seen.{unseen_last}
-use Rattle.query_rules.specs.Reads.{asked_keys, firsts, reads}
+use Rattle.recorder.specs.Backed.{is_seen}
+use Rattle.query_rules.specs.Reads.{asked_keys, first_keys, reads}
 use Rattle.query_rules.proofs.Firsts.{firsts_new}
 use Rattle.query_laws.specs.Laws.{StandsFirst, AreFirsts, RunAsks, Ended, Asked, ReadLaws}
 
@@ -39,30 +40,30 @@ still_new (y ∷ ys) k x n e = by_test (is_eq (key_cmp y x)) refl (λ m. still_n
 
 -- ---- the same keys
 
-firsts_asked : (seen ks : List Key) (x : Key) → Contains (firsts seen ks) x → Contains ks x
+firsts_asked : (seen ks : List Key) (x : Key) → Contains (first_keys seen ks) x → Contains ks x
 firsts_asked seen [] x h = absurd (nowhere x h)
 firsts_asked seen (k ∷ ks) x h = by_test (is_seen seen k) (firsts_asked seen ks x) (firsts_asked (seen ++ k ∷ []) ks x) h
   where
-    by_test : (b : Bool) → (Contains (firsts seen ks) x → Contains ks x) → (Contains (firsts (seen ++ k ∷ []) ks) x → Contains ks x) → Contains (if b then firsts seen ks else k ∷ firsts (seen ++ k ∷ []) ks) x → Contains (k ∷ ks) x
+    by_test : (b : Bool) → (Contains (first_keys seen ks) x → Contains ks x) → (Contains (first_keys (seen ++ k ∷ []) ks) x → Contains ks x) → Contains (if b then first_keys seen ks else k ∷ first_keys (seen ++ k ∷ []) ks) x → Contains (k ∷ ks) x
     by_test true old new g = Contains-later k ks x (old g)
-    by_test false old new g = elim (Contains-cases k (firsts (seen ++ k ∷ []) ks) x g) [
+    by_test false old new g = elim (Contains-cases k (first_keys (seen ++ k ∷ []) ks) x g) [
       | inl e ↦ subst (Contains (k ∷ ks)) e (Contains-first k ks)
       | inr l ↦ Contains-later k ks x (new l)
     ]
 
-none_lost : (seen ks : List Key) (x : Key) → Contains ks x → is_seen seen x ≡ false → Contains (firsts seen ks) x
+none_lost : (seen ks : List Key) (x : Key) → Contains ks x → is_seen seen x ≡ false → Contains (first_keys seen ks) x
 none_lost seen [] x h n = absurd (nowhere x h)
 none_lost seen (k ∷ ks) x h n = by_test (is_seen seen k) refl (λ l. none_lost seen ks x l n) (λ l m. none_lost (seen ++ k ∷ []) ks x l m)
   where
-    among_new : (b : Bool) → is_eq (key_cmp k x) ≡ b → (Contains ks x → is_seen (seen ++ k ∷ []) x ≡ false → Contains (firsts (seen ++ k ∷ []) ks) x) → Contains (k ∷ firsts (seen ++ k ∷ []) ks) x
-    among_new true t new = subst (Contains (k ∷ firsts (seen ++ k ∷ []) ks)) (test_same k x t) (Contains-first k (firsts (seen ++ k ∷ []) ks))
+    among_new : (b : Bool) → is_eq (key_cmp k x) ≡ b → (Contains ks x → is_seen (seen ++ k ∷ []) x ≡ false → Contains (first_keys (seen ++ k ∷ []) ks) x) → Contains (k ∷ first_keys (seen ++ k ∷ []) ks) x
+    among_new true t new = subst (Contains (k ∷ first_keys (seen ++ k ∷ []) ks)) (test_same k x t) (Contains-first k (first_keys (seen ++ k ∷ []) ks))
     among_new false t new = elim (Contains-cases k ks x h) [
       | inl e ↦ absurd (differs (sym t ∙ test_itself k x e))
-      | inr l ↦ Contains-later k (firsts (seen ++ k ∷ []) ks) x (new l (still_new seen k x n t))
+      | inr l ↦ Contains-later k (first_keys (seen ++ k ∷ []) ks) x (new l (still_new seen k x n t))
     ]
 
-    by_test : (b : Bool) → is_seen seen k ≡ b → (Contains ks x → Contains (firsts seen ks) x) → (Contains ks x → is_seen (seen ++ k ∷ []) x ≡ false → Contains (firsts (seen ++ k ∷ []) ks) x)
-        → Contains (if b then firsts seen ks else k ∷ firsts (seen ++ k ∷ []) ks) x
+    by_test : (b : Bool) → is_seen seen k ≡ b → (Contains ks x → Contains (first_keys seen ks) x) → (Contains ks x → is_seen (seen ++ k ∷ []) x ≡ false → Contains (first_keys (seen ++ k ∷ []) ks) x)
+        → Contains (if b then first_keys seen ks else k ∷ first_keys (seen ++ k ∷ []) ks) x
     by_test true s old new = elim (Contains-cases k ks x h) [ inl e ↦ absurd (unseen_apart seen k x s n e) | inr l ↦ old l ]
     by_test false s old new = among_new (is_eq (key_cmp k x)) refl new
 
@@ -78,8 +79,8 @@ at_head k ks zero is = refl
 at_head k ks (suc m) is = absurd (is.first 0 (omega arith) refl)
 
 -- what stands in the list is new
-stands_new : (seen ks : List Key) (i : ℕ) (x : Key) → slice_get (firsts seen ks) i ≡ Some x → is_seen seen x ≡ false
-stands_new seen ks i x e = all_at (λ (y : Key). is_seen seen y ≡ false) (firsts seen ks) x (contains_at (firsts seen ks) i x e) (firsts_new seen ks).0
+stands_new : (seen ks : List Key) (i : ℕ) (x : Key) → slice_get (first_keys seen ks) i ≡ Some x → is_seen seen x ≡ false
+stands_new seen ks i x e = all_at (λ (y : Key). is_seen seen y ≡ false) (first_keys seen ks) x (contains_at (first_keys seen ks) i x e) (firsts_new seen ks).0
 
 abbrev InOrder : List Key → List Key → Type 0
 InOrder asked found =
@@ -103,16 +104,16 @@ order_first k ks found apart law a b zero (suc j) m n l at_a at_b first_a first_
     omega (arith, start, y.1)
 order_first k ks found apart law a b (suc i) (suc j) m n l at_a at_b first_a first_b = order_behind k ks found apart law a b i j m n (omega arith) at_a at_b first_a first_b
 
-in_order : (seen ks : List Key) → InOrder ks (firsts seen ks)
+in_order : (seen ks : List Key) → InOrder ks (first_keys seen ks)
 in_order seen [] = λ a b i j m n l at_a at_b first_a first_b. absurd (none-some a at_a)
 in_order seen (k ∷ ks) = by_test (is_seen seen k) refl (in_order seen ks) (in_order (seen ++ k ∷ []) ks)
   where
-    by_test : (b : Bool) → is_seen seen k ≡ b → InOrder ks (firsts seen ks) → InOrder ks (firsts (seen ++ k ∷ []) ks) → InOrder (k ∷ ks) (if b then firsts seen ks else k ∷ firsts (seen ++ k ∷ []) ks)
-    by_test true s old new = order_behind k ks (firsts seen ks) (λ i x e. unseen_apart seen k x s (stands_new seen ks i x e)) old
+    by_test : (b : Bool) → is_seen seen k ≡ b → InOrder ks (first_keys seen ks) → InOrder ks (first_keys (seen ++ k ∷ []) ks) → InOrder (k ∷ ks) (if b then first_keys seen ks else k ∷ first_keys (seen ++ k ∷ []) ks)
+    by_test true s old new = order_behind k ks (first_keys seen ks) (λ i x e. unseen_apart seen k x s (stands_new seen ks i x e)) old
     by_test false s old new =
-        order_first k ks (firsts (seen ++ k ∷ []) ks) (λ i x e same. (unseen_last seen k x (stands_new (seen ++ k ∷ []) ks i x e)).1 (sym same)) new
+        order_first k ks (first_keys (seen ++ k ∷ []) ks) (λ i x e same. (unseen_last seen k x (stands_new (seen ++ k ∷ []) ks i x e)).1 (sym same)) new
 
-are_firsts : (asked : List Key) → AreFirsts asked (firsts [] asked)
+are_firsts : (asked : List Key) → AreFirsts asked (first_keys [] asked)
 are_firsts asked = record {
   same = λ k. (λ h. none_lost [] asked k h refl, firsts_asked [] asked k);
   once = (firsts_new [] asked).1;
@@ -176,8 +177,8 @@ one_firsts asked xs ys f g =
     one_list Key (Earlier asked) (not_both asked) xs ys (ascend asked xs (λ x. (f.same x).1) f.order) (ascend asked ys (λ x. (g.same x).1) g.order)
     (λ x h. (g.same x).0 ((f.same x).1 h)) (λ x h. (f.same x).0 ((g.same x).1 h))
 
-firsts_law : (asked read : List Key) → (read ≡ firsts [] asked) ↔ AreFirsts asked read
-firsts_law asked read = (λ e. subst (AreFirsts asked) (sym e) (are_firsts asked), λ f. one_firsts asked read (firsts [] asked) f (are_firsts asked))
+firsts_law : (asked read : List Key) → (read ≡ first_keys [] asked) ↔ AreFirsts asked read
+firsts_law asked read = (λ e. subst (AreFirsts asked) (sym e) (are_firsts asked), λ f. one_firsts asked read (first_keys [] asked) f (are_firsts asked))
 
 -- ---- runs
 
@@ -185,13 +186,13 @@ every_run : (m : Key → Value) (prog : Prog) → (asked : List Key) × RunAsks 
 every_run m (Ret v) = ([], Ended v)
 every_run m (Ask k f) = let r = every_run m (f (m k)) in (k ∷ r.0, Asked k f r.0 r.1)
 
-run_firsts : (m : Key → Value) (prog : Prog) (asked seen : List Key) → RunAsks m prog asked → asks prog m seen ≡ firsts seen asked
+run_firsts : (m : Key → Value) (prog : Prog) (asked seen : List Key) → RunAsks m prog asked → asks prog m seen ≡ first_keys seen asked
 unfolding asks
 run_firsts m _ _ seen (Ended v) = refl
 run_firsts m _ _ seen (Asked k f ks r) = by_test (is_seen seen k) (run_firsts m (f (m k)) ks seen r) (run_firsts m (f (m k)) ks (seen ++ k ∷ []) r)
   where
-    by_test : (b : Bool) → asks (f (m k)) m seen ≡ firsts seen ks → asks (f (m k)) m (seen ++ k ∷ []) ≡ firsts (seen ++ k ∷ []) ks
-        → (if b then asks (f (m k)) m seen else k ∷ asks (f (m k)) m (seen ++ k ∷ [])) ≡ (if b then firsts seen ks else k ∷ firsts (seen ++ k ∷ []) ks)
+    by_test : (b : Bool) → asks (f (m k)) m seen ≡ first_keys seen ks → asks (f (m k)) m (seen ++ k ∷ []) ≡ first_keys (seen ++ k ∷ []) ks
+        → (if b then asks (f (m k)) m seen else k ∷ asks (f (m k)) m (seen ++ k ∷ [])) ≡ (if b then first_keys seen ks else k ∷ first_keys (seen ++ k ∷ []) ks)
     by_test true old new = old
     by_test false old new = ap (λ (rs : List Key). k ∷ rs) new
 

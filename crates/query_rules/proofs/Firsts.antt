@@ -3,11 +3,10 @@ use Rattle.std.proofs.Common.{◌≡◌, ◌≢◌, Bool, true, false, List, [],
 use Rattle.std.specs.Prelude.{flat_map}
 use Rattle.std.specs.List.{AllByRecursion}
 use Rattle.item_ids.specs.declared.key.Key.{Key}
-use Rattle.recorder.specs.Backed.{NoneTwice}
-use Rattle.recorder.specs.Programs.{is_seen}
+use Rattle.recorder.specs.Backed.{NoneTwice, is_seen}
 use Rattle.recorder.proofs.Seen.{unseen_last}
 use Rattle.recorder.proofs.Recorded.{all_map}
-use Rattle.query_rules.specs.Reads.{firsts}
+use Rattle.query_rules.specs.Reads.{first_keys}
 
 -- ---- what holds of all keys of a list
 
@@ -24,11 +23,11 @@ module _ {X : Type 0} (P : X → Type 0) where
   all_flat f h [] = tt
   all_flat f h (a ∷ rest) = all_append (f a) (flat_map f rest) (h a) (all_flat f h rest)
 
-pub firsts_all : (P : Key → Type 0) (seen ks : List Key) → AllByRecursion P ks → AllByRecursion P (firsts seen ks)
+pub firsts_all : (P : Key → Type 0) (seen ks : List Key) → AllByRecursion P ks → AllByRecursion P (first_keys seen ks)
 firsts_all P seen [] h = tt
 firsts_all P seen (k ∷ ks) h = by_test (is_seen seen k) (firsts_all P seen ks h.1) (h.0, firsts_all P (seen ++ k ∷ []) ks h.1)
   where
-    by_test : (b : Bool) → AllByRecursion P (firsts seen ks) → AllByRecursion P (k ∷ firsts (seen ++ k ∷ []) ks) → AllByRecursion P (if b then firsts seen ks else k ∷ firsts (seen ++ k ∷ []) ks)
+    by_test : (b : Bool) → AllByRecursion P (first_keys seen ks) → AllByRecursion P (k ∷ first_keys (seen ++ k ∷ []) ks) → AllByRecursion P (if b then first_keys seen ks else k ∷ first_keys (seen ++ k ∷ []) ks)
     by_test true a b = a
     by_test false a b = b
 
@@ -43,10 +42,10 @@ first_new seen k ks new h = (
   (all_map (λ x. is_seen (seen ++ k ∷ []) x ≡ false) (λ x. x ≢ k) (λ x u. (unseen_last seen k x u).1) ks h.0, h.1),
 )
 
-pub firsts_new : (seen ks : List Key) → AreNew seen (firsts seen ks)
+pub firsts_new : (seen ks : List Key) → AreNew seen (first_keys seen ks)
 firsts_new seen [] = (tt, tt)
 firsts_new seen (k ∷ ks) = by_test (is_seen seen k) refl (firsts_new seen ks) (firsts_new (seen ++ k ∷ []) ks)
   where
-    by_test : (b : Bool) → is_seen seen k ≡ b → AreNew seen (firsts seen ks) → AreNew (seen ++ k ∷ []) (firsts (seen ++ k ∷ []) ks) → AreNew seen (if b then firsts seen ks else k ∷ firsts (seen ++ k ∷ []) ks)
+    by_test : (b : Bool) → is_seen seen k ≡ b → AreNew seen (first_keys seen ks) → AreNew (seen ++ k ∷ []) (first_keys (seen ++ k ∷ []) ks) → AreNew seen (if b then first_keys seen ks else k ∷ first_keys (seen ++ k ∷ []) ks)
     by_test true e a b = a
-    by_test false e a b = first_new seen k (firsts (seen ++ k ∷ []) ks) e b
+    by_test false e a b = first_new seen k (first_keys (seen ++ k ∷ []) ks) e b

@@ -72,11 +72,11 @@ body_by (Some statement) m k = if bytes_eq m main_word then Some (OfMain stateme
 body_by None m k = option_map OfMethod (own_method m k)
 
 -- the first method of this name in a class; of a main class, for `main`, its statement
-abbrev pub body_in : Name → ClassDecl → Option BodyValue
-body_in m k = body_by k.main m k
+abbrev pub own_body : Name → ClassDecl → Option BodyValue
+own_body m k = body_by k.main m k
 
 abbrev pub body_at : Project → Name → Name → Option BodyValue
-body_at p c m = option_and_then (body_in m) (class_at p c)
+body_at p c m = option_and_then (own_body m) (class_at p c)
 
 -- the types of a method; the statement of main has none
 abbrev pub signature_of : BodyValue → Option SignatureValue

@@ -16,7 +16,7 @@ use Rattle.mj_rules.specs.FaultLists.{method_names}
 use Rattle.mj_rules.specs.Answering.{first_classes}
 use Rattle.mj_rules.specs.Tables.{table_of}
 use Rattle.recorder.specs.Projects.{Project}
-use Rattle.recorder.specs.Programs.{is_seen}
+use Rattle.recorder.specs.Backed.{is_seen}
 use Rattle.query_rules.specs.Items.{class_at, file_of_class, body_at}
 use Rattle.query_rules.specs.BodyReads.{type_reads, body_reads}
 
@@ -100,10 +100,10 @@ asked_keys p keys.Answer =
     ∷ flat_map answer_parts (first_classes (classes_in p))))
 
 -- each key where it stands first, but for those seen
-abbrev pub firsts : List Key → List Key → List Key
-firsts seen [] = []
-firsts seen (k ∷ ks) = if is_seen seen k then firsts seen ks else k ∷ firsts (seen ++ k ∷ []) ks
+abbrev pub first_keys : List Key → List Key → List Key
+first_keys seen [] = []
+first_keys seen (k ∷ ks) = if is_seen seen k then first_keys seen ks else k ∷ first_keys (seen ++ k ∷ []) ks
 
 -- the reads of a key: each where it stands first
 unfoldable pub reads : Project → Key → List Key
-reads p q = firsts [] (asked_keys p q)
+reads p q = first_keys [] (asked_keys p q)

@@ -7,8 +7,8 @@ use Rattle.result_bytes.specs.declared.value.Value.{Value}
 use Rattle.result_bytes.specs.Values.{kind_of_value}
 use Rattle.mj_project.specs.Projects.{IsProject}
 use Rattle.recorder.specs.Projects.{Project}
-use Rattle.recorder.specs.Backed.{Meaning, ReadLists, rank, IsOfKind, AreLower, NoneTwice, Alike, NextAlike, ValueAlike, ReadLaws, RunnerLaws}
-use Rattle.recorder.specs.Programs.{Prog, Ret, Ask, runs, asks, is_seen, Fits, Tied}
+use Rattle.recorder.specs.Backed.{Meaning, ReadLists, rank, IsOfKind, AreLower, NoneTwice, Alike, NextAlike, ValueAlike, ReadLaws, RunnerLaws, is_seen}
+use Rattle.recorder.specs.Programs.{Prog, Ret, Ask, runs, asks, Fits, Tied}
 use Rattle.recorder.proofs.Recorded.{all_last, all_map}
 use Rattle.recorder.proofs.Seen.{seen_alike, unseen_last}
 use Rattle.recorder.proofs.Reach.{asks_seen, asks_new}

@@ -7,9 +7,9 @@ use Rattle.item_ids.specs.declared.key.Key.{Key}
 use Rattle.result_bytes.specs.declared.value.Value.{Value}
 use Rattle.mj_project.specs.Projects.{IsProject}
 use Rattle.recorder.specs.Projects.{Project}
-use Rattle.recorder.specs.Backed.{Meaning, ReadLists, ReadValue, keys, rank, AreLower, Gives, GivesEach, BeginsWith, Asked, IsNext, Backed}
+use Rattle.recorder.specs.Backed.{Meaning, ReadLists, ReadValue, keys, rank, AreLower, Gives, GivesEach, BeginsWith, Asked, IsNext, Backed, is_seen}
 use Rattle.recorder.specs.Recording.{IsUnread}
-use Rattle.recorder.specs.Programs.{Prog, Ret, Ask, runs, asks, is_seen, Fits, Reached, Start, Again, First}
+use Rattle.recorder.specs.Programs.{Prog, Ret, Ask, runs, asks, Fits, Reached, Start, Again, First}
 use Rattle.recorder.proofs.Recorded.{all_last, all_at}
 use Rattle.recorder.proofs.Seen.{seen_told, unseen_unread}
 

@@ -6,9 +6,8 @@ use Rattle.item_ids.specs.declared.key.Key.{Key}
 use Rattle.item_ids.specs.Keys.{key_cmp}
 use Rattle.item_ids.proofs.Apart.{test_same, test_itself}
 use Rattle.result_bytes.specs.declared.value.Value.{Value}
-use Rattle.recorder.specs.Backed.{ReadValue, Alike, keys}
+use Rattle.recorder.specs.Backed.{ReadValue, Alike, keys, is_seen}
 use Rattle.recorder.specs.Recording.{IsUnread}
-use Rattle.recorder.specs.Programs.{is_seen}
 use Rattle.recorder.proofs.Recorded.{all_at}
 
 differs : false ≡ true → ⊥

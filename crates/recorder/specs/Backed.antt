@@ -1,10 +1,11 @@
 -- What queries mean and read in a project, and what the reads of a run say of its result.
-use Rattle.std.specs.Prelude.{◌≡◌, ◌≢◌, ℕ, suc, ◌<◌, List, [], ◌∷◌, ◌++◌, length, take, map}
+use Rattle.std.specs.Prelude.{◌≡◌, ◌≢◌, ℕ, suc, ◌<◌, List, [], ◌∷◌, ◌++◌, length, take, map, Bool, true, false, if◌then◌else◌}
 use Rattle.std.specs.List.{AllByRecursion}
+use Rattle.std.specs.Ordering.{is_eq}
 use Rattle.item_ids.specs.declared.key.Key.{Key}
 use Rattle.item_ids.specs.declared.key.Key.TheVariants.{Files, Source}
 use Rattle.item_ids.specs.Kinds.{rank_of}
-use Rattle.item_ids.specs.Keys.{kind_of, IsKey}
+use Rattle.item_ids.specs.Keys.{kind_of, IsKey, key_cmp}
 use Rattle.result_bytes.specs.declared.value.Value.{Value}
 use Rattle.result_bytes.specs.declared.value.Value.TheVariants as values
 use Rattle.result_bytes.specs.Values.{kind_of_value, IsValue}
@@ -21,6 +22,11 @@ ReadLists = Project → Key → List Key
 
 abbrev pub rank : Key → ℕ
 rank k = rank_of (kind_of k)
+
+-- the key is one of these
+abbrev pub is_seen : List Key → Key → Bool
+is_seen [] k = false
+is_seen (x ∷ xs) k = if is_eq (key_cmp x k) then true else is_seen xs k
 
 -- a value is of the kind of a key
 abbrev pub IsOfKind : Key → Value → Type 0

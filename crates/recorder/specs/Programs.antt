@@ -1,12 +1,10 @@
 -- Query programs: which keys are asked, one after the other, and what comes of the answers.
-use Rattle.std.specs.Prelude.{◌≡◌, ◌<◌, ℕ, Bool, true, false, if◌then◌else◌, List, [], ◌∷◌, ◌++◌, Contains, drop, None, IfSome, Result, IfOk, IfErr}
-use Rattle.std.specs.Ordering.{is_eq}
+use Rattle.std.specs.Prelude.{◌≡◌, ◌<◌, ℕ, if◌then◌else◌, List, [], ◌∷◌, ◌++◌, Contains, drop, None, IfSome, Result, IfOk, IfErr}
 use Rattle.item_ids.specs.declared.key.Key.{Key}
-use Rattle.item_ids.specs.Keys.{key_cmp}
 use Rattle.result_bytes.specs.declared.value.Value.{Value}
 use Rattle.mj_project.specs.Projects.{IsProject}
 use Rattle.recorder.specs.Projects.{Project}
-use Rattle.recorder.specs.Backed.{Meaning, ReadLists, ReadValue, rank, IsOfKind, InputLaws}
+use Rattle.recorder.specs.Backed.{Meaning, ReadLists, ReadValue, rank, IsOfKind, InputLaws, is_seen}
 use Rattle.recorder.specs.Recording.{Recording, IsUnread, key_of}
 use Rattle.recorder.specs.Runs.{TellsFault}
 use Rattle.recorder.specs.declared.runner.RunFault.{RunFault}
@@ -22,10 +20,6 @@ pub data Prog : Type 0 where
 unfoldable pub runs : Prog → (Key → Value) → Value
 runs (Ret v) m = v
 runs (Ask k f) m = runs (f (m k)) m
-
-abbrev pub is_seen : List Key → Key → Bool
-is_seen [] k = false
-is_seen (x ∷ xs) k = if is_eq (key_cmp x k) then true else is_seen xs k
 
 -- the keys that are asked after those seen, each where it is asked first
 unfoldable pub asks : Prog → (Key → Value) → List Key → List Key

@@ -91,6 +91,7 @@ pub fn record<R: Runner, D: Reader>(
         × (recorder.new ≡ recorder.old)) }
     ensures follows { D.follows recorder.old.inner recorder.new.inner }
 {
+    // A key keeps in its type that its names are names.
     is_key(key);
     let value = runner.run(alloc, key, recorder)?;
     let reads = copy_reads(alloc, recorder.reads())?;

@@ -185,6 +185,7 @@ fn keep(alloc: Global, reads: &mut Reads, key: &Key, answer: &Arc<Sealed>) -> Re
     ensures err { OnErr result (reads.new ≡ reads.old) }
     ensures kept { IsTold (record { key = key.now; value = arc_value answer.now }) }
 {
+    // The key and the answer keep in their types what a read keeps.
     is_told(key, answer);
     let read = Read::new(key.copy(alloc)?, Arc::try_clone(answer)?);
     reads.push_unread(alloc, read)

@@ -43,6 +43,7 @@ impl Read {
         ensures key { result.now ≡ self.now.key }
         ensures kept { IsKey self.now.key }
     {
+        // A key keeps in its type that its names are names.
         is_key(&self.key);
         &self.key
     }
@@ -52,6 +53,7 @@ impl Read {
         ensures answer { arc_value result.now ≡ self.now.value }
         ensures kept { IsValue self.now.value }
     {
+        // A result keeps in its type what its value's spelling demands.
         let _value = self.answer.value();
         &self.answer
     }

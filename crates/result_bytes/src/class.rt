@@ -67,6 +67,7 @@ impl Header {
               methods = methods.items;
             } }
     {
+        // What the spelling demands of the parts they keep in their types.
         check_perhaps_name(&superclass);
         check_list::<FieldFormat>(&fields);
         check_list::<NameFormat>(&methods);
@@ -135,6 +136,7 @@ impl Signature {
     pub fn new(formals: Vec<Ty>, returns: Ty) -> Self
         ensures { result ≡ record { formals = formals.items; returns = returns } }
     {
+        // What the spelling demands of the parts they keep in their types.
         check_list::<TypeFormat>(&formals);
         check_ty(&returns);
         Signature { formals, returns }
@@ -182,6 +184,7 @@ impl Supers {
     pub fn new(classes: Vec<Name>, end: ChainEnd) -> Self
         ensures { result ≡ record { classes = classes.items; end = end } }
     {
+        // What the spelling demands of the parts they keep in their types.
         check_list::<NameFormat>(&classes);
         check_end(&end);
         Supers { classes, end }

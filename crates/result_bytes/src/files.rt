@@ -43,6 +43,7 @@ impl FileNames {
         requires distinct { AreDistinct names.items }
         ensures { result ≡ names.items }
     {
+        // What the spelling demands of the parts they keep in their types.
         check_list::<NameFormat>(&names);
         FileNames { names }
     }
@@ -124,6 +125,7 @@ impl Text {
     pub fn new(bytes: Vec<u8>) -> Self
         ensures { result ≡ bytes.items }
     {
+        // A vector has fewer than 2^64 items.
         let _few = bytes.len();
         Text { bytes }
     }
@@ -280,6 +282,7 @@ impl Index {
         requires { IsAscendingByName (λ row. row.class) rows.items }
         ensures { result ≡ rows.items }
     {
+        // What the spelling demands of the parts they keep in their types.
         check_list::<IndexRowFormat>(&rows);
         Index { rows }
     }

@@ -50,15 +50,15 @@ pub record Holds (given : Given) (list : List ReadValue) (answer : Bool) : Type 
   pub missing : answer ≡ false → LacksKey given list ⊎ AnswersOtherwise given list
 
 -- the key is the one that is told, or both are missing
-abbrev pub IsRefused : Option Asked → Option Key → Type 0
-IsRefused (Some asked) (Some key) = IsKeyOf asked key
-IsRefused None None = Unit {0}
-IsRefused _ _ = ⊥
+abbrev pub IsRefusedKey : Option Asked → Option Key → Type 0
+IsRefusedKey (Some asked) (Some key) = IsKeyOf asked key
+IsRefusedKey None None = Unit {0}
+IsRefusedKey _ _ = ⊥
 
 -- of reads just these are kept, and of a refused one this fault and this key
 pub record IsKept (kept : Kept) {D : Type 0} (r : Recording D) : Type 0 where
   pub fault : fault_of r ≡ kept.fault
-  pub refused : IsRefused kept.refused (key_of r)
+  pub refused : IsRefusedKey kept.refused (key_of r)
   pub reads : AreReadsOf kept.reads.now r.told
 
 -- ---- results
@@ -137,5 +137,5 @@ pub record IsLeftUnread (asked : Asked) (fault : ReadFault) (refused : Option As
     (r : Recording D) : Type 0 where
   pub halted : IsHalted asked r
   pub fault_told : fault_of r ≡ Some fault
-  pub refused_told : IsRefused refused (key_of r)
+  pub refused_told : IsRefusedKey refused (key_of r)
   pub unread : r.told ≡ []

@@ -5,7 +5,7 @@ ghost use Rattle.recorder.specs.Recording.{Recording, fault_of};
 ghost use Rattle.recorder.specs.declared.reader.ReadFault.TheVariants.{NotHeld};
 ghost use Rattle.sample_runner.specs.declared.refusing.Refusing.{Refusing as SpecRefusing};
 ghost use Rattle.answer_samples.specs.Telling.{IsKeyOf};
-ghost use Rattle.run_samples.specs.Reading.{AreReadsOf, IsRefused, IsKept, IsLoggedAs, IsHalted, IsLeft, IsLeftUnread};
+ghost use Rattle.run_samples.specs.Reading.{AreReadsOf, IsRefusedKey, IsKept, IsLoggedAs, IsHalted, IsLeft, IsLeftUnread};
 
 use crate::answers::list_of;
 use crate::reads::{Given, are_reads};
@@ -26,7 +26,7 @@ pub struct Kept<'a> {
 
 /// Whether this is the key, or both are missing.
 fn is_refused(key: Option<&Key>, refused: Option<Asked>) -> bool
-    ensures { IsTrue result ↔ IsRefused refused.entry (option_copied key.entry) }
+    ensures { IsTrue result ↔ IsRefusedKey refused.entry (option_copied key.entry) }
 {
     match (key, refused) {
         (Some(key), Some(asked)) => is_key(key, asked),

@@ -1,9 +1,6 @@
 -- Where the next session of a cache begins.
 use Rattle.std.specs.Prelude.{◌≡◌, ◌≢◌, ◌⊎◌, ℕ, ◌+◌, ◌<◌, ◌≤◌, List, ◌++◌, Option, Some, None, Result, Ok, Err, IfSome, IsSomeAnd, codes, string_bytes, if◌then◌else◌, nat_lt}
-use Rattle.std.specs.Arc.{arc_value}
-use Rattle.std.specs.declared.alloc.Global.{Global}
-use Rattle.std.specs.declared.sync.Arc.{Arc}
-use Rattle.sessions.specs.Sessions.{SessionValue}
+use Rattle.sessions.specs.Sessions.{SessionValue, session_in, next_number}
 use Rattle.session_file.specs.declared.fault.FileFault.{FileFault}
 use Rattle.session_file.specs.declared.fault.FileFault.TheVariants as refusals
 use Rattle.session_cache.specs.Names.{most, name_of}
@@ -29,18 +26,13 @@ chain_path dir chain = dir ++ (codes "/" ++ name_of Chain chain)
 abbrev pub path_of : List ℕ → Place → List ℕ
 path_of dir p = chain_path dir p.chain ++ (codes "/" ++ name_of Session p.number)
 
--- the session that is kept so
-abbrev pub session_in : Option (Arc SessionValue Global) → Option SessionValue
-session_in None = None
-session_in (Some s) = Some (arc_value s)
-
 -- the place of the first session of the next chain, where there is one
 abbrev pub next_chain : ℕ → Option Place
 next_chain chain =
     if nat_lt chain most then Some (record { chain = chain + 1; number = 0 }) else None
 
 -- The session goes on the chain of the one at this place.
-pub record GoesOn (last : Place) (s : SessionValue) (start : Start) : Type 0 where
+pub record ContinuesChain (last : Place) (s : SessionValue) (start : Start) : Type 0 where
   pub past : session_in start.past ≡ Some s
   pub place : start.place ≡ Some (record { chain = last.chain; number = last.number + 1 })
   pub note : start.note ≡ None
@@ -64,7 +56,7 @@ IsStartBehindFile last (Err fault) start =
 IsStartBehindFile last (Ok s) start =
     ((s.number ≢ last.number) × BeginsNext last Number start)
     ⊎ ((s.number ≡ last.number) × (most ≤ s.number) × BeginsNext last Full start)
-    ⊎ ((s.number ≡ last.number) × (s.number < most) × GoesOn last s start)
+    ⊎ ((s.number ≡ last.number) × (s.number < most) × ContinuesChain last s start)
 
 -- where a session begins in a cache, by what was read of its last chain
 abbrev pub IsStartBehind : Last → Start → Type 0
@@ -78,16 +70,11 @@ IsLast NoChain = Unit {0}
 IsLast (NoSession chain) = chain ≤ most
 IsLast (File last read) = IsPlace last
 
--- the number of the next session
-abbrev pub number_behind : Option SessionValue → ℕ
-number_behind None = 0
-number_behind (Some s) = s.number + 1
-
 -- The place, where there is one, is that of the next session, which the past leaves room for. What is
 -- noted is noted of a place, and where there is none for the session, of one in the last chain.
 pub record IsStart (start : Start) : Type 0 where
   pub place : IfSome start.place IsPlace
-  pub number : IfSome start.place (λ p. p.number ≡ number_behind (session_in start.past))
+  pub number : IfSome start.place (λ p. p.number ≡ next_number (session_in start.past))
   pub room : IfSome (session_in start.past) (λ s. s.number < most)
   pub noted : IfSome start.note (λ note. IsPlace note.place)
   pub ended : start.place ≡ None → IsSomeAnd start.note (λ note. note.place.chain ≡ most)

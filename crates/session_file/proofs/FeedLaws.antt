@@ -15,7 +15,7 @@ use Rattle.session_file.specs.declared.fault.FileFault.TheVariants.{Truncated}
 use Rattle.session_file.specs.declared.hashing.HashingSink.{HashingSink}
 use Rattle.session_file.specs.declared.stop.Stop.{Stop}
 use Rattle.session_file.specs.declared.stop.Stop.TheVariants as stops
-use Rattle.session_file.specs.Devices.{Moves}
+use Rattle.session_file.specs.Devices.{MovesBytes}
 use Rattle.session_file.specs.Reading.{Parser, whole, bytes_at, text_at}
 use Rattle.session_file.specs.Feeding.{Given, IsShort, FillsNot, Moved, Took, Breaks, Halts, Leads}
 
@@ -185,7 +185,7 @@ filled room sub a k n le_a le_n =
     take_both (take a room) (sub ++ post_of a k room) a n (length-take-le a room le_a)
     ∙ ap (λ (xs : List ℕ). take a room ++ xs) (take-append-le n sub (post_of a k room) le_n)
 
-pub given_more : {a b : List ℕ → Type 0} (room : List ℕ) (at : ℕ) (c : List ℕ → Type 0) (before sub : List ℕ) (k n : ℕ) → Given a b (take at room) → ((bytes : List ℕ) → b bytes → Moves c bytes before sub n) → at ≤ length room → n ≤ length sub → Given a c (take (at + n) (put_mid at k room sub))
+pub given_more : {a b : List ℕ → Type 0} (room : List ℕ) (at : ℕ) (c : List ℕ → Type 0) (before sub : List ℕ) (k n : ℕ) → Given a b (take at room) → ((bytes : List ℕ) → b bytes → MovesBytes c bytes before sub n) → at ≤ length room → n ≤ length sub → Given a c (take (at + n) (put_mid at k room sub))
 given_more {a} {b} room at c before sub k n f moves le_at le_n = record {
   left = λ bytes h.
       let x = f.left bytes h in

@@ -9,13 +9,12 @@ use Rattle.item_ids.specs.declared.kind.Kind.TheVariants as kinds
 use Rattle.item_ids.specs.Kinds.{number_of, has_class, has_member}
 use Rattle.item_ids.specs.declared.key.Key.{Key}
 use Rattle.item_ids.specs.declared.key.Key.TheVariants.{Files, Source, Tree, Index, Header, Method, Sig, Supers, Members, CheckClass, CheckBody, Diags, Answer}
-use Rattle.item_ids.specs.Keys.{kind_of, class_of, member_of, class_text, member_text}
+use Rattle.item_ids.specs.Keys.{kind_of, class_of, member_of, class_text, member_text, IsKey}
 use Rattle.byte_readers.specs.Names.{IsName}
 use Rattle.byte_readers.specs.Laws.{found_passes}
 use Rattle.sessions.specs.declared.mark.Mark.{Mark}
 use Rattle.sessions.specs.declared.mark.Mark.TheVariants.{Input, Executed, Green}
 use Rattle.sessions.specs.Marks.{mark_number}
-use Rattle.sessions.specs.Keys.{HasNames}
 use Rattle.session_file.specs.Keys.{all_kinds, kind_with, mark_with, name_with, same, are_names, key_of_parts, key_of_kind, key_of_some, key_with}
 
 both : (a b : Bool) → (a && b) ≡ true → (a ≡ true) × (b ≡ true)
@@ -121,7 +120,7 @@ pub record IsKeyOf (n : ℕ) (c m : List ℕ) (key : Key) : Type 0 where
   pub kind : number_of (kind_of key) ≡ n
   pub class : class_text key ≡ c
   pub member : member_text key ≡ m
-  pub names : HasNames key
+  pub names : IsKey key
 
 kind_is : (n : ℕ) (kind : Kind) → kind_with n ≡ Some kind → number_of kind ≡ n
 unfolding kind_with
@@ -152,7 +151,7 @@ mark_takes n mark e = eqb-true _ _ (found_passes (λ (t : Mark). eqb (mark_numbe
 empty_text : is_utf8 [] ≡ true
 empty_text = is_utf8-from_IsUtf8 [] IsUtf8-nil
 
-pub key_again : (key : Key) → HasNames key → key_with (number_of (kind_of key)) (class_text key) (member_text key) ≡ Some key
+pub key_again : (key : Key) → IsKey key → key_with (number_of (kind_of key)) (class_text key) (member_text key) ≡ Some key
 unfolding key_with kind_with
 key_again Files h = rw empty_text refl
 key_again (Source c) h = rw (h.class.text, empty_text, name_is c h.class.some) refl

@@ -7,7 +7,7 @@ use Rattle.sha2.proofs.Facts256.{length-sha256}
 use Rattle.item_ids.specs.declared.kind.Kind.{Kind}
 use Rattle.item_ids.specs.declared.key.Key.{Key}
 use Rattle.item_ids.specs.Kinds.{number_of}
-use Rattle.item_ids.specs.Keys.{kind_of, class_text, member_text, key_cmp}
+use Rattle.item_ids.specs.Keys.{kind_of, class_text, member_text, key_cmp, IsKey}
 use Rattle.byte_readers.specs.Lawful.{IsBytes, Takes}
 use Rattle.byte_readers.specs.Laws.{Takes-then, lawful_eight}
 use Rattle.byte_readers.specs.Spelling.{eight, name, list}
@@ -19,7 +19,6 @@ use Rattle.result_bytes.proofs.ValueLaws.{decoded_takes, decoded_at}
 use Rattle.fingerprint.specs.Prints.{print_of}
 use Rattle.sessions.specs.declared.mark.Mark.{Mark}
 use Rattle.sessions.specs.Marks.{is_input, is_input_mark, mark_number}
-use Rattle.sessions.specs.Keys.{HasNames}
 use Rattle.sessions.specs.Sessions.{RecordValue, IsAbove, FitsBehind, AreRecords}
 use Rattle.sessions.specs.Edges.{AreEdges}
 use Rattle.sessions.specs.Spelling.{key_bytes, result_bytes, record_bytes}
@@ -51,7 +50,7 @@ item_parts : (n t : ℕ) (c m : List ℕ) (key : Key) (mark : Mark) → number_o
 unfolding key_bytes
 item_parts n t c m key mark en ec em et = rw (← en, ← ec, ← em, ← et) (ap (λ (xs : List ℕ). number_of (kind_of key) ∷ (length (class_text key) ∷ xs)) (sym (append_assoc (class_text key) (name (member_text key)) (mark_number mark ∷ []))))
 
-pub item_takes : (i : ℕ) (bytes : List ℕ) (item : ItemValue) (rest : List ℕ) → IsBytes bytes → item_at i bytes ≡ Ok (item, rest) → Takes bytes (item_bytes item) rest × HasNames item.key
+pub item_takes : (i : ℕ) (bytes : List ℕ) (item : ItemValue) (rest : List ℕ) → IsBytes bytes → item_at i bytes ≡ Ok (item, rest) → Takes bytes (item_bytes item) rest × IsKey item.key
 unfolding item_at
 item_takes i bytes item rest fits e =
     let a = bind_ok (whole (byte_at bytes)) _ (item, rest) e in
@@ -75,7 +74,7 @@ item_regrouped item rest =
     ∙ ap (λ (xs : List ℕ). number_of (kind_of item.key) ∷ xs) (append_assoc (name (class_text item.key)) (name (member_text item.key) ++ (mark_number item.mark ∷ [])) rest
     ∙ ap (λ (xs : List ℕ). name (class_text item.key) ++ xs) (append_assoc (name (member_text item.key)) (mark_number item.mark ∷ []) rest))
 
-pub item_again : (i : ℕ) (item : ItemValue) (rest : List ℕ) → HasNames item.key → item_at i (item_bytes item ++ rest) ≡ Ok (item, rest)
+pub item_again : (i : ℕ) (item : ItemValue) (rest : List ℕ) → IsKey item.key → item_at i (item_bytes item ++ rest) ≡ Ok (item, rest)
 unfolding item_at
 item_again i item rest h =
     let k = key_again item.key h in

@@ -39,7 +39,7 @@ Puts old new bytes (Err e) = (front : List ℕ) → old front → Begins new fro
 -- ---- feeds, by the bytes that they still hold
 
 -- so many of the bytes were moved to the room
-pub record Moves (new : List ℕ → Type 0) (bytes before after : List ℕ) (n : ℕ) : Type 0 where
+pub record MovesBytes (new : List ℕ → Type 0) (bytes before after : List ℕ) (n : ℕ) : Type 0 where
   pub within : n ≤ length bytes
   pub moved : take n after ≡ take n bytes
   pub left : new (drop n bytes)
@@ -49,5 +49,5 @@ pub record Moves (new : List ℕ → Type 0) (bytes before after : List ℕ) (n 
 abbrev pub Takes : {E : Type 0} → (List ℕ → Type 0) → (List ℕ → Type 0) → List ℕ → List ℕ
     → Result ℕ E → Type 0
 Takes old new before after (Ok n) =
-    (n ≤ length before) × ((bytes : List ℕ) → old bytes → Moves new bytes before after n)
+    (n ≤ length before) × ((bytes : List ℕ) → old bytes → MovesBytes new bytes before after n)
 Takes old new before after (Err e) = (bytes : List ℕ) → old bytes → new bytes

@@ -18,7 +18,7 @@ abbrev pub AreRecordsOf : List Kept → List RecordValue → Type 0
 AreRecordsOf kept records = AllZip IsRecordOf kept records
 
 -- the session of the number, the link and the records that are told
-pub record IsSessionOf (number : ℕ) (link : List ℕ) (kept : List Kept) (s : SessionValue) : Type 0 where
+pub record IsToldSession (number : ℕ) (link : List ℕ) (kept : List Kept) (s : SessionValue) : Type 0 where
   pub session : IsSession s
   pub number_told : s.number ≡ number
   pub link_told : s.link ≡ link
@@ -26,7 +26,7 @@ pub record IsSessionOf (number : ℕ) (link : List ℕ) (kept : List Kept) (s : 
 
 -- the first session of a chain, with the records that are told
 abbrev pub IsFirstOf : List Kept → SessionValue → Type 0
-IsFirstOf kept s = IsSessionOf 0 (replicate 32 0) kept s
+IsFirstOf kept s = IsToldSession 0 (replicate 32 0) kept s
 
 -- the bytes are the file of this session
 pub record IsFileOf (bytes : List ℕ) (s : SessionValue) : Type 0 where

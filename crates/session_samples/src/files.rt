@@ -7,7 +7,7 @@ ghost use Rattle.session_file.specs.Feeding.{CountsDevice, Given};
 ghost use Rattle.session_file.specs.Reading.{IsUnlessMemory, file_at};
 ghost use Rattle.session_file.specs.declared.fault.FileFault.{FileFault as SpecFault};
 ghost use Rattle.session_file.specs.declared.fault.FileFault.TheVariants.{Device, OutOfMemory};
-ghost use Rattle.session_samples.specs.Telling.{IsSessionOf, IsFirstOf, IsFileOf};
+ghost use Rattle.session_samples.specs.Telling.{IsToldSession, IsFirstOf, IsFileOf};
 
 use crate::records::{Kept, session_of};
 use answer_samples::Unfit;
@@ -59,7 +59,7 @@ pub fn digest_of(
     link: [u8; 32],
     kept: &[Kept],
 ) -> Result<[u8; 32], Unfit>
-    ensures { IfOk result (λ digest. (s : SessionValue) × IsSessionOf number link kept.now s
+    ensures { IfOk result (λ digest. (s : SessionValue) × IsToldSession number link kept.now s
         × (digest ≡ digest_of s)) }
 {
     let session = session_of(alloc, number, link, kept)?;
@@ -67,7 +67,7 @@ pub fn digest_of(
 }
 
 /// Why the bytes are no file of a session, or `None` where they are one.
-pub fn fault_of(alloc: Global, bytes: &[u8]) -> Option<FileFault>
+pub fn file_fault_of(alloc: Global, bytes: &[u8]) -> Option<FileFault>
     ensures { MatchOption result ((s : SessionValue) × IsFileOf bytes.now s)
         (λ fault. IsUnlessMemory (Err fault) (file_at bytes.now)) }
 {

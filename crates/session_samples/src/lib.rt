@@ -8,7 +8,7 @@ mod records;
 
 pub use failing::{Failing, FailingFeed, FailingSink, Manner};
 pub use files::{
-    digest_of, digest_of_read, digest_of_taken, fault_of, file_of, is_read_again, write_to,
+    digest_of, digest_of_read, digest_of_taken, file_fault_of, file_of, is_read_again, write_to,
 };
 pub use first::FIRST;
 pub use records::{Kept, session_of};

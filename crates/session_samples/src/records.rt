@@ -2,7 +2,7 @@
 ghost use Rattle.std.specs.Prelude.{◌≡◌, List, [], ◌∷◌, ◌++◌, IfOk, OnOk};
 ghost use Rattle.answer_samples.specs.Telling.{IsKeyOf};
 ghost use Rattle.session_samples.specs.declared.records.Kept.{Kept as SpecKept};
-ghost use Rattle.session_samples.specs.Telling.{IsRecordOf, AreRecordsOf, IsSessionOf};
+ghost use Rattle.session_samples.specs.Telling.{IsRecordOf, AreRecordsOf, IsToldSession};
 
 use answer_samples::{Asked, Unfit, key_of, sealed_of};
 use item_ids::Key;
@@ -26,7 +26,7 @@ pub fn session_of(
     link: [u8; 32],
     kept: &[Kept],
 ) -> Result<Session, Unfit>
-    ensures { IfOk result (IsSessionOf number link kept.now) }
+    ensures { IfOk result (IsToldSession number link kept.now) }
 {
     let records = records_of(alloc, kept)?;
     match Session::new(alloc, number, link, records) {

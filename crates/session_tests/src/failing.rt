@@ -3,7 +3,7 @@
 use crate::first::file_of_first;
 use session_file::{Feed, FileFault, Sink};
 use session_samples::{
-    FIRST, Failing, FailingFeed, FailingSink, Manner, digest_of, digest_of_taken, fault_of,
+    FIRST, Failing, FailingFeed, FailingSink, Manner, digest_of, digest_of_taken, file_fault_of,
     file_of, write_to,
 };
 use std::alloc::Global;
@@ -53,7 +53,7 @@ fn is_no_file(alloc: Global, bytes: &[u8]) -> bool {
     } else {
         FileFault::Truncated
     };
-    fault_of(alloc, bytes) == Some(fault)
+    file_fault_of(alloc, bytes) == Some(fault)
 }
 
 /// Whether the file is written whole to the sink that is emptied before, where it doesn't go on to fail.
@@ -167,7 +167,7 @@ fn ends_early(alloc: Global, file: &[u8], count: usize, piece: usize) -> bool {
     };
     let mut feed = FailingFeed::new(front, unfailing(piece));
     let fault = digest_of_taken(alloc, &mut feed).err();
-    fault == fault_of(alloc, front) && fault.is_some() && feed.failures() == 0
+    fault == file_fault_of(alloc, front) && fault.is_some() && feed.failures() == 0
 }
 
 fn end_early(alloc: Global, file: &[u8], piece: usize) -> bool {

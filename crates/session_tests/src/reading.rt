@@ -2,7 +2,7 @@
 
 use crate::first::file_of_first;
 use session_file::FileFault;
-use session_samples::{FIRST, fault_of, file_of, is_read_again};
+use session_samples::{FIRST, file_fault_of, file_of, is_read_again};
 use std::alloc::Global;
 use std::test::*;
 
@@ -31,7 +31,7 @@ fn fault_of_cut(count: usize) -> FileFault {
 
 fn is_cut_refused(alloc: Global, file: &[u8], count: usize) -> bool {
     match file.get(..count) {
-        Some(front) => fault_of(alloc, front) == Some(fault_of_cut(count)),
+        Some(front) => file_fault_of(alloc, front) == Some(fault_of_cut(count)),
         None => false,
     }
 }
@@ -176,7 +176,7 @@ fn has_changed(bytes: &mut [u8], row: &Changed) -> bool {
 fn is_refused(alloc: Global, file: &[u8], row: &Changed) -> bool {
     match file.to_vec(alloc) {
         Ok(mut bytes) => {
-            has_changed(&mut bytes, row) && fault_of(alloc, &bytes) == Some(row.fault)
+            has_changed(&mut bytes, row) && file_fault_of(alloc, &bytes) == Some(row.fault)
         }
         Err(_) => false,
     }
@@ -194,7 +194,7 @@ fn changed_files_are_refused(rt: HostRuntime) -> Result<(), Fail> {
 fn is_trailing_refused(alloc: Global, file: &[u8]) -> bool {
     match file.to_vec(alloc) {
         Ok(mut bytes) => {
-            bytes.push(0).is_ok() && fault_of(alloc, &bytes) == Some(FileFault::Trailing)
+            bytes.push(0).is_ok() && file_fault_of(alloc, &bytes) == Some(FileFault::Trailing)
         }
         Err(_) => false,
     }
@@ -213,7 +213,7 @@ const NO_FILES: &str =
 
 fn is_not_canonical(alloc: Global) -> bool {
     match hex::decode(alloc, NO_FILES) {
-        Ok(bytes) => fault_of(alloc, &bytes) == Some(FileFault::Result(0)),
+        Ok(bytes) => file_fault_of(alloc, &bytes) == Some(FileFault::Result(0)),
         Err(_) => false,
     }
 }

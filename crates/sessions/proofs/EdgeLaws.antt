@@ -6,7 +6,7 @@ use Rattle.std.proofs.lemmas.List.{get_or-set_same, get_or-set_other, length-set
 use Rattle.std.proofs.lemmas.Bool.{cases_eq, ne_eqb, eq-eqb}
 use Rattle.item_ids.specs.declared.key.Key.{Key}
 use Rattle.sessions.specs.Sessions.{RecordValue, IsEdge}
-use Rattle.sessions.specs.Edges.{seen_in, IsNewEdge, AreEdges, IsNoneOf, Tells}
+use Rattle.sessions.specs.Edges.{seen_in, IsNewEdge, AreEdges, IsNoneOf, AreSeenEdges}
 use Rattle.sessions.specs.Refusals.{IsFirstBadEdge}
 use Rattle.sessions.proofs.Lists.{all_push, all_front, all_last, distinct_push, distinct_last}
 
@@ -20,13 +20,13 @@ all_false (b ∷ bs) (suc e) h = all_false bs e h.1
 pub false_true : {A : Type 0} (b : Bool) → b ≡ false → b ≡ true → A
 false_true b f t = absurd cc
 
-pub tells_none : (seen : List Bool) → AllByRecursion (λ b. b ≡ false) seen → Tells seen []
+pub tells_none : (seen : List Bool) → AllByRecursion (λ b. b ≡ false) seen → AreSeenEdges seen []
 tells_none seen h = record {
   unseen = λ e lt is. tt;
   seen_one = λ e lt is. false_true (get_or seen e false) (all_false seen e h) is;
 }
 
-pub tells_more : (seen : List Bool) (edges : List ℕ) (e : ℕ) → Tells seen edges → e < length seen → Tells (set seen e true) (edges ++ e ∷ [])
+pub tells_more : (seen : List Bool) (edges : List ℕ) (e : ℕ) → AreSeenEdges seen edges → e < length seen → AreSeenEdges (set seen e true) (edges ++ e ∷ [])
 tells_more seen edges e t lt = record {
   unseen = λ k in_range is. elim (cases_eq k e) [
     | inl same ↦ false_true (get_or (set seen e true) k false) is (ap (λ (n : ℕ). get_or (set seen e true) n false) same ∙ get_or-set_same seen e true false lt)
@@ -39,12 +39,12 @@ tells_more seen edges e t lt = record {
 }
 
 -- one more edge
-pub edges_more : (front : List RecordValue) (key : Key) (seen : List Bool) (edges : List ℕ) (e : ℕ) → Tells seen edges → length seen ≡ length front → AreEdges front key edges → IsNewEdge seen front key e → AreEdges front key (edges ++ e ∷ [])
+pub edges_more : (front : List RecordValue) (key : Key) (seen : List Bool) (edges : List ℕ) (e : ℕ) → AreSeenEdges seen edges → length seen ≡ length front → AreEdges front key edges → IsNewEdge seen front key e → AreEdges front key (edges ++ e ∷ [])
 edges_more front key seen edges e t len h new =
     (all_push (IsEdge front key) edges e h.0 new.0, distinct_push edges e h.1 (t.unseen e (omega (arith, len, new.0.0)) new.1))
 
 -- what the next edge has to be
-pub edge_is_new : (front : List RecordValue) (key : Key) (seen : List Bool) (edges : List ℕ) (e : ℕ) → Tells seen edges → length seen ≡ length front → AreEdges front key (edges ++ e ∷ []) → IsNewEdge seen front key e
+pub edge_is_new : (front : List RecordValue) (key : Key) (seen : List Bool) (edges : List ℕ) (e : ℕ) → AreSeenEdges seen edges → length seen ≡ length front → AreEdges front key (edges ++ e ∷ []) → IsNewEdge seen front key e
 edge_is_new front key seen edges e t len h =
     let edge : IsEdge front key e = all_last (IsEdge front key) edges e h.0 in
     let none : IsNoneOf edges e = distinct_last edges e h.1 in
@@ -95,7 +95,7 @@ turns_push old new is h =
 
 pub record SoFar (seen : List Bool) (front : List RecordValue) (key : Key) (edges : List ℕ) : Type 0 where
   pub same : length seen ≡ length front
-  pub tells : Tells seen edges
+  pub tells : AreSeenEdges seen edges
   pub are : AreEdges front key edges
 
 pub so_far_more : (seen new : List Bool) (front : List RecordValue) (key : Key) (edges : List ℕ) (e : ℕ) → SoFar seen front key edges → IsNewEdge seen front key e → new ≡ set seen e true → SoFar new front key (edges ++ e ∷ [])

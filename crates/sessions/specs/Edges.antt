@@ -21,6 +21,6 @@ abbrev pub IsNoneOf : List ℕ → ℕ → Type 0
 IsNoneOf edges e = AllByRecursion (λ other. other ≢ e) edges
 
 -- what was seen are these edges
-pub record Tells (seen : List Bool) (edges : List ℕ) : Type 0 where
+pub record AreSeenEdges (seen : List Bool) (edges : List ℕ) : Type 0 where
   pub unseen : (e : ℕ) → e < length seen → slice_index_or seen e false ≡ false → IsNoneOf edges e
   pub seen_one : (e : ℕ) → e < length seen → slice_index_or seen e false ≡ true → ¬ IsNoneOf edges e

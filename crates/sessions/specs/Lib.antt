@@ -1,5 +1,4 @@
 pub mod Marks
-pub mod Keys
 pub mod Sessions
 pub mod Edges
 pub mod Refusals

@@ -1,17 +1,19 @@
 -- What a session is, and what it tells of each key.
-use Rattle.std.specs.Prelude.{◌≡◌, ◌≢◌, ℕ, ◌<◌, ◌≤◌, ◌^◌, List, [], ◌∷◌, map, length, take, find, slice_index_or, Option, Some, None}
+use Rattle.std.specs.Prelude.{◌≡◌, ◌≢◌, ℕ, ◌<◌, ◌≤◌, ◌^◌, List, [], ◌∷◌, map, length, take, find, slice_index_or, Option, Some, None, ◌+◌}
 use Rattle.std.specs.List.{AllByRecursion}
 use Rattle.std.specs.Ordering.{is_eq}
 use Rattle.std.specs.declared.cmp.Ordering.TheVariants.{Less}
+use Rattle.std.specs.Arc.{arc_value}
+use Rattle.std.specs.declared.alloc.Global.{Global}
+use Rattle.std.specs.declared.sync.Arc.{Arc}
 use Rattle.item_ids.specs.declared.key.Key.{Key}
 use Rattle.item_ids.specs.declared.key.Key.TheVariants.{Files}
 use Rattle.item_ids.specs.Kinds.{rank_of}
-use Rattle.item_ids.specs.Keys.{kind_of, key_cmp}
+use Rattle.item_ids.specs.Keys.{kind_of, key_cmp, IsKey}
 use Rattle.result_bytes.specs.declared.value.Value.{Value}
 use Rattle.result_bytes.specs.Values.{IsValue, canon, kind_of_value}
 use Rattle.sessions.specs.declared.mark.Mark.{Mark}
 use Rattle.sessions.specs.Marks.{is_input, is_input_mark}
-use Rattle.sessions.specs.Keys.{HasNames}
 
 -- a key, how it became done, the indices of the records of the keys that it read, in order, and its
 -- result
@@ -63,7 +65,7 @@ IsOfKind r = kind_of_value r.value ≡ kind_of r.key
 
 -- what a record keeps by its type alone
 pub record IsRecord (r : RecordValue) : Type 0 where
-  pub names : HasNames r.key
+  pub names : IsKey r.key
   pub value : IsValue r.value
   pub size : length (canon r.value) < 2 ^ 64
   pub few : length r.edges < 2 ^ 64
@@ -127,3 +129,13 @@ AreOnce (key ∷ keys) = AllByRecursion (λ e. e ≢ key) keys × AreOnce keys
 abbrev pub past_entry : Option SessionValue → Key → Option Entry
 past_entry None key = None
 past_entry (Some s) key = entry_at s key
+
+-- the session behind an owner
+abbrev pub session_in : Option (Arc SessionValue Global) → Option SessionValue
+session_in None = None
+session_in (Some s) = Some (arc_value s)
+
+-- the number of the session that comes next: the one behind that of the past, or 0
+abbrev pub next_number : Option SessionValue → ℕ
+next_number None = 0
+next_number (Some past) = past.number + 1

@@ -1,5 +1,5 @@
 -- The bytes of a session's file. Numbers are big endian.
-use Rattle.std.specs.Prelude.{◌≡◌, ℕ, List, [], ◌∷◌, ◌++◌, length, flat_map, Option, IfSome}
+use Rattle.std.specs.Prelude.{◌≡◌, ℕ, List, [], ◌∷◌, ◌++◌, length, flat_map, Option, IfSome, Some, None, replicate}
 use Rattle.sha2.specs.Sha256.{sha256}
 use Rattle.item_ids.specs.declared.key.Key.{Key}
 use Rattle.item_ids.specs.Kinds.{number_of}
@@ -42,6 +42,11 @@ file_of s = body_bytes s ++ sha256 (body_bytes s)
 -- the SHA-256 of the file, which is the link of the session behind it
 unfoldable pub digest_of : SessionValue → List ℕ
 digest_of s = sha256 (file_of s)
+
+-- the link of the session that comes next: the SHA-256 of the past's file, or zeros
+abbrev pub next_link : Option SessionValue → List ℕ
+next_link None = replicate 32 0
+next_link (Some past) = digest_of past
 
 -- what a session keeps by its type: it is one, and a digest that is kept is that of its file
 pub record Keeps (s : SessionValue) (digest : Option (List ℕ)) : Type 0 where

@@ -2,8 +2,7 @@
 ghost use Rattle.std.specs.Prelude.{◌≡◌, ◌<◌, ◌↔◌, false, length, take, IsTrue, OnOk, IfErr, MatchOption, slice_index_or};
 ghost use Rattle.std.specs.List.{AllByRecursion};
 ghost use Rattle.std.specs.declared.cmp.Ordering.TheVariants.{Less};
-ghost use Rattle.item_ids.specs.Keys.{key_cmp};
-ghost use Rattle.sessions.specs.Keys.{HasNames};
+ghost use Rattle.item_ids.specs.Keys.{key_cmp, IsKey};
 ghost use Rattle.sessions.specs.Marks.{is_input, is_input_mark};
 ghost use Rattle.sessions.specs.Sessions.{AreRecords, FitsBehind, IsAbove, IsOfKind, IsRecord};
 ghost use Rattle.sessions.specs.Edges.{AreEdges};
@@ -56,6 +55,7 @@ fn check_record(seen: &mut SeenEdges, front: &[Record], item: &Record) -> Result
     if !is_of_kind(item) {
         return Err(SessionFault::Result(front.len()));
     }
+    // A record keeps the rest in its type.
     check_kept(item);
     Ok(())
 }
@@ -127,7 +127,7 @@ pub fn check_kept(item: &Record)
 
 /// A key keeps in its type that its names are names.
 pub fn check_key(key: &Key)
-    ensures { HasNames key.now }
+    ensures { IsKey key.now }
 {
     if let Some(class) = key.class() {
         check_name(class);

@@ -71,6 +71,7 @@ impl Session {
         requires records { AreRecords records.items }
         ensures { result ≡ record { number = number; link = link; records = records.items } }
     {
+        // A vector has fewer than 2^64 items.
         let _few = records.len();
         Session {
             number,

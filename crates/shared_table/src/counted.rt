@@ -2,7 +2,8 @@
 ghost use Rattle.std.specs.Prelude.{◌≡◌, IfOk, length};
 ghost use Rattle.std.specs.Arc.{arc_value};
 ghost use Rattle.graph_rules.specs.Steps.{AreHeld};
-ghost use Rattle.job_table.specs.Tables.{session_in, state_of};
+ghost use Rattle.sessions.specs.Sessions.{session_in};
+ghost use Rattle.job_table.specs.Tables.{state_of};
 ghost use Rattle.job_table.specs.Calls.{AskGives, MarkGives, BeginGives, FinishGives, FailGives};
 ghost use Rattle.mark_green.specs.Leaves.{ClaimsNoInput};
 

@@ -50,6 +50,7 @@ fn next_count<R: Runner>(table: &Table<R>, events: usize) -> usize
     requires { events + 1 ≤ length table.now.history }
     ensures { result ≡ events + 1 }
 {
+    // The length of a history is a number of the machine, so that the sum is one.
     let _made = table.history().len();
     events + 1
 }

@@ -21,11 +21,12 @@ use Rattle.tree_bytes.specs.Bodies.{BodyValue, OfMain, OfMethod}
 use Rattle.result_bytes.specs.Payloads.{HeaderValue}
 use Rattle.result_bytes.specs.declared.value.Value.TheVariants as values
 use Rattle.recorder.specs.Projects.{Project}
-use Rattle.recorder.specs.Programs.{Prog, Ret, Fits, is_seen}
+use Rattle.recorder.specs.Programs.{Prog, Ret, Fits}
 use Rattle.recorder.proofs.Rules.{each_fits}
+use Rattle.recorder.specs.Backed.{is_seen}
 use Rattle.query_rules.specs.Items.{class_at, header_of, body_at, mistakes_in, fault_set, faults_of}
 use Rattle.query_rules.specs.Meaning.{mean}
-use Rattle.query_rules.specs.Reads.{bodies_of, diagnosis_reads, asked_keys, firsts, reads}
+use Rattle.query_rules.specs.Reads.{bodies_of, diagnosis_reads, asked_keys, first_keys, reads}
 use Rattle.body_query.proofs.Sets.{Same}
 use Rattle.table_queries.specs.Facts.{header_in, faults_in, without_repeats, first_names}
 use Rattle.table_queries.specs.Diags.{bodies_in, body_step, bodies_steps, declared_steps, diags_by, diags_steps}
@@ -133,7 +134,7 @@ module _ (p : Project) (c : Name) where
         (one_set told (class_faults cs k) told_same) (bodies_pass (fault_set (declaration_faults cs k)) (λ faults. Ret (values.Diags (fault_set faults))))))
 
     -- the bodies are those of the class, each where it stands first
-    same_bodies : (o : Option Statement) → k.main ≡ o → (seen : List Key) → firsts seen (map (keys.CheckBody c) (bodies_in (header_of k))) ≡ firsts seen (map (keys.CheckBody c) (bodies_of k))
+    same_bodies : (o : Option Statement) → k.main ≡ o → (seen : List Key) → first_keys seen (map (keys.CheckBody c) (bodies_in (header_of k))) ≡ first_keys seen (map (keys.CheckBody c) (bodies_of k))
     same_bodies None f seen = rw f (firsts_once (keys.CheckBody c) (method_names k) seen)
     same_bodies (Some s) f seen = rw f refl
 
@@ -151,14 +152,14 @@ module _ (p : Project) (c : Name) where
   unfolding mean
   passes = Reads (keys.Header c) (λ v. diags_by c (header_in v) Ret) (asked_by (class_at p c)) (Ret (mean p (keys.Diags c))) (by_class (class_at p c) refl)
 
-  firsts_on : (k : Key) (xs ys : List Key) → ((seen : List Key) → firsts seen xs ≡ firsts seen ys) → (seen : List Key) → firsts seen (k ∷ xs) ≡ firsts seen (k ∷ ys)
+  firsts_on : (k : Key) (xs ys : List Key) → ((seen : List Key) → first_keys seen xs ≡ first_keys seen ys) → (seen : List Key) → first_keys seen (k ∷ xs) ≡ first_keys seen (k ∷ ys)
   firsts_on k xs ys h seen = ap₂ (λ (as' bs : List Key). if is_seen seen k then as' else k ∷ bs) (h seen) (h (seen ++ k ∷ []))
 
-  same_by : (o : Option ClassDecl) → class_at p c ≡ o → (seen : List Key) → firsts seen (asked_by o) ≡ firsts seen (diagnosis_reads c o)
+  same_by : (o : Option ClassDecl) → class_at p c ≡ o → (seen : List Key) → first_keys seen (asked_by o) ≡ first_keys seen (diagnosis_reads c o)
   same_by None e seen = refl
   same_by (Some k) e seen = firsts_on (keys.CheckClass c) (map (keys.CheckBody c) (bodies_in (header_of k))) (map (keys.CheckBody c) (bodies_of k)) (same_bodies k e k.main refl) seen
 
-  same_reads : firsts [] (keys.Header c ∷ asked_by (class_at p c)) ≡ reads p (keys.Diags c)
+  same_reads : first_keys [] (keys.Header c ∷ asked_by (class_at p c)) ≡ reads p (keys.Diags c)
   unfolding reads asked_keys
   same_reads = firsts_on (keys.Header c) (asked_by (class_at p c)) (diagnosis_reads c (class_at p c)) (same_by (class_at p c) refl) []
 

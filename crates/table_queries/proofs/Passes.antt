@@ -5,10 +5,11 @@ use Rattle.std.specs.List.{AllByRecursion}
 use Rattle.item_ids.specs.declared.key.Key.{Key}
 use Rattle.result_bytes.specs.declared.value.Value.{Value}
 use Rattle.recorder.specs.Projects.{Project}
-use Rattle.recorder.specs.Programs.{Prog, Ret, Ask, runs, asks, is_seen, Fits, each}
+use Rattle.recorder.specs.Programs.{Prog, Ret, Ask, runs, asks, Fits, each}
 use Rattle.recorder.proofs.Rules.{fold_of}
+use Rattle.recorder.specs.Backed.{is_seen}
 use Rattle.query_rules.specs.Meaning.{mean}
-use Rattle.query_rules.specs.Reads.{firsts, reads}
+use Rattle.query_rules.specs.Reads.{first_keys, reads}
 use Rattle.query_rules.specs.Ties.{Ties}
 
 -- asking these keys in turn, the first program comes to the second
@@ -21,7 +22,7 @@ unfolding runs
 passes_runs m p ks q (Stays _) = refl
 passes_runs m p ks q (Reads k f rest _ w) = passes_runs m (f (m k)) rest q w
 
-pub passes_asks : (m : Key → Value) (p : Prog) (ks : List Key) (q : Prog) → ((seen : List Key) → asks q m seen ≡ []) → Passes m p ks q → (seen : List Key) → asks p m seen ≡ firsts seen ks
+pub passes_asks : (m : Key → Value) (p : Prog) (ks : List Key) (q : Prog) → ((seen : List Key) → asks q m seen ≡ []) → Passes m p ks q → (seen : List Key) → asks p m seen ≡ first_keys seen ks
 unfolding asks
 passes_asks m p ks q h (Stays _) seen = h seen
 passes_asks m p ks q h (Reads k f rest _ w) seen =
@@ -49,7 +50,7 @@ flat_one f (x ∷ xs) = ap (λ ys. f x ∷ ys) (flat_one f xs)
 -- a program that comes to the value of its key, and asks what the key reads
 pub ties_by : (q : Key) (prog : Prog) (asked : Project → List Key)
     → ((p : Project) → Passes (mean p) prog (asked p) (Ret (mean p q)))
-    → ((p : Project) → firsts [] (asked p) ≡ reads p q) → Fits q prog → Ties q prog
+    → ((p : Project) → first_keys [] (asked p) ≡ reads p q) → Fits q prog → Ties q prog
 unfolding runs asks
 ties_by q prog asked passes same fits = record {
   means = λ p h. sym (passes_runs (mean p) prog (asked p) (Ret (mean p q)) (passes p));

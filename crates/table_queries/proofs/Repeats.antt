@@ -5,9 +5,9 @@ use Rattle.item_ids.specs.declared.key.Key.{Key}
 use Rattle.mj_tree.specs.Trees.{Name}
 use Rattle.mj_project.specs.Repeats.{is_in, repeats_behind, repeats}
 use Rattle.mj_project.proofs.RepeatLemmas.{Contains-is_in, is_in-Contains}
-use Rattle.recorder.specs.Programs.{is_seen}
 use Rattle.recorder.proofs.Seen.{unseen_last}
-use Rattle.query_rules.specs.Reads.{firsts}
+use Rattle.recorder.specs.Backed.{is_seen}
+use Rattle.query_rules.specs.Reads.{first_keys}
 use Rattle.table_queries.specs.Facts.{without_repeats, first_names}
 
 seen_grows : (ks : List Key) (k x : Key) → is_seen ks x ≡ true → is_seen (ks ++ k ∷ []) x ≡ true
@@ -40,7 +40,7 @@ module _ (key : Name → Key) where
     | inr same ↦ subst (λ (y : Name). is_seen seen (key y) ≡ true) same s
   ]
 
-  firsts_behind : (before ns : List Name) (seen : List Key) → AreSeen seen before → firsts seen (map key (without_repeats ns (repeats_behind before ns))) ≡ firsts seen (map key ns)
+  firsts_behind : (before ns : List Name) (seen : List Key) → AreSeen seen before → first_keys seen (map key (without_repeats ns (repeats_behind before ns))) ≡ first_keys seen (map key ns)
   firsts_behind before [] seen h = refl
   firsts_behind before (n ∷ ns) seen h = by_flag (λ seen h. firsts_behind (before ++ n ∷ []) ns seen h) (is_in before n) refl
     where
@@ -48,19 +48,19 @@ module _ (key : Name → Key) where
       others = without_repeats ns (repeats_behind (before ++ n ∷ []) ns)
 
       Behind : Type 0
-      Behind = (seen : List Key) → AreSeen seen (before ++ n ∷ []) → firsts seen (map key others) ≡ firsts seen (map key ns)
+      Behind = (seen : List Key) → AreSeen seen (before ++ n ∷ []) → first_keys seen (map key others) ≡ first_keys seen (map key ns)
 
-      by_seen : Behind → (b : Bool) → is_seen seen (key n) ≡ b → firsts seen (key n ∷ map key others) ≡ firsts seen (key n ∷ map key ns)
+      by_seen : Behind → (b : Bool) → is_seen seen (key n) ≡ b → first_keys seen (key n ∷ map key others) ≡ first_keys seen (key n ∷ map key ns)
       by_seen behind true s = rw s (behind seen (one_more seen before n h s))
       by_seen behind false s =
           rw s (ap (λ ks. key n ∷ ks) (behind (seen ++ key n ∷ [])
           (one_more (seen ++ key n ∷ []) before n (λ x e. seen_grows seen (key n) (key x) (h x e)) (seen_last seen (key n)))))
 
-      by_flag : Behind → (b : Bool) → is_in before n ≡ b → firsts seen (map key (if b then others else n ∷ others)) ≡ firsts seen (key n ∷ map key ns)
+      by_flag : Behind → (b : Bool) → is_in before n ≡ b → first_keys seen (map key (if b then others else n ∷ others)) ≡ first_keys seen (key n ∷ map key ns)
       by_flag behind true e = let s = h n e in rw s (behind seen (one_more seen before n h s))
       by_flag behind false e = by_seen behind (is_seen seen (key n)) refl
 
   -- the keys of the first names are the first keys
-  pub firsts_once : (ns : List Name) (seen : List Key) → firsts seen (map key (first_names ns)) ≡ firsts seen (map key ns)
+  pub firsts_once : (ns : List Name) (seen : List Key) → first_keys seen (map key (first_names ns)) ≡ first_keys seen (map key ns)
   unfolding first_names repeats
   firsts_once ns seen = firsts_behind [] ns seen (λ x e. absurd cc)

@@ -8,7 +8,7 @@ ghost use Rattle.table_queries.specs.Diags.{bodies_in, body_step, declared_steps
 
 use crate::facts::{faults_in, header_in};
 use answer_bytes::Faults;
-use body_query::class_faults;
+use body_query::class_fault_set;
 use body_questions::read;
 use item_ids::Key;
 use mj_answer::{Diagnostic, copy_faults};
@@ -144,7 +144,7 @@ fn declared_faults<D: Reader>(
     let bodies = bodies_in(alloc, header)?;
     let answer = read(recorder, Key::CheckClass(class.copy(alloc)?))?;
     let faults = ask_bodies(alloc, recorder, class, &bodies, faults_in(answer.value()))?;
-    Ok(class_faults(faults))
+    Ok(class_fault_set(faults))
 }
 
 /// All faults of a class, where it is declared.
@@ -166,7 +166,7 @@ fn faults_by<D: Reader>(
             let faults = declared_faults(alloc, recorder, class, header)?;
             Ok(Value::Diags(faults))
         }
-        None => Ok(Value::Diags(class_faults(Vec::new(alloc)))),
+        None => Ok(Value::Diags(class_fault_set(Vec::new(alloc)))),
     }
 }
 

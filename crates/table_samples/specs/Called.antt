@@ -10,11 +10,11 @@ use Rattle.recorder.specs.Runs.{OutcomeValue}
 use Rattle.sessions.specs.declared.mark.Mark.{Mark}
 use Rattle.sessions.specs.declared.mark.Mark.TheVariants.{Input, Executed, Green}
 use Rattle.sessions.specs.Sessions.{SessionValue}
-use Rattle.sessions.specs.Spelling.{digest_of}
+use Rattle.sessions.specs.Spelling.{digest_of, next_link}
 use Rattle.graph_rules.specs.Steps.{Event, Claim, Begin, Finish, IsDoneWith}
 use Rattle.job_table.specs.Tables.{TableValue, state_of}
 use Rattle.job_table.specs.Calls.{AskGives, MarkGives, BeginGives, FinishGives, FailGives}
-use Rattle.job_table.specs.Closes.{next_link, CloseGives}
+use Rattle.job_table.specs.Closes.{CloseGives}
 use Rattle.job_table.specs.Replays.{ReplayGives}
 use Rattle.job_table.specs.declared.fault.Asked.{Asked}
 use Rattle.job_table.specs.declared.fault.Asked.TheVariants as asked

@@ -7,7 +7,7 @@ use Rattle.sessions.specs.Sessions.{SessionValue}
 use Rattle.driver.specs.Sessions.{DriveGives}
 use Rattle.driver.specs.declared.fault.DriveFault.{DriveFault}
 use Rattle.driver.specs.declared.reports.Reports.{Reports}
-use Rattle.session_samples.specs.Telling.{IsSessionOf}
+use Rattle.session_samples.specs.Telling.{IsToldSession}
 use Rattle.table_samples.specs.declared.driving.Counts.{Counts}
 
 -- a session of the project over this past by so many workers, with what is reported of it
@@ -38,7 +38,7 @@ abbrev pub IsPastOf : Option ℕ → Option SessionValue → Type 0
 IsPastOf None None = Unit {0}
 IsPastOf None (Some s) = ⊥
 IsPastOf (Some number) None = ⊥
-IsPastOf (Some number) (Some s) = IsSessionOf number (replicate 32 0) [] s
+IsPastOf (Some number) (Some s) = IsToldSession number (replicate 32 0) [] s
 
 -- why there is no session over this past, or none where there is one
 abbrev pub IsFaultOver : Option SessionValue → Project → ℕ → Option DriveFault → Type 0

@@ -7,13 +7,13 @@ use Rattle.query_rules.specs.Meaning.{mean}
 use Rattle.query_rules.specs.Reads.{reads}
 use Rattle.sessions.specs.declared.mark.Mark.{Mark}
 use Rattle.sessions.specs.declared.mark.Mark.TheVariants.{Input, Executed, Green}
-use Rattle.sessions.specs.Sessions.{SessionValue}
+use Rattle.sessions.specs.Sessions.{SessionValue, next_number}
+use Rattle.sessions.specs.Spelling.{next_link}
 use Rattle.job_table.specs.Tables.{TableValue}
 use Rattle.job_table.specs.Calls.{OpenGives}
-use Rattle.job_table.specs.Closes.{next_number, next_link}
 use Rattle.answer_samples.specs.Telling.{IsKeyOf, IsTold, one_file}
 use Rattle.session_samples.specs.declared.records.Kept.{Kept}
-use Rattle.session_samples.specs.Telling.{IsSessionOf}
+use Rattle.session_samples.specs.Telling.{IsToldSession}
 use Rattle.table_samples.specs.declared.changes.Change.{Change}
 use Rattle.table_samples.specs.declared.changes.Other.{Other}
 
@@ -73,7 +73,7 @@ AreChanged change records =
 
 -- the session of these records behind another one, or the first
 abbrev pub IsNextOf : Option SessionValue → List Kept → SessionValue → Type 0
-IsNextOf past records s = IsSessionOf (next_number past) (next_link past) records s
+IsNextOf past records s = IsToldSession (next_number past) (next_link past) records s
 
 -- after is the session that changed so, behind the one before
 pub record IsBehind (change : Change) (before after : Option SessionValue) : Type 0 where

@@ -2,10 +2,8 @@
 ghost use Rattle.std.specs.Prelude.{◌≡◌, ◌==◌, find, option_copied, IfOk};
 ghost use Rattle.std.specs.Arc.{arc_value};
 ghost use Rattle.std.specs.List.{list_any};
-ghost use Rattle.sessions.specs.Spelling.{digest_of};
-ghost use Rattle.sessions.specs.Sessions.{SessionValue};
-ghost use Rattle.job_table.specs.Tables.{session_in};
-ghost use Rattle.job_table.specs.Closes.{next_number, next_link};
+ghost use Rattle.sessions.specs.Spelling.{digest_of, next_link};
+ghost use Rattle.sessions.specs.Sessions.{SessionValue, session_in, next_number};
 ghost use Rattle.table_samples.specs.Told.{mark_told, digits_told, IsChanged, AreChanged, IsNextOf, IsBehind, IsLastOf};
 
 use answer_samples::Unfit;

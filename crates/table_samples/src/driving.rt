@@ -2,8 +2,8 @@
 ghost use Rattle.std.specs.Prelude.{◌≡◌, [], replicate, None, Some, IsTrue, IfOk, IfSome};
 ghost use Rattle.std.specs.Arc.{arc_value};
 ghost use Rattle.answer_samples.specs.Telling.{one_file};
-ghost use Rattle.session_samples.specs.Telling.{IsSessionOf};
-ghost use Rattle.job_table.specs.Tables.{session_in};
+ghost use Rattle.session_samples.specs.Telling.{IsToldSession};
+ghost use Rattle.sessions.specs.Sessions.{session_in};
 ghost use Rattle.table_samples.specs.Reported.{HasCounts, IsReported, AreReported, IsPastOf, IsFaultOver, IsFaultOf};
 
 use crate::changes::share;
@@ -103,7 +103,7 @@ pub fn are_reported<T: Threads + Wait + Sync>(
 
 /// The session of this number without records.
 fn empty_session(alloc: Global, number: u32) -> Result<Arc<Session>, Unfit>
-    ensures { IfOk result (λ s. IsSessionOf number (replicate 32 0) [] (arc_value s)) }
+    ensures { IfOk result (λ s. IsToldSession number (replicate 32 0) [] (arc_value s)) }
 {
     let session = session_of(alloc, number, [0; 32], &[])?;
     Ok(share(alloc, session)?)

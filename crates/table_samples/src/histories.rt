@@ -1,9 +1,8 @@
 //! Whole histories: each key of a session is claimed, and marked or run, in the order of keys.
 ghost use Rattle.std.specs.Prelude.{◌≡◌, IfOk, IsTrue, Ok};
-ghost use Rattle.job_table.specs.Tables.{session_in};
-ghost use Rattle.sessions.specs.Sessions.{SessionValue};
-ghost use Rattle.sessions.specs.Spelling.{digest_of};
-ghost use Rattle.job_table.specs.Closes.{next_link, CloseGives};
+ghost use Rattle.sessions.specs.Sessions.{SessionValue, session_in};
+ghost use Rattle.sessions.specs.Spelling.{digest_of, next_link};
+ghost use Rattle.job_table.specs.Closes.{CloseGives};
 ghost use Rattle.table_samples.specs.Told.{InTurn, AreChanged};
 ghost use Rattle.table_samples.specs.Called.{IsTakenOver, IsBegun, IsBroughtBy, IsDoneAs, IsBrought, AreBrought, ClosesAs, IsLed, IsHistory};
 

@@ -12,7 +12,7 @@ use Rattle.recorder.specs.Backed.{rank}
 use Rattle.recorder.specs.Programs.{Prog, Ret, runs, asks, Fits}
 use Rattle.query_rules.specs.Items.{tree_at, class_at, file_of_class}
 use Rattle.query_rules.specs.Meaning.{mean}
-use Rattle.query_rules.specs.Reads.{tree_of_class, firsts}
+use Rattle.query_rules.specs.Reads.{tree_of_class, first_keys}
 use Rattle.text_queries.specs.Facts.{file_in}
 use Rattle.text_queries.specs.ClassTrees.{file_step, class_tree_step, class_named}
 use Rattle.text_queries.proofs.Files.{moved, stands_in, class_tree}
@@ -33,12 +33,12 @@ module _ (p : Project) where
   unfolding runs
   tree_runs c k = ap (λ o. runs (file_step o k) (mean p)) (index_tells p c) ∙ file_runs (class_at p c) k
 
-  file_asks : (o : Option ClassDecl) (value : Option File → Value) → asks (file_step (option_map (file_of_class p) o) (λ tree. Ret (value tree))) (mean p) (keys.Index ∷ []) ≡ firsts (keys.Index ∷ []) (tree_of_class p o)
+  file_asks : (o : Option ClassDecl) (value : Option File → Value) → asks (file_step (option_map (file_of_class p) o) (λ tree. Ret (value tree))) (mean p) (keys.Index ∷ []) ≡ first_keys (keys.Index ∷ []) (tree_of_class p o)
   unfolding asks
   file_asks None value = refl
   file_asks (Some x) value = refl
 
-  pub tree_asks : (c : Name) (value : Option File → Value) → asks (class_tree_step c (λ tree. Ret (value tree))) (mean p) [] ≡ firsts [] (keys.Index ∷ tree_of_class p (class_at p c))
+  pub tree_asks : (c : Name) (value : Option File → Value) → asks (class_tree_step c (λ tree. Ret (value tree))) (mean p) [] ≡ first_keys [] (keys.Index ∷ tree_of_class p (class_at p c))
   unfolding asks
   tree_asks c value =
       ap (λ ks. keys.Index ∷ ks)

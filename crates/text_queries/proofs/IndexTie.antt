@@ -17,11 +17,12 @@ use Rattle.result_bytes.specs.declared.files.IndexRow.{IndexRow}
 use Rattle.result_bytes.specs.declared.value.Value.{Value}
 use Rattle.result_bytes.specs.declared.value.Value.TheVariants as values
 use Rattle.recorder.specs.Projects.{Project}
-use Rattle.recorder.specs.Programs.{Ret, runs, asks, Fits, each, is_seen}
+use Rattle.recorder.specs.Programs.{Ret, runs, asks, Fits, each}
 use Rattle.recorder.proofs.Rules.{fold_of, each_runs, each_fits}
+use Rattle.recorder.specs.Backed.{is_seen}
 use Rattle.query_rules.specs.Items.{tree_at, name_of, index_row}
 use Rattle.query_rules.specs.Meaning.{mean}
-use Rattle.query_rules.specs.Reads.{asked_keys, firsts, reads}
+use Rattle.query_rules.specs.Reads.{asked_keys, first_keys, reads}
 use Rattle.text_queries.specs.Facts.{tree_in}
 use Rattle.text_queries.specs.Index.{row_in, file_rows, rows_step, first_rows, index_steps}
 use Rattle.text_queries.specs.Laws.{IndexTies}
@@ -97,7 +98,7 @@ means p is = sym
     ∙ ap values.Index (first_of_all p (classes_in p)))
 
 each_asked : (p : Project) (names : List Name) (rows : List IndexRow) (value : List IndexRow → Value) (seen : List Key)
-    → asks (each rows_step names rows (λ rs. Ret (value rs))) (mean p) seen ≡ firsts seen (map keys.Tree names)
+    → asks (each rows_step names rows (λ rs. Ret (value rs))) (mean p) seen ≡ first_keys seen (map keys.Tree names)
 unfolding asks each
 each_asked p [] rows value seen = refl
 each_asked p (n ∷ names) rows value seen =

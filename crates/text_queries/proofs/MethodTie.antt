@@ -12,7 +12,7 @@ use Rattle.result_bytes.specs.declared.value.Value.{Value}
 use Rattle.result_bytes.specs.declared.value.Value.TheVariants as values
 use Rattle.recorder.specs.Projects.{Project}
 use Rattle.recorder.specs.Programs.{Ret, runs, asks, Fits}
-use Rattle.query_rules.specs.Items.{class_at, body_by, body_in}
+use Rattle.query_rules.specs.Items.{class_at, body_by, own_body}
 use Rattle.query_rules.specs.Meaning.{mean}
 use Rattle.query_rules.specs.Reads.{asked_keys, reads}
 use Rattle.text_queries.specs.ClassTrees.{class_named}
@@ -27,31 +27,31 @@ module _ (file : ℕ) (c m : Name) where
   abbrev named : ClassDecl → Bool
   named k = bytes_eq k.name c
 
-  in_classes : (number : ℕ) (cs : List Class) → class_body c m cs ≡ option_and_then (body_in m) (find named (number_classes file number cs))
+  in_classes : (number : ℕ) (cs : List Class) → class_body c m cs ≡ option_and_then (own_body m) (find named (number_classes file number cs))
   in_classes number [] = refl
   in_classes number (k ∷ cs) = by_name (bytes_eq k.name c) (in_classes (suc number) cs)
     where
-      by_name : (b : Bool) → class_body c m cs ≡ option_and_then (body_in m) (find named (number_classes file (suc number) cs))
-          → option_and_then (λ (x : Class). method_in m x.methods) (cond b (Some k) (find (λ (x : Class). bytes_eq x.name c) cs)) ≡ option_and_then (body_in m) (cond b (Some (class_decl file number k)) (find named (number_classes file (suc number) cs)))
+      by_name : (b : Bool) → class_body c m cs ≡ option_and_then (own_body m) (find named (number_classes file (suc number) cs))
+          → option_and_then (λ (x : Class). method_in m x.methods) (cond b (Some k) (find (λ (x : Class). bytes_eq x.name c) cs)) ≡ option_and_then (own_body m) (cond b (Some (class_decl file number k)) (find named (number_classes file (suc number) cs)))
       by_name true h = refl
       by_name false h = h
 
-  behind_main : (o : Option Main) (cs : List Class) → body_behind o c m cs ≡ option_and_then (body_in m) (find named (main_first file o cs))
+  behind_main : (o : Option Main) (cs : List Class) → body_behind o c m cs ≡ option_and_then (own_body m) (find named (main_first file o cs))
   behind_main None cs = in_classes 0 cs
   behind_main (Some main) cs = by_name (bytes_eq main.name c) (in_classes 1 cs)
     where
-      by_name : (b : Bool) → class_body c m cs ≡ option_and_then (body_in m) (find named (number_classes file 1 cs))
-          → cond b (main_body m main) (class_body c m cs) ≡ option_and_then (body_in m) (cond b (Some (main_decl file main)) (find named (number_classes file 1 cs)))
+      by_name : (b : Bool) → class_body c m cs ≡ option_and_then (own_body m) (find named (number_classes file 1 cs))
+          → cond b (main_body m main) (class_body c m cs) ≡ option_and_then (own_body m) (cond b (Some (main_decl file main)) (find named (number_classes file 1 cs)))
       by_name true h = refl
       by_name false h = h
 
 -- the first method of the name in the first class of the name
-pub body_same : (file : ℕ) (tree : File) (c m : Name) → body_named tree c m ≡ option_and_then (body_in m) (decl (classes_of file tree) c)
+pub body_same : (file : ℕ) (tree : File) (c m : Name) → body_named tree c m ≡ option_and_then (own_body m) (decl (classes_of file tree) c)
 unfolding decl
 body_same file tree c m = behind_main file c m tree.main tree.classes
 
 -- it doesn't depend on where the class stands
-body_moved : (m : Name) (i : ℕ) (k : ClassDecl) → body_in m (moved i k) ≡ body_in m k
+body_moved : (m : Name) (i : ℕ) (k : ClassDecl) → own_body m (moved i k) ≡ own_body m k
 body_moved m i k = by_main k.main
   where
     by_main : (o : Option Statement) → body_by o m (moved i k) ≡ body_by o m k
@@ -63,7 +63,7 @@ body_moved m i k = by_main k.main
 abbrev value_of : Name → Name → Option File → Value
 value_of c m tree = values.Method (option_and_then (λ file. body_named file c m) tree)
 
-by_class : (c m : Name) (o : Option File) → option_and_then (λ tree. body_named tree c m) o ≡ option_and_then (body_in m) (option_and_then (class_named c) o)
+by_class : (c m : Name) (o : Option File) → option_and_then (λ tree. body_named tree c m) o ≡ option_and_then (own_body m) (option_and_then (class_named c) o)
 by_class c m None = refl
 by_class c m (Some tree) = body_same 0 tree c m
 
@@ -72,7 +72,7 @@ module _ (c m : Name) (p : Project) (is : IsProject p) where
   unfolding mean runs
   means = sym
       (tree_runs p c (λ tree. Ret (value_of c m tree))
-      ∙ ap values.Method (by_class c m (tree_for p (class_at p c)) ∙ class_told (body_in m) (body_moved m) p is c))
+      ∙ ap values.Method (by_class c m (tree_for p (class_at p c)) ∙ class_told (own_body m) (body_moved m) p is c))
 
   asked : reads p (keys.Method c m) ≡ asks (method_steps c m Ret) (mean p) []
   unfolding reads asked_keys

@@ -7,7 +7,7 @@ use Rattle.mj_project.proofs.Listed.{map_at}
 use Rattle.mj_rules.specs.FaultLists.{class_names}
 use Rattle.mj_rules.proofs.Steps.{each_step, flag_read, flag_within, item_at, class_file, class_number}
 use Rattle.answer_query.specs.Trees.{named_trees}
-use Rattle.answer_query.specs.ProjectFaults.{repeated_class, class_faults}
+use Rattle.answer_query.specs.ProjectFaults.{repeated_class, repeat_faults}
 use Rattle.answer_query.proofs.project_faults.add_repeated_classes.Goals as goal
 
 pub bounds-flags-number : goal.bounds-flags-number
@@ -25,7 +25,7 @@ loop-number-preserved c =
     let named : c.loop-number.number < length (class_names (classes_view c.args.classes.now)) = omega arith in
     let flags = c.as_slice-flags.ensures.value ∙ c.in_ok-repeated.ensures in
     let class = c.index-classes-number.result in
-    each_step (class_faults (named_trees c.args.files.now)) (classes_view c.args.classes.now) (repeats (class_names (classes_view c.args.classes.now))) c.loop-number.number (class_ref_view class) (get_or c.as_slice-flags.result.now c.loop-number.number false)
+    each_step (repeat_faults (named_trees c.args.files.now)) (classes_view c.args.classes.now) (repeats (class_names (classes_view c.args.classes.now))) c.loop-number.number (class_ref_view class) (get_or c.as_slice-flags.result.now c.loop-number.number false)
     c.loop-number.faults.items c.add_repeated_class.new.faults.items
     (map_at class_ref_view c.args.classes.now c.loop-number.number class (item_at c.args.classes.now c.loop-number.number class within c.index-classes-number.is))
     (flag_read (repeats (class_names (classes_view c.args.classes.now))) c.as_slice-flags.result.now c.loop-number.number false flags

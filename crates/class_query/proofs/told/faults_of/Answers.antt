@@ -4,5 +4,5 @@ use Rattle.answer_bytes.specs.Storable.{AreClassFaults}
 use Rattle.class_query.proofs.Places.{told_in_class}
 use Rattle.class_query.proofs.told.faults_of.Goals as goal
 
-pub class_faults-requires : goal.class_faults-requires
-class_faults-requires c = subst AreClassFaults (sym c.in_ok-faults.ensures) (told_in_class c.args.header.now (option_copied c.args.chain) c.args.undeclared.now c.args.others.now)
+pub class_fault_set-requires : goal.class_fault_set-requires
+class_fault_set-requires c = subst AreClassFaults (sym c.in_ok-faults.ensures) (told_in_class c.args.header.now (option_copied c.args.chain) c.args.undeclared.now c.args.others.now)

@@ -1,9 +1,8 @@
 use Rattle.std.proofs.Common.{ap, sym, subst, ◌∙◌}
 use Rattle.query_rules.specs.Meaning.{mean}
 use Rattle.query_rules.specs.Reads.{reads}
-use Rattle.sessions.specs.Sessions.{SessionValue}
+use Rattle.sessions.specs.Sessions.{SessionValue, session_in}
 use Rattle.sessions.specs.Spelling.{digest_of}
-use Rattle.job_table.specs.Tables.{session_in}
 use Rattle.driver.specs.Sessions.{IsSessionOf}
 use Rattle.crew_samples.proofs.making.session_over.Goals as goal
 

@@ -2,7 +2,7 @@ use Rattle.std.proofs.Common.{ℕ, ap, subst, ◌∙◌}
 use Rattle.query_rules.specs.Meaning.{mean}
 use Rattle.query_rules.specs.Reads.{reads}
 use Rattle.sessions.specs.declared.mark.Mark.TheVariants.{Executed}
-use Rattle.job_table.specs.Tables.{session_in}
+use Rattle.sessions.specs.Sessions.{session_in}
 use Rattle.driver.specs.Sessions.{IsSessionOf}
 use Rattle.crew_samples.specs.Made.{many_of}
 use Rattle.crew_samples.proofs.runs.counted_over.Goals as goal

@@ -1,5 +1,6 @@
 use Rattle.std.proofs.Common.{subst}
-use Rattle.job_table.specs.Tables.{TableValue, session_in}
+use Rattle.sessions.specs.Sessions.{session_in}
+use Rattle.job_table.specs.Tables.{TableValue}
 use Rattle.driver.specs.Sessions.{AreEventsOf}
 use Rattle.driver.proofs.session.drive.Goals as goal
 

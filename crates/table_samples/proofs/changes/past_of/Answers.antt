@@ -1,5 +1,5 @@
 use Rattle.std.proofs.Common.{◌<◌, None, length, arith}
-use Rattle.job_table.specs.Tables.{session_in}
+use Rattle.sessions.specs.Sessions.{session_in}
 use Rattle.table_samples.specs.Told.{IsBehind}
 use Rattle.table_samples.proofs.Turns.{one_further}
 use Rattle.table_samples.proofs.changes.past_of.Goals as goal

@@ -1,5 +1,5 @@
 use Rattle.std.proofs.Common.{take}
-use Rattle.job_table.specs.Tables.{session_in}
+use Rattle.sessions.specs.Sessions.{session_in}
 use Rattle.table_samples.specs.Told.{IsLastOf}
 use Rattle.table_samples.proofs.changes.past_of.Given as goal
 

@@ -1,4 +1,4 @@
-use Rattle.job_table.specs.Tables.{session_in}
+use Rattle.sessions.specs.Sessions.{session_in}
 use Rattle.table_samples.proofs.Reporting.{reported}
 use Rattle.table_samples.proofs.driving.session_over.Goals as goal
 

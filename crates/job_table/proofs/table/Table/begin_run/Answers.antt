@@ -1,7 +1,7 @@
 use Rattle.std.proofs.Common.{◌≡◌, [], ◌∷◌, ◌++◌, map, arith, sym, ◌∙◌, refl}
 use Rattle.graph_rules.specs.Steps.{Claimed, Begin}
 use Rattle.job_table.specs.Kept.{event_of}
-use Rattle.job_table.specs.Tables.{session_in}
+use Rattle.sessions.specs.Sessions.{session_in}
 use Rattle.job_table.proofs.StepRules.{backed_last}
 use Rattle.job_table.proofs.CallRules.{not_standing, begin_at, begin_kept, begin_refused}
 use Rattle.job_table.proofs.PendingRules.{first_pending}

@@ -1,7 +1,6 @@
 use Rattle.std.proofs.Common.{map, false}
-use Rattle.sessions.specs.Sessions.{past_entry}
+use Rattle.sessions.specs.Sessions.{past_entry, session_in}
 use Rattle.graph_rules.specs.Steps.{Fail}
-use Rattle.job_table.specs.Tables.{session_in}
 use Rattle.job_table.specs.Kept.{event_of, IsKept}
 use Rattle.job_table.proofs.StepRules.{kept_fail, backed_last}
 use Rattle.job_table.proofs.table.Table.fail.Goals as goal

@@ -2,7 +2,7 @@ use Rattle.std.proofs.Common.{sym, ◌∙◌, ap, refl}
 use Rattle.std.specs.Arc.{arc_value}
 use Rattle.recorder.specs.Runs.{OutcomeValue}
 use Rattle.graph_rules.specs.Steps.{Running}
-use Rattle.job_table.specs.Tables.{session_in}
+use Rattle.sessions.specs.Sessions.{session_in}
 use Rattle.job_table.proofs.CallRules.{not_standing, finish_stale, held_in}
 use Rattle.job_table.proofs.table.Table.finish.Goals as goal
 

@@ -3,7 +3,7 @@ use Rattle.std.specs.Arc.{arc_value}
 use Rattle.recorder.specs.Runs.{OutcomeValue}
 use Rattle.graph_rules.specs.Steps.{Running, Finish}
 use Rattle.job_table.specs.Kept.{event_of}
-use Rattle.job_table.specs.Tables.{session_in}
+use Rattle.sessions.specs.Sessions.{session_in}
 use Rattle.job_table.proofs.StepRules.{backed_last}
 use Rattle.job_table.proofs.CallRules.{not_standing, finish_at, finish_kept, held_at}
 use Rattle.job_table.proofs.table.Table.finish_held.Given.{Over}

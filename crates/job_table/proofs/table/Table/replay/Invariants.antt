@@ -1,8 +1,7 @@
 use Rattle.std.proofs.Common.{◌≡◌, map, take}
-use Rattle.sessions.specs.Sessions.{past_entry}
+use Rattle.sessions.specs.Sessions.{past_entry, session_in}
 use Rattle.graph_rules.specs.Steps.{Legal}
 use Rattle.job_table.specs.Kept.{event_of}
-use Rattle.job_table.specs.Tables.{session_in}
 use Rattle.job_table.proofs.table.Table.replay.Given as goal
 
 abbrev pub invariant-loop-i : goal.invariant-loop-i

@@ -3,7 +3,7 @@ use Rattle.std.specs.Prelude.{Result, Ok, Err}
 use Rattle.std.specs.declared.alloc.Global.{Global}
 use Rattle.std.specs.declared.sync.Arc.{Arc}
 use Rattle.result_bytes.specs.declared.value.Value.{Value}
-use Rattle.sessions.specs.Sessions.{key_at}
+use Rattle.sessions.specs.Sessions.{key_at, session_in}
 use Rattle.recorder.specs.Backed.{rank}
 use Rattle.recorder.specs.Runs.{OutcomeValue}
 use Rattle.job_table.specs.declared.fault.Asked.{Asked}
@@ -13,7 +13,7 @@ use Rattle.mark_green.specs.declared.fault.Fault.{Fault}
 use Rattle.mark_green.specs.Moves.{Halts}
 use Rattle.mark_green.proofs.Held.{held_more}
 use Rattle.graph_rules.specs.Steps.{Claimed, Running, AllUnchanged, AreHeld}
-use Rattle.job_table.specs.Tables.{session_in, state_of}
+use Rattle.job_table.specs.Tables.{state_of}
 use Rattle.job_table.specs.Calls.{walk_in}
 use Rattle.mark_green.specs.Leaves.{Tells, HasStatus}
 use Rattle.mark_green.specs.Ensures.{WorkGives}
