@@ -1,4 +1,4 @@
--- Tables, faults and answers: what is read is spelled so, and what is spelled so is read.
+-- Tables, diagnostics and answers: what is read is spelled there, and each spelling is read back.
 use Rattle.std.proofs.Common.{◌≡◌, ℕ, zero, suc, ◌<◌, ◌^◌, eqb, List, [], ◌∷◌, ◌++◌, Option, Some, None, Result, Ok, refl, sym, ap, subst, lit<}
 use Rattle.std.proofs.lemmas.Bool.{eqb-true}
 use Rattle.mj_tree.specs.declared.place.Place.{Place}
@@ -87,7 +87,7 @@ lawful_table =
     (λ _. refl) (λ _. refl))
     (λ t f. record { fields = f.0; methods = f.1 }) (λ t f. (f.fields, f.methods))
 
--- ---- faults
+-- ---- diagnostics
 
 project_place_takes : (bytes : List ℕ) (p : Place) (rest : List ℕ) → IsBytes bytes
     → project_place_at bytes ≡ Ok (p, rest)

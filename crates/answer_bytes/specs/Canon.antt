@@ -1,4 +1,4 @@
--- The canonical bytes of tables, faults and answers. Numbers are big endian.
+-- The canonical bytes of tables, diagnostics and answers. Numbers are big endian.
 use Rattle.std.specs.Prelude.{ℕ, List, [], ◌∷◌, ◌++◌}
 use Rattle.mj_tree.specs.declared.place.Place.{Place}
 use Rattle.mj_tree.specs.declared.place.Place.TheVariants.{Project, File, ClassOf, Class, Field, Method, Inside}
@@ -21,14 +21,14 @@ method_row row = name row.name ++ (name row.owner ++ (list ty row.formals ++ ty 
 abbrev pub table : ClassTableValue → List ℕ
 table t = list field_row t.fields ++ list method_row t.methods
 
--- the place of a fault of the project; other places have no spelling here
+-- the place of a diagnostic of the project; other places have no spelling here
 abbrev pub project_place : Place → List ℕ
 project_place Project = 0x00 ∷ []
 project_place (File file) = 0x01 ∷ name file
 project_place (ClassOf file number) = 0x02 ∷ (name file ++ four number)
 project_place _ = []
 
--- the place of a fault of a class; other places have no spelling here
+-- the place of a diagnostic of a class; other places have no spelling here
 abbrev pub class_place : Place → List ℕ
 class_place Class = 0x00 ∷ []
 class_place (Field number) = 0x01 ∷ four number
@@ -36,17 +36,17 @@ class_place (Method number) = 0x02 ∷ four number
 class_place (Inside method token) = 0x03 ∷ (name method ++ four token)
 class_place _ = []
 
--- a fault: its place, and its code in two bytes
+-- a diagnostic: its place, and its code in two bytes
 abbrev pub project_fault : Diagnostic → List ℕ
 project_fault fault = project_place fault.place ++ two (code_number fault.code)
 
 abbrev pub class_fault : Diagnostic → List ℕ
 class_fault fault = class_place fault.place ++ two (code_number fault.code)
 
--- what is answered for a class: its name, its table, its faults
+-- what is answered for a class: its name, its table, its diagnostics
 abbrev pub class_answer : ClassAnswerValue → List ℕ
 class_answer c = name c.name ++ (table c.table ++ list class_fault c.faults)
 
--- the whole answer: the faults of the project, and the classes
+-- the whole answer: the diagnostics of the project, and the classes
 abbrev pub answer : AnswerValue → List ℕ
 answer a = list project_fault a.faults ++ list class_answer a.classes

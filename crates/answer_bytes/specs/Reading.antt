@@ -1,4 +1,4 @@
--- Reading tables, faults and answers from left to right.
+-- Reading tables, diagnostics and answers from left to right.
 use Rattle.std.specs.Prelude.{ℕ, zero, suc, Bool, List, [], ◌∷◌, Ok, Err, Option, Some, None}
 use Rattle.std.specs.Ordering.{nat_cmp, is_lt}
 use Rattle.std.specs.Cmp.Lexicographic.{slice_cmp}

@@ -1,4 +1,4 @@
--- Which tables, faults and answers have a spelling: names, numbers in four bytes, and lists in
+-- Which tables, diagnostics and answers have a spelling: names, numbers in four bytes, and lists in
 -- their order.
 use Rattle.std.specs.Prelude.{ℕ, ◌<◌, ◌^◌, List, length}
 use Rattle.std.specs.List.{AllByRecursion}
@@ -39,14 +39,14 @@ pub record TableFits (t : ClassTableValue) : Type 0 where
   pub fields : OrderedFits FieldRowFits (ByName (λ row. row.name)) t.fields
   pub methods : OrderedFits MethodRowFits (ByName (λ row. row.name)) t.methods
 
--- the places of faults of the project, with numbers that can be written
+-- the places of diagnostics of the project, with numbers that can be written
 abbrev pub IsProjectPlace : Place → Type 0
 IsProjectPlace Project = Unit {0}
 IsProjectPlace (File file) = Unit {0}
 IsProjectPlace (ClassOf file number) = number < 2 ^ 32
 IsProjectPlace _ = ⊥
 
--- the places of faults of a class, with numbers that can be written
+-- the places of diagnostics of a class, with numbers that can be written
 abbrev pub IsClassPlace : Place → Type 0
 IsClassPlace Class = Unit {0}
 IsClassPlace (Field number) = number < 2 ^ 32
@@ -82,7 +82,7 @@ pub record AnswerFits (a : AnswerValue) : Type 0 where
   pub faults : ProjectFaultsFit a.faults
   pub classes : OrderedFits ClassAnswerFits (ByName (λ class. class.name)) a.classes
 
--- what the types of an answer's parts don't tell: where the faults stand, and the orders
+-- what the types of an answer's parts don't keep: where the diagnostics stand, and the orders
 abbrev pub AreProjectFaults : List Diagnostic → Type 0
 AreProjectFaults faults = AllByRecursion (λ fault. IsProjectPlace fault.place) faults
 

@@ -1,4 +1,4 @@
-//! Tables, faults and the whole answer, each in its order.
+//! Tables, diagnostics and the whole answer, each in its order.
 ghost use Rattle.std.specs.Prelude.{◌≡◌, ◌++◌, List, OnOk};
 ghost use Rattle.std.specs.List.{AllByRecursion};
 ghost use Rattle.mj_answer.specs.Order.{IsAscending, IsAscendingByName, IsTableInOrder};
@@ -55,7 +55,7 @@ impl Members {
     }
 }
 
-/// Faults of a class, in ascending order.
+/// Diagnostics of a class, in ascending order.
 #[derive(Debug, Drop)]
 pub struct Faults {
     list: Vec<Diagnostic>,
@@ -74,7 +74,7 @@ impl Model for Faults {
 }
 
 impl Faults {
-    /// These faults.
+    /// These diagnostics.
     pub fn new(list: Vec<Diagnostic>) -> Self
         requires order { IsAscending list.items }
         requires places { AreClassFaults list.items }
@@ -85,7 +85,7 @@ impl Faults {
         Faults { list }
     }
 
-    /// The faults.
+    /// The diagnostics.
     pub fn list(&self) -> &[Diagnostic]
         ensures value { result.now ≡ self.now }
         ensures fits { ClassFaultsFit self.now }
@@ -94,7 +94,7 @@ impl Faults {
     }
 }
 
-/// The answer for a whole project: its own faults in ascending order, and its classes ascending by name.
+/// The answer for a whole project: its own diagnostics in ascending order, and its classes ascending by name.
 #[derive(Debug, Drop)]
 pub struct WholeAnswer {
     answer: Answer,
@@ -202,14 +202,14 @@ impl Format for MembersFormat {
     }
 }
 
-/// Writes the faults of a class.
+/// Writes the diagnostics of a class.
 pub fn put_faults(out: &mut Vec<u8>, faults: &Faults) -> Result<(), AllocError>
     ensures { OnOk result (out.new.items ≡ out.old.items ++ list class_fault faults.now) }
 {
     put_list::<ClassFaultFormat>(out, faults.list())
 }
 
-/// Reads the faults of a class.
+/// Reads the diagnostics of a class.
 #[tactic(auto, unfolding(crate::specs::Reading::class_faults_at))]
 pub fn read_faults(alloc: Global, bytes: &[u8]) -> Result<(Faults, &[u8]), ReadError>
     ensures { Decodes (λ x. x) result (class_faults_at bytes.now) }

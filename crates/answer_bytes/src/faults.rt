@@ -1,4 +1,4 @@
-//! Faults as bytes: those of the project, and those of a class.
+//! Diagnostics as bytes: those of the project, and those of a class.
 ghost use Rattle.std.specs.Prelude.{◌≡◌, ◌++◌, OnOk};
 ghost use Rattle.mj_answer.specs.Codes.{code_number};
 ghost use Rattle.byte_readers.specs.Spelling.{two};
@@ -128,7 +128,7 @@ fn put_code(out: &mut Vec<u8>, code: Code) -> Result<(), AllocError>
     put_two(out, code.number())
 }
 
-/// Faults of the project.
+/// Diagnostics of the project.
 pub struct ProjectFaultFormat;
 
 impl Format for ProjectFaultFormat {
@@ -186,7 +186,7 @@ impl Ordered for ProjectFaultFormat {
     }
 }
 
-/// Faults of a class.
+/// Diagnostics of a class.
 pub struct ClassFaultFormat;
 
 impl Format for ClassFaultFormat {

@@ -1,4 +1,4 @@
-//! Tables, faults and answers as bytes, each list in its order.
+//! Tables, diagnostics and answers as bytes, each list in its order.
 #![tactic(auto)]
 
 mod answer;

@@ -1,4 +1,4 @@
--- In a project the faults that stand in no class have their places in four bytes.
+-- In a project the diagnostics that stand in no class have their places in four bytes.
 use Rattle.std.proofs.Common.{◌≡◌, List, [], ◌∷◌, refl, ap, ap₂, subst}
 use Rattle.mj_tree.specs.declared.place.Place.{Place}
 use Rattle.mj_tree.specs.declared.place.Place.TheVariants.{File, ClassOf, Class, Field, Method, Inside}

@@ -1,4 +1,4 @@
--- The faults of a project by the trees of its files are those of the rules.
+-- The diagnostics of a project by the trees of its files are those of the rules.
 use Rattle.std.proofs.Common.{◌≡◌, ℕ, ◌+◌, ◌<◌, ◌^◌, Bool, false, not, ◌||◌, List, [], ◌∷◌, ◌++◌, map, slice_get, Option, Some, None, option_map, refl, ap, ap₂, ◌∙◌, if◌then◌else◌}
 use Rattle.std.specs.List.{AllByRecursion}
 use Rattle.std.proofs.lemmas.Option.{slice_get-map}

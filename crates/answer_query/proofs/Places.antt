@@ -1,4 +1,4 @@
--- The faults of a project stand in places of the project.
+-- The diagnostics of a project stand in places of the project.
 use Rattle.std.proofs.Common.{ℕ, ◌+◌, Bool, true, false, not, ◌||◌, ◌&&◌, is_some, List, [], ◌∷◌, ◌++◌, slice_get, Option, Some, None}
 use Rattle.mj_tree.specs.Trees.{Name, File}
 use Rattle.mj_tree.specs.declared.place.Place.{Place}

@@ -1,4 +1,4 @@
--- Steps of the loops that collect the faults of a project.
+-- Steps of the loops that collect the diagnostics of a project.
 use Rattle.std.proofs.Common.{◌≡◌, ℕ, ◌+◌, ◌<◌, ◌≤◌, Bool, true, false, ◌||◌, List, [], ◌∷◌, ◌++◌, length, drop, get_or, slice_get, Option, Some, None, refl, sym, ap, ap₂, ◌∙◌, append_assoc, append-nil, ◌⊎◌, inl, inr, if◌then◌else◌}
 use Rattle.std.proofs.Math.Bool.{or_assoc}
 use Rattle.std.proofs.lemmas.List.{length-map}
@@ -26,7 +26,7 @@ past_end files n h = slice_get_past (named_trees files) n (rw (length-map files 
 pub as_many : (files : List ParsedFile) → length (named_trees files) ≡ length files
 as_many files = length-map files named_tree
 
--- ---- faults of files
+-- ---- diagnostics of files
 
 pub any_step : (files : List NamedTree) (before : Bool) (n : ℕ) (f : NamedTree) → slice_get files n ≡ Some f → (before || has_main f.1 || any_main (drop (n + 1) files)) ≡ (before || any_main (drop n files))
 any_step files before n f ef = or_assoc before (has_main f.1) (any_main (drop (n + 1) files)) ∙ ap (λ fs. before || any_main fs) (sym (drop_at files n f ef))

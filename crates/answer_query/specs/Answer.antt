@@ -21,12 +21,12 @@ abbrev pub table_of : Option ClassTableValue → ClassTableValue
 table_of None = record { fields = []; methods = [] }
 table_of (Some table) = table
 
--- the fields and methods that an answer tells
+-- the fields and methods in an answer
 abbrev pub table_in : Value → ClassTableValue
 table_in (Members table) = table_of table
 table_in _ = table_of None
 
--- the class of this name, by its members and its faults
+-- the class of this name, by its members and its diagnostics
 abbrev pub class_answer : Name → Value → Value → ClassAnswerValue
 class_answer c members diags =
     record { name = c; table = table_in members; faults = faults_in diags }
@@ -42,7 +42,7 @@ class_step row classes k =
 abbrev pub answer : List Diagnostic → List ClassAnswerValue → AnswerValue
 answer faults classes = record { faults = fault_set faults; classes = classes }
 
--- Index, then Members and Diags of each class, where these are the project's own faults
+-- Index, then Members and Diags of each class, where these are the project's own diagnostics
 abbrev pub classes_steps : List Diagnostic → (AnswerValue → Prog) → Prog
 classes_steps faults k =
     Ask keys.Index (λ v. each class_step (rows_in v) [] (λ classes. k (answer faults classes)))

@@ -13,7 +13,7 @@ use Rattle.answer_query.specs.Answer.{answer_steps}
 abbrev pub AnswerTies : Type 0
 AnswerTies = Ties keys.Answer (answer_steps Ret)
 
--- the faults of the project have their places in four bytes, and are left as they are
+-- the places of the project's diagnostics fit into four bytes, and are left as they are
 abbrev pub ProjectBounds : Type 0
 ProjectBounds =
     (p : Project) → IsProject p → bounded_faults (project_faults p) ≡ project_faults p

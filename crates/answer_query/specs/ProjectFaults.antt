@@ -1,4 +1,4 @@
--- The faults of a project itself, by the trees of its files.
+-- The diagnostics of a project itself, by the trees of its files.
 use Rattle.std.specs.Prelude.{ℕ, Bool, false, not, ◌||◌, List, [], ◌∷◌, ◌++◌, Option, Some, None, slice_get, if◌then◌else◌}
 use Rattle.std.specs.List.{list_any}
 use Rattle.mj_tree.specs.declared.place.Place.TheVariants as places

@@ -18,7 +18,7 @@ use recorder::{Reader, Recorder, RunFault};
 use result_bytes::Value;
 use std::alloc::Global;
 
-/// The answer with these faults of the project, and its classes in their order.
+/// The answer with these diagnostics of the project, and its classes in their order.
 fn whole_answer(faults: Vec<Diagnostic>, classes: Vec<ClassAnswer>) -> WholeAnswer
     requires places { AreProjectFaults faults.items }
     requires ascending { IsAscendingByName (λ class. class.name) classes.items }
@@ -28,7 +28,7 @@ fn whole_answer(faults: Vec<Diagnostic>, classes: Vec<ClassAnswer>) -> WholeAnsw
     WholeAnswer::new(Answer::new(fault_set(faults), classes))
 }
 
-/// Asks the index and what each class has, where these are the project's own faults.
+/// Asks the index and what each class has, where these are the project's own diagnostics.
 fn ask_classes<D: Reader>(
     alloc: Global,
     recorder: &mut Recorder<D>,
@@ -46,7 +46,7 @@ fn ask_classes<D: Reader>(
     Ok(whole_answer(faults, classes))
 }
 
-/// The answer for the project, by the trees of all files, and the members and the faults of each class.
+/// The answer for the project, by the trees of all files, and the members and the diagnostics of each class.
 pub fn run_answer<D: Reader>(alloc: Global, recorder: &mut Recorder<D>) -> Result<Value, RunFault>
     ensures ok { IfOk result (λ v. Goes answer_steps recorder.old v recorder.new) }
     ensures err { IfErr result (λ e. GivesUp answer_steps recorder.old e recorder.new) }

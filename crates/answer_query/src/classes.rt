@@ -33,7 +33,7 @@ fn add_class(
     Ok(())
 }
 
-/// Asks the members and the faults of one more class.
+/// Asks the members and the diagnostics of one more class.
 fn ask_class<D: Reader>(
     alloc: Global,
     recorder: &mut Recorder<D>,
@@ -57,7 +57,7 @@ fn ask_class<D: Reader>(
     Ok(())
 }
 
-/// Asks the members and the faults of each class.
+/// Asks the members and the diagnostics of each class.
 #[tactic(auto, using(recorder::proofs::Rules::loop_more, recorder::proofs::Rules::loop_up, recorder::proofs::Rules::loop_end))]
 pub fn ask_all_classes<D: Reader>(
     alloc: Global,

@@ -1,4 +1,4 @@
-//! What answers tell the query.
+//! What the query takes from answers.
 ghost use Rattle.std.specs.Prelude.{◌≡◌, IfOk, option_copied};
 ghost use Rattle.mj_answer.specs.Order.{IsAscendingByName};
 ghost use Rattle.answer_bytes.specs.Storable.{IsClassStorable};
@@ -14,7 +14,7 @@ use std::alloc::{AllocError, Global};
 use table_queries::{faults_in, rows_in};
 use tree_bytes::Tree;
 
-/// The names of the files that an answer tells.
+/// The names of the files in an answer.
 pub fn names_in(value: &Value) -> &[Name]
     ensures { result.now ≡ names_told value.now }
 {
@@ -24,7 +24,7 @@ pub fn names_in(value: &Value) -> &[Name]
     }
 }
 
-/// The tree that an answer tells.
+/// The tree in an answer.
 pub fn tree_in(value: &Value) -> Option<&Tree>
     ensures { option_copied result ≡ tree_told value.now }
 {
@@ -34,7 +34,7 @@ pub fn tree_in(value: &Value) -> Option<&Tree>
     }
 }
 
-/// The rows of the index that an answer tells, which ascend.
+/// The rows of the index in an answer, which ascend.
 pub fn ascending_rows(index: &Sealed) -> &[IndexRow]
     ensures value { result.now ≡ rows_told index.now }
     ensures ascending { IsAscendingByName (λ row. row.class) result.now }
@@ -42,7 +42,7 @@ pub fn ascending_rows(index: &Sealed) -> &[IndexRow]
     rows_in(index.value())
 }
 
-/// The fields and methods that an answer tells.
+/// The fields and methods in an answer.
 fn table_in(alloc: Global, value: &Value) -> Result<ClassTable, AllocError>
     ensures { IfOk result (λ table. table ≡ table_told value.now) }
 {
@@ -52,7 +52,7 @@ fn table_in(alloc: Global, value: &Value) -> Result<ClassTable, AllocError>
     }
 }
 
-/// The answer for a class of this name, by its members and its faults.
+/// The answer for a class of this name, by its members and its diagnostics.
 pub fn class_answer(
     alloc: Global,
     name: &Name,

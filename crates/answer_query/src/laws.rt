@@ -1,4 +1,4 @@
-//! What holds of the query.
+//! Laws of the query.
 ghost use Rattle.answer_query.specs.Laws.{AnswerTies, ProjectBounds};
 
 /// In every project the program of the answer gives the answer of the rules and asks what the query reads; whatever the
@@ -7,7 +7,7 @@ pub fn answer_ties()
     ensures { AnswerTies }
 {}
 
-/// The faults of a project that stand in no class are noted at the very places where they are.
+/// The diagnostics of a project that stand in no class have their exact places: nothing saturates.
 pub fn project_bounds()
     ensures { ProjectBounds }
 {}

@@ -1,4 +1,4 @@
-//! The query of the answer for the whole project: its own faults, and the members and faults of each class.
+//! The query of the answer for the whole project: its own diagnostics, and the members and diagnostics of each class.
 #![tactic(auto)]
 
 mod answer;

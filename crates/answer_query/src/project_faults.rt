@@ -1,4 +1,4 @@
-//! The faults of a project itself, by the trees of its files.
+//! The diagnostics of a project itself, by the trees of its files.
 ghost use Rattle.std.specs.Prelude.{◌≡◌, ◌++◌, ◌≤◌, [], if◌then◌else◌, map, false, is_some, option_copied, slice_get, IfOk, OnOk};
 ghost use Rattle.mj_tree.specs.Views.{class_view};
 ghost use Rattle.mj_classes.specs.Declarations.{classes_of, number_classes, declarations};
@@ -146,7 +146,7 @@ fn repeated_classes(alloc: Global, classes: &[ClassRef]) -> Result<Vec<bool>, Al
     repeats(alloc, &names)
 }
 
-/// Adds the fault of a class, given by its file and its number there, if an earlier class has its name.
+/// Adds the diagnostic of a class, given by its file and its number there, if an earlier class has its name.
 fn add_repeated_class(
     alloc: Global,
     faults: &mut Vec<Diagnostic>,
@@ -168,7 +168,7 @@ fn add_repeated_class(
     note_fault(faults, place, Code::E104)
 }
 
-/// Adds the faults of the classes whose names earlier classes have.
+/// Adds the diagnostics of the classes whose names earlier classes have.
 fn add_repeated_classes(
     alloc: Global,
     faults: &mut Vec<Diagnostic>,
@@ -195,7 +195,7 @@ fn add_repeated_classes(
     Ok(())
 }
 
-/// The faults of a project whose files have these trees.
+/// The diagnostics of a project whose files have these trees.
 pub fn project_faults(alloc: Global, files: &[ParsedFile]) -> Result<Vec<Diagnostic>, AllocError>
     ensures value { IfOk result (λ faults.
         faults.items ≡ project_faults_of (named_trees files.now)) }

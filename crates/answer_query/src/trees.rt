@@ -15,7 +15,7 @@ use std::alloc::{AllocError, Global};
 use std::sync::Arc;
 use tree_bytes::Tree;
 
-/// A file by its name, with the answer that tells its tree.
+/// A file by its name, with the answer that has its tree.
 #[derive(Drop)]
 pub struct ParsedFile {
     pub name: Name,

@@ -1,4 +1,4 @@
--- Keys of names that are told.
+-- Keys of names that are given.
 use Rattle.std.proofs.Common.{◌≡◌, ◌∙◌, sym, ap}
 use Rattle.item_ids.specs.declared.key.Key.{Key}
 use Rattle.item_ids.specs.Keys.{kind_of, class_of, member_of}

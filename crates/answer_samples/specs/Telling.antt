@@ -1,4 +1,4 @@
--- What short texts tell: keys by their names, and results by the digits that spell them.
+-- What short texts stand for: keys by their names, and results by the digits that spell them.
 use Rattle.std.specs.Prelude.{◌≡◌, ◌<◌, ◌↔◌, ℕ, Bool, List, [], ◌∷◌, codes, length, Option, Some, None, Ok, IsTrue, slice_set, slice_index, bit_xor}
 use Rattle.std.specs.declared.cmp.Ordering.TheVariants.{Less}
 use Rattle.hex.specs.Hex.{decode_of, encode_lower}
@@ -19,28 +19,28 @@ use Rattle.answer_samples.specs.declared.keys.Asked.{Asked}
 
 -- ---- keys
 
--- a name that is told: none by no text
+-- a name that is given: none by no text
 abbrev pub name_told : List ℕ → Option (List ℕ)
 name_told [] = None
 name_told (b ∷ text) = Some (b ∷ text)
 
--- the key of the kind, with the names that are told
+-- the key of the kind, with the names that are given
 pub record IsKeyOf (asked : Asked) (key : Key) : Type 0 where
   pub kind : kind_of_key key ≡ asked.0
   pub class : class_of key ≡ name_told asked.1.now
   pub member : member_of key ≡ name_told asked.2.now
 
--- whether a key of the kind has names as they are told
+-- whether a key of the kind has the names that are given
 abbrev pub FitTold : Asked → Type 0
 FitTold asked = FitNames asked.0 (name_told asked.1.now) (name_told asked.2.now)
 
--- the same kind and names are told
+-- the same kind and names are given
 pub record AreAlike (one other : Asked) : Type 0 where
   pub kind : one.0 ≡ other.0
   pub class : name_told one.1.now ≡ name_told other.1.now
   pub member : name_told one.2.now ≡ name_told other.2.now
 
--- the answer to whether the key that is told first is less than the other one
+-- the answer to whether the key that is given first is less than the other one
 pub record IsOrderOf (lesser greater : Asked) (answer : Bool) : Type 0 where
   pub first : Key
   pub second : Key
@@ -50,7 +50,7 @@ pub record IsOrderOf (lesser greater : Asked) (answer : Bool) : Type 0 where
 
 -- ---- results
 
--- the digits tell these bytes
+-- the digits spell these bytes
 abbrev pub Tell : List ℕ → List ℕ → Type 0
 Tell digits bytes = decode_of digits ≡ Ok bytes
 
@@ -64,7 +64,7 @@ pub record Spell (kind : Kind) (bytes : List ℕ) (v : Value) : Type 0 where
 abbrev pub IsSpelling : Kind → List ℕ → Type 0
 IsSpelling kind bytes = (v : Value) × Spell kind bytes v
 
--- the digits tell what spells this value, of this kind
+-- the digits spell this value, of this kind
 pub record IsTold (kind : Kind) (digits : List ℕ) (v : Value) : Type 0 where
   pub is_value : IsValue v
   pub of_kind : kind_of_value v ≡ kind
@@ -94,7 +94,7 @@ pub record Counts (kind : Kind) (bytes : List ℕ) (at : ℕ) : Type 0 where
 abbrev pub AllCount : Kind → List ℕ → Type 0
 AllCount kind bytes = (at : ℕ) → at < length bytes → Counts kind bytes at
 
--- the answer to whether each byte that is told counts
+-- the answer to whether each byte that is given counts
 pub record IsTightness (kind : Kind) (digits : List ℕ) (answer : Bool) : Type 0 where
   pub bytes : List ℕ
   pub of_digits : Tell digits bytes
@@ -111,20 +111,21 @@ bare (Header (Some h)) =
     Header (Some (record { is_main = h.is_main; superclass = None; fields = h.fields; methods = [] }))
 bare v = v
 
--- the answer to whether the value that is told has a copy, without superclass and methods, that is
--- told by the same digits
+-- the answer to whether the value that is given has a copy, without superclass and methods, that is
+-- given by the same digits
 pub record IsCopied (kind : Kind) (digits : List ℕ) (answer : Bool) : Type 0 where
   pub value : Value
   pub of_digits : IsTold kind digits value
   pub told : IsTrue answer ↔ Tell digits (canon (bare value))
 
--- the answer to whether the answer that is told is printed as this text
+-- the answer to whether the answer that is given is printed as this text
 pub record IsPrintOf (digits text : List ℕ) (answer : Bool) : Type 0 where
   pub value : Value
   pub of_digits : IsTold kinds.Answer digits value
   pub told : IsTrue answer ↔ IsPrintedAs value text
 
--- the answer to whether the digits tell the body that a class and a method name in a told tree
+-- the answer to whether the digits spell the body that a class and a method name in the tree that
+-- is given
 pub record IsBodyOf (tree class method digits : List ℕ) (answer : Bool) : Type 0 where
   pub file : File
   pub of_digits : IsTold kinds.Tree tree (Tree (Some file))
@@ -132,7 +133,7 @@ pub record IsBodyOf (tree class method digits : List ℕ) (answer : Bool) : Type
 
 -- ---- sealed results
 
--- the bytes spell a value of the kind, which has this print
+-- the bytes spell a value of the kind, which has this fingerprint
 pub record IsSealing (kind : Kind) (bytes print : List ℕ) (v : Value) : Type 0 where
   pub of_bytes : Spell kind bytes v
   pub of_print : print ≡ print_of v
@@ -140,7 +141,7 @@ pub record IsSealing (kind : Kind) (bytes print : List ℕ) (v : Value) : Type 0
 abbrev pub IsOpenable : Kind → List ℕ → List ℕ → Type 0
 IsOpenable kind bytes print = (v : Value) × IsSealing kind bytes print v
 
--- the answer to whether the print of the value that is told has these digits
+-- the answer to whether the fingerprint of the value that is given has these digits
 pub record IsSealedAs (kind : Kind) (digits print : List ℕ) (answer : Bool) : Type 0 where
   pub value : Value
   pub of_digits : IsTold kind digits value

@@ -64,7 +64,7 @@ fn copy_of(alloc: Global, value: &Value) -> Result<Value, Unfit>
     }
 }
 
-/// Whether the digits tell what spells a value, and its copy too.
+/// Whether the digits spell a value, and its copy too.
 pub fn is_copied(alloc: Global, kind: Kind, digits: &str) -> Result<bool, Unfit>
     ensures { IfOk result (IsCopied kind digits.now) }
 {
@@ -72,7 +72,7 @@ pub fn is_copied(alloc: Global, kind: Kind, digits: &str) -> Result<bool, Unfit>
     has_spelled_copy(alloc, &value, digits)
 }
 
-/// Whether the digits tell the spelling of the value's copy.
+/// Whether the digits spell the value's copy.
 fn has_spelled_copy(alloc: Global, value: &Value, digits: &str) -> Result<bool, Unfit>
     ensures { IfOk result (λ b. IsTrue b ↔ Tell digits.now (canon (bare value.now))) }
 {
@@ -80,7 +80,7 @@ fn has_spelled_copy(alloc: Global, value: &Value, digits: &str) -> Result<bool, 
     are_encoded(alloc, &copy, digits)
 }
 
-/// Whether the digits tell the spelling of the value.
+/// Whether the digits spell the value.
 fn are_encoded(alloc: Global, value: &Value, digits: &str) -> Result<bool, Unfit>
     ensures { IfOk result (λ b. IsTrue b ↔ Tell digits.now (canon value.now)) }
 {
@@ -95,7 +95,7 @@ fn copy_class(alloc: Global, class: &ClassAnswer) -> Result<ClassAnswer, AllocEr
     with_table(alloc, name, class)
 }
 
-/// The class of this name, with copies of the table and the faults.
+/// The class of this name, with copies of the table and the diagnostics.
 fn with_table(alloc: Global, name: Name, class: &ClassAnswer) -> Result<ClassAnswer, AllocError>
     ensures { IfOk result (λ copy. name ≡ class.now.name → copy ≡ class.now) }
 {
@@ -138,7 +138,7 @@ fn is_text_again(alloc: Global, value: &Value, text: &str) -> Result<bool, Alloc
     }
 }
 
-/// Whether the digits tell what spells an answer whose copy is printed as this text.
+/// Whether the digits spell an answer whose copy is printed as this text.
 pub fn is_printed_again(alloc: Global, digits: &str, text: &str) -> Result<bool, Unfit>
     ensures { IfOk result (IsPrintOf digits.now text.now) }
 {
@@ -164,7 +164,7 @@ fn body_of(alloc: Global, tree: &Tree, class: &str, method: &str) -> Result<Valu
     Ok(Value::Method(tree.body(alloc, &class, &method)?))
 }
 
-/// Whether the digits tell the spelling of the body that a class and a method name in the tree.
+/// Whether the digits spell the body that a class and a method name in the tree.
 fn is_body(
     alloc: Global,
     tree: &Tree,
@@ -189,7 +189,7 @@ fn tree_in(value: &Value) -> Result<&Tree, Unfit>
     }
 }
 
-/// Whether `body` tells the spelling of what a class and a method name in the tree that `tree` tells.
+/// Whether `body` spells what a class and a method name in the tree that `tree` spells.
 pub fn has_body(
     alloc: Global,
     tree: &str,

@@ -1,4 +1,4 @@
-//! Sealed results, and prints.
+//! Sealed results, and fingerprints.
 ghost use Rattle.std.specs.Prelude.{◌≡◌, ◌↔◌, IsTrue, IfOk, MatchOption, Err};
 ghost use Rattle.std.specs.Arc.{arc_value};
 ghost use Rattle.hex.specs.Hex.{encode_lower};
@@ -39,14 +39,14 @@ pub fn is_spelled(alloc: Global, sealed: &Sealed, digits: &str) -> Result<bool, 
     Ok(sealed.bytes() == bytes.as_slice())
 }
 
-/// Whether the print has these digits.
+/// Whether the fingerprint has these digits.
 pub fn is_print(alloc: Global, print: Print, digits: &str) -> Result<bool, AllocError>
     ensures { IfOk result (λ b. IsTrue b ↔ (encode_lower print.0 ≡ digits.now)) }
 {
     Ok(print.text(alloc)?.as_str() == digits)
 }
 
-/// Whether what the digits spell is sealed with its kind and these bytes, and its print has these digits.
+/// Whether what the digits spell is sealed with its kind and these bytes, and its fingerprint has these digits.
 pub fn is_sealed(alloc: Global, kind: Kind, digits: &str, print: &str) -> Result<bool, Unfit>
     ensures { IfOk result (IsSealedAs kind digits.now print.now) }
 {
@@ -55,7 +55,7 @@ pub fn is_sealed(alloc: Global, kind: Kind, digits: &str, print: &str) -> Result
     Ok(is_whole && is_print(alloc, sealed.print(), print)?)
 }
 
-/// Whether it is a result of the kind, with these bytes and this print.
+/// Whether it is a result of the kind, with these bytes and this fingerprint.
 fn is_result(
     alloc: Global,
     sealed: Sealed,
@@ -70,7 +70,7 @@ fn is_result(
     Ok(shared.bytes() == bytes && shared.value().kind() == kind && shared.print() == print)
 }
 
-/// Whether the bytes and the print are opened as a result of the kind with these bytes and this print.
+/// Whether the bytes and the fingerprint are opened as a result of the kind with these bytes and this fingerprint.
 pub fn is_opened(alloc: Global, kind: Kind, bytes: &[u8], print: Print) -> Result<bool, Unfit>
     ensures { IfOk result (λ b. IsTrue b ↔ IsOpenable kind bytes.now print.0) }
 {
@@ -82,7 +82,7 @@ pub fn is_opened(alloc: Global, kind: Kind, bytes: &[u8], print: Print) -> Resul
     }
 }
 
-/// Why the bytes and the print aren't opened, or `None` where they are.
+/// Why the bytes and the fingerprint aren't opened, or `None` where they are.
 pub fn open_fault(
     alloc: Global,
     kind: Kind,

@@ -1,4 +1,4 @@
-//! Values from the bytes that spell them, which short texts tell in hexadecimal digits.
+//! Values from the bytes that spell them, given as hexadecimal digits.
 ghost use Rattle.std.specs.Prelude.{◌≡◌, ◌↔◌, ◌<◌, ℕ, length, IsTrue, IfOk, IfErr, MatchOption, Err};
 ghost use Rattle.std.specs.Arc.{arc_value};
 ghost use Rattle.result_bytes.specs.declared.value.Value.{Value};
@@ -22,7 +22,8 @@ pub fn bytes_of(alloc: Global, digits: &str) -> Result<Vec<u8>, Unfit>
     }
 }
 
-/// The value, shared: a function that drops a value itself is dear to prove, as it writes out the drops of all arms.
+/// The value, shared: a function that drops a value itself is expensive to prove, as it writes out the drops of all
+/// arms.
 pub(crate) fn share(alloc: Global, value: Value) -> Result<Arc<Value>, AllocError>
     ensures { IfOk result (λ shared. arc_value shared ≡ value) }
 {
@@ -99,7 +100,7 @@ pub fn spells(alloc: Global, kind: Kind, bytes: &[u8]) -> Result<bool, Unfit>
     is_spelled_as(alloc, kind, bytes, bytes)
 }
 
-/// Whether the digits tell what spells a value of the kind.
+/// Whether the digits spell a value of the kind.
 pub fn is_spelling(alloc: Global, kind: Kind, digits: &str) -> Result<bool, Unfit>
     ensures { IfOk result (λ b. IsTrue b ↔ IsToldSpelling kind digits.now) }
 {
@@ -128,7 +129,7 @@ fn is_text(alloc: Global, value: &Value, text: &str) -> Result<bool, AllocError>
     }
 }
 
-/// Whether the digits tell what spells an answer that is printed as this text.
+/// Whether the digits spell an answer that is printed as this text.
 pub fn is_printed(alloc: Global, digits: &str, text: &str) -> Result<bool, Unfit>
     ensures { IfOk result (IsPrintOf digits.now text.now) }
 {
@@ -180,7 +181,7 @@ fn all_count(alloc: Global, kind: Kind, bytes: &[u8]) -> Result<bool, Unfit>
     Ok(true)
 }
 
-/// Whether each change of one byte that the digits tell makes another value, or none.
+/// Whether each change of one byte that the digits spell makes another value, or none.
 pub fn is_tight(alloc: Global, kind: Kind, digits: &str) -> Result<bool, Unfit>
     ensures { IfOk result (IsTightness kind digits.now) }
 {

@@ -1,4 +1,4 @@
--- What a session tells of a key, by its records, and lists of entries.
+-- What a session says about a key, by its records, and lists of entries.
 use Rattle.std.proofs.Common.{◌≡◌, ℕ, suc, zero, ◌+◌, ◌<◌, List, [], ◌∷◌, ◌++◌, take, length, get_or, Option, Some, None, slice_get, refl, sym, ap, ◌∙◌, subst, arith, ◌↔◌, ◌⊎◌, inl, inr}
 use Rattle.std.specs.Prelude.{Contains, MatchOption}
 use Rattle.std.specs.List.{AllByRecursion}
@@ -19,7 +19,7 @@ item_at [] i lt = absurd (omega arith)
 item_at (x ∷ xs) zero lt = (x, refl)
 item_at (x ∷ xs) (suc i) lt = item_at xs i (omega arith)
 
--- what a session tells of a key is what one of its records tells
+-- what a session says about a key is what one of its records says
 pub told_by : (s : SessionValue) (q : Key) (r : Entry) → entry_at s q ≡ Some r
     → (i : ℕ) × (x : RecordValue) × (i < length s.records) × (get_or s.records i x ≡ x) × (entry_of s.records x ≡ r)
 told_by s q r has =

@@ -1,4 +1,4 @@
--- Why green keys don't stand in the past.
+-- Why green keys don't stand in the previous session.
 use Rattle.std.proofs.Common.{◌≡◌, ◌≢◌, ℕ, suc, zero, ◌+◌, ◌<◌, ◌≤◌, List, [], ◌∷◌, ◌++◌, map, take, length, get_or, slice_get, Option, Some, option_map, sym, ap, ◌∙◌, subst, arith}
 use Rattle.std.specs.Prelude.{Contains, HoldsAt}
 use Rattle.std.specs.List.{AllByRecursion}
@@ -27,7 +27,7 @@ there (x ∷ xs) (suc i) k e =
     let h = there xs i k e in
     let l : suc h.0 < length (x ∷ xs) = let b = h.1 in omega arith in (suc h.0, l, h.2)
 
--- a key with a lack doesn't stand in the past
+-- a key with a lack doesn't stand in the previous session
 pub lacks_something : (past now : Past) (r : Entry) (why : Lack) → IsLack past now r why → StandsIn past now r → ⊥
 lacks_something past now r WithoutPast l st = none-some st.had (sym l ∙ st.past_has)
 lacks_something past now r OtherEdges l st =
@@ -48,7 +48,7 @@ stands past now r had has edges same print = record {
   same = λ e c. all_at (HasSamePrint past now) r.reads same e c;
 }
 
--- ---- edges of the past and of the session, one after the other
+-- ---- edges of the previous session and of the session, one after the other
 
 module _ (f g : ℕ → Key) (old es : List ℕ) where
   -- so far the keys are the same, and one more is
@@ -89,7 +89,7 @@ module _ (f g : ℕ → Key) (old es : List ℕ) where
     pub red_more : a ≡ b → AllByRecursion (HasSamePrint past now) (take (i + 1) (map g es))
     red_more same = one_more (HasSamePrint past now) (map g es) i (g (get_or es i 0)) key_here before (sym old_here ∙ (ap Some same ∙ print))
 
--- ---- a record of the past and one of the session, of one key
+-- ---- a record of the previous session and one of the session, of one key
 
 module _ (past s : SessionValue) (past_session : IsSession past) (item : RecordValue) (at : ℕ) (lt : at < length past.records) (old : List ℕ)
     (has : HoldsAt (λ r. entry_at past item.key ≡ Some (entry_of past.records r)) past.records at) (is : HoldsAt (λ r. old ≡ r.edges) past.records at) where

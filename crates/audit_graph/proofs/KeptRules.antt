@@ -1,4 +1,4 @@
--- What is kept of a session tells of its records.
+-- The records of a session, by what is kept of it.
 use Rattle.std.proofs.Common.{◌≡◌, ◌≢◌, ℕ, suc, zero, ◌<◌, List, [], ◌∷◌, map, length, get_or, slice_get, position, is_some, Option, Some, None, refl, sym, ap, subst, ◌∙◌, arith}
 use Rattle.std.specs.Prelude.{HoldsAt, MatchOption, IfSome}
 use Rattle.std.specs.List.{AllByRecursion, list_any}
@@ -76,7 +76,7 @@ module _ (kept : KeptSession) (was : SessionValue) (p : IsPastOf kept was) where
       (set_found was.records q o there (index ∙ ap (λ (ks : List Key). position (eq_by_cmp key_cmp q) ks) keys_are))
       (set_none was.records q o (found ∙ ap (λ (ks : List Key). list_any (eq_by_cmp key_cmp q) ks) keys_are))
 
--- ---- where there may be no session before
+-- ---- where there may be no previous session
 
 pub behind : (kept : Option KeptSession) (was : Option SessionValue) (P : Option SessionValue → Type 0) → ArePastOf kept was → (kept ≡ None → P None) → ((k : KeptSession) (w : SessionValue) → kept ≡ Some k → IsPastOf k w → P (Some w)) → P was
 behind None None P p none some = none refl

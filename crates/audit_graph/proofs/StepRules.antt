@@ -56,7 +56,7 @@ less_from Greater e = absurd (cc)
 pub before_lower : (k q e : Key) → is_before k q ≡ true → key_cmp e q ≡ Less → is_before k e ≡ true
 before_lower k q e before less = ap is_lt (key_total.trans e q k less (less_from (key_cmp q k) before))
 
--- ---- no session before
+-- ---- no previous session
 
 pub none_graph : IsGraph (past_entry None)
 none_graph = record {

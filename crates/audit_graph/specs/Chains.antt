@@ -3,12 +3,13 @@ use Rattle.std.specs.Prelude.{◌≡◌, ℕ, ◌+◌, List, [], ◌∷◌, Opti
 use Rattle.sessions.specs.Sessions.{SessionValue}
 use Rattle.sessions.specs.Spelling.{next_link}
 
--- the session has this number, and its link is that behind the past
+-- the session has this number, and its link is the one that follows the previous session
 pub record IsLinked (past : Option SessionValue) (k : ℕ) (s : SessionValue) : Type 0 where
   pub number : s.number ≡ k
   pub link : s.link ≡ next_link past
 
--- behind the past and from number k on each session is linked to the one before
+-- from number k on each session is linked to the one before, and the first of them to the previous
+-- session
 abbrev pub AreLinked : Option SessionValue → ℕ → List SessionValue → Type 0
 AreLinked past k [] = Unit {0}
 AreLinked past k (s ∷ ss) = IsLinked past k s × AreLinked (Some s) (k + 1) ss

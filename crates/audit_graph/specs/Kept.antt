@@ -1,11 +1,12 @@
--- What the session behind asks of a session: no results.
+-- What the audit of the next session needs of a session: no results.
 use Rattle.std.specs.Prelude.{◌≡◌, ℕ, List, map, Option, Some, None}
 use Rattle.item_ids.specs.declared.key.Key.{Key}
 use Rattle.fingerprint.specs.Prints.{print_of}
 use Rattle.sessions.specs.Sessions.{RecordValue, SessionValue, IsSession}
 use Rattle.sessions.specs.Spelling.{digest_of}
 
--- the indices of the records of the keys that a record read, in order, and the print of its result
+-- the indices of the records of the keys that a record read, in order, and the fingerprint of its
+-- result
 pub record KeptRecord : Type 0 where
   pub edges : List ℕ
   pub print : List ℕ

@@ -1,4 +1,4 @@
--- Which records of a session are to be run again.
+-- Which records of a session are to be replayed.
 use Rattle.std.specs.Prelude.{ℕ, ◌+◌, Bool, true, false, List, [], ◌∷◌, if◌then◌else◌}
 use Rattle.sessions.specs.declared.mark.Mark.{Mark}
 use Rattle.sessions.specs.declared.mark.Mark.TheVariants.{Executed}

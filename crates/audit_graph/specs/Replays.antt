@@ -10,7 +10,7 @@ use Rattle.sessions.specs.declared.mark.Mark.TheVariants.{Executed}
 use Rattle.sessions.specs.Sessions.{Entry}
 use Rattle.graph_rules.specs.Pasts.{Past}
 
--- no two values of the two sessions that differ have one print
+-- no two values of the two sessions that differ share a fingerprint
 abbrev pub AreValuesApart : Past → Past → Type 0
 AreValuesApart past now =
     (k q : Key) (a b : Entry) → past k ≡ Some a → now q ≡ Some b

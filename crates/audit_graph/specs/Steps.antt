@@ -16,14 +16,14 @@ use Rattle.audit_graph.specs.declared.sources.SourceFault.TheVariants as sources
 use Rattle.audit_graph.specs.declared.fault.AuditFault.{AuditFault}
 use Rattle.audit_graph.specs.declared.fault.AuditFault.TheVariants.{BrokenLink, NoFiles, MissingSource, StraySource, GreenWithoutPast, OtherEdges, GreenOverRed, GreenPrint, OutOfMemory}
 
--- Session k over the past, but for what its executed keys are: it is linked to the past, it holds
--- the files of a project, and its green keys stand in the past.
+-- Session k over the previous one, but for what its executed keys are: it is linked to it, it holds
+-- the files of a project, and its green keys stand in it.
 pub record IsSessionStep (past : Option SessionValue) (k : ℕ) (s : SessionValue) : Type 0 where
   pub linked : IsLinked past k s
   pub sources : HasSources (entry_at s)
   pub greens : GreensStand (past_entry past) (entry_at s)
 
--- ---- refusals, each of what stands behind the ones before it
+-- ---- refusals, each where those before it don't hold
 
 -- the source of file f is the first that has no bytes
 pub record IsMissing (s : SessionValue) (f : ℕ) : Type 0 where
@@ -46,14 +46,15 @@ SourcesGive s (Err (sources.Missing f)) = IsMissing s f
 SourcesGive s (Err (sources.Stray n)) = IsStray s n
 SourcesGive s (Err sources.OutOfMemory) = (names : List (List ℕ)) × HasFiles (entry_at s) names
 
--- record n is the first that is green and doesn't stand in the past, for this reason
+-- record n is the first that is green and doesn't stand in the previous session, for this reason
 pub record IsFirstLack (past : Option SessionValue) (s : SessionValue) (n : ℕ)
     (why : Lack) : Type 0 where
   pub first : IsFirstWithout (StandsIfGreen (past_entry past) (entry_at s)) (entries s) n
   pub green : first.item.mark ≡ Green
   pub lack : IsLack (past_entry past) (entry_at s) first.item why
 
--- linked to the past, with the files of a project, but with a green record that doesn't stand there
+-- linked to the previous session, with the files of a project, but with a green record that doesn't
+-- stand there
 pub record RefusesGreen (past : Option SessionValue) (k : ℕ) (s : SessionValue) (n : ℕ)
     (why : Lack) : Type 0 where
   pub linked : IsLinked past k s

@@ -3,8 +3,8 @@
 use session_file::FileFault;
 use thiserror::Error;
 
-/// The first fault of a chain. The first `usize` is the index of the session; then stands that of the record or, in
-/// `MissingSource`, the place of the file among the session's files; then the place of the edge or read.
+/// The first fault of a chain. The first `usize` is the index of the session, the second that of its record (in
+/// `MissingSource`, of the file among the session's files), the third that of the edge or read.
 #[derive(Clone, Copy, Debug, PartialEq, Eq, Error)]
 pub enum AuditFault {
     /// There is no session.
@@ -25,16 +25,16 @@ pub enum AuditFault {
     /// This record is the source of none of the session's files.
     #[error("14.6 StraySource({0}, {1})")]
     StraySource(usize, usize),
-    /// This record is green, and the session before hasn't its key.
+    /// This record is green, and the previous session has no record of its key.
     #[error("14.7 GreenWithoutPast({0}, {1})")]
     GreenWithoutPast(usize, usize),
-    /// This record is green, and its edges aren't those of the session before.
+    /// This record is green, and its edges aren't those of the previous session.
     #[error("14.8 OtherEdges({0}, {1})")]
     OtherEdges(usize, usize),
-    /// This record is green, and this edge has another print than in the session before.
+    /// This record is green, and this edge has another fingerprint than in the previous session.
     #[error("14.9 GreenOverRed({0}, {1}, {2})")]
     GreenOverRed(usize, usize, usize),
-    /// This record is green, and has another print than in the session before.
+    /// This record is green, and has another fingerprint than in the previous session.
     #[error("14.10 GreenPrint({0}, {1})")]
     GreenPrint(usize, usize),
     /// This record was executed, and its run reads another key than this edge's.
@@ -49,7 +49,7 @@ pub enum AuditFault {
     /// The last session has no answer.
     #[error("14.14 NoAnswer")]
     NoAnswer,
-    /// The last session's files are others than those handed in.
+    /// The last session's files aren't those handed in.
     #[error("14.15 SourcesDiffer")]
     SourcesDiffer,
     /// Memory ran out.

@@ -1,4 +1,4 @@
-//! Green records over the session before.
+//! Green records over the previous session.
 ghost use Rattle.std.specs.Prelude.{◌≡◌, ◌≢◌, ◌<◌, length, true, Option, Some, None, MatchBool, MatchOption};
 ghost use Rattle.std.specs.Option.{option_copied};
 ghost use Rattle.std.specs.List.{AllByRecursion};
@@ -16,20 +16,20 @@ use fingerprint::Print;
 use item_ids::{Key, keys_in_order};
 use sessions::{Mark, Record, Session};
 
-/// Why a green record doesn't stand in the past: the first of these reasons.
+/// Why a green record doesn't stand in the previous session: the first of these reasons.
 #[derive(Clone, Copy)]
 pub enum Lack {
-    /// The past hasn't the key.
+    /// The previous session has no record of the key.
     WithoutPast,
-    /// Its edges are others there.
+    /// Its edges are different there.
     OtherEdges,
-    /// The edge at this place has another print there.
+    /// The edge at this place has another fingerprint there.
     OverRed(usize),
-    /// It has another print there.
+    /// It has another fingerprint there.
     OtherPrint,
 }
 
-/// The first green record that doesn't stand in the past, and why.
+/// The first green record that doesn't stand in the previous session, and why.
 pub(crate) fn first_lack(past: Option<&Past>, session: &Session) -> Option<(usize, Lack)>
     ensures { (was : Option SessionValue) → ArePastOf (option_copied past.entry) was
         → MatchOption result (GreensStand (past_entry was) (entry_at session.now))
@@ -43,7 +43,7 @@ pub(crate) fn first_lack(past: Option<&Past>, session: &Session) -> Option<(usiz
     None
 }
 
-/// Why a record doesn't stand in the past, where it is green.
+/// Why a record doesn't stand in the previous session, where it is green.
 fn lack_if_green(past: Option<&Past>, session: &Session, item: &Record) -> Option<Lack>
     requires { AreInside session.now.records item.now.edges }
     ensures { (was : Option SessionValue) → ArePastOf (option_copied past.entry) was
@@ -61,7 +61,7 @@ fn lack_if_green(past: Option<&Past>, session: &Session, item: &Record) -> Optio
     }
 }
 
-/// Why a record doesn't stand in the past.
+/// Why a record doesn't stand in the previous session.
 fn find_lack(past: &Past, session: &Session, item: &Record) -> Option<Lack>
     requires { AreInside session.now.records item.now.edges }
     ensures { (was : SessionValue) → IsPastOf past.now was
@@ -85,7 +85,7 @@ fn find_lack(past: &Past, session: &Session, item: &Record) -> Option<Lack>
     None
 }
 
-/// Whether edges of the past and of the session lead to the same keys.
+/// Whether edges of the previous session and of the session lead to the same keys.
 fn are_same(past: &Past, old: &[usize], session: &Session, edges: &[usize]) -> bool
     requires old { AllByRecursion (λ e. e < length past.now.records) old.now }
     requires edges { AreInside session.now.records edges.now }
@@ -106,7 +106,7 @@ fn are_same(past: &Past, old: &[usize], session: &Session, edges: &[usize]) -> b
     true
 }
 
-/// The place of the first edge that has another print in the past.
+/// The place of the first edge that has another fingerprint in the previous session.
 fn first_red(past: &Past, old: &[usize], session: &Session, edges: &[usize]) -> Option<usize>
     requires old { AllByRecursion (λ e. e < length past.now.records) old.now }
     requires edges { AreInside session.now.records edges.now }
@@ -136,7 +136,7 @@ fn same_key(a: &Key, b: &Key) -> bool
     a == b
 }
 
-/// Whether two prints are one.
+/// Whether two fingerprints are one.
 fn same_print(a: Print, b: Print) -> bool
     ensures { MatchBool result (a.0 ≡ b.0) (a.0 ≢ b.0) }
 {

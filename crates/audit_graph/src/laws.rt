@@ -1,4 +1,4 @@
-//! What holds of sessions that were checked.
+//! Laws of sessions that were checked.
 ghost use Rattle.std.specs.Prelude.{◌≡◌, ◌↔◌, ℕ, Bool, true, Option, Some, None, Contains, slice_get};
 ghost use Rattle.item_ids.specs.declared.key.Key.{Key};
 ghost use Rattle.mj_project.specs.Projects.{IsProject};
@@ -25,9 +25,9 @@ pub fn plan_tells()
         ↔ ((r : RecordValue) × (slice_get s.records n ≡ Some r) × (r.mark ≡ Executed)) }
 {}
 
-/// Where the past has the values and reads of a project, no two values of both sessions that differ have one print, and
-/// the executed ones among some keys, and with each of these all of lower rank, follow from their edges, these keys
-/// have the values and reads of the project whose files the session holds.
+/// For keys that have with each of them all keys of lower rank, and of which the executed ones follow from their edges:
+/// where the previous session has the values and reads of a project, and no two different values of both sessions share
+/// a fingerprint, these keys have the values and reads of the project whose files the session holds.
 pub fn front_is_meant()
     ensures { (mean : Meaning) (reads : ReadLists) → RunnerLaws mean reads
         → (past : Option SessionValue) (k : ℕ) (s : SessionValue) (old p : Project)
@@ -40,7 +40,7 @@ pub fn front_is_meant()
         → (r.value ≡ mean p q) × (r.reads ≡ reads p q) }
 {}
 
-/// Where all executed keys follow from their edges, the session is right over the past.
+/// Where all executed keys follow from their edges, the session is right over the previous session.
 pub fn step_is_right()
     ensures { (mean : Meaning) (reads : ReadLists) → RunnerLaws mean reads
         → (past : Option SessionValue) (k : ℕ) (s : SessionValue) (old : Project)
@@ -58,8 +58,8 @@ pub fn before_has_lower()
     ranks_in_order();
 }
 
-/// Where there is no session before, it is a graph, it has the values and reads of every project, and none of its values
-/// has the print of another one.
+/// Where there is no previous session, that counts as a graph with the values and reads of every project, and none of
+/// its values shares a fingerprint with another one.
 pub fn no_past_is_meant()
     ensures graph { IsGraph (past_entry None) }
     ensures meant { (mean : Meaning) (reads : ReadLists) (p : Project)

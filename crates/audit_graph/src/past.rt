@@ -1,4 +1,4 @@
-//! The session before.
+//! What is kept of the previous session.
 ghost use Rattle.std.specs.Prelude.{◌≡◌, ◌<◌, None, Some, IfOk, IfSome, MatchOption, HoldsAt, length, map};
 ghost use Rattle.std.specs.List.{AllByRecursion};
 ghost use Rattle.sessions.specs.Sessions.{SessionValue, AreRecords, key_at, entry_at, entry_of};
@@ -13,7 +13,7 @@ use sessions::{Record, Session};
 use std::alloc::{AllocError, Global};
 use std::marker::Model;
 
-/// What is kept of a record beside its key: its edges and its print.
+/// What is kept of a record beside its key: its edges and its fingerprint.
 #[derive(Drop)]
 struct Kept {
     edges: Vec<usize>,
@@ -28,8 +28,8 @@ impl Model for Kept {
     ghost view = { λ k. record { edges = k.edges.items; print = k.print.0 } };
 }
 
-/// What the session behind asks of a session: its number, the SHA-256 of its file, and the key, edges and print of
-/// each record. It holds no results.
+/// What the audit of the next session needs of a session: its number, the SHA-256 of its file, and the key, edges and
+/// fingerprint of each record. It holds no results.
 #[derive(Drop)]
 pub struct Past {
     number: u32,
@@ -61,7 +61,7 @@ impl Model for Past {
 }
 
 impl Past {
-    /// The past that a session is to the one behind it.
+    /// What the audit of the next session needs of this one.
     pub fn of(alloc: Global, session: &Session) -> Result<Self, AllocError>
         ensures { IfOk result (λ past. IsPastOf past session.now) }
     {
@@ -108,7 +108,7 @@ impl Past {
         self.records[i].edges.as_slice()
     }
 
-    /// The print of the result at an index.
+    /// The fingerprint of the result at an index.
     pub fn print(&self, i: usize) -> Print
         requires { i < length self.now.records }
         ensures { (was : SessionValue) → IsPastOf self.now was

@@ -1,4 +1,4 @@
-//! What a session tells at the index of a record.
+//! The record at an index of a session.
 ghost use Rattle.std.specs.Prelude.{◌≡◌, ◌<◌, Some, length};
 ghost use Rattle.sessions.specs.Sessions.{key_at, entry_at};
 ghost use Rattle.graph_rules.specs.Pasts.{print_in};
@@ -15,7 +15,7 @@ pub(crate) fn key_of(session: &Session, i: usize) -> &Key
     session.records()[i].key()
 }
 
-/// The print of the result at an index.
+/// The fingerprint of the result at an index.
 pub(crate) fn print_of(session: &Session, i: usize) -> Print
     requires { i < length session.now.records }
     ensures { Some result.0 ≡ print_in (entry_at session.now) (key_at session.now.records i) }

@@ -1,4 +1,4 @@
-//! Which records are to be run again.
+//! Which records are to be replayed.
 ghost use Rattle.std.specs.Prelude.{◌≡◌, IfOk};
 ghost use Rattle.audit_graph.specs.Plans.{executed_in};
 
@@ -6,7 +6,7 @@ use sessions::{Mark, Session};
 use std::alloc::{AllocError, Global};
 use std::marker::Model;
 
-/// The executed records of a session, which are to be run again. Contracts see their indices.
+/// The executed records of a session, which are to be replayed. Contracts see their indices.
 #[derive(Drop)]
 pub struct Plan {
     indices: Vec<usize>,

@@ -46,7 +46,7 @@ pub fn check_step(
     }
 }
 
-/// Whether the session has this number and the link behind the past.
+/// Whether the session has this number and the link that follows the previous session.
 fn is_linked(past: Option<&Past>, k: usize, session: &Session) -> bool
     ensures linked { (was : Option SessionValue) → ArePastOf (option_copied past.entry) was
         → IsTrue result ↔ IsLinked was k session.now }
@@ -55,7 +55,7 @@ fn is_linked(past: Option<&Past>, k: usize, session: &Session) -> bool
     session.number() as usize == k && *session.link() == link_behind(past)
 }
 
-/// The link of the session behind the past.
+/// The link that follows the previous session.
 fn link_behind(past: Option<&Past>) -> [u8; 32]
     ensures { (was : Option SessionValue) → ArePastOf (option_copied past.entry) was
         → result ≡ next_link was }
@@ -78,7 +78,7 @@ fn fault_of_sources(k: usize, fault: SourceFault) -> AuditFault
     }
 }
 
-/// The fault of session `k` whose green record `n` doesn't stand in the past.
+/// The fault of session `k` whose green record `n` doesn't stand in the previous session.
 fn fault_of_green(k: usize, n: usize, why: Lack) -> AuditFault
     ensures { result ≡ green_fault k n why }
 {

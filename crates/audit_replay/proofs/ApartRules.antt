@@ -1,4 +1,4 @@
--- Results of sessions in which no two different ones have one print.
+-- Results of sessions in which no two different ones share a fingerprint.
 use Rattle.std.proofs.Common.{◌≡◌, List, take, subst}
 use Rattle.std.specs.List.{AllByRecursion}
 use Rattle.item_ids.specs.declared.key.Key.{Key}
@@ -22,7 +22,7 @@ value_fits s session q r has =
 recorded_fits : (ss : List SessionValue) → AllByRecursion IsSession ss → (v : Value) → IsRecorded ss v → IsValue v
 recorded_fits ss each v r = subst IsValue r.value (value_fits r.session (all_at IsSession ss each r.session r.there) r.key r.entry r.has)
 
--- results of the sessions that have one print are one
+-- results of the sessions that share a fingerprint are one
 abbrev pub AreOneByPrint : List SessionValue → Type 0
 AreOneByPrint ss = (v w : Value) → IsRecorded ss v → IsRecorded ss w → print_of v ≡ print_of w → v ≡ w
 

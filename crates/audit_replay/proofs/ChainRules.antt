@@ -21,7 +21,7 @@ use Rattle.audit_replay.specs.Audits.{ArePassed, AreRight, AreApart, last_of}
 use Rattle.audit_replay.proofs.ApartRules.{AreOneByPrint, one_by_print}
 
 module _ (mean : Meaning) (reads : ReadLists) (laws : RunnerLaws mean reads) (all : List SessionValue) (apart : AreOneByPrint all) where
-  -- some project gives the past its values and reads, where any is one
+  -- some project gives the previous session its values and reads, where it is one of any
   abbrev IsKnown : Option SessionValue → Type 0
   IsKnown past = (p : Project) → IsProject p → (old : Project) × IsProject old × AreMeant mean reads (past_entry past) old
 
@@ -47,7 +47,7 @@ module _ (mean : Meaning) (reads : ReadLists) (laws : RunnerLaws mean reads) (al
   meant_behind : (past : Past) (s : SessionValue) → IsRight mean reads past (entry_at s) → IsMeant (Some s)
   meant_behind past s r p sources = subst (AreMeant mean reads (entry_at s)) (one_project (entry_at s) r.project p r.of_project.sources sources) r.of_project.meant
 
-  -- what is known of the past, once it and all before it are right
+  -- what is known of the previous session, once it and all before it are right
   abbrev pub IsSound : Option SessionValue → Type 0
   IsSound past = IfSome past (Contains all) × IsGraph (past_entry past) × IsKnown past × IsMeant past
 
@@ -91,7 +91,8 @@ module _ (mean : Meaning) (reads : ReadLists) (laws : RunnerLaws mean reads) (al
       let old = sound.2 p sources.project in
       front_is_meant mean reads laws past k s old.0 p sound.1 old.1 old.2 session step sources (pairwise past sound.0 s c) (is_before key) lower replayed
 
--- sessions among all of which each passes over the one before are right, unless two different results in them have one print
+-- sessions among all of which each passes over the one before are right, unless two different
+-- results in them share a fingerprint
 pub all_right : (mean : Meaning) (reads : ReadLists) → RunnerLaws mean reads → (all : List SessionValue) → AreApart all → AllByRecursion IsSession all → ArePassed mean reads None 0 all
     → AreRight mean reads None all × ((p : Project) → AreSources (past_entry (last_of None all)) p → AreMeant mean reads (past_entry (last_of None all)) p)
 all_right mean reads laws all apart each passed = whole_right mean reads laws all (one_by_print all each apart) each passed

@@ -1,4 +1,4 @@
--- Of all refusals of files that the files alone tell, one at most holds.
+-- Of all refusals that follow from the files alone, at most one holds.
 use Rattle.std.proofs.Common.{◌≡◌, inl, inr, ℕ, ◌+◌, List, [], ◌∷◌, ◌++◌, map, length, Option, Some, None, Ok, Err, refl, sym, ap, ◌∙◌, subst, arith}
 use Rattle.std.specs.Prelude.{◌⊎◌, ◌≢◌}
 use Rattle.std.specs.List.{AllByRecursion}

@@ -1,4 +1,4 @@
--- Of all faults that the files alone tell of one session, one at most holds.
+-- Of all faults of one session that follow from the files alone, at most one holds.
 use Rattle.std.proofs.Common.{◌≡◌, inl, inr, ℕ, suc, zero, List, [], ◌∷◌, take, slice_get, Option, Some, None, Err, refl, sym, ap, ◌∙◌, subst}
 use Rattle.std.specs.Prelude.{◌≢◌}
 use Rattle.std.specs.List.{AllByRecursion}
@@ -37,7 +37,7 @@ one_first Has (z ∷ zs) (suc i) (suc j) x y hx hy ai aj nx ny = ap suc (one_fir
 once : {A : Type 0} (Has : A → Type 0) (items : List A) (i j : ℕ) → IsFirstWithout Has items i → IsFirstWithout Has items j → i ≡ j
 once Has items i j a b = one_first Has items i j a.item b.item a.here b.here a.before b.before a.lacks b.lacks
 
--- ---- why a green key doesn't stand in the past
+-- ---- why a green key doesn't stand in the previous session
 
 module _ (past now : Past) (r : Entry) where
   has_it : past r.key ≡ None → (had : Entry) → past r.key ≡ Some had → ⊥

@@ -1,4 +1,4 @@
--- What reading a file from a feed tells.
+-- What follows from reading a file from a feed.
 use Rattle.std.proofs.Common.{◌≡◌, ◌≢◌, inl, inr, ℕ, ◌<◌, List, [], ◌∷◌, ◌++◌, length, Err, refl, sym, ap, ◌∙◌, arith, append-nil}
 use Rattle.sessions.specs.Sessions.{SessionValue, IsSession}
 use Rattle.sessions.specs.Spelling.{file_of}

@@ -68,7 +68,7 @@ module _ (now : Past) (p : Project) (sources : AreSources now p) where
 
 -- ---- what a session tells
 
--- an entry is what the session tells of its key
+-- an entry is what the session says about its key
 pub told_of_entry : (s : SessionValue) → IsSession s → (r : Entry) → Contains (entries s) r → entry_at s r.key ≡ Some r
 told_of_entry s session r c =
     let lt : c.0 < length s.records = let l = c.1 in omega (arith, l, length-map s.records (entry_of s.records)) in

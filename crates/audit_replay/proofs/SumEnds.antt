@@ -1,4 +1,4 @@
--- What sessions that are summed tell in the end.
+-- The result of sessions that are summed.
 use Rattle.std.proofs.Common.{◌≡◌, ◌≢◌, ◌↔◌, ℕ, Bool, false, true≢false, IsTrue, List, [], ◌∷◌, ◌++◌, ◌+◌, ◌≤◌, length, map, take, slice_get, Option, Some, None, Result, Ok, Err, inl, inr, refl, sym, ap, ◌∙◌, subst, arith, append-nil}
 use Rattle.std.specs.Prelude.{IfOk, IfErr}
 use Rattle.std.specs.Arc.{arc_value}
@@ -68,7 +68,7 @@ right_last mean reads past (t ∷ []) s some right e = (past_entry past, subst (
 right_last mean reads past (t ∷ u ∷ us) s some right e = right_last mean reads (Some t) (u ∷ us) s (λ h. absurd cc) right.1 e
 
 module _ (mean : Meaning) (reads : ReadLists) (kept : Sum) (ss : List SessionValue) (a : IsSumOf kept ss) (l : Last) (is : kept.last ≡ Some l) where
-  -- what the session tells, the last one tells
+  -- what the session says, the last one says
   last_tells : (P : Past → Type 0) → P (entry_at (sum_last kept ss a l is).session) → P (last_entry ss)
   last_tells P p = subst (λ (o : Option SessionValue). P (past_entry o)) (sym (sum_last kept ss a l is).is) p
 

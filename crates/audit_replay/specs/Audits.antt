@@ -20,25 +20,26 @@ use Rattle.audit_replay.specs.Passes.{Passes, FileRefuses}
 
 -- ---- lists of sessions
 
--- behind the past and from number k on each session passes over the one before
+-- from number k on each session passes over the one before, and the first of them over the previous
+-- session
 abbrev pub ArePassed
     : Meaning → ReadLists → Option SessionValue → ℕ → List SessionValue → Type 0
 ArePassed mean reads past k [] = Unit {0}
 ArePassed mean reads past k (s ∷ ss) =
     Passes mean reads past k s × ArePassed mean reads (Some s) (k + 1) ss
 
--- behind the past each session is right over the one before
+-- each session is right over the one before, and the first of them over the previous session
 abbrev pub AreRight : Meaning → ReadLists → Option SessionValue → List SessionValue → Type 0
 AreRight mean reads past [] = Unit {0}
 AreRight mean reads past (s ∷ ss) =
     IsRight mean reads (past_entry past) (entry_at s) × AreRight mean reads (Some s) ss
 
--- the last of the sessions, which is the past where there is none
+-- the last of the sessions, which is the previous session where there is none
 abbrev pub last_of : Option SessionValue → List SessionValue → Option SessionValue
 last_of past [] = past
 last_of past (s ∷ ss) = last_of (Some s) ss
 
--- what the last of the sessions tells of each key
+-- what the last of the sessions says about each key
 abbrev pub last_entry : List SessionValue → Past
 last_entry sessions = past_entry (last_of None sessions)
 
@@ -51,8 +52,8 @@ pub record IsRecorded (sessions : List SessionValue) (v : Value) : Type 0 where
   pub has : entry_at session key ≡ Some entry
   pub value : entry.value ≡ v
 
--- No two different results that are recorded in the sessions have one print: those that have one have
--- the same bytes.
+-- No two different results that are recorded in the sessions share a fingerprint: those that share
+-- one have the same bytes.
 abbrev pub AreApart : List SessionValue → Type 0
 AreApart sessions =
     (v w : Value) → IsRecorded sessions v → IsRecorded sessions w → print_of v ≡ print_of w → canon v ≡ canon w
@@ -77,8 +78,8 @@ pub record ArePassedFiles (mean : Meaning) (reads : ReadLists) (files : List (Li
 
 -- The audit accepts the files, with this answer, over this project. The files are those of a chain
 -- of sessions, of which the last holds the answer and the project's files. Where no two different
--- results in them have one print, each session is right over the one before, and the answer is what
--- the project means by it.
+-- results in them share a fingerprint, each session is right over the one before, and the answer is
+-- what the project means by it.
 pub record IsAccepted (mean : Meaning) (reads : ReadLists) (files : List (List ℕ))
     (old new : List Key) (project : Project) (answer : Value) (count runs : ℕ) : Type 0 where
   pub sessions : List SessionValue
@@ -102,7 +103,7 @@ pub record IsRefusedBehind (mean : Meaning) (reads : ReadLists) (files : List (L
   pub refused : FileRefuses mean reads (last_of None front) (length front) file_bytes
       (old ++ all_executed_keys front) new fault
 
--- all files pass, and this holds of what the last session tells
+-- all files pass, and this holds of what the last session says
 pub record PassesWith (mean : Meaning) (reads : ReadLists) (files : List (List ℕ))
     (old new : List Key) (Holds : Past → Type 0) : Type 0 where
   pub sessions : List SessionValue
@@ -122,7 +123,7 @@ AuditRefuses mean reads files old new OutOfMemory =
     ⊎ PassesWith mean reads files old new (λ last. last Answer ≢ None)
 AuditRefuses mean reads files old new fault = IsRefusedBehind mean reads files old new fault
 
--- So too, or the last session has an answer, and not the files of the project.
+-- The same, or the last session has an answer, and not the files of the project.
 abbrev pub AuditRefusesAgainst
     : Meaning → ReadLists → List (List ℕ) → List Key → List Key → Project → AuditFault → Type 0
 AuditRefusesAgainst mean reads files old new project SourcesDiffer =

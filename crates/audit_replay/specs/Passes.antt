@@ -1,4 +1,4 @@
--- One session over the one before: its step, and its executed records run again.
+-- One session over the one before: its step, and its executed records replayed.
 use Rattle.std.specs.Prelude.{◌≡◌, ◌⊎◌, ℕ, true, List, length, Option, Result, Ok, Err}
 use Rattle.item_ids.specs.declared.key.Key.{Key}
 use Rattle.recorder.specs.Backed.{Meaning, ReadLists}
@@ -13,14 +13,14 @@ use Rattle.audit_graph.specs.declared.fault.AuditFault.TheVariants.{File, OutOfM
 use Rattle.audit_replay.specs.Reruns.{RefusesPlan}
 use Rattle.audit_replay.specs.Logs.{executed_keys, GrowsWithin}
 
--- Session k over the past: it is linked to it, it holds the files of a project, its green records
--- stand in the past, and its executed ones follow from their edges.
+-- Session k over the previous one: it is linked to it, it holds the files of a project, its green
+-- records stand in it, and its executed ones follow from their edges.
 pub record Passes (mean : Meaning) (reads : ReadLists) (past : Option SessionValue) (k : ℕ)
     (s : SessionValue) : Type 0 where
   pub step : IsSessionStep past k s
   pub replayed : AreReplayed mean reads (entry_at s) (λ _. true)
 
--- the first fault of session k over the past: of its step, then of its executed records
+-- the first fault of session k over the previous one: of its step, then of its executed records
 abbrev pub SessionRefuses
     : Meaning → ReadLists → Option SessionValue → ℕ → SessionValue → AuditFault → Type 0
 SessionRefuses mean reads past k s fault =

@@ -16,15 +16,15 @@ use Rattle.audit_graph.specs.declared.fault.AuditFault.TheVariants.{OtherRead, U
 use Rattle.audit_replay.specs.Audits.{ArePassed, AreApart, AreRight, last_of}
 
 -- The record has the value and the edges that its key means and reads in the project, and where it
--- is green, it stands in the past.
+-- is green, it stands in the previous session.
 pub record IsRightRecord (mean : Meaning) (reads : ReadLists) (past now : Past) (p : Project)
     (r : Entry) : Type 0 where
   pub value : r.value ≡ mean p r.key
   pub edges : r.reads ≡ reads p r.key
   pub green : StandsIfGreen past now r
 
--- Over the project whose files the session holds, record n hasn't the value and the edges that its
--- key means and reads, and all records in front of it are right over the past.
+-- Over the project whose files the session holds, record n doesn't have the value and the edges
+-- that its key means and reads, and all records in front of it are right over the previous session.
 pub record IsFirstWrong (mean : Meaning) (reads : ReadLists) (past : Past) (s : SessionValue)
     (n : ℕ) : Type 0 where
   pub project : Project
@@ -36,9 +36,10 @@ pub record IsFirstWrong (mean : Meaning) (reads : ReadLists) (past : Past) (s : 
   pub wrong : item.value ≡ mean project item.key
       → map (key_at s.records) item.edges ≡ reads project item.key → ⊥
 
--- File k is that of a session behind sessions that pass: it is linked to them, it holds the files of
--- a project, and its green records stand in the last of them. Where no two different results in it
--- and in them have one print, they are right, and record n is the first of its session that is wrong.
+-- File k is that of a session behind sessions that pass: it is linked to them, it holds the files
+-- of a project, and its green records stand in the last of them. Where no two different results in
+-- it and in them share a fingerprint, they are right, and record n is the first of its session that
+-- is wrong.
 pub record HasFirstWrong (mean : Meaning) (reads : ReadLists) (files : List (List ℕ))
     (k n : ℕ) : Type 0 where
   pub front : List SessionValue
@@ -54,8 +55,8 @@ pub record HasFirstWrong (mean : Meaning) (reads : ReadLists) (files : List (Lis
       → AreRight mean reads None front
       × IsFirstWrong mean reads (past_entry (last_of None front)) session n
 
--- The files alone tell that they are refused so, since the fault says neither that a record differs
--- from its run nor that memory ran out.
+-- The refusal follows from the files alone, since the fault says neither that a record differs from
+-- its run nor that memory ran out.
 abbrev pub IsToldByFiles : AuditFault → Type 0
 IsToldByFiles (OtherRead k n i) = ⊥
 IsToldByFiles (UnreadEdges k n) = ⊥

@@ -1,4 +1,4 @@
--- What running an executed record again, with the results of its edges for answers, tells of it.
+-- What the replay of an executed record, with the results of its edges for answers, says about it.
 use Rattle.std.specs.Prelude.{◌≡◌, ◌≢◌, ℕ, ◌<◌, ◌≤◌, List, [], ◌∷◌, ◌++◌, length, take, slice_get, Some, Result, Ok, Err}
 use Rattle.std.specs.List.{AllByRecursion}
 use Rattle.item_ids.specs.declared.key.Key.{Key}

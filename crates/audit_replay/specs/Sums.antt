@@ -1,4 +1,4 @@
--- What an auditor keeps of the sessions that it has taken, and what one more call tells of them.
+-- What an auditor keeps of the sessions that it has taken, and what one more call says about them.
 use Rattle.std.specs.Prelude.{◌≡◌, ◌≢◌, ◌⊎◌, ℕ, List, [], ◌∷◌, ◌++◌, map, length, Bool, true, false, Option, Some, None, Result, Ok, Err, MatchOption}
 use Rattle.std.specs.Arc.{arc_value}
 use Rattle.std.specs.List.{AllByRecursion}
@@ -49,7 +49,8 @@ abbrev pub IsAnswer : SessionValue → Option (Arc Value Global) → Type 0
 IsAnswer s answer = MatchOption answer (entry_at s Answer ≡ None)
     (λ a. HasValue (entry_at s) Answer (arc_value a))
 
--- of the session, which holds the files of a project, its past, its inputs and its answer are kept
+-- of the session, which holds the files of a project, its `Past`, its inputs and its answer are
+-- kept
 pub record IsLastOf (kept : Last) (s : SessionValue) : Type 0 where
   pub past : IsPastOf kept.past s
   pub sources : HasSources (entry_at s)
@@ -79,7 +80,7 @@ Sums (Err fault) sessions = ⊥
 
 -- The file of session s was taken, whole, which passes behind all sessions summed before. They and
 -- it are summed now, and are a chain of right sessions where they were one, unless two different
--- results in them have one print. Just its executed records were run, in order.
+-- results in them share a fingerprint. Just its executed records were run, in order.
 pub record Takes (mean : Meaning) (reads : ReadLists) (old new : Result Sum AuditFault)
     (held left : List ℕ → Type 0) (log_old log_new : List Key) (s : SessionValue) : Type 0 where
   pub session : IsSession s
@@ -129,8 +130,9 @@ EndsFeed old new (Err e) = Unit {0}
 
 -- ---- the end
 
--- The last of the sessions has this answer, of which there are so many with so many executed
--- records. Where they are a chain of right sessions, it is what the last one's files mean by it.
+-- The last of the sessions has this answer, and there are this many sessions, with this many
+-- executed records. Where they are a chain of right sessions, it is what the last one's files mean
+-- by it.
 pub record Ends (mean : Meaning) (reads : ReadLists) (ss : List SessionValue)
     (a : Audited) : Type 0 where
   pub some : ss ≢ []
@@ -147,7 +149,7 @@ EndRefuses ss EmptyChain = ss ≡ []
 EndRefuses ss NoAnswer = (ss ≢ []) × (last_entry ss Answer ≡ None)
 EndRefuses ss _ = ⊥
 
--- so too, or the last session has an answer and not the files of the project
+-- the same, or the last session has an answer and not the files of the project
 abbrev pub EndRefusesAgainst : List SessionValue → Project → AuditFault → Type 0
 EndRefusesAgainst ss p SourcesDiffer =
     (last_entry ss Answer ≢ None) × ¬ AreSources (last_entry ss) p

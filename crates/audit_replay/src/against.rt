@@ -10,7 +10,7 @@ use mj_project::Project;
 use recorder::Runner;
 use std::alloc::Global;
 
-/// Audits a chain as `audit`, and whether the last session's files are those of the project.
+/// Audits a chain as `audit` does, and tells whether the last session's files are those of the project.
 pub fn audit_against<R: Runner>(
     alloc: Global,
     runner: &mut R,

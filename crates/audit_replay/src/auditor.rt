@@ -17,8 +17,9 @@ use session_file::Feed;
 use std::alloc::Global;
 use std::marker::PhantomData;
 
-/// Audits the sessions of a chain one by one. Between two of them it keeps of the last one its past, its inputs and its
-/// answer, and nothing else of any session. Once it has refused it answers the same again, and reads and runs nothing.
+/// Audits the sessions of a chain one by one. Between two of them it keeps of the last one its `Past`, its inputs and
+/// its answer, and nothing else of any session. Once it has refused it answers the same again, and reads and runs
+/// nothing.
 #[derive(Drop)]
 pub struct Auditor<R: Runner> {
     state: Result<Sum, AuditFault>,
@@ -26,7 +27,7 @@ pub struct Auditor<R: Runner> {
 }
 
 impl<R: Runner> Auditor<R> {
-    /// An auditor that has taken no session.
+    /// An auditor that has taken no session yet.
     pub fn new() -> Self
         ensures { Sums result.state [] }
     {
@@ -40,8 +41,8 @@ impl<R: Runner> Auditor<R> {
         }
     }
 
-    /// Takes the file of the next session, behind which nothing may stand, audits it over the one before and runs its
-    /// executed records again.
+    /// Takes the file of the next session, behind which nothing may stand, audits it over the one before and replays
+    /// its executed records.
     pub fn take<F: Feed>(
         &mut self,
         alloc: Global,
@@ -52,7 +53,7 @@ impl<R: Runner> Auditor<R> {
         ensures taken { OnOk result ((s : SessionValue) × Takes R.mean R.reads self.old.state
             self.new.state (F.holds feed.old) (F.holds feed.new) (R.log runner.old)
             (R.log runner.new) s) }
-        // Why it is refused behind the sessions taken before, by the bytes that the feed held, where it tells them.
+        // Why it is refused after the sessions taken before, by the bytes that the feed held, if it tells them.
         ensures refused { IfErr result (λ fault. (ss : List SessionValue) (bytes : List ℕ)
             → Sums self.old.state ss → F.holds feed.old bytes
             → TakeRefuses R.mean R.reads ss bytes (R.log runner.old) (R.log runner.new) fault) }
@@ -60,7 +61,7 @@ impl<R: Runner> Auditor<R> {
         // What was refused once is refused again.
         ensures again { (fault : Fault) → self.old.state ≡ Err fault
             → (result ≡ Err fault) × (feed.new ≡ feed.old) × (runner.new ≡ runner.old) }
-        // A failure of the device is answered just where it was counted.
+        // A failure of the device is answered exactly where it was counted.
         ensures counted { (ss : List SessionValue) → Sums self.old.state ss
             → CountsTake result (F.failed feed.old) (F.failed feed.new) }
     {
@@ -80,7 +81,7 @@ impl<R: Runner> Auditor<R> {
         }
     }
 
-    /// The answer of the last session, and how many sessions there are and records were run.
+    /// The answer of the last session, how many sessions there are, and how many records were run.
     pub fn end(self) -> Result<Audited, AuditFault>
         ensures gives { (ss : List SessionValue) → Sums self.state ss
             → EndGives R.mean R.reads ss result }
@@ -93,7 +94,7 @@ impl<R: Runner> Auditor<R> {
         }
     }
 
-    /// So too, where the last session's files are those of the project.
+    /// The same, where the last session's files are those of the project.
     pub fn end_against(self, project: &Project) -> Result<Audited, AuditFault>
         ensures gives { (ss : List SessionValue) → Sums self.state ss
             → EndGivesAgainst R.mean R.reads ss project.now result }
@@ -119,7 +120,7 @@ impl<R: Runner> Auditor<R> {
     }
 }
 
-/// Takes the next session behind those that are summed. Answers the sum of all.
+/// Takes the session that follows those that are summed, and answers the sum of all.
 fn take_session<R: Runner, F: Feed>(
     alloc: Global,
     runner: &mut R,
@@ -152,7 +153,7 @@ fn take_session<R: Runner, F: Feed>(
     }
 }
 
-/// What the sessions that are summed tell in the end.
+/// The result of the sessions that are summed.
 fn end_of<R: Runner>(kept: Sum) -> Result<Audited, AuditFault>
     ensures { (ss : List SessionValue) → IsSumOf kept ss → EndGives R.mean R.reads ss result }
 {

@@ -14,7 +14,8 @@ use session_file::MemoryFeed;
 use std::alloc::Global;
 use std::sync::Arc;
 
-/// What an accepted chain tells: the answer of the last session, and how many sessions there are and records were run.
+/// The result of an accepted chain: the answer of the last session, how many sessions there are, and how many records
+/// were run.
 #[derive(Drop)]
 pub struct Audited {
     pub answer: Arc<Sealed>,
@@ -23,8 +24,8 @@ pub struct Audited {
 }
 
 /// Audits the files of a chain of sessions that begins with an empty cache. Where no two different results that they
-/// record have one print, each session of an accepted chain is right over the one before, and the answer is what the
-/// files of the last one mean, whoever wrote them.
+/// record share a fingerprint, each session of an accepted chain is right over the one before, and the answer is what
+/// the files of the last one mean, whoever wrote them.
 pub fn audit<R: Runner>(
     alloc: Global,
     runner: &mut R,

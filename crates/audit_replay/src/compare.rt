@@ -1,4 +1,4 @@
-//! What a run read beside what its record says.
+//! What a run read, compared with its record.
 ghost use Rattle.std.specs.Prelude.{◌≡◌, ◌≢◌, ◌↔◌, ◌<◌, Some, None, IsTrue, MatchOption, length, slice_get};
 ghost use Rattle.sessions.specs.Sessions.{AreInside, key_at};
 ghost use Rattle.recorder.specs.Backed.{keys};

@@ -1,4 +1,4 @@
-//! What holds of sessions that passed an audit.
+//! Laws of sessions that passed an audit.
 ghost use Rattle.std.specs.Prelude.{◌≡◌, ℕ, List, None, map};
 ghost use Rattle.std.specs.List.{AllByRecursion};
 ghost use Rattle.item_ids.specs.declared.key.Key.{Key};
@@ -17,8 +17,9 @@ ghost use Rattle.audit_replay.specs.Refusals.{HasFirstWrong, IsToldByFiles};
 
 use item_ids::ranks_in_order;
 
-/// Where each session passes over the one before, and no two different results in them have one print, each is right
-/// over the one before, and all keys of the last have what the project means by them whose files it holds.
+/// Where each session passes over the one before, and no two different results in them share a fingerprint, each is
+/// right over the one before, and each key of the last one has the value that it means in the project whose files that
+/// session holds.
 pub fn passed_are_right()
     ensures right { (mean : Meaning) (reads : ReadLists) → RunnerLaws mean reads
         → (sessions : List SessionValue) → AllByRecursion IsSession sessions
@@ -33,9 +34,9 @@ pub fn passed_are_right()
         → AreMeant mean reads (last_entry sessions) p }
 {}
 
-/// Where an audit refuses a record that differs from its run, the record is wrong, unless two different results up to it
-/// have one print: it hasn't the value and the edges that its session's files give its key, and all sessions and all
-/// records before it are right.
+/// Where an audit refuses a record that differs from its run, the record is wrong, unless two different results up to
+/// it share a fingerprint: it doesn't have the value and the edges that its session's files give its key, and all
+/// sessions and all records before it are right.
 pub fn refused_records_are_wrong()
     ensures other_read { (mean : Meaning) (reads : ReadLists) → RunnerLaws mean reads
         → (files : List (List ℕ)) (old new : List Key) (k n i : ℕ)
@@ -53,7 +54,7 @@ pub fn refused_records_are_wrong()
     ranks_in_order();
 }
 
-/// The files of a chain of right sessions, of which the last has an answer, are refused for want of memory alone.
+/// The files of a chain of right sessions, of which the last has an answer, are refused only because memory runs out.
 pub fn right_chains_pass()
     ensures { (mean : Meaning) (reads : ReadLists) (sessions : List SessionValue)
         → IsRightChain mean reads sessions
@@ -61,7 +62,7 @@ pub fn right_chains_pass()
         → AuditRefuses mean reads (map file_of sessions) old new fault → fault ≡ OutOfMemory }
 {}
 
-/// Files that are accepted are those of such a chain, unless two different results in them have one print.
+/// The files that an audit accepts are those of such a chain, unless two different results in them share a fingerprint.
 pub fn accepted_are_right_chains()
     ensures { (mean : Meaning) (reads : ReadLists) (files : List (List ℕ)) (old new : List Key)
         (project : Project) (answer : Value) (count runs : ℕ)
@@ -70,15 +71,15 @@ pub fn accepted_are_right_chains()
         → IsRightChain mean reads accepted.sessions }
 {}
 
-/// A file is that of one session, and a list of files that of one list of sessions.
+/// A file is that of one session only, and a list of files that of one list of sessions only.
 pub fn files_tell_their_sessions()
     ensures one { (s t : SessionValue) → IsSession s → IsSession t → file_of s ≡ file_of t → s ≡ t }
     ensures each { (ss ts : List SessionValue) → AllByRecursion IsSession ss
         → AllByRecursion IsSession ts → map file_of ss ≡ map file_of ts → ss ≡ ts }
 {}
 
-/// Of all refusals that the files alone tell one at most holds, whatever was run before, so that an audit which answers
-/// one of them answers it exactly where it holds.
+/// Of all refusals that follow from the files alone at most one holds, whatever was run before, so that an audit which
+/// answers one of them answers it exactly where it holds.
 pub fn one_refusal_holds()
     ensures alone { (mean : Meaning) (reads : ReadLists) (files : List (List ℕ))
         (old new before after : List Key) (one other : AuditFault)

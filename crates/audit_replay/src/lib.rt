@@ -1,4 +1,4 @@
-//! The second half of the audit of a chain of sessions: executed records are run again, and the audit of whole lists of
+//! The second half of the audit of a chain of sessions: executed records are replayed. And the audit of whole lists of
 //! files, for every runner.
 #![tactic(auto)]
 

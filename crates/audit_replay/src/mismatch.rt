@@ -7,11 +7,11 @@ use audit_graph::AuditFault;
 /// How an executed record differs from its run, the first of these.
 #[derive(Clone, Copy)]
 pub enum Mismatch {
-    /// The read at this place isn't that of the edge there, or there is no edge.
+    /// The read at this place is of another key than the edge there, or there is no such edge.
     OtherRead(usize),
     /// Some edges aren't read.
     UnreadEdges,
-    /// The result is another one.
+    /// The result is different.
     OtherResult,
     /// Memory ran out.
     OutOfMemory,

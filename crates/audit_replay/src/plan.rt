@@ -1,4 +1,4 @@
-//! The executed records of a session are run again.
+//! The executed records of a session are replayed.
 ghost use Rattle.std.specs.Prelude.{◌≡◌, ◌⊎◌, ◌++◌, ◌∷◌, [], true, OnOk, IfErr};
 ghost use Rattle.recorder.specs.Runs.{Logs};
 ghost use Rattle.sessions.specs.Sessions.{key_at, entry_at};
@@ -14,7 +14,7 @@ use recorder::Runner;
 use sessions::Session;
 use std::alloc::Global;
 
-/// Runs the executed records of session `k` again, in order, up to the first that differs from its run.
+/// Replays the executed records of session `k`, in order, up to the first that differs from its run.
 pub(crate) fn run_plan<R: Runner>(
     alloc: Global,
     runner: &mut R,
@@ -40,7 +40,7 @@ pub(crate) fn run_plan<R: Runner>(
     Ok(())
 }
 
-/// Runs the executed record at an index again.
+/// Replays the executed record at an index.
 fn rerun_at<R: Runner>(
     alloc: Global,
     runner: &mut R,

@@ -11,7 +11,7 @@ use session_file::{DeviceFault, Feed, FileFault, read_from};
 use sessions::Session;
 use std::alloc::Global;
 
-/// The session whose file the feed holds, file `k` of its chain. Nothing may stand behind the file.
+/// The session whose file the feed holds, as file `k` of its chain. Nothing may follow the file.
 pub(crate) fn read_file<F: Feed>(
     alloc: Global,
     k: usize,

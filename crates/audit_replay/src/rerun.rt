@@ -1,4 +1,4 @@
-//! An executed record is run again.
+//! An executed record is replayed.
 ghost use Rattle.std.specs.Prelude.{◌≡◌, ◌⊎◌, Some, IfOk, OnOk, Err};
 ghost use Rattle.std.specs.List.{AllByRecursion};
 ghost use Rattle.recorder.specs.Backed.{Asked, keys};
@@ -15,7 +15,7 @@ use recorder::{AnswerList, Outcome, ReadFault, Recorder, RunFault, Runner, recor
 use sessions::{Record, Session};
 use std::alloc::Global;
 
-/// Runs an executed record again, with the results of its edges for answers, and compares what the run reads, in its
+/// Replays an executed record, with the results of its edges for answers, and compares what the run reads, in its
 /// order, and its result with the record.
 pub(crate) fn rerun<R: Runner>(
     alloc: Global,
@@ -77,7 +77,7 @@ fn compare<R: Runner>(
     Ok(())
 }
 
-/// What a refused read says of the record.
+/// How the record differs from its run, by the read that was refused.
 fn refused_read<R: Runner>(
     session: &Session,
     item: &Record,

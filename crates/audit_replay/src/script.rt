@@ -1,4 +1,4 @@
-//! The answers that a record's edges tell of.
+//! The answers for the edges of a record.
 ghost use Rattle.std.specs.Prelude.{◌≡◌, ◌∷◌, ◌++◌, ◌<◌, [], length, IfOk, OnOk};
 ghost use Rattle.sessions.specs.Sessions.{AreInside, key_at, entry_at, entry_of};
 ghost use Rattle.audit_graph.specs.Replays.{IsHeld};

@@ -13,7 +13,7 @@ use recorder::Runner;
 use sessions::Session;
 use std::alloc::Global;
 
-/// Audits session `k` over the one before: its step, then its executed records, which are run again. Answers how many
+/// Audits session `k` over the one before: its step, then its executed records, which are replayed. Answers how many
 /// there are.
 pub(crate) fn audit_session<R: Runner>(
     alloc: Global,

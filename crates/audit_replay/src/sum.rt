@@ -21,7 +21,7 @@ pub(crate) struct Sum {
     pub(crate) last: Option<Last>,
 }
 
-/// Of a session its past, its inputs and its answer.
+/// Of a session its `Past`, its inputs and its answer.
 #[derive(Drop)]
 pub(crate) struct Last {
     past: Past,
@@ -30,7 +30,7 @@ pub(crate) struct Last {
 }
 
 impl Sum {
-    /// The past of the session behind.
+    /// The `Past` that the next session is audited over.
     pub(crate) fn past(&self) -> Option<&Past>
         ensures { option_copied result ≡ option_map (λ last. last.past) self.now.last }
     {

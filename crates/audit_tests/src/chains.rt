@@ -71,8 +71,8 @@ fn a_session_holds_the_files_of_a_project(rt: HostRuntime) {
     }
 }
 
-// The first session as it is; the check reads the header first; it reads the names alone; the answer reads the names; the
-// file has no header; the check is green, with no session before; and there is no answer.
+// The first session as it is; the check reads the header first; it reads the names alone; the answer reads the names;
+// the file has no header; the check is green, with no previous session; and there is no answer.
 const ONES: &[Row] = &[
     Row {
         turned: Turned {

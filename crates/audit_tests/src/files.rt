@@ -8,7 +8,7 @@ use sessions::{Mark, Session};
 use std::alloc::{AllocError, Global};
 
 /// So many records of the first session, from its first one, and others behind them. The records of a whole session
-/// stand once alone, since long rows are dear to prove.
+/// stand once alone, since long lists are expensive to prove.
 pub(crate) struct Turned {
     pub(crate) front: usize,
     pub(crate) others: &'static [Kept],

@@ -57,7 +57,7 @@ fn said_of(alloc: Global, files: &[&[u8]]) -> Said {
     told(audit(alloc, &mut runner, files))
 }
 
-/// What an audit told.
+/// What an audit says.
 pub(crate) fn told(audited: Result<Audited, AuditFault>) -> Said {
     match audited {
         Ok(audited) => accepted(audited),

@@ -1,4 +1,4 @@
--- What the reads of a check come to, and which they are.
+-- The reads of a check, and their results.
 use Rattle.std.proofs.Common.{◌≡◌, ℕ, List, [], ◌∷◌, ◌++◌, Option, Some, None, refl, sym, ap, ap₂, ◌∙◌, append_assoc, if◌then◌else◌}
 use Rattle.std.proofs.lemmas.List.{append-nil}
 use Rattle.item_ids.specs.declared.key.Key.{Key}

@@ -1,4 +1,4 @@
--- Faults in places of a class, as sets.
+-- Diagnostics in places of a class, as sets.
 use Rattle.std.proofs.Common.{◌≡◌, List, [], ◌∷◌, Contains}
 use Rattle.std.specs.List.{AllByRecursion}
 use Rattle.mj_tree.specs.Trees.{Name}

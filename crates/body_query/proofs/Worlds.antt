@@ -1,4 +1,4 @@
--- What the answers of a project tell a check of a body is what its declarations say.
+-- The answers of a project to the check of a body are what its declarations say.
 use Rattle.std.proofs.Common.{◌≡◌, List, [], map, Option, Some, None, option_map, is_some, find, bytes_eq, refl, sym, ap, ◌∙◌}
 use Rattle.item_ids.specs.declared.key.Key.TheVariants as keys
 use Rattle.mj_tree.specs.Trees.{Name}

@@ -19,7 +19,7 @@ use Rattle.body_questions.specs.Facts.{body_in}
 use Rattle.body_query.specs.Bounds.{bound}
 use Rattle.body_query.specs.Programs.{reads_of}
 
--- a mistake as a fault in the method
+-- a mistake as a diagnostic in the method
 abbrev pub fault_of_mistake : Name → Mistake → Diagnostic
 fault_of_mistake m x = record { place = Inside m (bound x.mark); code = x.code }
 
@@ -33,7 +33,7 @@ check_of c (Some (OfMain statement)) =
     statement_step main_scope statement [] (λ mistakes. Concludes mistakes)
 check_of c (Some (OfMethod tree)) = method_check c tree
 
--- Method(c, m), then what is asked of the body that it tells
+-- Method(c, m), then what the check of that body asks
 abbrev pub body_steps : Name → Name → (Value → Prog) → Prog
 body_steps c m k =
     Ask (keys.Method c m) (λ v. reads_of (check_of c (body_in v))

@@ -1,4 +1,4 @@
--- Numbers of places in four bytes: the greatest that there is stands for each one behind it.
+-- Numbers of places in four bytes: greater ones saturate.
 use Rattle.std.specs.Prelude.{◌≡◌, ℕ, ◌-◌, ◌^◌, min, List, map}
 use Rattle.mj_tree.specs.Trees.{Name}
 use Rattle.mj_tree.specs.declared.place.Place.{Place}
@@ -30,11 +30,11 @@ bounded_fault fault = record { place = bounded_place fault.place; code = fault.c
 abbrev pub bounded_faults : List Diagnostic → List Diagnostic
 bounded_faults faults = map bounded_fault faults
 
--- the faults in a body of a project
+-- the diagnostics in a body of a project
 abbrev pub faults_at : Project → Name → Name → List Diagnostic
 faults_at p c m = inside m (mistakes_in (world_of (classes_in p)) c (body_at p c m))
 
--- In a project all of them have their places in four bytes, and are left as they are.
+-- In a project the places of all of them fit into four bytes, and are left as they are.
 abbrev pub BoundsLaw : Type 0
 BoundsLaw =
     (p : Project) → IsProject p → (c m : Name)

@@ -9,7 +9,7 @@ use Rattle.mj_phrases.specs.Steps.{Check}
 use Rattle.recorder.specs.Programs.{Prog, Ask}
 use Rattle.body_questions.specs.Questions.{descends_step, field_step, method_step, declared_step}
 
--- a check, which goes on with its mistakes
+-- a check, continued with its mistakes
 unfoldable pub reads_of : Check → (List Mistake → Prog) → Prog
 reads_of (Concludes mistakes) k = k mistakes
 reads_of (AsksDescent c d f) k = descends_step c d (λ answer. reads_of (f answer) k)

@@ -1,4 +1,4 @@
-//! Lists of faults whose places have numbers in four bytes.
+//! Lists of diagnostics whose places have numbers in four bytes.
 ghost use Rattle.std.specs.Prelude.{◌≡◌, ◌++◌, ◌∷◌, [], IfOk, OnOk};
 ghost use Rattle.answer_bytes.specs.Storable.{AreClassFaults};
 ghost use Rattle.query_rules.specs.Items.{fault_set as fault_set_of};
@@ -12,7 +12,7 @@ use mj_phrases::Mistake;
 use mj_tree::Place;
 use std::alloc::{AllocError, Global};
 
-/// The number in four bytes.
+/// The number in four bytes. Numbers above `u32::MAX` saturate.
 fn bound(number: usize) -> usize
     ensures { result ≡ bound number }
 {
@@ -32,7 +32,7 @@ fn bounded_place(place: Place) -> Place
     }
 }
 
-/// One more fault. A number in its place that hasn't four bytes is written as the greatest that has.
+/// One more diagnostic. Numbers above `u32::MAX` saturate.
 pub fn note_fault(faults: &mut Vec<Diagnostic>, place: Place, code: Code) -> Result<(), AllocError>
     ensures { OnOk result
         (faults.new.items ≡ faults.old.items
@@ -45,7 +45,7 @@ pub fn note_fault(faults: &mut Vec<Diagnostic>, place: Place, code: Code) -> Res
     Ok(())
 }
 
-/// The faults for mistakes in a method.
+/// The diagnostics for mistakes in a method.
 pub(crate) fn faults_of_mistakes(
     alloc: Global,
     method: &Name,
@@ -62,7 +62,7 @@ pub(crate) fn faults_of_mistakes(
     Ok(faults)
 }
 
-/// These faults of a class as a set.
+/// These diagnostics of a class as a set.
 pub fn class_fault_set(faults: Vec<Diagnostic>) -> Faults
     requires { AreClassFaults faults.items }
     ensures { result ≡ fault_set_of faults.items }

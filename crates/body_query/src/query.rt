@@ -23,7 +23,7 @@ use result_bytes::Value;
 use std::alloc::{AllocError, AllocFailed, Global};
 use tree_bytes::{Body, MainOrMethod};
 
-/// The body that an answer tells.
+/// The body in an answer.
 pub fn body_in(value: &Value) -> Option<&Body>
     ensures { option_copied result ≡ body_told value.now }
 {
@@ -33,7 +33,7 @@ pub fn body_in(value: &Value) -> Option<&Body>
     }
 }
 
-/// The mistakes in the body that an answer tells.
+/// The mistakes in the body in an answer.
 fn check_told<D: Reader>(
     alloc: Global,
     recorder: &mut Recorder<D>,
@@ -55,7 +55,7 @@ fn check_told<D: Reader>(
     }
 }
 
-/// The faults for mistakes in a method, as a set.
+/// The diagnostics for mistakes in a method, as a set.
 fn faults_for(alloc: Global, method: &Name, mistakes: &[Mistake]) -> Result<Faults, AllocError>
     ensures { IfOk result (λ faults. faults ≡ fault_set (faults_told method.now mistakes.now)) }
 {

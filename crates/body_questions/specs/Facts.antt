@@ -1,4 +1,4 @@
--- What answers tell a check of a body.
+-- What answers say to a check of a body.
 use Rattle.std.specs.Prelude.{Bool, false, List, [], Option, Some, None, find, is_some, option_map}
 use Rattle.std.specs.Str.{bytes_eq}
 use Rattle.std.specs.List.{list_any}
@@ -57,7 +57,7 @@ row_types row = record { formals = row.formals; returns = row.returns }
 abbrev pub method_in : Value → Name → Option Sig
 method_in v m = option_map row_types (find (λ row. bytes_eq row.name m) (methods_in v))
 
--- the body that an answer tells
+-- the body in an answer
 abbrev pub body_in : Value → Option BodyValue
 body_in (Method b) = b
 body_in _ = None

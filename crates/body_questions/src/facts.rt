@@ -1,4 +1,4 @@
-//! What answers tell a check of a body.
+//! What answers say to a check of a body.
 ghost use Rattle.std.specs.Prelude.{◌≡◌, List, ℕ, Some, find, option_copied, option_map, IfOk};
 ghost use Rattle.std.specs.Str.{bytes_eq};
 ghost use Rattle.std.specs.List.{list_any};
@@ -11,7 +11,7 @@ use mj_tree::{Ty, copy_types};
 use result_bytes::Value;
 use std::alloc::{AllocError, Global};
 
-/// Whether an answer tells the header of a class.
+/// Whether an answer has the header of a class.
 pub fn is_declared_in(value: &Value) -> bool
     ensures { result ≡ declared_told value.now }
 {
@@ -28,7 +28,7 @@ fn has_name(names: &[Name], name: &Name) -> bool
     names.iter().any(|n| n == name)
 }
 
-/// Whether an answer tells a chain in which the class stands.
+/// Whether an answer has a chain in which the class stands.
 pub fn descends_in(value: &Value, ancestor: &Name) -> bool
     ensures { result ≡ descent_told value.now ancestor.now }
 {
@@ -38,7 +38,7 @@ pub fn descends_in(value: &Value, ancestor: &Name) -> bool
     }
 }
 
-/// The row of a field that an answer tells.
+/// The row of a field in an answer.
 fn field_row<'v>(value: &'v Value, name: &Name) -> Option<&'v FieldRow>
     ensures { option_copied result
         ≡ find (λ row. bytes_eq row.name name.now) (fields_told value.now) }
@@ -49,7 +49,7 @@ fn field_row<'v>(value: &'v Value, name: &Name) -> Option<&'v FieldRow>
     }
 }
 
-/// The row of a method that an answer tells.
+/// The row of a method in an answer.
 fn method_row<'v>(value: &'v Value, name: &Name) -> Option<&'v MethodRow>
     ensures { option_copied result
         ≡ find (λ row. bytes_eq row.name name.now) (methods_told value.now) }
@@ -89,7 +89,7 @@ fn types_in(alloc: Global, row: &MethodRow) -> Result<MethodTypes, AllocError>
     Ok(MethodTypes { formals, returns })
 }
 
-/// The type of a field that an answer tells.
+/// The type of a field in an answer.
 pub fn field_in(alloc: Global, value: &Value, name: &Name) -> Result<Option<Ty>, AllocError>
     ensures { IfOk result (λ ty. ty ≡ field_told value.now name.now) }
 {
@@ -99,7 +99,7 @@ pub fn field_in(alloc: Global, value: &Value, name: &Name) -> Result<Option<Ty>,
     }
 }
 
-/// The types of a method that an answer tells.
+/// The types of a method in an answer.
 pub fn method_in(
     alloc: Global,
     value: &Value,

@@ -11,7 +11,7 @@ pub record Takes (bytes text rest : List ℕ) : Type 0 where
   pub parts : bytes ≡ text ++ rest
   pub rest_fits : IsBytes rest
 
--- what is read is spelled so, and what is spelled so is read
+-- what is read is spelled there, and each spelling is read back
 pub record Lawful {A : Type 0} (part : Decoder A) (spell : A → List ℕ)
     (Storable : A → Type 0) : Type 0 where
   pub takes : (bytes : List ℕ) (a : A) (rest : List ℕ) → IsBytes bytes → part bytes ≡ Ok (a, rest)

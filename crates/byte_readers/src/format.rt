@@ -24,7 +24,7 @@ pub trait Format {
 
     ghost reading: { Decoder Seen };
 
-    /// An item has a spelling where it meets what its type doesn't tell.
+    /// A storable item has a spelling.
     fn check(item: &Self::Item)
         requires { is_storable item.now }
         ensures { has_spelling (view.one item.now) };

@@ -10,7 +10,7 @@ use crate::fields::{not_canonical, put_eight, read_eight};
 use crate::format::{Format, Ordered};
 use std::alloc::{AllocError, Global};
 
-/// The number of items has a spelling, and each item where it meets what its type doesn't tell.
+/// The number of items has a spelling, and so has each storable item.
 pub fn check_list<F: Format>(items: &[F::Item])
     requires { AllByRecursion F.is_storable items.now }
     ensures few { length items.now < 2 ^ 64 }

@@ -8,7 +8,7 @@ use crate::fields::not_canonical;
 use crate::format::Format;
 use std::alloc::{AllocError, Global};
 
-/// An item that is there has a spelling where it meets what its type doesn't tell.
+/// A storable item that is there has a spelling.
 pub fn check_option<F: Format>(item: &Option<F::Item>)
     requires { IfSome item.now F.is_storable }
     ensures { IfSome (F.view.perhaps item.now) F.has_spelling }

@@ -89,7 +89,7 @@ fn names_that_fit_no_kind(rt: HostRuntime) -> Result<(), Fail> {
     Ok(())
 }
 
-// Keys that are told apart by kind, by class, by method and by where a name ends.
+// Keys that differ in kind, in class, in method and in where a name ends.
 const MAPPED: &[Asked] = &[
     Asked(Kind::Files, "", ""),
     Asked(Kind::Header, "A", ""),

@@ -31,7 +31,7 @@ fn sealed_bytes_are_opened(rt: HostRuntime) -> Result<(), Fail> {
     Ok(())
 }
 
-// Kinds, prints and why the header's bytes aren't opened so.
+// Kinds, fingerprints and why the header's bytes aren't opened so.
 const FAULTS: &[(Kind, OpenFault)] = &[
     (Kind::Header, OpenFault::WrongPrint),
     (Kind::Supers, OpenFault::Refused(Refusal::WrongKind)),

@@ -4,7 +4,8 @@ use result_bytes::Refusal;
 use std::alloc::AllocError;
 use std::test::*;
 
-// What spells a value. The project of the first rows is the file M.java with the main class M, whose statement prints 1.
+// What spells a value. The project of the first cases is the file M.java with the main class M, whose statement prints
+// 1.
 const SPELLINGS: &[(Kind, &str)] = &[
     (Kind::Files, "000000000000000001064d2e6a617661"),
     (Kind::Source, "0100"),
@@ -90,7 +91,7 @@ const REFUSALS: &[(Kind, &str, Refusal)] = &[
         "050100030000000b080000001180000001",
         Refusal::NotCanonical(13),
     ),
-    // A code that isn't one, a place of the project in a class, and faults that don't ascend.
+    // A code that isn't one, a place of the project in a class, and diagnostics that don't ascend.
     (
         Kind::Diags,
         "0b0000000000000001000069",
@@ -106,7 +107,7 @@ const REFUSALS: &[(Kind, &str, Refusal)] = &[
         "0b00000000000000020000ca0000c9",
         Refusal::NotCanonical(12),
     ),
-    // Faults of the project that don't ascend, and classes that don't.
+    // Diagnostics of the project that don't ascend, and classes that don't.
     (
         Kind::Answer,
         "0c00000000000000020101610065000066",

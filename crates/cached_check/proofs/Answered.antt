@@ -35,7 +35,7 @@ mapped_at rs (x ∷ xs) (suc i) r lt is =
     let rest = mapped_at rs xs i r (omega arith) is in
     let l : suc i < length (x ∷ xs) = let b = rest.1 in omega arith in (rest.0, l, rest.2, rest.3)
 
--- what stands among the entries is what the session tells of its key
+-- what stands among the entries is what the session says about its key
 told : (s : SessionValue) → IsSession s → (r : Entry) → Contains (entries s) r → entry_at s r.key ≡ Some r
 told s session r has =
     let at = mapped_at s.records s.records has.0 r has.1 has.2 in
@@ -51,7 +51,7 @@ closed_answered p s session state closed =
     let it = closed.all Answer (starts Answer answer) in
     answered s session it.0 (ap (entry_at s) (sym it.2) ∙ told s session it.0 it.1)
 
--- ---- the past
+-- ---- the previous session
 
 pub has_room : (past : Option (Arc SessionValue Global)) → IfSome (session_in past) (λ s. s.number < most) → IsFull (session_in past) → ⊥
 has_room None room full = full

@@ -22,8 +22,8 @@ use Rattle.cached_check.specs.declared.beginning.Beginning.{Beginning}
 use Rattle.cached_check.specs.declared.fault.CheckFault.{CheckFault}
 use Rattle.cached_check.specs.declared.fault.CheckFault.TheVariants as fault
 
--- A session begins where what was read of the cache's last chain lets it; the notes tell of a file
--- that isn't followed.
+-- Where a session begins, by what was read of the cache's last chain; the notes are on a file that
+-- isn't followed.
 pub record BeginsBehind (dir : List ℕ) (last : Last) (b : Beginning) : Type 0 where
   pub start : Start
   pub behind : IsStartBehind last start
@@ -88,9 +88,10 @@ pub record IsNextByRules (past : Option SessionValue) (p : Project) (s : Session
   pub next : IsNextSession mean reads past p s
   pub rules : (answer : AnswerValue) → IsAnswerIn s answer → Rules p answer
 
--- The session comes of a legal history over the past and the project, in which each outcome is one
--- that MiniJava's queries give to their reads, and it records the answer. Where the past and the
--- project decide the next session, it is that one, with the answer of the static rules.
+-- A legal history over the previous session and the project closes with the session. Each outcome
+-- in it is one that MiniJava's queries give to their reads, and it records the answer. Where the
+-- previous session and the project decide the next one, it is that, with the answer of the static
+-- rules.
 pub record IsMadeOver (past : Option SessionValue) (p : Project) (s : SessionValue) : Type 0 where
   pub history : List Event
   pub events : AreEventsOf mean reads past p history s

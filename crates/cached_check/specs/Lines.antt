@@ -1,4 +1,4 @@
--- The lines that tell of a session, and of a file that it doesn't follow.
+-- The lines about a session, and about a file that it doesn't follow.
 use Rattle.std.specs.Prelude.{◌≡◌, ◌==◌, ◌++◌, ℕ, Bool, List, [], Option, Some, None, codes, count_by, decimal}
 use Rattle.sessions.specs.declared.mark.Mark.{Mark}
 use Rattle.sessions.specs.declared.mark.Mark.TheVariants.{Executed, Green}
@@ -43,7 +43,7 @@ pub record IsNoteText (dir : List ℕ) (note : Note) (text : List ℕ) : Type 0 
   pub told : IsWhyText note.why why
   pub line : text ≡ codes "note: " ++ path_of dir note.place ++ codes " " ++ why ++ codes "\n"
 
--- what stands in front of all that is told of a check: the line on a file that isn't followed
+-- what precedes the lines on a check: the line on a file that isn't followed
 abbrev pub AreNotes : List ℕ → Option Note → List ℕ → Type 0
 AreNotes dir None text = text ≡ []
 AreNotes dir (Some note) text = IsNoteText dir note text

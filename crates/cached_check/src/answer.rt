@@ -6,7 +6,7 @@ use mj_answer::Answer;
 use providers::answer_of;
 use sessions::Session;
 
-/// The answer that a session records, which one that was checked always does.
+/// The answer that a session records. A session that was made always has one.
 pub fn answer_in(session: &Session) -> &Answer
     requires { IsAnswered session.now }
     ensures { IsAnswerIn session.now result.now }

@@ -41,8 +41,8 @@ pub fn begin<R: Files + AllocGlobal>(rt: &R, cache: &str) -> Result<Beginning, C
     }
 }
 
-/// Where the next session begins in the cache of this folder, of whose last chain this was read. Past the last chain there is
-/// no beginning.
+/// Where the next session begins in the cache of this folder, by what was read of its last chain. Behind the last chain
+/// there is no room for another.
 pub fn begin_behind(alloc: Global, cache: &str, last: Last) -> Result<Beginning, CheckFault>
     requires { IsLast last }
     ensures begins { IfOk result (BeginsBehind cache.now last) }
@@ -67,7 +67,7 @@ fn notes_of(alloc: Global, cache: &str, note: Option<Note>) -> Result<String, Al
     }
 }
 
-/// Writes the file of a session at its place. Where that can't be done the fault has the notes.
+/// Writes the file of a session at its place. Where that fails the fault has the notes.
 pub fn keep<R: Files + AllocGlobal>(
     rt: &R,
     cache: &str,

@@ -1,5 +1,5 @@
-//! One check over a cache: where the next session begins, the session, the answer that it records, its file, and the lines
-//! that tell of it.
+//! One check over a cache: where the next session begins, the session itself, the answer that it records, its file, and
+//! the lines about it.
 #![tactic(auto)]
 
 mod answer;

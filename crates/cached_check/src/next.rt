@@ -13,9 +13,10 @@ use std::alloc::{AllocError, Global};
 use std::sync::{Arc, Wait};
 use std::thread::Threads;
 
-/// The session of a project that comes behind the past, made by so many workers, each in a thread of its own. Where the past
-/// is a session of some project, or there is none, and no two different results of both have one print, it is the session
-/// that any workers make, and its answer is what the static rules give the project's files.
+/// The session of a project that follows the previous one, made by so many workers, each in a thread of its own. Where
+/// the previous session is one of some project, or there is none, and no two different results of both share a
+/// fingerprint, it is the session that any workers make, and its answer is what the static rules give the project's
+/// files.
 pub fn next_session<T: Threads + Wait + Sync>(
     rt: &T,
     alloc: Global,

@@ -1,4 +1,4 @@
-//! The lines that tell of a session, and of a file that it doesn't follow.
+//! The lines about a session, and about a file that it doesn't follow.
 ghost use Rattle.std.specs.Prelude.{◌≡◌, IfOk, string_bytes};
 ghost use Rattle.session_cache.specs.Starts.{IsPlace};
 ghost use Rattle.cached_check.specs.Lines.{IsNoteText, IsWhyText, counts_with, has_mark, line_with, many_of, summary_line};

@@ -1,4 +1,4 @@
-//! What holds of a chain and the next session over its last one.
+//! Laws of a chain and the next session over its last one.
 ghost use Rattle.std.specs.Prelude.{◌≡◌, ◌∷◌, ◌++◌, ℕ, List, [], None};
 ghost use Rattle.item_ids.specs.declared.key.Key.{Key};
 ghost use Rattle.result_bytes.specs.declared.value.Value.{Value};
@@ -13,8 +13,8 @@ ghost use Rattle.audit_graph.specs.declared.fault.AuditFault.TheVariants.{OutOfM
 ghost use Rattle.audit_replay.specs.Audits.{AreApart, IsAccepted, AuditRefuses, last_of};
 ghost use Rattle.audit_replay.specs.RightChains.{IsRightChain};
 
-/// The last session of a chain of right sessions and a project decide the next one, unless two different results in all of
-/// them have one print.
+/// The last session of a chain of right sessions and a project decide the next one, unless two different results in all
+/// of them share a fingerprint.
 pub fn next_is_decided()
     ensures { (mean : Meaning) (reads : ReadLists) → RunnerLaws mean reads
         → (sessions : List SessionValue) → IsRightChain mean reads sessions
@@ -25,7 +25,7 @@ pub fn next_is_decided()
 {}
 
 /// A chain of right sessions goes on with the next session of a project over its last one, unless two different results
-/// in all of them have one print.
+/// in all of them share a fingerprint.
 pub fn next_goes_on()
     ensures { (mean : Meaning) (reads : ReadLists) → RunnerLaws mean reads
         → (sessions : List SessionValue) → IsRightChain mean reads sessions
@@ -35,8 +35,8 @@ pub fn next_goes_on()
         → IsRightChain mean reads (sessions ++ next ∷ []) }
 {}
 
-/// Where files were accepted, they and the file of the next session of a project over the last one are refused for want
-/// of memory alone, unless two different results in all of them have one print.
+/// Where files were accepted, they and the file of the next session of a project over the last one are refused only
+/// because memory runs out, unless two different results in all of them share a fingerprint.
 pub fn next_is_accepted()
     ensures { (mean : Meaning) (reads : ReadLists) → RunnerLaws mean reads
         → (files : List (List ℕ)) (old new : List Key) (project : Project) (answer : Value)

@@ -1,4 +1,4 @@
--- Steps of the code that collects faults.
+-- Steps of the code that collects diagnostics.
 use Rattle.std.proofs.Common.{◌≡◌, ℕ, zero, suc, ◌+◌, ◌≤◌, min, Bool, true, false, ◌&&◌, List, [], ◌∷◌, ◌++◌, length, drop, slice_get, refl, ap, ◌∙◌, arith, append-nil}
 use Rattle.mj_tree.specs.Trees.{Name}
 use Rattle.mj_tree.specs.declared.tree.Ty.{Ty}
@@ -37,7 +37,7 @@ top_end [] = refl
 top_end (c ∷ []) = refl
 top_end (c ∷ d ∷ rest) = refl
 
--- ---- numbered faults
+-- ---- numbered diagnostics
 
 unflagged : (faults : ℕ → Bool → Bool → List Diagnostic) (n : ℕ) (xs : List Bool) → each_numbered faults n xs [] ≡ []
 unflagged faults n [] = refl

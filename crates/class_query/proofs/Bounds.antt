@@ -1,4 +1,4 @@
--- In a project the faults of a class's declarations have their places in four bytes.
+-- In a project the diagnostics of a class's declarations have their places in four bytes.
 use Rattle.std.proofs.Common.{◌≡◌, ℕ, ◌+◌, ◌<◌, ◌≤◌, ◌^◌, Bool, true, false, not, is_none, List, [], ◌∷◌, ◌++◌, length, Option, Some, None, refl, ap, ap₂, ◌∙◌, arith}
 use Rattle.std.proofs.lemmas.List.{map-append}
 use Rattle.mj_lexer.specs.Lexes.{limit}

@@ -1,4 +1,4 @@
--- What answers tell are faults in places of a class.
+-- The diagnostics that follow from answers are in places of a class.
 use Rattle.std.proofs.Common.{ℕ, ◌+◌, Bool, true, false, List, [], ◌∷◌, ◌++◌, Option, Some, None, map}
 use Rattle.mj_tree.specs.Trees.{Name}
 use Rattle.mj_tree.specs.declared.place.Place.{Place}

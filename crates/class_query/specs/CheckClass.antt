@@ -1,6 +1,6 @@
--- The faults of a class's declarations: its header and its chain, the header of each class that is
--- the type of a field, then, where it has methods and its chain a second class, the members of
--- both.
+-- The diagnostics of a class's declarations: its header and its chain, the header of each class
+-- that is the type of a field, then, where it has methods and its chain a second class, the members
+-- of both.
 use Rattle.std.specs.Prelude.{Bool, false, not, List, [], ◌∷◌, ◌++◌, map, Option, Some, None}
 use Rattle.item_ids.specs.declared.key.Key.TheVariants as keys
 use Rattle.mj_tree.specs.Trees.{Name}

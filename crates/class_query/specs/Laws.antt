@@ -16,7 +16,8 @@ use Rattle.class_query.specs.CheckClass.{check_class_steps}
 abbrev pub CheckClassTies : Type 0
 CheckClassTies = (c : List ℕ) → Ties (keys.CheckClass c) (check_class_steps c Ret)
 
--- the faults of a class's declarations have their places in four bytes, and are left as they are
+-- the places of the diagnostics of a class's declarations fit into four bytes, and are left as they
+-- are
 abbrev pub ClassBounds : Type 0
 ClassBounds =
     (p : Project) → IsProject p → (c : List ℕ) (k : ClassDecl) → class_at p c ≡ Some k

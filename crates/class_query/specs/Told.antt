@@ -1,5 +1,5 @@
--- The faults that answers tell: what is wrong with a class's superclass, its chain, its fields and
--- its methods.
+-- The diagnostics that follow from answers: what is wrong with a class's superclass, its chain, its
+-- fields and its methods.
 use Rattle.std.specs.Prelude.{ℕ, Bool, List, [], ◌∷◌, ◌++◌, map, Option, Some, None, if◌then◌else◌}
 use Rattle.mj_tree.specs.Trees.{Name}
 use Rattle.mj_tree.specs.declared.place.Place.TheVariants as places
@@ -48,8 +48,8 @@ fields_told h undeclared =
 abbrev pub methods_told : HeaderValue → List Bool → List Diagnostic
 methods_told h others = each_numbered method_told 0 others (repeats h.methods)
 
--- all that is wrong with the declarations of a class: for each field it is told whether its type is
--- undeclared, and for each method whether it overrides one with other types
+-- all that is wrong with the declarations of a class, by flags: for each field whether its type is
+-- undeclared, for each method whether it overrides one with other types
 unfoldable pub faults_told
     : HeaderValue → Option ChainValue → List Bool → List Bool → List Diagnostic
 faults_told h chain undeclared others =

@@ -11,7 +11,7 @@ use recorder::{Reader, Recorder, RunFault};
 use result_bytes::Value;
 use std::alloc::{AllocError, Global};
 
-/// Whether an answer tells that its class is declared.
+/// Whether an answer has that its class is declared.
 fn is_declared_in(value: &Value) -> bool
     ensures { result ≡ declared_told value.now }
 {

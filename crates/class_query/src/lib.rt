@@ -1,4 +1,4 @@
-//! The query of the faults of a class's declarations: its superclass, its chain, its fields and its methods.
+//! The query of the diagnostics of a class's declarations: its superclass, its chain, its fields and its methods.
 #![tactic(auto)]
 
 mod fields;

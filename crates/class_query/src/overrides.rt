@@ -54,7 +54,7 @@ fn differ(own: Option<&MethodRow>, other: Option<&MethodRow>) -> bool
     }
 }
 
-/// The row of a method that an answer tells.
+/// The row of a method in an answer.
 fn method_row<'v>(value: &'v Value, name: &Name) -> Option<&'v MethodRow>
     ensures { option_copied result
         ≡ find (λ row. bytes_eq row.name name.now) (methods_told value.now) }

@@ -28,7 +28,7 @@ fn classes_in(chain: Option<&Supers>) -> &[Name]
     }
 }
 
-/// The faults of the declarations of a class with this header and this chain.
+/// The diagnostics of the declarations of a class with this header and this chain.
 fn check_declared<D: Reader>(
     alloc: Global,
     recorder: &mut Recorder<D>,
@@ -51,7 +51,7 @@ fn check_declared<D: Reader>(
     Ok(Value::CheckClass(faults))
 }
 
-/// The faults of the declarations of a class with this header, by its chain.
+/// The diagnostics of the declarations of a class with this header, by its chain.
 fn check_header<D: Reader>(
     alloc: Global,
     recorder: &mut Recorder<D>,
@@ -70,14 +70,14 @@ fn check_header<D: Reader>(
     check_declared(alloc, recorder, class, header, chain_in(answer.value()))
 }
 
-/// No faults.
+/// No diagnostics.
 fn no_faults(alloc: Global) -> Faults
     ensures { result ≡ [] }
 {
     Faults::new(Vec::new(alloc))
 }
 
-/// The faults of the declarations of a class, where it is declared.
+/// The diagnostics of the declarations of a class, where it is declared.
 fn check_told<D: Reader>(
     alloc: Global,
     recorder: &mut Recorder<D>,
@@ -96,7 +96,7 @@ fn check_told<D: Reader>(
     }
 }
 
-/// The faults of the declarations of a class, by its header.
+/// The diagnostics of the declarations of a class, by its header.
 pub fn run_check_class<D: Reader>(
     alloc: Global,
     recorder: &mut Recorder<D>,

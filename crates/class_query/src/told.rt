@@ -1,4 +1,4 @@
-//! The faults that answers tell.
+//! The diagnostics that follow from answers.
 ghost use Rattle.std.specs.Prelude.{◌≡◌, ◌++◌, map, IfOk, OnOk, option_copied};
 ghost use Rattle.mj_project.specs.Repeats.{repeats as repeats_of};
 ghost use Rattle.mj_rules.specs.FaultLists.{each_numbered};
@@ -14,7 +14,7 @@ use mj_tree::{Field, Place};
 use result_bytes::{ChainEnd, Header, Supers};
 use std::alloc::{AllocError, Global};
 
-/// Adds the fault of a class whose chain has these classes and this end.
+/// Adds the diagnostic of a class whose chain has these classes and this end.
 fn add_end(faults: &mut Vec<Diagnostic>, classes: &[Name], end: &ChainEnd) -> Result<(), AllocError>
     ensures { OnOk result
         (faults.new.items
@@ -29,7 +29,7 @@ fn add_end(faults: &mut Vec<Diagnostic>, classes: &[Name], end: &ChainEnd) -> Re
     }
 }
 
-/// Adds the fault that a chain tells.
+/// Adds the diagnostic that follows from a chain.
 fn add_chain(faults: &mut Vec<Diagnostic>, chain: Option<&Supers>) -> Result<(), AllocError>
     ensures { OnOk result
         (faults.new.items ≡ faults.old.items ++ chain_told (option_copied chain.entry)) }
@@ -161,7 +161,7 @@ fn add_header_methods(
     add_methods(faults, repeated.as_slice(), others)
 }
 
-/// The faults of the declarations of a class with this header and this chain.
+/// The diagnostics of the declarations of a class with this header and this chain.
 fn all_faults(
     alloc: Global,
     header: &Header,
@@ -179,7 +179,7 @@ fn all_faults(
     Ok(faults)
 }
 
-/// The faults of the declarations of a class with this header and this chain, as a set.
+/// The diagnostics of the declarations of a class with this header and this chain, as a set.
 pub fn faults_of(
     alloc: Global,
     header: &Header,

@@ -16,8 +16,8 @@ fn main(rt: HostRuntime) -> ExitCode {
     ExitCode::from(status)
 }
 
-// The words of the command line. They are pushed one by one, since `collect` goes on where the room
-// that it asks for first is refused.
+// The words of the command line. They are pushed one by one, since `collect` goes on where its first allocation is
+// refused.
 fn command_words<R: Env + AllocGlobal>(rt: &R) -> io::Result<Vec<String>> {
     let mut list = Vec::new(rt.alloc());
     for word in env::args(rt)? {

@@ -493,7 +493,7 @@ pub plainly_read : (c : Subcommand) (words : List Text) (m : ArgMatches) → ask
 plainly_read c words m plain (inl read) = read
 plainly_read c words m plain (inr check) = absurd (no_check c words plain check.asked)
 
--- a parse of words that ask plainly fails only for want of memory
+-- a parse of words that ask plainly fails only because memory runs out
 pub only_memory : (app : App) (c : Subcommand) (words : List Text) (e : Error) → app ≡ program_app → asks_plainly c words ≡ true → length words ≤ usize_max
     → (is_simple_and_free app ≡ true → HasKind (fault_of app words) e) → kind_of e ≡ OutOfMemory
 only_memory app c words e program_is plain most has =

@@ -1,4 +1,4 @@
--- What a command line asks for, told from its words alone.
+-- What a command line asks for, by its words alone.
 use Rattle.std.specs.Prelude.{◌≡◌, ◌==◌, ◌&&◌, ◌||◌, Bool, true, false, not, List, [], ◌∷◌}
 use Rattle.std.specs.Prelude.{Option, Some, None, codes, if◌then◌else◌, drop, is_some}
 use Rattle.std.specs.Prelude.{option_and_then, slice_get}

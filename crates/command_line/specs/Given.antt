@@ -1,4 +1,4 @@
--- What the words behind `check` give, told from the words alone.
+-- What the words behind `check` give, by the words alone.
 use Rattle.std.specs.Prelude.{◌≡◌, ℕ, Bool, true, false, List, [], ◌∷◌, Option, Some, None}
 use Rattle.std.specs.Prelude.{codes, drop, if◌then◌else◌, map, string_bytes}
 use Rattle.std.specs.Str.{bytes_eq}

@@ -1,4 +1,4 @@
-//! What the helps tell of the program and its subcommands.
+//! The help texts of the program and its subcommands.
 use crate::asked::Subcommand;
 
 /// What the program is for.
@@ -27,8 +27,8 @@ Exit status:
   3  a chain refused by audit
   4  out of memory";
 
-// The help of scratch and of check: what stands in front, what standard error begins with, the line on
-// the session, what else can't be read or written, and what stands behind.
+// The help of scratch and of check, from its parts: the beginning, what standard error begins with, the line on the
+// session, what else can't be read or written, and the end.
 macro_rules! help_of_project {
     ($front:tt, $notes:tt, $session:tt, $refusals:tt, $behind:tt) => {
         concat!(

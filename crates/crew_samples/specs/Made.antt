@@ -1,4 +1,4 @@
--- The sessions that are made of short texts, and what is told of them.
+-- The sessions that are made from short texts, and what is reported of them.
 use Rattle.std.specs.Prelude.{◌≡◌, ◌==◌, ℕ, Bool, List, [], ◌∷◌, map, sum, count_by, Option, Some, None, Ok, Err}
 use Rattle.mj_project.specs.Projects.{SourceFile}
 use Rattle.recorder.specs.Projects.{Project}
@@ -35,8 +35,8 @@ after edit = (record { name = edit.file.0.now; bytes = edit.edited.now }) ∷ []
 
 -- ---- sessions
 
--- It is a session of the project over the past by so many workers, of which this was made: the
--- SHA-256 of its file, and how many events there were.
+-- It is a session of the project over the previous one by so many workers, of which this was made:
+-- the SHA-256 of its file, and how many events there were.
 pub record IsMadeOf (past : Option SessionValue) (p : Project) (workers : ℕ) (s : SessionValue)
     (made : Made) : Type 0 where
   pub reports : Reports
@@ -75,7 +75,7 @@ has_mark mark r = mark_number r.mark == mark_number mark
 abbrev pub many_of : Mark → List RecordValue → ℕ
 many_of mark records = count_by (has_mark mark) records
 
--- it is a session over this past by one worker, in which so many records are executed
+-- it is a session over this previous session by one worker, in which so many records are executed
 pub record HasExecuted (past : Option SessionValue) (p : Project) (s : SessionValue) (runs : Runs)
     : Type 0 where
   pub reports : Reports

@@ -8,8 +8,8 @@ use result_bytes::Value;
 use std::alloc::Global;
 use std::sync::atomic::{AtomicU64, Ordering};
 
-/// Runs as MiniJava's runner does, and counts the runs of all workers together. Where the number of the run that is to fail,
-/// from 0, is given, this run ends for want of memory.
+/// Runs as MiniJava's runner does, and counts the runs of all workers together. Where the number of a run, from 0, is
+/// given, this run is out of memory.
 #[derive(Drop)]
 pub struct Counting<'a> {
     runner: MiniJava,

@@ -1,4 +1,4 @@
-//! Projects of files that short texts tell.
+//! Projects of files from short texts.
 ghost use Rattle.std.specs.Prelude.{◌≡◌, IfOk, map};
 ghost use Rattle.mj_project.specs.Projects.{source_view, sources_view};
 ghost use Rattle.crew_samples.specs.Made.{file_told, files_told};

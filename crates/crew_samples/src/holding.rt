@@ -5,7 +5,7 @@ use mini_java::Gate;
 use std::sync::atomic::{AtomicU64, Ordering};
 use std::thread;
 
-/// Holds runs before they begin and after they have ended, for numbers of turns that follow one another as a seed decides.
+/// Holds runs before they begin and after they have ended, for numbers of turns that a seed decides.
 #[derive(Drop)]
 pub(crate) struct Holding {
     seed: u64,

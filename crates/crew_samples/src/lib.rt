@@ -1,5 +1,5 @@
-//! Sessions by several workers, for tests: made of projects that short texts tell, runs that wait for one another, runs that
-//! are counted, and one that fails.
+//! Sessions by several workers, for tests: of projects made from short texts, with runs that wait for one another, runs
+//! that are counted, and one that fails.
 #![tactic(auto)]
 
 mod counting;

@@ -71,7 +71,7 @@ pub(crate) fn share(alloc: Global, session: Session) -> Result<Arc<Session>, All
     Ok(Arc::new(alloc, session)?)
 }
 
-/// The session of a project over the past, by so many workers, and what was made of it.
+/// The session of a project over the previous one, by so many workers, and what was made of it.
 fn session_over<T: Threads + Wait + Sync, G: Gate + Sync>(
     rt: &T,
     alloc: Global,

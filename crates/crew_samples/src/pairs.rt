@@ -18,8 +18,8 @@ use std::sync::ledger::Blank;
 use std::thread;
 use std::thread::Threads;
 
-/// One of two workers: its number, where it allocates, the runner that it runs queries by, its count of events, the file whose
-/// tree it brings to done, and whether it has.
+/// One of two workers: its number, its allocator, its runner, its count of events, the file whose tree it evaluates,
+/// and whether it has.
 #[derive(Drop)]
 struct Worker<J: Naming, R: Runner> {
     number: u32,
@@ -30,11 +30,11 @@ struct Worker<J: Naming, R: Runner> {
     has_brought: bool,
 }
 
-/// What one of two workers has of its own: the runner that it runs queries by, and the file whose tree it brings to done.
+/// What one of two workers has of its own: its runner, and the file whose tree it evaluates.
 #[derive(Drop)]
 struct Task<R>(R, &'static str);
 
-/// Whether two workers, each in a thread of its own, bring the trees of their files to done at seats of one table.
+/// Whether two workers, each in a thread of its own, evaluate the trees of their files at seats of one table.
 fn both_bring<J: Naming + Send + Sync, R: Runner + Drop + Send + Sync, T: Threads + Wait + Sync>(
     rt: &T,
     alloc: Global,
@@ -78,7 +78,7 @@ fn worker_of<J: Naming, R: Runner>(
     }
 }
 
-/// All workers bring their trees, each in a thread of its own.
+/// All workers evaluate their trees, each in a thread of its own.
 fn work_all<J: Naming + Send + Sync, R: Runner + Drop + Send + Sync, T: Threads + Wait + Sync>(
     rt: &T,
     shared: &Shared<J, R>,
@@ -92,7 +92,7 @@ fn work_all<J: Naming + Send + Sync, R: Runner + Drop + Send + Sync, T: Threads 
     );
 }
 
-/// A worker brings the tree of its file at its seat.
+/// A worker evaluates the tree of its file at its seat.
 fn work<J: Naming, R: Runner, T: Wait>(rt: &T, shared: &Shared<J, R>, worker: &mut Worker<J, R>) {
     let Worker {
         number,
@@ -109,7 +109,7 @@ fn work<J: Naming, R: Runner, T: Wait>(rt: &T, shared: &Shared<J, R>, worker: &m
     *has_brought = ensure(*alloc, &mut seat, runner, *number, &key).is_ok();
 }
 
-/// Whether of two workers who bring the trees of two files at seats of one table both do so, and the first run that begins,
+/// Whether both of two workers evaluate the trees of two files at seats of one table, and the first run that begins,
 /// held for so many turns at most, sees the other one end.
 pub fn seats_meet<T: Threads + Wait + Sync>(
     rt: &T,

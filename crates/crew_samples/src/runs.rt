@@ -38,7 +38,7 @@ fn has_mark(item: &Record, mark: Mark) -> bool
     item.mark().number() == mark.number()
 }
 
-/// The session of a project over the past by one worker, and its runs.
+/// The session of a project over the previous one by one worker, and its runs.
 fn counted_over<T: Threads + Wait + Sync>(
     rt: &T,
     alloc: Global,
@@ -101,7 +101,7 @@ pub fn runs_in<T: Threads + Wait + Sync>(
     Ok(runs)
 }
 
-/// Why there is no session of this file by so many workers where the run of this number, from 0, ends for want of memory, or
+/// Why there is no session of this file by so many workers where the run of this number, from 0, is out of memory, or
 /// `None` where there is one.
 pub fn fault_of_failing<T: Threads + Wait + Sync>(
     rt: &T,

@@ -8,7 +8,7 @@ use recorder::{Reader, Recorder, RunFault, Runner};
 use result_bytes::Value;
 use std::alloc::Global;
 
-/// Runs as MiniJava's runner does, and tells of each run where runs wait for one another.
+/// Runs as MiniJava's runner does, and reports each run to where runs wait for one another.
 #[derive(Drop)]
 pub(crate) struct Waiting<'a> {
     runner: MiniJava,

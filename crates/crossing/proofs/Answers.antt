@@ -1,4 +1,4 @@
--- Answers and faults may go from one thread to another, and be shared.
+-- Answers and diagnostics may go from one thread to another, and be shared.
 use denote.Param.Send.{IsSend, IsSync}
 use Rattle.mj_tree.specs.contracts.place.Place as place
 use Rattle.mj_answer.specs.contracts.code.Code as code

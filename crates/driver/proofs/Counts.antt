@@ -1,4 +1,4 @@
--- A history has events enough for each key that became done in it.
+-- A history has enough events for each key that became done in it.
 use Rattle.std.proofs.Common.{◌≡◌, ◌≢◌, ℕ, suc, ◌+◌, ◌≤◌, Bool, true, false, List, [], ◌∷◌, map, length, Option, Some, None, refl, sym, ap, subst, ◌∙◌, arith}
 use Rattle.std.specs.Prelude.{if◌then◌else◌}
 use Rattle.std.specs.List.{AllByRecursion, sum_by}
@@ -21,7 +21,7 @@ use Rattle.graph_rules.proofs.KeyRules.{same_is}
 use Rattle.graph_rules.proofs.NextRules.{all_from}
 use Rattle.driver.specs.Sessions.{events_for, events_needed}
 
--- the events that brought a key to stand so
+-- the events that led to how a key stands
 abbrev events_at : Status → ℕ
 events_at Unknown = 0
 events_at (Claimed w) = 1
@@ -103,7 +103,7 @@ none_of_opening p (k ∷ ks) =
     let rest : events_of (opening p) ks ≡ 0 = none_of_opening p ks in
     omega (arith, here, rest)
 
--- however its keys stand at its end, a history has the events that brought them there
+-- however its keys stand at its end, a history has the events that led there
 history_suffices : (past : Past) (p : Project) (h : List Event) → Legal past p h → (ks : List Key) → AreOnce ks
     → events_of (state_after past p h) ks ≤ length h
 history_suffices past p h legal ks once =
@@ -136,7 +136,7 @@ keys_once all (r ∷ rs) h = (behind rs h.0, keys_once all rs h.1)
 mark_events : (x : Status) (v : Value) (es : List Key) (m : Mark) → x ≡ Done v es m → events_at x ≡ events_for m
 mark_events x v es m is = ap events_at is
 
--- the events that records need are those that brought their keys to be done
+-- the events that records need are those by which their keys became done
 records_need : (s : State) (all rs : List RecordValue) → AllByRecursion (IsEntryOf s) (map (entry_of all) rs)
     → events_needed rs ≡ events_of s (map (λ r. r.key) rs)
 records_need s all [] h = refl

@@ -1,4 +1,5 @@
--- The session that a history closes with, where past and project decide it; and the refusals.
+-- The session that a history closes with, where the previous session and the project decide it; and
+-- the refusals.
 use Rattle.std.proofs.Common.{◌≡◌, ◌↔◌, ℕ, ◌≤◌, List, Option, Some, Result, Ok, Err, refl, arith}
 use Rattle.std.specs.Prelude.{MatchResult, IfSome}
 use Rattle.mj_project.specs.Projects.{IsProject}

@@ -18,8 +18,8 @@ use Rattle.driver.specs.declared.fault.DriveFault.TheVariants as fault
 abbrev pub IsCrew : ℕ → Type 0
 IsCrew workers = (1 ≤ workers) × (workers ≤ 64)
 
--- The events are a legal history over the past and the project, each outcome in it follows from its
--- reads, and the session is what their last state closes with.
+-- The events are a legal history over the previous session and the project, each outcome in it
+-- follows from its reads, and the session is what their last state closes with.
 pub record AreEventsOf (mean : Meaning) (reads : ReadLists) (past : Option SessionValue)
     (p : Project) (history : List Event) (s : SessionValue) : Type 0 where
   pub legal : Legal (past_entry past) p history
@@ -27,8 +27,8 @@ pub record AreEventsOf (mean : Meaning) (reads : ReadLists) (past : Option Sessi
   pub may_close : MayClose (state_after (past_entry past) p history)
   pub closing : IsClosing past p (state_after (past_entry past) p history) s
 
--- the least number of events by which a key becomes done so: it is claimed and marked, or it is
--- claimed, and its run begins and ends
+-- the least number of events by which a key becomes done with this mark: it is claimed and marked,
+-- or it is claimed, and its run begins and ends
 abbrev pub events_for : Mark → ℕ
 events_for Input = 0
 events_for Green = 2
@@ -54,8 +54,8 @@ pub record IsSessionOf (mean : Meaning) (reads : ReadLists) (past : Option Sessi
   pub events : AreEventsOf mean reads past p history s
   pub reports : AreReportsOn history workers s r
 
--- one session, or why there is none: the number of workers comes first, then a past that none can
--- follow
+-- one session, or why there is none: the number of workers comes first, then a previous session
+-- that none can follow
 abbrev pub DriveGives : Meaning → ReadLists → Option SessionValue → Project → ℕ
     → Result (SessionValue × Reports) DriveFault → Type 0
 DriveGives mean reads past p workers (Ok done) =

@@ -1,4 +1,4 @@
-//! Whether a project has changed since the session before.
+//! Whether a project has changed since the previous session.
 
 use item_ids::Key;
 use mj_lexer::Name;
@@ -8,7 +8,7 @@ use result_bytes::Value;
 use sessions::Session;
 use std::alloc::{AllocError, Global};
 
-/// Whether the session before has just the files of the project. Then nothing is run, and there is no work to be shared.
+/// Whether the previous session has just the files of the project. Then nothing is run, and there is no work to share.
 pub(crate) fn has_files(
     alloc: Global,
     past: &Session,
@@ -27,7 +27,7 @@ pub(crate) fn has_files(
     Ok(true)
 }
 
-/// The names of the files that a session tells.
+/// The names of a session's files.
 fn names_in(past: &Session) -> &[Name] {
     match past.find(&Key::Files) {
         Some(item) => match item.sealed().value() {
@@ -38,7 +38,7 @@ fn names_in(past: &Session) -> &[Name] {
     }
 }
 
-/// Whether a session has a file, by this name and with its bytes.
+/// Whether a session has a file of this name with these bytes.
 fn has_file(
     alloc: Global,
     past: &Session,

@@ -12,18 +12,18 @@ use std::sync::ledger::Share;
 use std::thread;
 use std::thread::Threads;
 
-/// Who makes a session.
+/// The workers that make a session.
 #[derive(Clone, Copy)]
 pub struct Crew {
     /// How many workers there are, each in a thread of its own.
     pub workers: usize,
-    /// The step by which they go through each list of jobs. Jobs that are left out are done when another reads what they
-    /// bring.
+    /// The step by which they go through each list of jobs. A job that is left out is done when another one reads its
+    /// result.
     pub step: usize,
 }
 
 impl Crew {
-    /// So many workers, who leave out no job.
+    /// This many workers, none of whom leaves out a job.
     pub fn of(workers: usize) -> Self
         ensures { result.workers ≡ workers }
     {
@@ -31,7 +31,7 @@ impl Crew {
     }
 }
 
-/// A worker: its number, where it allocates, the runner that it runs queries by, and its count of events.
+/// A worker: its number, its allocator, its runner, and its count of events.
 #[derive(Drop)]
 pub(crate) struct Worker<J: Naming, R: Runner> {
     number: u32,
@@ -40,7 +40,7 @@ pub(crate) struct Worker<J: Naming, R: Runner> {
     tally: Tally<J>,
 }
 
-/// So many workers, each with a runner that is made for it and a part of the ledger. The last one stands first.
+/// So many workers, each with a runner of its own and a part of the ledger. The last one stands first.
 pub(crate) fn hire<J: Naming, R: Runner + Drop, F: Fn() -> R>(
     alloc: Global,
     all: &mut Share<J>,
@@ -70,7 +70,7 @@ pub(crate) fn hire<J: Naming, R: Runner + Drop, F: Fn() -> R>(
     Ok(team)
 }
 
-/// All workers do their jobs at a table, each in a thread of its own, or the first one alone does all of them.
+/// All workers do their jobs at a table, each in a thread of its own, or the first one does all of them alone.
 pub(crate) fn work_at<
     J: Naming + Send + Sync,
     R: Runner + Drop + Send + Sync,
@@ -162,7 +162,7 @@ fn work<J: Naming, R: Runner, G: Gate, T: Wait>(
     do_jobs(*alloc, &mut seat, runner, project, lists, *number);
 }
 
-/// How many events each worker made, by its number. Their shares come together again.
+/// How many events each worker made, by its number. Their shares are joined again.
 pub(crate) fn pay<J: Naming, R: Runner + Drop>(
     alloc: Global,
     all: &mut Share<J>,

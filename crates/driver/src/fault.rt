@@ -14,7 +14,7 @@ pub enum DriveFault {
     /// Memory ran out.
     #[error("12.2 OutOfMemory")]
     OutOfMemory,
-    /// The past has the number 9,999, behind which there is no session.
+    /// The previous session has the number 9,999, so none can follow it.
     #[error("12.3 ChainFull")]
     ChainFull,
 }

@@ -14,7 +14,7 @@ use result_bytes::{IndexRow, Value};
 use std::alloc::{AllocError, Global};
 use std::sync::Arc;
 
-/// Why a worker stops before all of its jobs are done: memory ran out, or another worker failed.
+/// A worker stopped before all of its jobs were done: memory ran out, or another worker failed.
 struct Undone;
 
 impl From<AllocError> for Undone {
@@ -29,8 +29,8 @@ impl From<Fault> for Undone {
     }
 }
 
-/// Does a worker's jobs at the store: the trees of the files that it takes, what the classes of the index that it takes come
-/// to, and the answer, which brings all that it reads. A worker who can't do one gives up, so that all others stop.
+/// Does a worker's jobs at the store: evaluates the trees of the files that it takes, the queries of the classes that
+/// it takes, and the answer, with all that it reads. A worker that can't do a job gives up, so that all others stop.
 pub(crate) fn do_jobs<S: Store<Out = Arc<Outcome<R>>>, R: Runner>(
     alloc: Global,
     store: &mut S,
@@ -50,7 +50,7 @@ pub(crate) fn do_jobs<S: Store<Out = Arc<Outcome<R>>>, R: Runner>(
     bringer.do_jobs(project, lists)
 }
 
-/// A worker at a store: where it allocates, the runner that it runs queries by, and its number.
+/// A worker at a store: its allocator, its runner and its number.
 #[derive(Drop)]
 struct Bringer<'a, S: Store, R: Runner> {
     alloc: Global,
@@ -69,7 +69,7 @@ impl<S: Store<Out = Arc<Outcome<R>>>, R: Runner> Bringer<'_, S, R> {
         }
     }
 
-    /// Brings the trees of the worker's files, what its classes come to, and the answer.
+    /// Evaluates the trees of the worker's files, the queries of its classes, and the answer.
     fn bring_all(&mut self, project: &Project, lists: &Lists) -> Result<(), Undone>
         requires shows { ShowsOutcomes S.outcome_in }
     {
@@ -80,14 +80,14 @@ impl<S: Store<Out = Arc<Outcome<R>>>, R: Runner> Bringer<'_, S, R> {
         Ok(())
     }
 
-    /// Brings a key to done.
+    /// Evaluates a key.
     fn bring(&mut self, key: &Key) -> Result<Arc<Sealed>, Undone>
         requires shows { ShowsOutcomes S.outcome_in }
     {
         Ok(ensure(self.alloc, self.store, self.runner, self.worker, key)?)
     }
 
-    /// Brings the trees of the files that the worker takes.
+    /// Evaluates the trees of the files that the worker takes.
     fn bring_trees(&mut self, project: &Project, lists: &Lists) -> Result<(), Undone>
         requires shows { ShowsOutcomes S.outcome_in }
     {
@@ -102,7 +102,7 @@ impl<S: Store<Out = Arc<Outcome<R>>>, R: Runner> Bringer<'_, S, R> {
         Ok(())
     }
 
-    /// Brings the tree of a file.
+    /// Evaluates the tree of a file.
     fn bring_tree(&mut self, file: &str) -> Result<(), Undone>
         requires shows { ShowsOutcomes S.outcome_in }
         requires some { 0 < length file.now }
@@ -113,7 +113,7 @@ impl<S: Store<Out = Arc<Outcome<R>>>, R: Runner> Bringer<'_, S, R> {
         Ok(())
     }
 
-    /// Brings what the classes of the index come to, in passes, so that no run ends for want of what it reads.
+    /// Evaluates the queries of the classes of the index, in passes, so that each run finds what it reads.
     fn bring_classes(&mut self, rows: &[IndexRow], lists: &Lists) -> Result<(), Undone>
         requires shows { ShowsOutcomes S.outcome_in }
     {
@@ -129,7 +129,7 @@ impl<S: Store<Out = Arc<Outcome<R>>>, R: Runner> Bringer<'_, S, R> {
         Ok(())
     }
 
-    /// Brings this of the classes that the worker takes.
+    /// Evaluates this query of the classes that the worker takes.
     fn bring_pass(&mut self, rows: &[IndexRow], pass: Pass, lists: &Lists) -> Result<(), Undone>
         requires shows { ShowsOutcomes S.outcome_in }
     {
@@ -142,7 +142,7 @@ impl<S: Store<Out = Arc<Outcome<R>>>, R: Runner> Bringer<'_, S, R> {
         Ok(())
     }
 
-    /// Brings this of a class.
+    /// Evaluates this query of a class.
     fn bring_class(&mut self, class: &Name, pass: Pass) -> Result<(), Undone>
         requires shows { ShowsOutcomes S.outcome_in }
     {
@@ -155,7 +155,7 @@ impl<S: Store<Out = Arc<Outcome<R>>>, R: Runner> Bringer<'_, S, R> {
         }
     }
 
-    /// Brings the faults of a class: of its declarations, of each of its bodies, and all of them together.
+    /// Evaluates the diagnostics of a class: of its declarations, of each of its bodies, and all of them together.
     fn bring_faults(&mut self, class: &Name) -> Result<(), Undone>
         requires shows { ShowsOutcomes S.outcome_in }
     {
@@ -164,7 +164,7 @@ impl<S: Store<Out = Arc<Outcome<R>>>, R: Runner> Bringer<'_, S, R> {
         self.bring_of(class, Of::Faults)
     }
 
-    /// Brings this of a class.
+    /// Evaluates this query of a class.
     fn bring_of(&mut self, class: &Name, of: Of) -> Result<(), Undone>
         requires shows { ShowsOutcomes S.outcome_in }
     {
@@ -173,7 +173,7 @@ impl<S: Store<Out = Arc<Outcome<R>>>, R: Runner> Bringer<'_, S, R> {
         Ok(())
     }
 
-    /// Brings this part of each method of a class, or of `main`.
+    /// Evaluates this query of each method of a class, or of `main`.
     fn bring_methods(&mut self, class: &Name, part: Part) -> Result<(), Undone>
         requires shows { ShowsOutcomes S.outcome_in }
     {
@@ -188,7 +188,7 @@ impl<S: Store<Out = Arc<Outcome<R>>>, R: Runner> Bringer<'_, S, R> {
         Ok(())
     }
 
-    /// Brings this part of `main`, which has no types.
+    /// Evaluates this query of `main`, which has no types.
     fn bring_main(&mut self, class: &Name, part: Part) -> Result<(), Undone>
         requires shows { ShowsOutcomes S.outcome_in }
     {
@@ -198,7 +198,7 @@ impl<S: Store<Out = Arc<Outcome<R>>>, R: Runner> Bringer<'_, S, R> {
         Ok(())
     }
 
-    /// Brings this part of a method.
+    /// Evaluates this query of a method.
     fn bring_part(&mut self, class: &Name, method: &Name, part: Part) -> Result<(), Undone>
         requires shows { ShowsOutcomes S.outcome_in }
     {
@@ -212,7 +212,7 @@ impl<S: Store<Out = Arc<Outcome<R>>>, R: Runner> Bringer<'_, S, R> {
     }
 }
 
-/// What is brought of a class.
+/// The queries of a class that a worker evaluates.
 #[derive(Clone, Copy)]
 enum Of {
     /// Its header.
@@ -221,13 +221,13 @@ enum Of {
     Supers,
     /// Its members.
     Members,
-    /// The faults of its declarations.
+    /// The diagnostics of its declarations.
     Declarations,
-    /// All of its faults.
+    /// All of its diagnostics.
     Faults,
 }
 
-/// The key of this of a class.
+/// The key of this query of a class.
 fn class_key(alloc: Global, of: Of, class: &Name) -> Result<Key, AllocError> {
     let class = class.copy(alloc)?;
     match of {
@@ -239,16 +239,16 @@ fn class_key(alloc: Global, of: Of, class: &Name) -> Result<Key, AllocError> {
     }
 }
 
-/// What is brought of each method of a class.
+/// The queries of each method of a class that a worker evaluates.
 #[derive(Clone, Copy)]
 enum Part {
     /// The method and its types.
     Types,
-    /// The faults in its body.
+    /// The diagnostics in its body.
     Faults,
 }
 
-/// The key of this part of a method.
+/// The key of this query of a method.
 fn part_key(alloc: Global, class: &Name, method: &Name, part: Part) -> Result<Key, AllocError> {
     let (class, method) = (class.copy(alloc)?, method.copy(alloc)?);
     match part {
@@ -257,7 +257,7 @@ fn part_key(alloc: Global, class: &Name, method: &Name, part: Part) -> Result<Ke
     }
 }
 
-/// Whether a header tells that the class has `main`.
+/// Whether the class of a header has `main`.
 fn is_main(value: &Value) -> bool {
     match value {
         Value::Header(Some(header)) => header.is_main(),
@@ -265,7 +265,7 @@ fn is_main(value: &Value) -> bool {
     }
 }
 
-/// The names of methods that a header tells.
+/// The names of methods in a header.
 fn methods_in(value: &Value) -> &[Name] {
     match value {
         Value::Header(Some(header)) => header.methods(),
@@ -273,7 +273,7 @@ fn methods_in(value: &Value) -> &[Name] {
     }
 }
 
-/// The rows of the index that a result tells.
+/// The rows of the index in a result.
 fn rows_in(value: &Value) -> &[IndexRow] {
     match value {
         Value::Index(index) => index.rows(),

@@ -1,4 +1,4 @@
-//! What holds of the sessions that are made, and of the refusals.
+//! Laws of the sessions that are made, and of the refusals.
 ghost use Rattle.std.specs.Prelude.{◌≡◌, ◌↔◌, ℕ, List, Option, Some, Result, Err, MatchResult, IfSome};
 ghost use Rattle.mj_project.specs.Projects.{IsProject};
 ghost use Rattle.recorder.specs.Projects.{Project};
@@ -15,7 +15,7 @@ ghost use Rattle.driver.specs.declared.fault.DriveFault.TheVariants as fault;
 
 use graph_rules::histories_are_sound;
 
-/// Where the past and the project decide it, the session that a legal history closes with is the next one, whatever the
+/// Where the previous session and the project decide the next one, a legal history closes with that, whatever the
 /// events were and whoever made them.
 pub fn sessions_are_next()
     ensures { (mean : Meaning) (reads : ReadLists) → RunnerLaws mean reads
@@ -26,8 +26,8 @@ pub fn sessions_are_next()
     histories_are_sound();
 }
 
-/// Where the past and the project decide it, any two sessions that are made of the project over the past are one, with
-/// one file, however many workers made each and whatever each worker did.
+/// Where the previous session and the project decide the next one, any two sessions that are made of the project over
+/// the previous session are equal, with one file, however many workers made each and whatever each worker did.
 pub fn made_sessions_are_one()
     ensures { (mean : Meaning) (reads : ReadLists) → RunnerLaws mean reads
         → (past : Option SessionValue) (p : Project)
@@ -39,8 +39,8 @@ pub fn made_sessions_are_one()
     histories_are_sound();
 }
 
-/// There is no session for its workers just where they are no crew; else for its past just where that is the last one
-/// that a chain can have; else for want of memory alone.
+/// No session is made because of its workers exactly where they aren't 1 to 64; else because of its previous session
+/// exactly where that is the last one that a chain can have; else only because memory runs out.
 pub fn refusals_are_exact()
     ensures workers { (mean : Meaning) (reads : ReadLists) (past : Option SessionValue)
         (p : Project) (workers : ℕ) (result : Result (SessionValue × Reports) DriveFault)

@@ -1,4 +1,4 @@
-//! One session of a project: its jobs, by workers who share its table, over the session before it.
+//! One session of a project: its jobs, by workers who share its table, over the previous session.
 #![tactic(auto)]
 
 mod changes;

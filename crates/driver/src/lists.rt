@@ -3,8 +3,8 @@ ghost use Rattle.std.specs.Prelude.{◌<◌, IfSome};
 
 use std::sync::atomic::{AtomicUsize, Ordering};
 
-/// The numbers of the jobs of one list, from 0, each given to one worker. Where some are left out or given twice nothing
-/// changes but who does what.
+/// The numbers of the jobs of one list, from 0, each given to one worker. Leaving some out or giving some twice changes
+/// only who does what.
 #[derive(Drop)]
 pub(crate) struct Numbers {
     next: AtomicUsize,
@@ -18,7 +18,7 @@ impl Numbers {
         }
     }
 
-    /// The number of the next job, unless it is past the end of so many. The one after it is greater by the step.
+    /// The number of the next job, or `None` past the last of so many. The one after it is greater by the step.
     pub(crate) fn take(&self, jobs: usize, step: usize) -> Option<usize>
         ensures { IfSome result (λ at. at < jobs) }
     {
@@ -27,8 +27,8 @@ impl Numbers {
     }
 }
 
-/// What is brought of each class of the index, in the order of the ranks: what a pass reads of the classes is done by the
-/// passes before it.
+/// What is evaluated of each class of the index, in the order of the ranks: what a pass reads of the classes is done by
+/// the passes before it.
 #[derive(Clone, Copy)]
 pub(crate) enum Pass {
     /// Its header.
@@ -39,7 +39,7 @@ pub(crate) enum Pass {
     Supers,
     /// Its members.
     Members,
-    /// Its faults.
+    /// Its diagnostics.
     Faults,
 }
 
@@ -56,7 +56,7 @@ pub(crate) struct Lists {
 }
 
 impl Lists {
-    /// No job is taken yet. Each list is gone through by this step, which is 1 where none is to be left out.
+    /// No job is taken yet. Each list is gone through by this step, which is 1 if none is to be left out.
     pub(crate) fn new(step: usize) -> Self {
         Lists {
             step,

@@ -25,8 +25,8 @@ use std::sync::ledger::Blank;
 use std::sync::{Arc, Wait};
 use std::thread::Threads;
 
-/// One session of a project over the session before it, by a crew for each of whose workers a runner is made. All work at one
-/// table. The gate is called round each run.
+/// Makes one session of a project over the previous session, by a crew of workers at one table. For each of them a
+/// runner is made. The gate is called around each run.
 pub fn drive<
     R: Runner + Drop + Send + Sync,
     F: Fn() -> R,
@@ -43,7 +43,7 @@ pub fn drive<
 ) -> Result<(Session, Reports), DriveFault>
     requires { F.IsAlwaysCallable make.now }
     ensures gives { DriveGives R.mean R.reads (session_in prev) project.now crew.workers result }
-    // Where the past and the project decide it, the session is the next one.
+    // Where the previous session and the project decide the next one, the session is that.
     ensures next { IfOk result (λ done. DecidesNext R.mean R.reads (session_in prev) project.now
         → IsNextSession R.mean R.reads (session_in prev) project.now done.0) }
 {
@@ -83,7 +83,7 @@ fn keeps_laws<R: Runner>()
     ensures { RunnerLaws R.mean R.reads }
 {}
 
-/// The session before, where there is one, is a session.
+/// The previous session, where there is one, is a session.
 fn past_is_session(prev: &Option<Arc<Session>>)
     ensures { IfSome (session_in prev.now) IsSession }
 {
@@ -92,7 +92,7 @@ fn past_is_session(prev: &Option<Arc<Session>>)
     }
 }
 
-/// Whether so many workers may make a session.
+/// Whether this number of workers may make a session.
 fn is_crew(workers: usize) -> bool
     ensures { IsTrue result ↔ IsCrew workers }
 {
@@ -153,7 +153,8 @@ fn is_unchanged<R: Runner>(
     }
 }
 
-/// The session of a table, when all workers have ended. It isn't closed where one of them failed, which is for want of memory.
+/// The session of a table, when all workers have ended. It isn't closed where one of them failed: that one ran out of
+/// memory.
 fn close<R: Runner>(table: &Table<R>) -> Result<Session, AllocError>
     ensures may_close { IfOk result (λ _. MayClose (state_of table.now)) }
     ensures closing { IfOk result

@@ -1,4 +1,4 @@
--- Where the faults of an answer stand in the texts of a project's files.
+-- Where the diagnostics of an answer stand in the texts of a project's files.
 use Rattle.std.specs.Prelude.{◌≡◌, ◌≢◌, ◌++◌, ℕ, List, map, flat_map, Option, Some, None, option_map, option_and_then, find, slice_get}
 use Rattle.std.specs.Str.{bytes_eq}
 use Rattle.mj_lexer.specs.declared.token.Token.{Token}
@@ -37,7 +37,7 @@ spot_among text class place ts = option_and_then (token_spot text ts) (token_of 
 unfoldable pub spot_in : List ℕ → ℕ → Place → Option (ℕ × ℕ)
 spot_in text class place = option_and_then (spot_among text class place) (tokens_of text)
 
--- those of the byte at which reading the text stopped
+-- those of the byte of the text's error
 pub record IsStopSpot (text : List ℕ) (at : Option (ℕ × ℕ)) : Type 0 where
   pub stop : Option ℕ
   pub is_stop : IsStop text stop
@@ -68,8 +68,8 @@ spot_in_class files (Some k) place = spot_in_file (slice_get files k.file) k.num
 abbrev pub file_named : List SourceFile → Name → Option SourceFile
 file_named files name = find (λ f. bytes_eq f.name name) files
 
--- Of two files with main classes the later one is at fault at its main class, a file that is no
--- sentence where reading it stopped.
+-- Of two files with main classes the later one has its diagnostic at its main class, a file that is
+-- no sentence where its error is.
 pub record IsFileSpot (f : SourceFile) (code : Code) (spot : Spot) : Type 0 where
   pub file : spot.file ≡ Some f.name
   pub main : code ≡ E103 → spot.at ≡ spot_in f.bytes 0 places.Class
@@ -79,9 +79,9 @@ abbrev pub IsSpotOfFile : Option SourceFile → Code → Spot → Type 0
 IsSpotOfFile None code spot = spot ≡ nowhere
 IsSpotOfFile (Some f) code spot = IsFileSpot f code spot
 
--- ---- faults
+-- ---- diagnostics
 
--- where a fault of the project stands
+-- where a diagnostic of the project stands
 abbrev pub IsSpotOfProject : List SourceFile → Code → Place → Spot → Type 0
 IsSpotOfProject files code (places.File name) spot = IsSpotOfFile (file_named files name) code spot
 IsSpotOfProject files code (places.ClassOf name number) spot =
@@ -92,7 +92,7 @@ IsSpotOfProject files code (places.Field number) spot = spot ≡ nowhere
 IsSpotOfProject files code (places.Method number) spot = spot ≡ nowhere
 IsSpotOfProject files code (places.Inside method token) spot = spot ≡ nowhere
 
--- a fault with the name of its class; one of the project itself has none
+-- a diagnostic with the name of its class; one of the project itself has none
 pub record Finding : Type 0 where
   pub class : Option Name
   pub fault : Diagnostic
@@ -103,13 +103,13 @@ of_project fault = record { class = None; fault = fault }
 abbrev pub of_class : Name → Diagnostic → Finding
 of_class name fault = record { class = Some name; fault = fault }
 
--- the faults of an answer: the project's own, then those of each class
+-- the diagnostics of an answer: the project's own, then those of each class
 abbrev pub findings : AnswerValue → List Finding
 findings answer =
     map of_project answer.faults
     ++ flat_map (λ class. map (of_class class.name) class.faults) answer.classes
 
--- A fault of a class stands in the first class of its name.
+-- A diagnostic of a class stands in the first class of its name.
 abbrev pub IsSpotOf : List SourceFile → Option Name → Diagnostic → Spot → Type 0
 IsSpotOf files None fault spot = IsSpotOfProject files fault.code fault.place spot
 IsSpotOf files (Some class) fault spot =
@@ -122,6 +122,6 @@ pub record IsLineOf (files : List SourceFile) (finding : Finding) (line : FaultL
   pub code : line.code ≡ finding.fault.code
   pub spot : IsSpotOf files finding.class finding.fault (spot_of_line line)
 
--- a line for each fault of the answer, in its order
+-- a line for each diagnostic of the answer, in its order
 abbrev pub AreLinesOf : List SourceFile → AnswerValue → List FaultLine → Type 0
 AreLinesOf files answer lines = Pairwise (IsLineOf files) (findings answer) lines

@@ -1,4 +1,5 @@
-//! Where the faults of an answer stand in a project's files: a project that is read once, and a line for each fault.
+//! Where the diagnostics of an answer stand in a project's files: a project that is read once, and a line for each
+//! diagnostic.
 #![tactic(auto)]
 
 mod lines;

@@ -1,4 +1,4 @@
-//! A line for each fault.
+//! A line for each diagnostic.
 ghost use Rattle.std.specs.Prelude.{◌≡◌, ◌++◌, None, List, map, flat_map, slice_get, Some, option_copied, IfOk, OnOk};
 ghost use Rattle.mj_members.specs.Classes.{class_ref_view};
 ghost use Rattle.mj_classes.specs.Index.{declared_in};
@@ -14,17 +14,17 @@ use mj_lexer::Name;
 use mj_tree::Place;
 use std::alloc::{AllocError, Global};
 
-/// A fault as it is shown to a reader.
+/// A diagnostic as it is shown to a reader.
 #[derive(Debug, Drop)]
 pub struct FaultLine<'a> {
-    /// The name of its file; none for a fault of the project.
+    /// The name of its file; none for a diagnostic of the project.
     pub file: Option<&'a str>,
     /// Its line and its column in the file, both counted from 1, if it has a place there.
     pub at: Option<(usize, usize)>,
     pub code: Code,
 }
 
-/// The line of a fault that stands in no file.
+/// The line of a diagnostic that stands in no file.
 fn line_without_file<'a>(code: Code) -> FaultLine<'a>
     ensures code { result.code ≡ code }
     ensures spot { spot_of_line result ≡ nowhere }
@@ -36,7 +36,7 @@ fn line_without_file<'a>(code: Code) -> FaultLine<'a>
     }
 }
 
-/// The line of a fault of a file: a second main class, or bytes that are no sentence.
+/// The line of a diagnostic of a file: a second main class, or bytes that are no sentence.
 fn file_line<'a>(text: &IndexedText<'a, '_>, code: Code) -> FaultLine<'a>
     ensures code { result.code ≡ code }
     ensures spot { IsFileSpot text.now code (spot_of_line result) }
@@ -53,7 +53,7 @@ fn file_line<'a>(text: &IndexedText<'a, '_>, code: Code) -> FaultLine<'a>
     }
 }
 
-/// The line of a fault at a place in the class with this number of a file.
+/// The line of a diagnostic at a place in the class with this number of a file.
 fn place_line<'a>(
     text: &IndexedText<'a, '_>,
     class: usize,
@@ -70,7 +70,7 @@ fn place_line<'a>(
     }
 }
 
-/// The line of a fault of the project.
+/// The line of a diagnostic of the project.
 fn project_line<'a>(texts: &Texts<'a, '_>, fault: &Diagnostic) -> FaultLine<'a>
     ensures { IsLineOf texts.now (of_project fault.now) result }
 {
@@ -89,7 +89,7 @@ fn project_line<'a>(texts: &Texts<'a, '_>, fault: &Diagnostic) -> FaultLine<'a>
     }
 }
 
-/// The line of a fault of a class that is declared here.
+/// The line of a diagnostic of a class that is declared here.
 fn declared_line<'a>(
     texts: &Texts<'a, '_>,
     declared: &ClassRef,
@@ -105,7 +105,7 @@ fn declared_line<'a>(
     }
 }
 
-/// The line of a fault of a class, the first one of its name.
+/// The line of a diagnostic of a class, the first one of its name.
 fn class_line<'a>(
     texts: &Texts<'a, '_>,
     declarations: &Declarations,
@@ -121,7 +121,7 @@ fn class_line<'a>(
     }
 }
 
-/// Adds the lines of the project's own faults.
+/// Adds the lines of the project's own diagnostics.
 fn add_project_lines<'a>(
     lines: &mut Vec<FaultLine<'a>>,
     texts: &Texts<'a, '_>,
@@ -137,7 +137,7 @@ fn add_project_lines<'a>(
     Ok(())
 }
 
-/// Adds the lines of a class's faults.
+/// Adds the lines of a class's diagnostics.
 fn add_class_lines<'a>(
     lines: &mut Vec<FaultLine<'a>>,
     texts: &Texts<'a, '_>,
@@ -156,7 +156,7 @@ fn add_class_lines<'a>(
     Ok(())
 }
 
-/// The faults of an answer, in its order, with their places in the files of the project.
+/// The diagnostics of an answer, in its order, with their places in the files of the project.
 pub fn fault_lines<'a>(
     alloc: Global,
     project: &ReadProject<'a>,

@@ -13,8 +13,8 @@ use mj_tree::FileTree;
 use std::alloc::{AllocError, Global};
 use std::marker::Model;
 
-/// A file with its tokens, none if it isn't cut into tokens, and with the byte at which reading it stopped, if it is no
-/// sentence and stopped at one. Contracts see the file.
+/// A file with its tokens, none if it isn't cut into tokens, and with the byte of its error, if it is no sentence and
+/// the error has a place. Contracts see the file.
 #[derive(Drop)]
 pub struct ReadText<'a> {
     file: &'a (String, Vec<u8>),
@@ -60,7 +60,7 @@ impl<'a> ReadText<'a> {
         self.tokens.as_slice()
     }
 
-    /// Where reading the file stopped, if it is no sentence.
+    /// The byte of the file's error, if it is no sentence.
     pub fn stop(&self) -> Option<usize>
         ensures { IsStop self.now.bytes result }
     {

@@ -64,7 +64,7 @@ impl<'a, 't> IndexedText<'a, 't> {
         token_spot(&self.lines, self.tokens.tokens(), number)
     }
 
-    /// The line and the column at which reading the file stopped.
+    /// The line and the column of the file's error.
     pub fn stop(&self) -> Option<(usize, usize)>
         ensures { IsStopSpot self.now.bytes result }
     {

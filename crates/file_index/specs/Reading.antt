@@ -22,7 +22,7 @@ lexing_stop OutOfMemory = None
 abbrev pub token_start : List Token → ℕ → ℕ → ℕ
 token_start ts end number = unwrap_or (option_map (λ t. t.start) (slice_get ts number)) end
 
--- Reading the tokens of a text stops at one of them or at its end, or has no place where it stops.
+-- A syntax error is at a token or at the end of the text, or has no place.
 abbrev pub IsTokenStop : List Token → ℕ → Option ℕ → Type 0
 IsTokenStop ts end stop =
     (stop ≡ None) ⊎ ((number : ℕ) × (stop ≡ Some (token_start ts end number)))
@@ -32,7 +32,7 @@ pub record IsTreeOf (ts : List Token) (tree : Option FileTree) : Type 0 where
   pub found : (t : File) → option_map file_view tree ≡ Some t → Derives ts t
   pub only : (t : File) → Derives ts t → option_map file_view tree ≡ Some t
 
--- where reading a text that is no sentence stops
+-- where the error of a text that is no sentence is
 pub record IsStop (text : List ℕ) (stop : Option ℕ) : Type 0 where
   pub cut : (ts : List Token) → lexing_of text ≡ Ok ts → IsTokenStop ts (length text) stop
   pub uncut : (fault : LexFault) → lexing_of text ≡ Err fault → stop ≡ lexing_stop fault
@@ -41,7 +41,7 @@ pub record IsStop (text : List ℕ) (stop : Option ℕ) : Type 0 where
 abbrev pub tokens_or_none : List ℕ → List Token
 tokens_or_none text = unwrap_or (tokens_of text) []
 
--- The tokens, the tree that they are, and where reading stopped if they are none.
+-- The tokens, the tree that they are, and where the error is if they are none.
 pub record IsReading (text : List ℕ) (file : ReadFile) : Type 0 where
   pub tokens : file.tokens.items ≡ tokens_or_none text
   pub tree : (ts : List Token) → lexing_of text ≡ Ok ts → IsTreeOf ts file.tree

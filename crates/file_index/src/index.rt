@@ -120,8 +120,8 @@ impl<'a> TokenIndex<'a> {
         existing(self.tokens, method_name(self.tokens, method))
     }
 
-    /// The token of a place in the class with this number; that of a whole file or project is none. Classes are
-    /// numbered from 0, the main class first. The tokens are those of a file.
+    /// The token of a place in the class with this number, or `None` for a whole file or project. Classes are numbered
+    /// from 0, the main class first. The tokens are those of a file.
     pub fn locate(&self, class: usize, place: &Place) -> Option<usize>
         ensures value { result ≡ token_of self.now class place.now }
         ensures within { IfSome result (λ at. at < length self.now) }

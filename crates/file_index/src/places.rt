@@ -1,4 +1,4 @@
-//! Ascending lists of places, and parts of them by search.
+//! Parts of ascending lists of places, by binary search.
 ghost use Rattle.std.specs.Prelude.{◌≡◌, filter, nat_lt, nat_le};
 ghost use Rattle.std.specs.List.Sorted.{IsNonDecreasing};
 

@@ -1,4 +1,4 @@
-//! A file read once: its tokens, its tree, and where reading stopped.
+//! A file read once: its tokens, its tree, and where its error is.
 ghost use Rattle.std.specs.Prelude.{◌≡◌, ◌≢◌, None, [], IfOk};
 ghost use Rattle.mj_lexer.specs.declared.lexer.LexFault.TheVariants as lexing;
 ghost use Rattle.mj_expressions.specs.declared.fault.ParseFault.TheVariants as parsing;
@@ -9,18 +9,18 @@ use mj_parser::{ParseFault, parse};
 use mj_tree::FileTree;
 use std::alloc::{AllocError, Global};
 
-/// What a file's bytes were read as.
+/// What was read of a file's bytes.
 #[derive(Debug, Drop)]
 pub struct ReadFile {
     /// Its tokens; none where the bytes aren't cut into tokens.
     pub tokens: Vec<Token>,
     /// Its tree, if the bytes are a sentence.
     pub tree: Option<FileTree>,
-    /// The byte at which reading stopped, if the bytes are no sentence and it stopped at one.
+    /// The byte where the error is reported, if the bytes are no sentence and the error has a place.
     pub stop: Option<usize>,
 }
 
-/// The byte at which cutting into tokens stopped. A file that is too long has none.
+/// The byte of a lexical error. A file that is too long has none.
 fn lexing_stop(fault: LexFault) -> Result<Option<usize>, AllocError>
     ensures { IfOk result (λ stop. (stop ≡ lexing_stop fault) × (fault ≢ lexing.OutOfMemory)) }
 {
@@ -33,7 +33,7 @@ fn lexing_stop(fault: LexFault) -> Result<Option<usize>, AllocError>
     }
 }
 
-/// A text that isn't cut into tokens.
+/// What is read of a text that isn't cut into tokens.
 fn without_tokens(alloc: Global, fault: LexFault) -> Result<ReadFile, AllocError>
     ensures tokens { IfOk result (λ file. file.tokens.items ≡ []) }
     ensures tree { IfOk result (λ file. file.tree ≡ None) }
@@ -48,7 +48,7 @@ fn without_tokens(alloc: Global, fault: LexFault) -> Result<ReadFile, AllocError
     })
 }
 
-/// The byte at which a token begins, or where the text ends.
+/// The byte at which the token with this number begins, or the end of the text.
 fn token_start(tokens: &[Token], number: usize, end: usize) -> usize
     ensures { result ≡ token_start tokens.now end number }
 {
@@ -58,7 +58,7 @@ fn token_start(tokens: &[Token], number: usize, end: usize) -> usize
     }
 }
 
-/// Where the tokens of a text of this length stop being a file. A phrase that is too deep has no place.
+/// The byte of a syntax error in a text of this length. A phrase that is too deep has no place.
 fn parsing_stop(
     fault: ParseFault,
     tokens: &[Token],

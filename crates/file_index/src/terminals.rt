@@ -44,7 +44,7 @@ impl<'a> TerminalPlaces<'a> {
         })
     }
 
-    /// The places from `low` to before `high`.
+    /// The places of the terminal from `low` to before `high`.
     pub fn within(&self, low: usize, high: usize) -> &[usize]
         requires order { low ≤ high }
         requires end { high ≤ length self.now.tokens }
@@ -56,7 +56,7 @@ impl<'a> TerminalPlaces<'a> {
         from(before(&self.places, high), low)
     }
 
-    /// The place with a number among those from `low` to before `high`.
+    /// The place of the terminal with this number among those from `low` to before `high`.
     pub fn nth(&self, low: usize, high: usize, number: usize) -> Option<usize>
         requires order { low ≤ high }
         requires end { high ≤ length self.now.tokens }
@@ -71,7 +71,7 @@ impl<'a> TerminalPlaces<'a> {
         }
     }
 
-    /// The first place behind this one, or the end.
+    /// The first place of the terminal behind this one, or the end.
     pub fn next(&self, at: usize) -> usize
         requires { at < length self.now.tokens }
         ensures value { result ≡ unwrap_or

@@ -52,7 +52,7 @@ impl<'a> LinedText<'a> {
     }
 }
 
-/// The column of a byte before which these line feeds stand.
+/// The column of a byte behind these line feeds.
 fn column(feeds: &[usize], at: usize) -> usize
     requires within { at < 2 ^ 63 }
     requires before { behind_last feeds.now ≤ at }

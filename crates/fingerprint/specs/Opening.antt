@@ -1,4 +1,4 @@
--- What is answered for bytes and a print.
+-- What is answered for bytes and a fingerprint.
 use Rattle.std.specs.Prelude.{◌≡◌, ◌≢◌, ℕ, List, Result, Ok, Err}
 use Rattle.item_ids.specs.declared.kind.Kind.{Kind}
 use Rattle.result_bytes.specs.declared.refusal.Refusal.TheVariants.{OutOfMemory}
@@ -8,8 +8,8 @@ use Rattle.fingerprint.specs.declared.sealed.OpenFault.{OpenFault}
 use Rattle.fingerprint.specs.declared.sealed.OpenFault.TheVariants.{Refused, WrongPrint}
 use Rattle.fingerprint.specs.Prints.{print_of}
 
--- what refused the bytes is the refusal of reading them; a wrong print comes only where they spell
--- a value
+-- what refused the bytes is the refusal of reading them; a wrong fingerprint comes only where they
+-- spell a value
 abbrev pub IsOpened : Kind → List ℕ → List ℕ → Result Value OpenFault → Type 0
 IsOpened kind bytes print (Ok v) = (decoding kind bytes ≡ Ok v) × (print ≡ print_of v)
 IsOpened kind bytes print (Err WrongPrint) =

@@ -1,4 +1,4 @@
--- The print of a value.
+-- The fingerprint of a value.
 use Rattle.std.specs.Prelude.{ℕ, List}
 use Rattle.sha2.specs.Sha256.{sha256}
 use Rattle.result_bytes.specs.declared.value.Value.{Value}

@@ -11,14 +11,14 @@ use std::alloc::{AllocError, Global};
 pub struct Print(pub [u8; 32]);
 
 impl Print {
-    /// The print of these bytes.
+    /// The fingerprint of these bytes.
     pub fn of(bytes: &[u8]) -> Self
         ensures { result.0 ≡ sha256 bytes.now }
     {
         Print(Sha256::digest(bytes))
     }
 
-    /// The print as 64 lower case hexadecimal digits.
+    /// The fingerprint as 64 lower case hexadecimal digits.
     pub fn text(&self, alloc: Global) -> Result<String, AllocError>
         ensures { IfOk result (λ text. string_bytes text ≡ encode_lower self.now.0) }
     {

@@ -12,7 +12,7 @@ use std::alloc::{AllocError, Global};
 use std::marker::Model;
 use thiserror::Error;
 
-/// A value with its canonical bytes and their print. Contracts see the value.
+/// A value with its canonical bytes and their fingerprint. Contracts see the value.
 #[derive(Debug, Drop)]
 pub struct Sealed {
     value: Value,
@@ -37,13 +37,13 @@ impl Model for Sealed {
     ghost invariant = { λ s. (s.bytes.items ≡ canon s.value) × (s.print.0 ≡ print_of s.value) };
 }
 
-/// Why bytes and a print are no sealed value of a kind.
+/// Why bytes and a fingerprint are no sealed value of a kind.
 #[derive(Clone, Copy, Debug, PartialEq, Eq, Error)]
 pub enum OpenFault {
     /// The bytes are refused.
     #[error("{0}")]
     Refused(Refusal),
-    /// The bytes spell a value, and the print is that of others.
+    /// The bytes spell a value, and the fingerprint is that of others.
     #[error("6.1 WrongPrint")]
     WrongPrint,
 }
@@ -66,7 +66,7 @@ impl Sealed {
         self.bytes.as_slice()
     }
 
-    /// The print of its canonical bytes.
+    /// The fingerprint of its canonical bytes.
     pub fn print(&self) -> Print
         ensures { result.0 ≡ print_of self.now }
     {
@@ -84,7 +84,7 @@ impl Sealed {
         self.bytes() == other.bytes()
     }
 
-    /// Whether the other one has the same print.
+    /// Whether the other one has the same fingerprint.
     pub fn same_print(&self, other: &Sealed) -> bool
         ensures { IsTrue result ↔ (print_of self.now ≡ print_of other.now) }
     {
@@ -92,7 +92,7 @@ impl Sealed {
     }
 }
 
-/// The value with its bytes and print.
+/// The value with its bytes and fingerprint.
 #[tactic(auto, unfolding(crate::specs::Prints::print_of))]
 pub fn seal(alloc: Global, value: Value) -> Result<Sealed, AllocError>
     ensures sealed { IfOk result (λ sealed. sealed ≡ value) }
@@ -109,7 +109,7 @@ pub fn seal(alloc: Global, value: Value) -> Result<Sealed, AllocError>
     })
 }
 
-/// The value of a kind that the bytes spell, whose print is this one.
+/// The value of a kind that the bytes spell, whose fingerprint is this one.
 #[tactic(auto, unfolding(crate::specs::Prints::print_of))]
 pub fn open_sealed(
     alloc: Global,
@@ -117,10 +117,10 @@ pub fn open_sealed(
     bytes: Vec<u8>,
     print: Print,
 ) -> Result<Sealed, OpenFault>
-    // What is opened is a value of the kind, with these bytes and this print.
+    // What is opened is a value of the kind, with these bytes and this fingerprint.
     ensures found { IfOk result (λ v. IsValue v × (kind_of_value v ≡ kind) × (bytes.items ≡ canon v)
         × (print.0 ≡ print_of v)) }
-    // The bytes and the print of a value are opened, unless memory runs out.
+    // The bytes and the fingerprint of a value are opened, unless memory runs out.
     ensures only { (v : Value) → IsValue v → kind_of_value v ≡ kind → bytes.items ≡ canon v
         → print.0 ≡ print_of v
         → IsOkUnlessMemory result v }

@@ -94,7 +94,7 @@ settle Good all Reads next good pre (e ∷ rest) is before =
 
 -- ---- edges
 
--- an unchanged edge to a key that is done so has this print in the past
+-- an unchanged edge to a key that is done so has this fingerprint in the previous session
 unchanged_print : (pr : Option (List ℕ)) (v : Value) (es : List Key) (m : Mark) → edge_at pr (Done v es m) ≡ Unchanged → pr ≡ Some (print_of v)
 unchanged_print None v es m e = absurd (cc)
 unchanged_print (Some pr) v es m e =

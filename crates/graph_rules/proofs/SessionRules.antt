@@ -1,4 +1,4 @@
--- What a session tells of a key, by its records.
+-- What a session says about a key, by its records.
 use Rattle.std.proofs.Common.{◌≡◌, ℕ, ◌<◌, List, [], ◌∷◌, length, get_or, Some, option_map, ap, ◌∙◌}
 use Rattle.fingerprint.specs.Prints.{print_of}
 use Rattle.sessions.specs.Sessions.{RecordValue, SessionValue, IsSession, AreOnce, key_at, entry_at, past_entry}

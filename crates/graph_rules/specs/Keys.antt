@@ -1,4 +1,4 @@
--- Keys told apart, and the keys that are inputs of a project.
+-- Equality of keys, and the keys that are inputs of a project.
 use Rattle.std.specs.Prelude.{Bool, Option, Some, None}
 use Rattle.std.specs.Ordering.{is_eq}
 use Rattle.item_ids.specs.declared.key.Key.{Key}

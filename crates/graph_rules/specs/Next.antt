@@ -34,8 +34,8 @@ pub record IsOfProject (mean : Meaning) (reads : ReadLists) (past : Past)
   pub sources : AreSources past p
   pub meant : AreMeant mean reads past p
 
--- A green key stands in the past with the same edges and print, and each edge has the same print in
--- both sessions.
+-- A green key stands in the previous session with the same edges and fingerprint, and each edge has
+-- the same fingerprint in both sessions.
 pub record StandsIn (past now : Past) (r : Entry) : Type 0 where
   pub had : Entry
   pub past_has : past r.key ≡ Some had
@@ -43,8 +43,8 @@ pub record StandsIn (past now : Past) (r : Entry) : Type 0 where
   pub print : print_of had.value ≡ print_of r.value
   pub same : (e : Key) → Contains r.reads e → print_in past e ≡ print_in now e
 
--- The session is right over the past: it is that of its sources, and its green keys stand in the
--- past.
+-- The session is right over the previous one: it is that of its sources, and its green keys stand
+-- in the previous session.
 pub record IsRight (mean : Meaning) (reads : ReadLists) (past now : Past) : Type 0 where
   pub project : Project
   pub of_project : IsOfProject mean reads now project
@@ -61,13 +61,15 @@ pub data IsReadIn (reads : ReadLists) (p : Project) : Key → Type 0 where
   root : (q : Key) → IsRoot p q → IsReadIn reads p q
   read : (q e : Key) → IsReadIn reads p q → Contains (reads p q) e → IsReadIn reads p e
 
--- Of the past's values and those of the next session, no two that differ have one print.
+-- Of the previous session's values and those of the next session, no two that differ share a
+-- fingerprint.
 abbrev pub HasNoClash : Meaning → ReadLists → Past → Project → Type 0
 HasNoClash mean reads past p =
     (q k : Key) (r : Entry) → IsReadIn reads p q → past k ≡ Some r
     → print_of r.value ≡ print_of (mean p q) → r.value ≡ mean p q
 
--- The past has the key, and each of its past edges is in the next session with the same print.
+-- The previous session has the key, and each of its edges there is in the next session with the
+-- same fingerprint.
 pub record IsUnchanged (mean : Meaning) (reads : ReadLists) (past : Past) (p : Project)
     (q : Key) : Type 0 where
   pub had : Entry
@@ -75,7 +77,7 @@ pub record IsUnchanged (mean : Meaning) (reads : ReadLists) (past : Past) (p : P
   pub same : (e : Key) → Contains had.reads e
       → IsReadIn reads p e × (print_in past e ≡ Some (print_of (mean p e)))
 
--- An input is marked so; another key is green where it is unchanged, else executed.
+-- An input has the mark Input; another key is green where it is unchanged, else executed.
 abbrev pub HasMark : Meaning → ReadLists → Past → Project → Key → Mark → Type 0
 HasMark mean reads past p q Input = rank q ≡ 0
 HasMark mean reads past p q Green = (0 < rank q) × IsUnchanged mean reads past p q

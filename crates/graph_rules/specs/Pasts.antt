@@ -9,7 +9,7 @@ use Rattle.sessions.specs.Sessions.{Entry}
 abbrev pub Past : Type 0
 Past = Key → Option Entry
 
--- the print of the key's value
+-- the fingerprint of the key's value
 abbrev pub print_in : Past → Key → Option (List ℕ)
 print_in past q = option_map (λ r. print_of r.value) (past q)
 

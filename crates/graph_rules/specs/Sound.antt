@@ -23,7 +23,7 @@ IsBacked mean reads _ = Unit {0}
 abbrev pub AreBacked : Meaning → ReadLists → List Event → Type 0
 AreBacked mean reads history = AllByRecursion (λ e. IsBacked mean reads e) history
 
--- a green key has the past's value and edges, and each of these edges is unchanged
+-- a green key has the previous session's value and edges, and each of these edges is unchanged
 pub record IsGreen (past : Past) (s : State) (q : Key) (v : Value) (es : List Key) : Type 0 where
   pub had : Entry
   pub past_has : past q ≡ Some had
@@ -53,8 +53,8 @@ IsSoundAt mean reads past p s q (Done v es Executed) =
 abbrev pub IsSound : Meaning → ReadLists → Past → Project → State → Type 0
 IsSound mean reads past p s = (q : Key) → IsSoundAt mean reads past p s q (s.at q)
 
--- a done key's value is of its kind, its mark is Input just where it is an input, and its edges are
--- done and of lower rank, and none is there twice
+-- a done key's value is of its kind, its mark is Input exactly where it is an input, and its edges
+-- are done and of lower rank, and none is there twice
 pub record IsDoneInOrder (s : State) (q : Key) (v : Value) (es : List Key) (m : Mark) : Type 0 where
   pub kind : IsOfKind q v
   pub marked : is_input_mark m ≡ is_input (kind_of q)

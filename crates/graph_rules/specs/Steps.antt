@@ -43,7 +43,7 @@ at_opening None = Unknown
 abbrev pub opening : Project → State
 opening p = record { at = λ q. at_opening (input_of p q); failed = false }
 
--- the state but for one key, which stands so
+-- the state with one key changed to this status
 abbrev pub with_status : State → Key → Status → State
 with_status s q x = record { at = λ k. if same_key q k then x else s.at k; failed = s.failed }
 
@@ -66,15 +66,15 @@ IsHeldBy w (Claimed u) = u ≡ w
 IsHeldBy w (Running u) = u ≡ w
 IsHeldBy w _ = ⊥
 
--- ---- past edges: the edges of a key in the past
+-- ---- previous edges: the edges of a key in the previous session
 
 pub data EdgeState : Type 0 where
   Open : EdgeState
   Unchanged : EdgeState
   Changed : EdgeState
 
--- A past edge is open while its key isn't done; then it is unchanged or changed, as the two prints
--- are equal or not.
+-- A previous edge is open while its key isn't done; then it is unchanged or changed, as the two
+-- fingerprints are equal or not.
 abbrev pub edge_at : Option (List ℕ) → Status → EdgeState
 edge_at print Unknown = Open
 edge_at print (Claimed w) = Open
@@ -106,7 +106,7 @@ abbrev pub walk : Past → State → List Key → Walk
 walk past s [] = AllUnchanged
 walk past s (e ∷ es) = walk_on (edge_of past s e) (walk past s es)
 
--- the walk over the past edges of a key, where the past has it
+-- the walk over the previous edges of a key, where the previous session has it
 abbrev pub past_walk : Past → State → Key → Option Walk
 past_walk past s q = option_map (λ r. walk past s r.reads) (past q)
 
@@ -116,7 +116,8 @@ past_walk past s q = option_map (λ r. walk past s r.reads) (past q)
 abbrev pub IsBelow : State → ℕ → Key → Type 0
 IsBelow s w q = (k : Key) → IsHeldBy w (s.at k) → rank q < rank k
 
--- A key may run that isn't in the past, or whose first past edge that isn't unchanged is changed.
+-- A key may run if the previous session lacks it, or if the first of its previous edges that isn't
+-- unchanged is changed.
 abbrev pub MayRun : Option Walk → Type 0
 MayRun None = Unit {0}
 MayRun (Some (ChangedAt i)) = Unit {0}
@@ -135,7 +136,7 @@ MayStep past s (Begin w q) = (s.failed ≡ false) × (s.at q ≡ Claimed w) × M
 MayStep past s (Finish w o) = (s.failed ≡ false) × (s.at o.key ≡ Running w) × AreHeld s o.told
 MayStep past s (Fail w) = s.failed ≡ false
 
--- done with the past's value and edges
+-- done with the previous session's value and edges
 abbrev pub green : Option Entry → Status
 green (Some r) = Done r.value r.reads Green
 green None = Unknown

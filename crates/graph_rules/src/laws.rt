@@ -1,4 +1,4 @@
-//! What holds of keys, of legal histories and of the sessions that they end in.
+//! Laws of keys, of legal histories and of the sessions that they end in.
 ghost use Rattle.std.specs.Prelude.{◌≡◌, ◌↔◌, ◌<◌, List, None, true};
 ghost use Rattle.item_ids.specs.declared.key.Key.{Key};
 ghost use Rattle.mj_project.specs.Projects.{IsProject};
@@ -13,7 +13,7 @@ ghost use Rattle.graph_rules.specs.Histories.{IsOrderly};
 ghost use Rattle.graph_rules.specs.Graphs.{AreClosed};
 ghost use Rattle.graph_rules.specs.Next.{AreMeant, HasNoClash, AreNext};
 
-/// Keys are told apart just where they differ.
+/// Keys compare equal exactly where they are equal.
 pub fn keys_apart()
     ensures { (a b : Key) → (same_key a b ≡ true) ↔ (a ≡ b) }
 {}
@@ -31,8 +31,8 @@ pub fn histories_are_sound()
         → IsSound mean reads past p (state_after past p h) }
 {}
 
-/// In such a state a done key's value is of its kind, its mark is Input just where it is an input, and its edges are done
-/// and of lower rank, and none is there twice.
+/// In such a state a done key's value is of its kind, its mark is Input exactly where it is an input, and its edges are
+/// done and of lower rank, and none is there twice.
 pub fn sound_is_in_order()
     ensures { (mean : Meaning) (reads : ReadLists) (past : Past) (p : Project) (s : State)
         → IsGraph past
@@ -49,8 +49,8 @@ pub fn histories_are_orderly()
     ensures { (past : Past) (p : Project) (h : List Event) → Legal past p h → IsOrderly past p h }
 {}
 
-/// Where the past has the values and reads of a project, and no two values that differ have one print, what a sound
-/// state closes with is the next session, whatever the events were.
+/// Where the previous session has the values and reads of a project, and no two values that differ share a fingerprint,
+/// a sound state closes with the next session, whatever the events were.
 pub fn closed_is_next()
     ensures { (mean : Meaning) (reads : ReadLists) → RunnerLaws mean reads
         → (past : Past) (p old : Project) (s : State) (entries : List Entry) → IsProject p
@@ -59,7 +59,7 @@ pub fn closed_is_next()
         → AreNext mean reads past p entries }
 {}
 
-/// There is but one next session.
+/// There is only one next session.
 pub fn one_next()
     ensures { (mean : Meaning) (reads : ReadLists) (past : Past) (p : Project) (a b : List Entry)
         → AreNext mean reads past p a → AreNext mean reads past p b → a ≡ b }

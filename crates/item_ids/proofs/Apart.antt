@@ -1,4 +1,4 @@
--- Keys that the order doesn't tell apart are one key.
+-- Keys that compare equal are equal.
 use Rattle.std.proofs.Common.{◌≡◌, ◌↔◌, IsTrue, true, refl, sym, ap, ◌∙◌}
 use Rattle.std.specs.Ordering.{nat_cmp, ordering_then, is_eq}
 use Rattle.std.specs.declared.cmp.Ordering.{Ordering}

@@ -23,11 +23,11 @@ pub enum Kind {
     Supers,
     /// The fields and methods of a class, inherited ones too.
     Members,
-    /// The faults in a class's declarations.
+    /// The diagnostics in a class's declarations.
     CheckClass,
-    /// The faults in a method's body.
+    /// The diagnostics in a method's body.
     CheckBody,
-    /// All faults of a class.
+    /// All diagnostics of a class.
     Diags,
     /// The answer for the whole project.
     Answer,

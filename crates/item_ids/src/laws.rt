@@ -1,4 +1,4 @@
-//! What holds of all keys.
+//! Laws of all keys.
 ghost use Rattle.std.specs.Prelude.{◌≡◌, ◌↔◌, ◌<◌, IsTrue, IfSome};
 ghost use Rattle.std.specs.Option.{option_copied};
 ghost use Rattle.std.specs.Ordering.{eq_by_cmp};
@@ -14,7 +14,7 @@ use crate::key::Key;
 use byte_readers::check_name;
 use mj_lexer::Name;
 
-/// A key keeps in its type that what names it is a name.
+/// A key's type keeps that its names are names.
 pub fn is_key(key: &Key)
     ensures { IsKey key.now }
 {
@@ -22,7 +22,7 @@ pub fn is_key(key: &Key)
     check_perhaps_name(key.member());
 }
 
-/// A name that is there is one.
+/// A name that is given is a name: a text of 1 to 255 bytes.
 fn check_perhaps_name(name: Option<&Name>)
     ensures { IfSome (option_copied name.entry) IsName }
 {
@@ -31,7 +31,8 @@ fn check_perhaps_name(name: Option<&Name>)
     }
 }
 
-/// Keys are totally ordered. The order tells all keys apart; so do `==`, and kind, class and member.
+/// Keys are totally ordered. Keys that the order doesn't tell apart are equal; so are keys with equal kind, class and
+/// member, and keys that `==` calls equal.
 pub fn keys_in_order()
     ensures total { IsTotalOrder key_cmp }
     ensures exact { (a b : Key) → (key_cmp a b ≡ Equal) ↔ (a ≡ b) }
@@ -41,7 +42,7 @@ pub fn keys_in_order()
         → a ≡ b }
 {}
 
-/// The numbers of the kinds tell the kinds apart and rise with the rank, and a key of lower rank is a lesser key.
+/// Kinds have different numbers, which rise with the rank, and a key of lower rank is a lesser key.
 pub fn ranks_in_order()
     ensures apart { (a b : Kind) → number_of a ≡ number_of b → a ≡ b }
     ensures rising { (a b : Kind) → rank_of a < rank_of b → number_of a < number_of b }

@@ -20,7 +20,7 @@ use Rattle.job_table.specs.Walks.{IsWhyNot}
 use Rattle.job_table.specs.Calls.{IsClaimed, walk_in, BeginGives, FinishGives, IsFirstStale}
 use Rattle.job_table.proofs.StepRules.{is_standing, is_walk, are_held, held_nodes, kept_put, at_written, past_walk_same}
 
--- ---- keys that a worker hasn't
+-- ---- keys that a worker neither claimed nor runs
 
 standing_in : (o : Option Value) (x y : Status) → IsNotDone y → unless_input o x ≡ y → x ≡ y
 standing_in (Some v) x y other is = absurd (subst (λ (z : Status). IsNotDone z) (sym is) other)
@@ -49,13 +49,13 @@ mark_kept past p ns ms b h kept q w r x found nf stands all xis apart put =
     (λ st. ap (λ (y : Status). with_status st q y) (ap green found ∙ sym xis))
     (is_standing past p ns b h kept q (Claimed w) stands (λ e. cc) tt).0 apart put
 
--- what mark tells of its event, where the table before is this
+-- what mark says about its event, where the table before is this
 pub mark_at : (so : Option SessionValue) (p : Project) (ns : List Node) (b : Bool) (h : List Event) → IsKept (past_entry so) p ns b h → (q : Key) (w : ℕ) (r : Entry)
     → past_entry so q ≡ Some r → b ≡ false → status_in ns q ≡ Claimed w → AllUnchanged ≡ walk (past_entry so) (state_of_nodes p ns false) r.reads
     → (t : TableValue) → record { past = so; project = p; history = h } ≡ t → IsStep t (MarkGreen w q)
 mark_at so p ns b h kept q w r found nf stands all t te = subst (λ (u : TableValue). IsStep u (MarkGreen w q)) te (mark_may (past_entry so) p ns b h kept q w r found nf stands all)
 
--- a claimed key that isn't marked, by how the walk over its past edges ends
+-- a claimed key that isn't marked, by how the walk over its previous edges ends
 pub mark_refused : (so : Option SessionValue) (p : Project) (ns : List Node) (b : Bool) (h : List Event) → IsKept (past_entry so) p ns b h → (q : Key) (w : ℕ) (o : Option Walk)
     → b ≡ false → status_in ns q ≡ Claimed w → past_walk (past_entry so) (state_of_nodes p ns false) q ≡ o
     → (t : TableValue) → record { past = so; project = p; history = h } ≡ t → IsClaimed t w q × (walk_in t q ≡ o) × (t ≡ t)
@@ -66,7 +66,7 @@ mark_refused so p ns b h kept q w o nf stands is t te =
       refl,
     )
 
--- a key that the past hasn't, or of which it has this
+-- a key that isn't in the previous session, or that has this record there
 pub walk_none : (past : Past) (s : State) (q : Key) → past q ≡ None → past_walk past s q ≡ None
 walk_none past s q none = ap (option_map (λ (x : Entry). walk past s x.reads)) none
 
@@ -103,7 +103,7 @@ begin_kept past p ns ms b h kept q w nf stands may apart put =
     kept_put past p ns b h kept ms (Begin w q) q (Running w) (begin_may past p ns b h kept q w nf stands may) (λ s. refl)
     (is_standing past p ns b h kept q (Claimed w) stands (λ e. cc) tt).0 apart put
 
--- what begin_run tells of its event, where the table before is this
+-- what begin_run says about its event, where the table before is this
 pub begin_at : (so : Option SessionValue) (p : Project) (ns : List Node) (b : Bool) (h : List Event) → IsKept (past_entry so) p ns b h → (q : Key) (w : ℕ)
     → b ≡ false → status_in ns q ≡ Claimed w → MayRun (past_walk (past_entry so) (state_of_nodes p ns false) q)
     → (t : TableValue) → record { past = so; project = p; history = h } ≡ t → IsStep t (Begin w q)

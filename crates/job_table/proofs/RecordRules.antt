@@ -185,7 +185,7 @@ has_key [] x h = absurd (let b = h.1 in omega arith)
 has_key (y ∷ xs) x (zero, lt, is) = let l : 0 < length (map (λ (r : RecordValue). r.key) (y ∷ xs)) = omega arith in (0, l, ap (λ (r : RecordValue). r.key) is)
 has_key (y ∷ xs) x (suc k, lt, is) = let h = has_key xs x (k, (omega arith), is) in let l : suc h.0 < length (map (λ (r : RecordValue). r.key) (y ∷ xs)) = let b = h.1 in omega arith in (suc h.0, l, h.2)
 
--- the records of just the keys that are reached, in order, tell what the state closes with
+-- the records of just the keys that are reached, in order, are what the state closes with
 pub are_closed : (p : Project) (s : State) (ks : List Key) (rs : List RecordValue) → AreReached p s ks → Ascend ks → AreRecordsOf s ks rs → AreClosed p s (map (entry_of rs) rs)
 are_closed p s ks rs reached up of = record {
   ascending = told_ascend rs rs (subst Ascend (sym of.keys) up);

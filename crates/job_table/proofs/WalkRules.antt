@@ -1,4 +1,4 @@
--- Walks over past edges, from a place on.
+-- Walks over previous edges, from a place on.
 use Rattle.std.proofs.Common.{◌≡◌, ◌≢◌, ℕ, suc, ◌+◌, ◌<◌, List, ◌∷◌, map, drop, length, get_or, refl, sym, ap, ◌∙◌, true, false, Option, Some, bytes_eq, arith}
 use Rattle.std.specs.Prelude.{if◌then◌else◌}
 use Rattle.std.proofs.Math.Seq.{drop-cons}

@@ -19,7 +19,7 @@ use Rattle.job_table.specs.declared.fault.TableFault.TheVariants as fault
 use Rattle.job_table.specs.declared.fault.OpenFault.{OpenFault}
 use Rattle.job_table.specs.declared.fault.OpenFault.TheVariants as opens
 
--- open: a table without events, unless no session can follow the past
+-- open: a table without events, unless no session can follow the previous session
 abbrev pub OpenGives : Option SessionValue → Project → Result TableValue OpenFault → Type 0
 OpenGives past p (Ok t) = ¬ IsFull past × (t ≡ record { past = past; project = p; history = [] })
 OpenGives past p (Err opens.ChainFull) = IsFull past
@@ -51,11 +51,11 @@ AskGives t w q (Err fault.OutOfMemory) u =
     ((state_of t).failed ≡ false) × (IsNotDone ((state_of t).at q) → IsStep t (Claim w q)) × (u ≡ t)
 AskGives t w q (Err _) u = ⊥
 
--- how the walk over the key's past edges ends, where the past has the key
+-- how the walk over the key's previous edges ends, where the previous session has the key
 abbrev pub walk_in : TableValue → Key → Option Walk
 walk_in t q = past_walk (past_of t) (state_of t) q
 
--- mark: it answers the past's result, with which the key is done
+-- mark: it answers the previous session's result, with which the key is done
 abbrev pub MarkGives : TableValue → ℕ → Key → Result (Arc Value Global) TableFault → TableValue
     → Type 0
 MarkGives t w q (Ok v) u =

@@ -26,8 +26,8 @@ AreQuiet s = (q : Key) → IsQuiet (s.at q)
 abbrev pub MayClose : State → Type 0
 MayClose s = (s.failed ≡ false) × AreQuiet s × IsDone (s.at Answer)
 
--- Number and link follow the past, and the session tells how just the keys are done that the inputs
--- and Answer lead to.
+-- Number and link follow the previous session, and the session has just the keys that the inputs
+-- and Answer lead to, each as it is done.
 pub record IsClosing (past : Option SessionValue) (p : Project) (state : State)
     (s : SessionValue) : Type 0 where
   pub number : s.number ≡ next_number past

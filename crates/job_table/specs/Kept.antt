@@ -10,7 +10,7 @@ use Rattle.job_table.specs.Nodes.{Node, status_at, AreInputs, KeysStandOnce}
 use Rattle.job_table.specs.declared.event.Event.{Event as StoredEvent}
 use Rattle.job_table.specs.declared.event.Event.TheVariants as stored
 
--- the event that is stored so
+-- the event that is stored
 abbrev pub event_of : {R : Type 0} → StoredEvent R → Event
 event_of (stored.Claim w q) = Claim w q
 event_of (stored.Mark w q) = MarkGreen w q

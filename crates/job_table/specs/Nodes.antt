@@ -46,7 +46,7 @@ abbrev pub AllAbove : ℕ → ℕ → List Node → Type 0
 AllAbove w r [] = Unit {0}
 AllAbove w r (n ∷ ns) = (IsHeldBy w (status_of n.1) → r < rank n.0) × AllAbove w r ns
 
--- an input is done, another key stands so
+-- an input is done, another key has this status
 abbrev pub unless_input : Option Value → Status → Status
 unless_input (Some v) x = Done v [] Input
 unless_input None x = x

@@ -35,7 +35,7 @@ abbrev pub step_of_call : Result (Unit {0}) TableFault → Result (Unit {0}) Ste
 step_of_call (Ok v) = Ok tt
 step_of_call (Err f) = Err (refusal_of f)
 
--- an event is done just where it is a step, want of memory aside
+-- an event is done exactly where it is a step, unless memory runs out
 abbrev pub StepGives : TableValue → Event → Result (Unit {0}) StepFault → TableValue → Type 0
 StepGives t e (Ok _) u = IsStep t e × (u ≡ adds t e)
 StepGives t e (Err step.NoStep) u = ¬ IsStep t e × (u ≡ t)

@@ -1,4 +1,5 @@
--- What callers see of a table: the past and the project that it was opened with, and its events.
+-- What callers see of a table: the previous session and the project that it was opened with, and
+-- its events.
 use Rattle.std.specs.Prelude.{◌≤◌, List, [], ◌∷◌, ◌++◌, Option, Some, None}
 use Rattle.recorder.specs.Projects.{Project}
 use Rattle.sessions.specs.Sessions.{SessionValue, most_number, past_entry}

@@ -1,4 +1,4 @@
--- How walks over past edges end, as calls see them.
+-- How walks over previous edges end, as calls see them.
 use Rattle.std.specs.Prelude.{◌≡◌, Option, Some, None}
 use Rattle.graph_rules.specs.Steps.{EdgeState, Open, Unchanged, Changed, Walk, AllUnchanged, OpenAt, ChangedAt, MayRun}
 use Rattle.job_table.specs.declared.walks.Edge.{Edge}
@@ -18,7 +18,7 @@ walk_of ends.AllUnchanged = AllUnchanged
 walk_of (ends.Open i) = OpenAt i
 walk_of (ends.Changed i) = ChangedAt i
 
--- why a claimed key may not run, by the walk over its past edges
+-- why a claimed key may not run, by the walk over its previous edges
 abbrev pub IsWhyNot : Option Walk → Option TableFault → Type 0
 IsWhyNot o None = MayRun o
 IsWhyNot o (Some (fault.EdgeOpen i)) = o ≡ Some (OpenAt i)

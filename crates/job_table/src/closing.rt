@@ -23,7 +23,7 @@ use sessions::{Record, Session, check_kept};
 use std::alloc::{AllocError, Global};
 use std::sync::Arc;
 
-/// The session behind the past, of the keys that the inputs and Answer lead to.
+/// The session after the previous one, with the keys that the inputs and Answer lead to.
 pub fn session_of(
     alloc: Global,
     past: &Option<Arc<Session>>,
@@ -68,7 +68,7 @@ fn reach(alloc: Global, inputs: &Inputs, nodes: &NodeMap) -> Result<IndexSet<Key
     Ok(found)
 }
 
-/// Puts the keys in order.
+/// Sorts the keys.
 fn sort(keys: &mut IndexSet<Key>) -> Result<(), AllocError>
     ensures ascend { OnOk result (Ascend keys.new.keys) }
     ensures same { OnOk result ((q : KeyValue) → Contains keys.new.keys q
@@ -87,7 +87,7 @@ fn roots(alloc: Global, inputs: &Inputs) -> Result<Vec<Key>, AllocError>
     Ok(keys)
 }
 
-/// Adds those of the edges that the set hasn't.
+/// Adds the edges that the set doesn't have yet.
 fn add(alloc: Global, found: &mut IndexSet<Key>, edges: &[Key]) -> Result<(), AllocError>
     ensures { OnOk result (Adds found.old.keys edges.now found.new.keys) }
 {
@@ -97,7 +97,7 @@ fn add(alloc: Global, found: &mut IndexSet<Key>, edges: &[Key]) -> Result<(), Al
     Ok(())
 }
 
-/// Adds a key, unless the set has it.
+/// Adds a key, unless the set has it already.
 fn add_key(alloc: Global, found: &mut IndexSet<Key>, key: &Key) -> Result<(), AllocError>
     ensures { OnOk result (Adds found.old.keys (key.now ∷ []) found.new.keys) }
 {
@@ -130,7 +130,7 @@ fn records_of(
     Ok(records)
 }
 
-/// The record of a key that is done, with places among these keys for edges.
+/// The record of a key that is done. Its edges are places among these keys.
 fn record_of(
     alloc: Global,
     inputs: &Inputs,
@@ -168,7 +168,7 @@ fn places_of(alloc: Global, keys: &IndexSet<Key>, edges: &[Key]) -> Result<Vec<u
     Ok(places)
 }
 
-/// The place of a key that is there.
+/// The place of a key that the set has.
 fn place_of(keys: &IndexSet<Key>, key: &Key) -> usize
     requires { Contains keys.now.keys key.now }
     ensures same { key_in keys.now.keys result ≡ key.now }
@@ -180,7 +180,7 @@ fn place_of(keys: &IndexSet<Key>, key: &Key) -> usize
     }
 }
 
-/// The number of the session behind the past.
+/// The number of the session after the previous one.
 fn number_behind(past: &Option<Arc<Session>>) -> u32
     requires { ¬ IsFull (session_in past.now) }
     ensures number { result ≡ next_number (session_in past.now) }
@@ -192,7 +192,7 @@ fn number_behind(past: &Option<Arc<Session>>) -> u32
     }
 }
 
-/// The link of the session behind the past.
+/// The link of the session after the previous one.
 fn link_behind(past: &Option<Arc<Session>>) -> [u8; 32]
     ensures { result ≡ next_link (session_in past.now) }
 {
@@ -202,7 +202,7 @@ fn link_behind(past: &Option<Arc<Session>>) -> [u8; 32]
     }
 }
 
-/// A past is a graph by its type.
+/// A previous session is a graph by its type.
 pub fn check_past(past: &Option<Arc<Session>>)
     ensures { IsGraph (past_entry (session_in past.now)) }
 {

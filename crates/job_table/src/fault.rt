@@ -4,7 +4,7 @@ use fingerprint::Sealed;
 use std::sync::Arc;
 use thiserror::Error;
 
-/// What a worker is told that asks for a key.
+/// What a worker that asks for a key is told.
 #[derive(Drop)]
 pub enum Asked {
     /// The key is now claimed by this worker.
@@ -17,7 +17,8 @@ pub enum Asked {
     Stopped,
 }
 
-/// Why a call is refused. `usize` values are places in the key's list of past edges, or in an outcome's list of reads.
+/// Why a call is refused. `usize` values are places in the key's list of previous edges, or in an outcome's list of
+/// reads.
 #[derive(Clone, Copy, Debug, PartialEq, Eq, Error)]
 pub enum TableFault {
     /// The worker hasn't claimed the key, or doesn't run it.
@@ -26,19 +27,19 @@ pub enum TableFault {
     /// The key's rank isn't below the ranks of all that the worker has claimed or runs.
     #[error("9.2 OutOfRank")]
     OutOfRank,
-    /// This past edge isn't done, and those before it are unchanged.
+    /// This previous edge isn't done, and those before it are unchanged.
     #[error("9.3 EdgeOpen({0})")]
     EdgeOpen(usize),
-    /// This past edge is changed, and those before it are unchanged.
+    /// This previous edge is changed, and those before it are unchanged.
     #[error("9.4 EdgeChanged({0})")]
     EdgeChanged(usize),
-    /// The past hasn't the key.
+    /// The previous session doesn't have the key.
     #[error("9.5 NotInPast")]
     NotInPast,
-    /// All past edges are unchanged.
+    /// All previous edges are unchanged.
     #[error("9.6 NothingChanged")]
     NothingChanged,
-    /// The key of this read isn't done with the result that was read, and those before it are.
+    /// The key of this read isn't done with the result that was read, while those of the reads before it are.
     #[error("9.7 StaleRead({0})")]
     StaleRead(usize),
     /// A worker failed.
@@ -52,7 +53,7 @@ pub enum TableFault {
 /// Why a table isn't opened.
 #[derive(Clone, Copy, Debug, PartialEq, Eq, Error)]
 pub enum OpenFault {
-    /// The past has the number 9,999, behind which there is no session.
+    /// The previous session has the number 9,999, so none can follow it.
     #[error("9.11 ChainFull")]
     ChainFull,
     /// Memory ran out.
@@ -77,7 +78,7 @@ pub enum CloseFault {
     OutOfMemory,
 }
 
-/// Why an event isn't done.
+/// Why an event can't be replayed.
 #[derive(Clone, Copy)]
 pub(crate) enum StepFault {
     /// It is no step.
@@ -86,10 +87,10 @@ pub(crate) enum StepFault {
     OutOfMemory,
 }
 
-/// Why a list of events isn't replayed.
+/// Why events can't be replayed.
 #[derive(Clone, Copy, Debug, PartialEq, Eq, Error)]
 pub enum ReplayFault {
-    /// The past has the number 9,999, behind which there is no session.
+    /// The previous session has the number 9,999, so none can follow it.
     #[error("9.11 ChainFull")]
     ChainFull,
     /// This event is the first that is no step.

@@ -1,4 +1,4 @@
-//! How each key stands: the inputs, and behind them what was asked for, in the order of the claims.
+//! How each key stands: the inputs first, then all keys that were asked for, in the order of their claims.
 ghost use Rattle.std.specs.Prelude.{◌≡◌, ◌↔◌, ◌==◌, ◌<◌, [], IfSome, IfNone, IfOk, IsTrue, OnOk, OnErr, filter, length, not, if◌then◌else◌};
 ghost use Rattle.std.specs.List.{AllByRecursion};
 ghost use Rattle.item_ids.specs.declared.key.Key.{Key as KeyValue};
@@ -57,7 +57,7 @@ impl NodeMap {
         }
     }
 
-    /// The inputs of a project, which are done.
+    /// The inputs of a project, all of them done.
     pub fn of_inputs(alloc: Global, inputs: &Inputs) -> Result<Self, AllocError>
         ensures opened { IfOk result (AreOpened inputs.now) }
         ensures apart { IfOk result KeysStandOnce }
@@ -72,7 +72,7 @@ impl NodeMap {
         Ok(nodes)
     }
 
-    /// One more input, if it is one and isn't there.
+    /// One more input, if it is an input and new.
     fn add_input(&mut self, alloc: Global, inputs: &Inputs, key: &Key) -> Result<(), AllocError>
         requires { AreOpened inputs.now self.old }
         ensures { OnOk result (AreOpened inputs.now self.new) }
@@ -95,7 +95,7 @@ impl NodeMap {
         let _pending = &self.pending;
     }
 
-    /// The place of a key, and how it stands.
+    /// The place of a key and how it stands, or `None` for a key that wasn't asked for.
     pub fn find(&self, key: &Key) -> Option<(usize, &Standing)>
         ensures none { IfNone result (status_in self.now key.now ≡ Unknown) }
         ensures first { IfSome result (λ r. IsFirst self.now key.now r.0) }
@@ -122,7 +122,7 @@ impl NodeMap {
         self.pending.is_empty()
     }
 
-    /// Writes how the key at a place stands; what is done isn't claimed or run again.
+    /// Sets how the key at a place stands. What is done isn't claimed or run again.
     pub fn put(&mut self, at: usize, standing: Standing)
         requires place { at < length self.old }
         requires pending { ¬ IsQuiet (status_of standing) → IsPendingAt self.old at }
@@ -133,7 +133,7 @@ impl NodeMap {
         put_standing(&mut self.nodes, &mut self.pending, at, standing);
     }
 
-    /// One more key. The insert is the last that can be refused.
+    /// Adds a key. The insert is the last step that can be refused.
     pub fn add(&mut self, alloc: Global, key: &Key, standing: Standing) -> Result<(), AllocError>
         requires unknown { status_in self.old key.now ≡ Unknown }
         requires pending { ¬ IsQuiet (status_of standing) }
@@ -178,7 +178,7 @@ fn is_above_at(nodes: &IndexMap<Key, Standing>, at: usize, w: u32, wanted: u8) -
     true
 }
 
-/// Writes how the key at a place stands; no key moves.
+/// Sets how the key at a place stands; no key moves.
 fn put_standing(
     nodes: &mut IndexMap<Key, Standing>,
     pending: &mut Vec<usize>,

@@ -1,4 +1,4 @@
-//! How each key stands that was asked for.
+//! How keys stand that were asked for.
 ghost use Rattle.std.specs.Prelude.{◌≡◌, ◌↔◌, ◌<◌, length, IsTrue, IfSome, IfNone};
 ghost use Rattle.std.specs.Arc.{arc_value};
 ghost use Rattle.graph_rules.specs.Steps.{Claimed, Running, Done, IsHeldBy, IsDone, IsDoneWith, IsNotDone, at_opening};
@@ -94,7 +94,7 @@ fn input_entry<'a>(inputs: &'a Inputs, key: &Key) -> Entry<'a>
     }
 }
 
-/// Whether a key that stands so is neither claimed nor running.
+/// Whether a key that stands like this is neither claimed nor running.
 pub fn is_quiet(standing: &Standing) -> bool
     ensures { IsTrue result ↔ IsQuiet (status_of standing.now) }
 {
@@ -105,7 +105,7 @@ pub fn is_quiet(standing: &Standing) -> bool
     }
 }
 
-/// Where a key is that the worker has claimed.
+/// The place of a key, if the worker has claimed it.
 pub fn find_claimed(nodes: &NodeMap, w: u32, key: &Key) -> Option<usize>
     ensures none { IfNone result (status_in nodes.now key.now ≡ Claimed w → ⊥) }
     ensures some { IfSome result (λ i. IsFirst nodes.now key.now i
@@ -130,7 +130,7 @@ fn is_claimed(standing: &Standing, w: u32) -> bool
     }
 }
 
-/// Where a key is that the worker runs.
+/// The place of a key, if the worker runs it.
 pub fn find_running(nodes: &NodeMap, w: u32, key: &Key) -> Option<usize>
     ensures none { IfNone result (status_in nodes.now key.now ≡ Running w → ⊥) }
     ensures some { IfSome result (λ i. IsFirst nodes.now key.now i

@@ -1,4 +1,4 @@
-//! Tables by their events.
+//! Tables from their events.
 ghost use Rattle.std.specs.Prelude.{◌≡◌, map};
 ghost use Rattle.sessions.specs.Sessions.{session_in};
 ghost use Rattle.job_table.specs.Kept.{event_of};
@@ -17,7 +17,7 @@ use std::sync::Arc;
 impl<R: Runner> Table<R> {
     ghost use Rattle.job_table.specs.Replays.{StepGives, ReplayGives};
 
-    /// The table to which these events lead, or the first of them that is no step.
+    /// The table that these events lead to, or the first of them that is no step.
     pub fn replay(
         alloc: Global,
         past: Option<Arc<Session>>,
@@ -43,7 +43,7 @@ impl<R: Runner> Table<R> {
         Ok(table)
     }
 
-    /// Does what the event says, where it is a step.
+    /// Makes the call of an event, where it is a step.
     fn step(&mut self, event: &Event<R>) -> Result<(), StepFault>
         ensures { StepGives self.old (event_of event.now) result self.new }
     {
@@ -60,7 +60,7 @@ impl<R: Runner> Table<R> {
     }
 }
 
-/// What the answer to a claim says of the event.
+/// Whether the event was a step, by the answer to a claim.
 fn by_ask(asked: Result<Asked, TableFault>) -> Result<(), StepFault>
     ensures { result ≡ step_of_ask asked }
 {
@@ -73,7 +73,7 @@ fn by_ask(asked: Result<Asked, TableFault>) -> Result<(), StepFault>
     }
 }
 
-/// What the answer to a mark says of the event.
+/// Whether the event was a step, by the answer to a mark.
 fn by_mark(marked: Result<Arc<Sealed>, TableFault>) -> Result<(), StepFault>
     ensures { result ≡ step_of_mark marked }
 {
@@ -83,7 +83,7 @@ fn by_mark(marked: Result<Arc<Sealed>, TableFault>) -> Result<(), StepFault>
     }
 }
 
-/// What any other answer says of the event.
+/// Whether the event was a step, by any other answer.
 fn by_call(called: Result<(), TableFault>) -> Result<(), StepFault>
     ensures { result ≡ step_of_call called }
 {

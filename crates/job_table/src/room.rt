@@ -1,4 +1,4 @@
-//! Room for what a call adds: all growths of a call, before it changes anything.
+//! Reserves the memory that a call needs, before the call changes anything.
 ghost use Rattle.std.specs.Prelude.{◌≡◌, ◌+◌, ◌<◌, ◌≤◌, ◌++◌, ◌∷◌, [], IfOk, IfSome, map, vec_len, vec_capacity};
 ghost use Rattle.std.specs.Arc.{arc_value};
 ghost use Rattle.mj_project.specs.Projects.{IsProject};
@@ -60,7 +60,7 @@ pub fn room_for_event<R: Runner>(
     key.copy(alloc).ok()
 }
 
-/// What a key needs that is marked: a copy of it, the keys of its past edges, and its past result twice.
+/// What marking a key needs: a copy of the key, the keys of its previous edges, and two owners of its previous result.
 #[derive(Drop)]
 pub struct MarkParts {
     pub noted: Key,
@@ -69,7 +69,7 @@ pub struct MarkParts {
     pub answer: Arc<Sealed>,
 }
 
-/// Room for two more events, and what a key needs that is marked which had this record in the past.
+/// Room for two more events, and what marking a key needs that had this record in the previous session.
 pub fn room_for_mark<R: Runner>(
     alloc: Global,
     history: &mut Vec<Event<R>>,
@@ -92,7 +92,7 @@ pub fn room_for_mark<R: Runner>(
     mark_parts(alloc, key, past, had).ok()
 }
 
-/// What a key needs that is marked which had this record in the past.
+/// What marking a key needs that had this record in the previous session.
 fn mark_parts(
     alloc: Global,
     key: &Key,
@@ -118,7 +118,7 @@ fn mark_parts(
     })
 }
 
-/// The keys of past edges.
+/// The keys of previous edges.
 fn edge_keys(alloc: Global, past: &Session, edges: &[usize]) -> Result<Vec<Key>, AllocError>
     requires { AreInside past.now.records edges.now }
     ensures { IfOk result (λ v. v.items ≡ map (key_at past.now.records) edges.now) }
@@ -131,14 +131,14 @@ fn edge_keys(alloc: Global, past: &Session, edges: &[usize]) -> Result<Vec<Key>,
     Ok(copies)
 }
 
-/// What a key needs that was run: the keys that were read, and its result.
+/// What ending a run needs: the keys that were read, and the result.
 #[derive(Drop)]
 pub struct FinishParts {
     pub edges: Vec<Key>,
     pub sealed: Arc<Sealed>,
 }
 
-/// Room for two more events, and what a key needs that was run.
+/// Room for two more events, and what ending a run needs.
 pub fn room_for_finish<R: Runner>(
     alloc: Global,
     history: &mut Vec<Event<R>>,
@@ -158,7 +158,7 @@ pub fn room_for_finish<R: Runner>(
     finish_parts(alloc, outcome).ok()
 }
 
-/// What a key needs that was run.
+/// What ending a run needs.
 fn finish_parts<R: Runner>(alloc: Global, outcome: &Outcome<R>) -> Result<FinishParts, AllocError>
     ensures edges { IfOk result (λ parts. parts.edges.items ≡ keys outcome.now.told) }
     ensures value { IfOk result (λ parts. arc_value parts.sealed ≡ outcome.now.value) }

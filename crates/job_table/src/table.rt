@@ -24,8 +24,8 @@ use std::alloc::{AllocError, Global};
 use std::marker::Model;
 use std::sync::Arc;
 
-/// The table of one session over a past and a project, and the events that led to its state. Each call is stated on
-/// the table before and after it; a call that is refused leaves it as it was.
+/// The table of one session over a previous session and a project, and the events that led to its state. The contract
+/// of each call speaks of the table before and after it; a call that is refused leaves it as it was.
 #[derive(Drop)]
 pub struct Table<R: Runner> {
     alloc: Global,
@@ -72,7 +72,7 @@ impl<R: Runner> Table<R> {
     ghost use Rattle.job_table.specs.Calls.{OpenGives, AskGives, MarkGives, BeginGives, FinishGives, FailGives};
     ghost use Rattle.job_table.specs.Closes.{CloseGives};
 
-    /// Opens the table of a session of the project, over the session before it.
+    /// Opens the table of a session of the project, over the previous session.
     pub fn open(
         alloc: Global,
         past: Option<Arc<Session>>,
@@ -99,7 +99,7 @@ impl<R: Runner> Table<R> {
         })
     }
 
-    /// Asks for a key, by a worker that claims it where nobody has.
+    /// Asks for a key. If nobody has claimed it, the worker claims it.
     pub fn ask(&mut self, w: u32, key: &Key) -> Result<Asked, TableFault>
         ensures { AskGives self.old w key.now result self.new }
     {
@@ -129,7 +129,8 @@ impl<R: Runner> Table<R> {
         Ok(Asked::Yours)
     }
 
-    /// Takes over the past's result for a key that the worker has claimed, where all past edges are unchanged.
+    /// Takes over the previous session's result for a key that the worker has claimed, if all its previous edges are
+    /// unchanged.
     pub fn mark(&mut self, w: u32, key: &Key) -> Result<Arc<Sealed>, TableFault>
         ensures { MarkGives self.old w key.now result self.new }
     {
@@ -167,7 +168,8 @@ impl<R: Runner> Table<R> {
         Ok(answer)
     }
 
-    /// Begins the run of a key that the worker has claimed, where the past hasn't it or a past edge is changed.
+    /// Begins the run of a key that the worker has claimed, where the previous session lacks the key or a previous edge
+    /// is changed.
     pub fn begin_run(&mut self, w: u32, key: &Key) -> Result<(), TableFault>
         ensures { BeginGives self.old w key.now result self.new }
     {
@@ -188,7 +190,7 @@ impl<R: Runner> Table<R> {
         Ok(())
     }
 
-    /// Ends the run of a key by its outcome, where all that was read is still so in the table.
+    /// Ends the run of a key with its outcome, where all that it read still stands in the table.
     pub fn finish(&mut self, w: u32, outcome: Arc<Outcome<R>>) -> Result<(), TableFault>
         ensures { FinishGives self.old w (arc_value outcome) result self.new }
     {
@@ -204,8 +206,8 @@ impl<R: Runner> Table<R> {
         self.finish_held(w, outcome)
     }
 
-    /// Ends the run of a key by its outcome, as `finish` does, for a caller who knows that all that was read is so in the
-    /// table, so that no result has to be compared.
+    /// Ends the run of a key as `finish` does, for a caller who knows that all that it read still stands in the table,
+    /// so that no result has to be compared.
     pub fn finish_held(&mut self, w: u32, outcome: Arc<Outcome<R>>) -> Result<(), TableFault>
         requires { AreHeld (state_of self.old) (arc_value outcome).told }
         ensures { FinishGives self.old w (arc_value outcome) result self.new }
@@ -242,7 +244,7 @@ impl<R: Runner> Table<R> {
         Ok(())
     }
 
-    /// The session that tells how the keys became done that Answer and the inputs lead to.
+    /// Closes the table: the session of the keys that Answer and the inputs lead to, each as it became done.
     pub fn close(&self) -> Result<Session, CloseFault>
         ensures { CloseGives self.now result }
     {
@@ -263,7 +265,7 @@ impl<R: Runner> Table<R> {
         }
     }
 
-    /// The session before, as it was handed in.
+    /// The previous session, as it was handed in.
     pub fn past(&self) -> Result<Option<Arc<Session>>, AllocError>
         ensures { IfOk result (λ past. session_in past ≡ self.now.past) }
     {
@@ -273,7 +275,7 @@ impl<R: Runner> Table<R> {
         }
     }
 
-    /// The events, from the first.
+    /// All events, from the first.
     pub fn history(&self) -> &[Event<R>]
         ensures { map event_of result.now ≡ self.now.history }
     {

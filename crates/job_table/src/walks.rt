@@ -1,4 +1,4 @@
-//! Walks over past edges.
+//! Walks over previous edges.
 ghost use Rattle.std.specs.Prelude.{◌≡◌, ◌<◌, Some, false, map, length, option_map};
 ghost use Rattle.sessions.specs.Sessions.{AreInside, key_at, past_entry, session_in};
 ghost use Rattle.graph_rules.specs.Pasts.{print_in};
@@ -14,7 +14,7 @@ use project_inputs::Inputs;
 use sessions::Session;
 use std::sync::Arc;
 
-/// How a past edge stands.
+/// How a previous edge stands.
 #[derive(Clone, Copy)]
 pub enum Edge {
     Open,
@@ -22,7 +22,7 @@ pub enum Edge {
     Changed,
 }
 
-/// How a walk over past edges ends: all are unchanged, or the first that isn't, by its place.
+/// How a walk over previous edges ends: all are unchanged, or which is the first that isn't.
 #[derive(Clone, Copy)]
 pub enum WalkEnd {
     AllUnchanged,
@@ -30,7 +30,7 @@ pub enum WalkEnd {
     Changed(usize),
 }
 
-/// How the past edge stands that leads to a record.
+/// How the previous edge stands that leads to a record.
 fn past_edge(inputs: &Inputs, nodes: &NodeMap, past: &Session, at: usize) -> Edge
     requires inputs { AreInputs inputs.now nodes.now }
     requires place { at < length past.now.records }
@@ -49,7 +49,7 @@ fn past_edge(inputs: &Inputs, nodes: &NodeMap, past: &Session, at: usize) -> Edg
     }
 }
 
-/// How the walk over past edges ends.
+/// How the walk over previous edges ends.
 pub fn walk_edges(inputs: &Inputs, nodes: &NodeMap, past: &Session, edges: &[usize]) -> WalkEnd
     requires inputs { AreInputs inputs.now nodes.now }
     requires inside { AreInside past.now.records edges.now }
@@ -67,7 +67,7 @@ pub fn walk_edges(inputs: &Inputs, nodes: &NodeMap, past: &Session, edges: &[usi
     WalkEnd::AllUnchanged
 }
 
-/// How the walk over a key's past edges ends, where the past has the key.
+/// How the walk over a key's previous edges ends, where the previous session has the key.
 fn walk_past(
     inputs: &Inputs,
     nodes: &NodeMap,
@@ -88,7 +88,7 @@ fn walk_past(
     Some(walk_edges(inputs, nodes, past, record.edges()))
 }
 
-/// Why a key that the worker has claimed may not run.
+/// Why a key that the worker has claimed may not be run.
 pub fn why_not(
     inputs: &Inputs,
     nodes: &NodeMap,

@@ -1,4 +1,4 @@
--- What the answers to the reads of a run come to.
+-- The effect of the answers to a run's reads.
 use Rattle.std.proofs.Common.{◌≡◌, ℕ, ◌<◌, refl, sym, subst, Option, inl, inr, ◌⊎◌}
 use Rattle.std.specs.Prelude.{Result, Ok, Err, IfErr}
 use Rattle.std.specs.declared.alloc.Global.{Global}

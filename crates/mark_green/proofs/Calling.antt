@@ -1,4 +1,4 @@
--- What the answers of calls come to.
+-- The effect of calls, by their answers.
 use Rattle.std.proofs.Common.{◌≡◌, ℕ, zero, suc, ◌<◌, List, [], ◌∷◌, refl, sym, ap, ◌∙◌, subst, Bool, true, false, Option, Some, None, arith, inl, inr}
 use Rattle.std.specs.Prelude.{Result, Ok, Err}
 use Rattle.std.specs.declared.alloc.Global.{Global}
@@ -128,7 +128,7 @@ ask_refused w q table.NothingChanged g is t u v a s = absurd a
 ask_refused w q (table.StaleRead i) g is t u v a s = absurd a
 ask_refused w q table.Failed g is t u v a s = absurd a
 
--- want of memory in the midst of work
+-- out of memory in the midst of work
 pub memory_gives : (t u v : TableValue) (w : ℕ) (q : Key) (g : Fault) → g ≡ fault.OutOfMemory → u ≡ t → GivesUp u v → WorkGives t w q (Err g) v
 memory_gives t u v w q g is e s = subst (λ (x : Fault). WorkGives t w q (Err x) v) (sym is) (stopped_at t u v e s, λ k a n h. stayed_at t u v e s k a h)
 
@@ -229,7 +229,7 @@ finish_refused w q o table.OutOfRank g key is t u v held st b s = absurd b
 finish_refused w q o (table.EdgeChanged i) g key is t u v held st b s = absurd b
 finish_refused w q o table.NotInPast g key is t u v held st b s = absurd b
 
--- ---- a past edge
+-- ---- a previous edge
 
 below_it : (x : Status) (w : ℕ) (q e : Key) (t : TableValue) → HasStatus x w q t → rank e < rank q → IsBelow (state_of t) w e
 below_it x w q e t st lt = λ k h. elim (st.above k h) [
@@ -245,7 +245,7 @@ edge_gives_up x w q e fault.Stopped t u st lt h = elim h.2 [
 edge_gives_up x w q e fault.OutOfMemory t u st lt h = (h.0, h.1)
 edge_gives_up x w q e fault.Busy t u st lt h = ((h.0, h.2, h.3), h.1)
 
--- ---- what a call and giving up come to, in their order
+-- ---- the effect of a call and then of giving up
 
 pub mark_ok : (w : ℕ) (q : Key) (v : Arc Value Global) (t u : TableValue) → MarkGives t w q (Ok v) u → HasStatus (Claimed w) w q t → walk_in t q ≡ Some AllUnchanged → WorkGives t w q (Ok v) u
 mark_ok w q v t u m st all = mark_done w q v t u m

@@ -102,7 +102,7 @@ which q k =
     differ : false ≡ true → ⊥
     differ e = cc
 
--- the table goes on, and one key at most stands otherwise
+-- the table continues, and at most one key has another status
 pub record Changes (q : Key) (x : Status) (t u : TableValue) : Type 0 where
   pub goes_on : GoesOn t u
   pub failed : (state_of u).failed ≡ (state_of t).failed

@@ -1,4 +1,4 @@
--- What was read stays so in the table, whatever is brought to done meanwhile.
+-- What was read stays so in the table, whatever is evaluated meanwhile.
 use Rattle.std.proofs.Common.{◌≡◌, ℕ, List, [], sym, ◌∙◌, subst, Option, Some, None}
 use Rattle.std.specs.Prelude.{Ok}
 use Rattle.std.specs.Arc.{arc_value}
@@ -28,7 +28,7 @@ held_none (Some t) = tt
 pub held_ran : (o : OutcomeValue) (held : List ReadValue) (a b : Option TableValue) → b ≡ a → (Held held a → Held o.told a) → Held held a → Held o.told b
 held_ran o held a b same told h = subst (Held o.told) (sym same) (told h)
 
--- a key that a run lacked is brought to done
+-- a key that a run lacked is evaluated
 pub held_more : (w : ℕ) (q k : Key) (old new : List ReadValue) (x : Unit {0}) (a b c : Option TableValue) → Halts w (rank q) (stop.Lacks k) a b → Fetches w k (Ok x) old new b c → Held old a → Held new c
 held_more w q k old new x None None None h f all = tt
 held_more w q k old new x None None (Some v) h f all = absurd f

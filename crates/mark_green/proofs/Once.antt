@@ -1,4 +1,4 @@
--- What one run comes to.
+-- The effect of one run.
 use Rattle.std.proofs.Common.{◌≡◌, ℕ, ◌<◌, List, refl, ◌∙◌, sym, subst, Option, Some, None, inl, inr, ◌⊎◌, Contains}
 use Rattle.std.specs.Prelude.{Result, Ok, Err, IfOk, IfErr, IfSome, option_map, option_and_then}
 use Rattle.std.specs.List.{AllByRecursion}
@@ -55,8 +55,8 @@ same_fault a b e = cc
 no_fault : (f : ReadFault) → None ≡ Some f → ⊥
 no_fault f e = cc
 
--- A read that is refused though nothing stopped the run is refused for want of memory, since keys of
--- lower rank alone are asked.
+-- A read that is refused though nothing stopped the run ran out of memory, since only keys of lower
+-- rank are asked.
 memory_alone : (q : Key) (N : Key → Type 0) (below : (k : Key) → N k → rank k < rank q) (o : Option Refused) (f : ReadFault)
     → option_map (λ x. x.fault) o ≡ Some f → IfSome o (λ x. IsForMemory x ⊎ ((k : Key) × IsByReader (IsUnanswered (rank q) None) k x))
     → IfSome (option_and_then (λ x. x.key) o) N → f ≡ read.OutOfMemory

@@ -1,4 +1,4 @@
--- What runs and the keys brought to done for them come to, in their order.
+-- The effect of runs and of the evaluations that they need, in their order.
 use Rattle.std.proofs.Common.{◌≡◌, ℕ, List, [], ◌∷◌, ◌++◌, refl, sym, ap, subst, Option, Some, None}
 use Rattle.std.specs.Prelude.{Result, Ok, Err}
 use Rattle.std.specs.declared.alloc.Global.{Global}
@@ -25,7 +25,7 @@ use Rattle.mark_green.proofs.Running.{stop_gives_up, fetched, work_held, work_lo
 
 -- ---- a key that a run lacked
 
--- bringing a claimed key to done, by the tables before and after
+-- evaluating a claimed key, by the tables before and after
 abbrev pub Works : ℕ → Key → Result (Arc Value Global) Fault → Option TableValue → Option TableValue → Type 0
 Works w q r a b = Tells (λ t u. HasStatus (Claimed w) w q t → WorkGives t w q r u) a b
 

@@ -1,4 +1,4 @@
--- Walks over past edges, while keys become done.
+-- Walks over previous edges, while keys become done.
 use Rattle.std.proofs.Common.{◌≡◌, ℕ, suc, ◌+◌, ◌<◌, List, [], ◌∷◌, ◌++◌, map, take, drop, length, get_or, refl, sym, ap, ◌∙◌, subst, Bool, true, false, Option, Some, None, option_map, arith}
 use Rattle.std.specs.Prelude.{Ok, Err}
 use Rattle.std.specs.declared.alloc.Global.{Global}
@@ -74,7 +74,7 @@ module _ (records : List RecordValue) (edges : List ℕ) (i : ℕ) (lt : i < len
       ap (map (key_at records)) (sym (take-append-drop i edges) ∙ ap (λ xs. take i edges ++ xs) (drop-cons edges i 0 lt))
       ∙ map-append (key_at records) (take i edges) (get_or edges i 0 ∷ drop (suc i) edges)
 
--- the first i edges are brought to done and unchanged
+-- the first i edges are evaluated and unchanged
 abbrev pub Walked : List RecordValue → List ℕ → ℕ → TableValue → TableValue → Type 0
 Walked records edges i t u = Leaves t u × (walk_over u (front_of records i edges) ≡ AllUnchanged)
 

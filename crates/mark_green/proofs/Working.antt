@@ -1,4 +1,4 @@
--- What walks over past edges come to, in their order with what follows them.
+-- The effect of walks over previous edges, and of what follows them.
 use Rattle.std.proofs.Common.{◌≡◌, ℕ, zero, suc, arith, ◌+◌, ◌<◌, List, [], ◌∷◌, map, length, get_or, sym, ap, ◌∙◌, subst, Bool, true, false, Option, Some, None, option_map}
 use Rattle.std.specs.Prelude.{Result, Ok, Err}
 use Rattle.std.specs.List.{AllByRecursion}
@@ -78,7 +78,7 @@ module _ (s : SessionValue) (w : ℕ) (q : Key) (edges : List ℕ) where
       pub far_up : (f : Fault) → AllByRecursion (IsRecordUnder s.records q) edges → Edges s w (key_at s.records (get_or edges i 0)) (Err f) b c → Walks s w q edges (Err f) a c
       far_up f all e = let under = under_at s.records q edges i lt all in tells_then _ _ _ (λ t u v h g has st. walked_up s.records edges i w q f (key_at s.records (get_or edges i 0)) under.1 t u v (h has) (g ((h has st).0.goes_on.past ∙ has)) st) a b c so e
 
--- ---- a key over its past
+-- ---- a key over its previous session
 
 abbrev pub Overs : Option SessionValue → ℕ → Key → Result (Arc Value Global) Fault → Option TableValue → Option TableValue → Type 0
 Overs past w q r a b = Tells (λ t u. past ≡ t.past → HasStatus (Claimed w) w q t → WorkGives t w q r u) a b
@@ -107,7 +107,7 @@ module _ (w : ℕ) (q : Key) (r : Result (Arc Value Global) Fault) where
           leaves_work t u v w q r l.0 (m (stands_on (Claimed w) w q t u l.0 st) (subst MayRun (sym (walk_found s q u (l.0.goes_on.past ∙ sym has) edges found)) l.1))
           )) a b c walks starts
 
--- the same, of the past as a table hands it out
+-- the same, of the previous session as a table hands it out
 module _ (w : ℕ) (q : Key) (r : Result (Arc Value Global) Fault) (past : Option (Arc SessionValue Global)) (p : Arc SessionValue Global) (is : past ≡ Some p) where
   module _ (s z : SessionValue) (s_is : s ≡ arc_value p) (z_is : z ≡ arc_value p) (edges : List ℕ) (found : PastHasEdges s q edges) (x : Result Bool Fault) (a b c : Option TableValue) (walks : Walks z w q edges x a b) where
     there : PastHasEdges z q edges

@@ -1,4 +1,4 @@
--- What bringing a key to done answers, by the table before it.
+-- What evaluating a key answers, by the table before it.
 use Rattle.std.specs.Prelude.{◌≡◌, ◌⊎◌, ◌<◌, ℕ, Bool, true, false, List, map, length, Option, Some, None, Result, Ok, Err}
 use Rattle.std.specs.declared.alloc.Global.{Global}
 use Rattle.std.specs.declared.sync.Arc.{Arc}
@@ -31,51 +31,50 @@ EnsureGives t w q (Err fault.OutOfMemory) u =
 EnsureGives t w q (Err fault.Busy) u =
     GoesOn t u × Stays t u × ((state_of u).failed ≡ false) × IsOthers t w
 
--- why a key isn't brought to done that w has claimed or runs: memory ran out, or another worker had
--- a key
+-- why a key that w has claimed or runs isn't evaluated: memory ran out, or another worker had a key
 abbrev pub IsGivenUp : TableValue → ℕ → Fault → TableValue → Type 0
 IsGivenUp t w fault.Stopped u = ⊥
 IsGivenUp t w fault.OutOfMemory u = Stops t u
 IsGivenUp t w fault.Busy u = GoesOn t u × ((state_of u).failed ≡ false) × IsOthers t w
 
--- bringing a key to done that w has claimed or runs
+-- evaluating a key that w has claimed or runs
 abbrev pub WorkGives : TableValue → ℕ → Key → Result (Arc Value Global) Fault → TableValue → Type 0
 WorkGives t w q (Ok v) u = LeavesBut q t u × IsDoneWith (arc_value v) ((state_of u).at q)
 WorkGives t w q (Err f) u = IsGivenUp t w f u × StaysBut q t u
 
--- bringing a past edge e to done, and whether it is unchanged then
+-- evaluating a previous edge e, and whether it is unchanged then
 abbrev pub EdgeGives : TableValue → ℕ → Key → Result Bool Fault → TableValue → Type 0
 EdgeGives t w e (Ok true) u = Leaves t u × (edge_of (past_of u) (state_of u) e ≡ Unchanged)
 EdgeGives t w e (Ok false) u = Leaves t u × (edge_of (past_of u) (state_of u) e ≡ Changed)
 EdgeGives t w e (Err f) u = EnsureGives t w e (Err f) u
 
--- the walk over past edges in a table
+-- the walk over previous edges in a table
 abbrev pub walk_over : TableValue → List Key → Walk
 walk_over t es = walk (past_of t) (state_of t) es
 
--- bringing past edges to done, up to the first that is changed, and whether none is
+-- evaluating previous edges, up to the first that is changed, and whether none is
 abbrev pub WalkGives : TableValue → ℕ → List Key → Result Bool Fault → TableValue → Type 0
 WalkGives t w es (Ok true) u = Leaves t u × (walk_over u es ≡ AllUnchanged)
 WalkGives t w es (Ok false) u = Leaves t u × MayRun (Some (walk_over u es))
 WalkGives t w es (Err f) u = IsGivenUp t w f u × Stays t u
 
--- the past has the key with these edges
+-- the previous session has the key with these edges
 abbrev pub PastHasEdges : SessionValue → Key → List ℕ → Type 0
 PastHasEdges s q edges =
     (r : Entry) × (entry_at s q ≡ Some r) × (r.reads ≡ map (key_at s.records) edges)
 
--- a record of the past whose key is of lower rank than q
+-- a record of the previous session whose key is of lower rank than q
 abbrev pub IsRecordUnder : List RecordValue → Key → ℕ → Type 0
 IsRecordUnder records q e = (e < length records) × (rank (key_at records e) < rank q)
 
--- bringing a key to done that a run lacked, and what is held then
+-- evaluating a key that a run lacked, and what is held then
 abbrev pub FetchGives : TableValue → ℕ → Key → Result (Unit {0}) Fault → List ReadValue
     → TableValue → Type 0
 FetchGives t w k (Ok _) held u =
     LeavesBut k t u × ((v : Value) × IsDoneWith v ((state_of u).at k)) × AreHeld (state_of u) held
 FetchGives t w k (Err f) held u = IsGivenUp t w f u × StaysBut k t u
 
--- one run, or a key brought to done that it lacked
+-- one run, or the evaluation of a key that it lacked
 abbrev pub TurnGives : TableValue → ℕ → Key → Result (Option OutcomeValue) Fault
     → List ReadValue → TableValue → Type 0
 TurnGives t w q (Ok (Some o)) held u = Leaves t u × AreHeld (state_of u) o.told
@@ -92,12 +91,12 @@ abbrev pub RunGives : TableValue → ℕ → Result OutcomeValue Fault → Table
 RunGives t w (Ok o) u = Leaves t u × AreHeld (state_of u) o.told
 RunGives t w (Err f) u = IsGivenUp t w f u × Stays t u
 
--- a table's refusal for want of memory is one for want of memory, any other ends the work
+-- where a table is out of memory so is the work; any other refusal of it ends the work
 abbrev pub IsFaultOf : TableFault → Fault → Type 0
 IsFaultOf table.OutOfMemory f = f ≡ fault.OutOfMemory
 IsFaultOf _ f = f ≡ fault.Stopped
 
--- what a run that stopped comes to
+-- the fault of a run that stopped
 abbrev pub IsFaultOfStop : Stop → Fault → Type 0
 IsFaultOfStop stop.Busy f = f ≡ fault.Busy
 IsFaultOfStop stop.Stopped f = f ≡ fault.Stopped

@@ -25,7 +25,7 @@ Tells P (Some t) (Some u) = P t u
 abbrev pub ClaimsNoInput : Key → Result Asked TableFault → Type 0
 ClaimsNoInput q r = r ≡ Ok asked.Yours → 0 < rank q
 
--- the history goes on by steps
+-- the history continues by steps
 pub record GoesOn (t u : TableValue) : Type 0 where
   pub past : u.past ≡ t.past
   pub project : u.project ≡ t.project
@@ -33,7 +33,7 @@ pub record GoesOn (t u : TableValue) : Type 0 where
   pub history : u.history ≡ t.history ++ more
   pub steps : AreSteps (past_of t) (state_of t) more
 
--- the history goes on by steps, the last of which is a worker's failure, unless one failed before
+-- the history continues by steps, the last of which is a worker's failure, unless one failed before
 pub record Stops (t u : TableValue) : Type 0 where
   pub goes_on : GoesOn t u
   pub failed : (state_of u).failed ≡ true
@@ -53,8 +53,8 @@ pub record GivesUp (t u : TableValue) : Type 0 where
   pub stops : Stops t u
   pub same : (k : Key) → (state_of u).at k ≡ (state_of t).at k
 
--- The history goes on by steps in which all went well: nobody failed, and just those keys are
--- claimed or running, by the same workers, that were before.
+-- The history continues by steps in which nobody failed, and just the keys that were claimed or
+-- running before still are, by the same workers.
 pub record Leaves (t u : TableValue) : Type 0 where
   pub goes_on : GoesOn t u
   pub failed : (state_of u).failed ≡ (state_of t).failed
@@ -77,7 +77,8 @@ pub record IsOthers (t : TableValue) (w : ℕ) : Type 0 where
   pub other : worker ≢ w
   pub holds : IsHeldBy worker ((state_of t).at key)
 
--- Nobody failed, and the key stands so, by this worker, all of whose other keys are of higher rank.
+-- Nobody failed, the key has this status by this worker, and all of the worker's other keys are of
+-- higher rank.
 pub record HasStatus (x : Status) (w : ℕ) (q : Key) (t : TableValue) : Type 0 where
   pub failed : (state_of t).failed ≡ false
   pub at : (state_of t).at q ≡ x

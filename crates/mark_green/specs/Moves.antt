@@ -39,7 +39,7 @@ abbrev pub IsUnder : ℕ → Stop → Type 0
 IsUnder r (stop.Lacks k) = (rank k < r) × (0 < rank k)
 IsUnder r _ = Unit {0}
 
--- What a read is refused with, by what stopped the run: only a key that a worker has isn't held.
+-- The refusal of a read, by what stopped the run: a key isn't held only where a worker has it.
 abbrev pub IsFaultOfRead : Stop → ReadFault → Type 0
 IsFaultOfRead (stop.Lacks k) f = f ≡ read.NotHeld
 IsFaultOfRead stop.Busy f = f ≡ read.NotHeld
@@ -54,7 +54,7 @@ abbrev pub IsUnanswered : ℕ → Option Stop → Key → ReadFault → Type 0
 IsUnanswered r (Some x) q f = IsFaultOfRead x f
 IsUnanswered r None q f = (f ≡ read.OutOfMemory) ⊎ ((f ≡ read.Stopped) × ¬ (rank q < r))
 
--- a run that nothing stopped failed for want of memory
+-- a run that nothing stopped ran out of memory
 abbrev pub IsWantOfMemory : RunFault → Type 0
 IsWantOfMemory run.OutOfMemory = Unit {0}
 IsWantOfMemory (run.Read f) = f ≡ read.OutOfMemory
@@ -69,7 +69,7 @@ abbrev pub Moves : ℕ → ℕ → Option Stop → Option Stop → Option TableV
 Moves w r old new a b =
     ((new ≡ old) × (b ≡ a)) ⊎ ((old ≡ None) × MatchOption new ⊥ (λ x. Halts w r x a b))
 
--- ---- a history that goes on
+-- ---- a history that continues
 
 pub state_on : (t u : TableValue) (g : GoesOn t u)
     → state_of u ≡ after_all (past_of t) (state_of t) g.more

@@ -30,8 +30,8 @@ pub(crate) enum Stop {
     OutOfMemory,
 }
 
-/// Answers the reads of a run by the results held, else by the store, of keys below a rank. After the first read that
-/// the store doesn't answer it asks nothing.
+/// Answers the reads of a run, of keys below a rank: from the results held, else from the store. After the first read
+/// that the store doesn't answer it asks nothing.
 #[derive(Drop)]
 pub(crate) struct Asking<'a, S: Store> {
     pub alloc: Global,
@@ -98,7 +98,7 @@ impl<S: Store> Reader for Asking<'_, S> {
     }
 }
 
-/// What a run's read is refused with, by what stopped the run: only a key that a worker has isn't held.
+/// The refusal of a read, by what stopped the run: a key isn't held only where a worker has it.
 fn fault_of_read(stop: &Stop) -> ReadFault
     ensures { IsFaultOfRead stop.now result }
 {
@@ -140,7 +140,7 @@ fn of_kind(key: &Key, sealed: Arc<Sealed>) -> Result<Arc<Sealed>, Stop>
     }
 }
 
-/// The stop of a run that lacks the key.
+/// Why the run of a key that lacks this one stops.
 fn lacks(alloc: Global, key: &Key) -> Stop
     ensures { (result ≡ Stop.Lacks key.now) ⊎ (result ≡ Stop.OutOfMemory) }
 {

@@ -1,4 +1,4 @@
-//! Bringing keys to done.
+//! Evaluating keys: try-mark-green, and a run where an edge is red.
 ghost use Rattle.std.specs.Prelude.{◌≡◌, ◌<◌, [], Some, IfOk, IfSome, length, map};
 ghost use Rattle.std.specs.List.{AllByRecursion};
 ghost use Rattle.recorder.specs.Backed.{rank as rank_of_key};
@@ -24,7 +24,7 @@ use sessions::Session;
 use std::alloc::Global;
 use std::sync::Arc;
 
-/// Brings a key to done in the store, by the worker, and gives its result.
+/// Evaluates a key in the store, by the worker, and gives its result.
 pub fn ensure<S: Store<Out = Arc<Outcome<R>>>, R: Runner>(
     alloc: Global,
     store: &mut S,
@@ -46,7 +46,7 @@ pub fn ensure<S: Store<Out = Arc<Outcome<R>>>, R: Runner>(
 }
 
 impl<S: Store<Out = Arc<Outcome<R>>>, R: Runner> Worker<'_, S, R> {
-    /// Brings a key to done in the store, and gives its result.
+    /// Evaluates a key in the store, and gives its result.
     #[cycle(ensure)]
     pub(crate) fn ensure(&mut self, key: &Key) -> Result<Arc<Sealed>, Fault>
         requires shows { ShowsOutcomes S.outcome_in }
@@ -64,7 +64,7 @@ impl<S: Store<Out = Arc<Outcome<R>>>, R: Runner> Worker<'_, S, R> {
         }
     }
 
-    /// Brings a key to done that the worker has claimed.
+    /// Evaluates a key that the worker has claimed.
     #[cycle(ensure)]
     fn work(&mut self, key: &Key) -> Result<Arc<Sealed>, Fault>
         requires shows { ShowsOutcomes S.outcome_in }
@@ -81,7 +81,7 @@ impl<S: Store<Out = Arc<Outcome<R>>>, R: Runner> Worker<'_, S, R> {
         }
     }
 
-    /// Brings a key to done that the worker has claimed, over this past.
+    /// Evaluates a key that the worker has claimed, over this previous session.
     #[cycle(ensure)]
     fn work_over(&mut self, key: &Key, past: &Option<Arc<Session>>) -> Result<Arc<Sealed>, Fault>
         requires shows { ShowsOutcomes S.outcome_in }
@@ -106,7 +106,8 @@ impl<S: Store<Out = Arc<Outcome<R>>>, R: Runner> Worker<'_, S, R> {
         }
     }
 
-    /// Whether all past edges of a key that the worker has claimed are unchanged, each brought to done in its turn.
+    /// Try-mark-green: whether all previous edges of a key that the worker has claimed are unchanged. Each is evaluated
+    /// in its turn, up to the first that is changed.
     #[cycle(ensure)]
     fn walk_edges(&mut self, key: &Key, past: &Session, edges: &[usize]) -> Result<bool, Fault>
         requires shows { ShowsOutcomes S.outcome_in }
@@ -126,7 +127,7 @@ impl<S: Store<Out = Arc<Outcome<R>>>, R: Runner> Worker<'_, S, R> {
         Ok(true)
     }
 
-    /// Whether a past edge is unchanged, once it is brought to done.
+    /// Evaluates a previous edge, and tells whether it is unchanged.
     #[cycle(ensure)]
     fn is_unchanged(&mut self, past: &Session, at: usize) -> Result<bool, Fault>
         requires shows { ShowsOutcomes S.outcome_in }
@@ -160,7 +161,7 @@ impl<S: Store<Out = Arc<Outcome<R>>>, R: Runner> Worker<'_, S, R> {
         }
     }
 
-    /// Ends the run of a key that was begun.
+    /// Runs a key whose run was begun, and ends the run.
     #[cycle(ensure)]
     fn run(&mut self, key: &Key) -> Result<Arc<Sealed>, Fault>
         requires shows { ShowsOutcomes S.outcome_in }
@@ -176,7 +177,7 @@ impl<S: Store<Out = Arc<Outcome<R>>>, R: Runner> Worker<'_, S, R> {
         self.end_run(key, outcome)
     }
 
-    /// Runs a key again and again, each time with one result more, until it has an outcome.
+    /// Runs a key until it has an outcome, each time with one more result held.
     #[cycle(ensure)]
     fn turns(&mut self, key: &Key, held: &mut AnswerList) -> Result<Outcome<R>, Fault>
         requires shows { ShowsOutcomes S.outcome_in }
@@ -199,7 +200,7 @@ impl<S: Store<Out = Arc<Outcome<R>>>, R: Runner> Worker<'_, S, R> {
         Err(self.give_up(TableFault::OutOfMemory))
     }
 
-    /// Runs a key once, and holds the result of the key that this run lacked.
+    /// Runs a key once. Where the run lacked a result, evaluates its key and holds the result.
     #[cycle(ensure)]
     fn turn(&mut self, key: &Key, held: &mut AnswerList) -> Result<Option<Outcome<R>>, Fault>
         requires shows { ShowsOutcomes S.outcome_in }
@@ -226,7 +227,7 @@ impl<S: Store<Out = Arc<Outcome<R>>>, R: Runner> Worker<'_, S, R> {
         }
     }
 
-    /// Brings a key to done that the worker has claimed for a run, and holds its result.
+    /// Evaluates a key that the worker has claimed for a run, and holds its result.
     #[cycle(ensure)]
     fn fetch(&mut self, lacked: Key, held: &mut AnswerList) -> Result<(), Fault>
         requires shows { ShowsOutcomes S.outcome_in }

@@ -1,4 +1,4 @@
-//! Past edges.
+//! Edges of the previous session.
 ghost use Rattle.std.specs.Prelude.{◌≡◌, ◌↔◌, None, IfSome, IsTrue, MatchOption};
 ghost use Rattle.std.specs.Arc.{arc_value};
 ghost use Rattle.std.specs.List.{AllByRecursion};
@@ -11,7 +11,7 @@ use item_ids::Key;
 use sessions::{Record, Session, edges_are_below};
 use std::sync::Arc;
 
-/// The edges of a key in the past, where the past has it, as indices of records.
+/// The edges that a key has in the previous session, as indices of records, or `None` where that has no such key.
 pub(crate) fn past_edges<'a>(past: &'a Session, key: &Key) -> Option<&'a [usize]>
     ensures found { MatchOption result (entry_at past.now key.now ≡ None)
         (λ edges. PastHasEdges past.now key.now edges.now) }
@@ -27,7 +27,7 @@ pub(crate) fn past_edges<'a>(past: &'a Session, key: &Key) -> Option<&'a [usize]
     }
 }
 
-/// Whether a result has the print of a record's.
+/// Whether a result has the same fingerprint as that of a record.
 pub(crate) fn is_same(entry: &Record, sealed: Arc<Sealed>) -> bool
     ensures { IsTrue result ↔ (print_of entry.now.value ≡ print_of (arc_value sealed)) }
 {

@@ -1,8 +1,8 @@
-//! Why keys aren't brought to done.
+//! Why keys aren't evaluated.
 
 use thiserror::Error;
 
-/// Why a key isn't brought to done.
+/// Why a key isn't evaluated.
 #[derive(Clone, Copy, Debug, PartialEq, Eq, Error)]
 pub enum Fault {
     /// A worker failed, or the table refused a call for another reason than memory.

@@ -22,7 +22,7 @@ impl<S: Store, R: Runner> Worker<'_, S, R> {
         fault_of(fault)
     }
 
-    /// What a run that stopped comes to. The worker gives up, unless another one has a key, or a worker failed before.
+    /// The fault of a run that stopped. The worker gives up, unless another one has a key, or a worker failed before.
     pub(crate) fn give_up_run(&mut self, stop: Stop) -> Fault
         ensures store { self.new.store.ghost_name ≡ self.old.store.ghost_name }
         ensures id { self.new.id ≡ self.old.id }
@@ -40,7 +40,7 @@ impl<S: Store, R: Runner> Worker<'_, S, R> {
     }
 }
 
-/// What a refusal of the table comes to.
+/// The fault that a refusal of the table leads to.
 fn fault_of(fault: TableFault) -> Fault
     ensures { IsFaultOf fault result }
 {

@@ -1,5 +1,5 @@
-//! Bringing keys to done in stores, as workers see the table of a session: a key whose past edges are unchanged is
-//! marked, any other is run. A table of one's own is such a store.
+//! Evaluates keys in stores, which are the tables of sessions as workers see them: a key whose previous edges are
+//! unchanged is marked green, any other is run. A single-threaded table is such a store.
 #![tactic(auto)]
 
 mod asking;

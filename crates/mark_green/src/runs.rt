@@ -61,7 +61,7 @@ fn keep<S>(store: &mut S)
     let _ = store;
 }
 
-/// The outcome, unless the run was stopped or memory ran out.
+/// The outcome, unless the run was stopped or ran out of memory.
 fn outcome_of<R: Runner>(
     outcome: Result<Outcome<R>, RunFault>,
     stop: Option<Stop>,

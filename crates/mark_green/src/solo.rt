@@ -1,4 +1,4 @@
-//! A table of one's own.
+//! A single-threaded table as a store.
 ghost use Rattle.std.specs.Prelude.{◌≡◌, Some};
 ghost use Rattle.std.specs.Arc.{arc_value};
 ghost use Rattle.job_table.specs.Calls.{AskGives};
@@ -16,7 +16,7 @@ use sessions::Session;
 use std::alloc::{AllocError, Global};
 use std::sync::Arc;
 
-/// A table of one's own, of which a store says all. It doesn't wait.
+/// A single-threaded table as a store. Contracts see the whole table, and it never waits.
 #[derive(Drop)]
 pub struct Solo<R: Runner> {
     table: Table<R>,
@@ -30,7 +30,7 @@ impl<R: Runner> Solo<R> {
         Solo { table }
     }
 
-    /// Brings a key to done in the table, by the worker, and gives its result.
+    /// Evaluates a key in the table, by the worker, and gives its result.
     pub fn ensure(
         &mut self,
         alloc: Global,
@@ -91,7 +91,7 @@ impl<R: Runner> Store for Solo<R> {
     }
 }
 
-/// Asks a table for a key. The inputs are done from its opening on, so that none is claimed.
+/// Asks a table for a key. Inputs are done from its opening on, so none is ever claimed.
 pub fn ask_table<R: Runner>(table: &mut Table<R>, w: u32, key: &Key) -> Result<Asked, TableFault>
     ensures gives { AskGives table.old w key.now result table.new }
     ensures claims { ClaimsNoInput key.now result }

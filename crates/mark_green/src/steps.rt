@@ -1,4 +1,4 @@
-//! What a worker does last with a key.
+//! How a worker completes a key.
 ghost use Rattle.std.specs.Prelude.{◌≡◌, ◌++◌, [], ◌∷◌, Some, IfOk};
 ghost use Rattle.std.specs.Arc.{arc_value};
 ghost use Rattle.graph_rules.specs.Steps.{Claimed, Running, AllUnchanged, AreHeld};
@@ -18,7 +18,7 @@ use std::alloc::{AllocError, Global};
 use std::sync::Arc;
 
 impl<S: Store<Out = Arc<Outcome<R>>>, R: Runner> Worker<'_, S, R> {
-    /// Marks a key that the worker has claimed, all of whose past edges are unchanged.
+    /// Marks a key that the worker has claimed, all of whose previous edges are unchanged.
     pub(crate) fn mark(&mut self, key: &Key) -> Result<Arc<Sealed>, Fault>
         ensures store { self.new.store.ghost_name ≡ self.old.store.ghost_name }
         ensures id { self.new.id ≡ self.old.id }

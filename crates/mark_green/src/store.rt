@@ -13,10 +13,10 @@ use sessions::Session;
 use std::alloc::AllocError;
 use std::sync::Arc;
 
-/// What a worker does with a table, its own or one that it shares. A store may say nothing of its table: then nothing is
-/// known of what its calls do.
+/// The calls that a worker makes at a table, its own or a shared one. Where a store tells nothing of its table,
+/// contracts say nothing of what its calls do.
 pub trait Store {
-    /// What a run gave.
+    /// The outcome of a run.
     type Out;
 
     ghost use Rattle.recorder.specs.Runs.{OutcomeValue};
@@ -28,13 +28,13 @@ pub trait Store {
     /// What a run gave.
     ghost outcome_in: { Self.Out → OutcomeValue };
 
-    /// Asks for a key, by a worker that claims it where nobody has. An input is never claimed.
+    /// Asks for a key. If nobody has claimed it, the worker claims it; an input is never claimed.
     fn ask(&mut self, w: u32, key: &Key) -> Result<Asked, TableFault>
         ensures gives { Tells (λ t u. AskGives t w key.now result u) (table self.old)
             (table self.new) }
         ensures claims { ClaimsNoInput key.now result };
 
-    /// Takes over the past's result for a key that the worker has claimed.
+    /// Takes over the previous session's result for a key that the worker has claimed.
     fn mark(&mut self, w: u32, key: &Key) -> Result<Arc<Sealed>, TableFault>
         ensures { Tells (λ t u. MarkGives t w key.now result u) (table self.old) (table self.new) };
 
@@ -43,8 +43,8 @@ pub trait Store {
         ensures { Tells (λ t u. BeginGives t w key.now result u) (table self.old)
             (table self.new) };
 
-    /// Ends the run of a key by its outcome. Where the table is known, so is it that all that was read is so there; a store
-    /// that says nothing of its table has to see to it.
+    /// Ends the run of a key with its outcome. Where the table is known, the caller knows that all that was read still
+    /// stands there; a store that tells nothing of its table has to see to it.
     fn finish(&mut self, w: u32, outcome: Self::Out) -> Result<(), TableFault>
         requires { Knows (λ t. AreHeld (state_of t) (outcome_in outcome).told) (table self.old) }
         ensures { Tells (λ t u. FinishGives t w (outcome_in outcome) result u) (table self.old)
@@ -54,7 +54,7 @@ pub trait Store {
     fn fail(&mut self, w: u32) -> Result<(), TableFault>
         ensures { Tells (λ t u. FailGives t w result u) (table self.old) (table self.new) };
 
-    /// The session before.
+    /// The previous session.
     fn past(&self) -> Result<Option<Arc<Session>>, AllocError>
         ensures { IfOk result (λ past. Knows (λ t. session_in past ≡ t.past) (table self.now)) };
 }

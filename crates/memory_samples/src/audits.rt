@@ -37,7 +37,7 @@ fn add<'a>(all: &mut Vec<&'a [u8]>, file: &'a [u8]) -> Result<(), AllocError> {
     Ok(all.push(file)?)
 }
 
-/// Audits the chain: what it says, where the log of the runner has just what was run, which after a refusal is a beginning.
+/// Audits the chain: what it says, if the runner's log has just what was run (after a refusal, a beginning of it).
 fn audited(alloc: Global, links: &Links, chain: &[&[u8]]) -> Option<Said> {
     let mut runner = MiniJava::new(alloc);
     let said = told(audit(alloc, &mut runner, chain));

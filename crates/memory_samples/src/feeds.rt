@@ -35,7 +35,7 @@ enum Came {
     Other,
 }
 
-/// Takes the file behind these by a feed of this manner.
+/// Takes the file that follows these from a feed that behaves like this.
 fn taken_behind(alloc: Global, files: &[MemorySink], file: &[u8], manner: Manner) -> Came {
     let mut runner = MiniJava::new(alloc);
     let Some(mut auditor) = taken(alloc, &mut runner, files) else {
@@ -57,7 +57,7 @@ fn taken_behind(alloc: Global, files: &[MemorySink], file: &[u8], manner: Manner
     }
 }
 
-/// Whether the file behind these is refused at each call of its feed that fails.
+/// Whether the file that follows these is refused at each call of its feed that fails.
 fn fails_behind(
     alloc: Global,
     files: &[MemorySink],

@@ -11,7 +11,7 @@ use session_samples::Kept;
 use std::alloc::Global;
 use std::sync::Arc;
 
-/// Adds the answer that a record tells.
+/// Adds the answer of a record.
 fn add(alloc: Global, list: &mut AnswerList, kept: &Kept) -> Result<(), Unfit> {
     let key = key_of(alloc, kept.key)?;
     match sealed_of(alloc, kept.key.0, kept.digits) {
@@ -20,7 +20,7 @@ fn add(alloc: Global, list: &mut AnswerList, kept: &Kept) -> Result<(), Unfit> {
     }
 }
 
-/// Adds the answers that the records of these indices tell.
+/// Adds the answers of the records at these indices.
 fn add_all(
     alloc: Global,
     list: &mut AnswerList,

@@ -11,14 +11,14 @@ use session_samples::Kept;
 use sessions::Mark;
 use std::alloc::Global;
 
-/// How queries become done: by their runs, or by what the session before has.
+/// How queries become done: by their runs, or by what the previous session has.
 #[derive(Clone, Copy, PartialEq, Eq)]
 pub enum Way {
     Run,
     Mark,
 }
 
-/// Whether the worker that asks for a key which is done is told so.
+/// Whether a worker that asks for a done key is answered that it is done.
 fn is_told(table: &mut Table<MiniJava>, worker: u32, key: &Key) -> bool {
     match ask(table, worker, key) {
         Err(TableFault::OutOfMemory) => ask(table, worker, key) == Ok(Answer::Done),
@@ -26,7 +26,7 @@ fn is_told(table: &mut Table<MiniJava>, worker: u32, key: &Key) -> bool {
     }
 }
 
-/// Whether the worker brings the record's key to done, and each call for this answers and notes what it should.
+/// Whether the worker evaluates the record's key, and each call for this answers and notes what it should.
 fn is_done(
     alloc: Global,
     table: &mut Table<MiniJava>,
@@ -48,7 +48,7 @@ fn is_done(
     Ok(is_ended && is_told(table, 1, &key))
 }
 
-/// Whether a worker brings the keys of all records to done that are no inputs.
+/// Whether a worker evaluates the keys of all records that are no inputs.
 pub(crate) fn are_done(
     alloc: Global,
     table: &mut Table<MiniJava>,

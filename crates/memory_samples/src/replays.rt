@@ -18,7 +18,7 @@ fn push(events: &mut List, event: Event<MiniJava>) -> Result<(), AllocError> {
     Ok(events.push(event)?)
 }
 
-/// Adds that the record's key was claimed, and taken over from the session before.
+/// Adds that the record's key was claimed, and taken over from the previous session.
 fn add(alloc: Global, events: &mut List, kept: &Kept) -> Result<(), Unfit> {
     let key = key_of(alloc, kept.key)?;
     push(events, Event::Claim(0, key))?;
@@ -54,8 +54,8 @@ fn replay(
     }
 }
 
-/// Whether the events of a session, in which all that these records tell is green, are replayed, and once more where that is
-/// refused memory.
+/// Whether the events of a session in which all queries of these records are green are replayed, and once more if that
+/// is refused memory.
 pub fn replay_again(alloc: Global, text: &str, records: &[Kept]) -> Result<bool, Unfit> {
     let project = twice(&|| project_of(alloc, text))?;
     let events = twice(&|| events_of(alloc, records))?;

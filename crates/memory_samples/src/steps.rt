@@ -106,7 +106,7 @@ pub(crate) enum Answer {
     Done,
 }
 
-/// What the worker is told that asks for the key.
+/// What a worker that asks for the key is told.
 pub(crate) fn ask(
     table: &mut Table<MiniJava>,
     worker: u32,

@@ -24,7 +24,7 @@ pub(crate) fn first_of(alloc: Global, records: &[Kept]) -> Result<Arc<Session>, 
     Ok(share(alloc, session)?)
 }
 
-/// The session before, where queries become done by what it has.
+/// The previous session, where queries become done by what it has.
 fn past_of(alloc: Global, way: Way, records: &[Kept]) -> Result<Option<Arc<Session>>, Unfit> {
     match way {
         Way::Run => Ok(None),
@@ -32,7 +32,7 @@ fn past_of(alloc: Global, way: Way, records: &[Kept]) -> Result<Option<Arc<Sessi
     }
 }
 
-/// One more owner of the session before.
+/// One more owner of the previous session.
 pub(crate) fn own(past: &Option<Arc<Session>>) -> Result<Option<Arc<Session>>, AllocError> {
     match past {
         Some(past) => Ok(Some(Arc::try_clone(past)?)),
@@ -87,14 +87,14 @@ fn table_of(
     opened(alloc, &past, &project)
 }
 
-/// Whether the table is opened, has no event, and tells what the project is.
+/// Whether the table is opened, has no event, and answers for the names of the files.
 pub fn open_again(alloc: Global, way: Way, text: &str, records: &[Kept]) -> Result<bool, Unfit> {
     let mut table = table_of(alloc, way, text, records)?;
     let is_empty = events_in(&table).is_none();
     Ok(is_empty && is_answered(&mut table))
 }
 
-/// Whether the table tells the names of the files.
+/// Whether the table answers for the names of the files.
 fn is_answered(table: &mut Table<MiniJava>) -> bool {
     match ask(table, 0, &Key::Files) {
         Err(TableFault::OutOfMemory) => ask(table, 0, &Key::Files) == Ok(Answer::Done),

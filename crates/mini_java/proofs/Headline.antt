@@ -40,7 +40,7 @@ pub headline : AnswerLaw → (files : List (List ℕ)) (old new : List Key) (p :
     → (accepted : IsAccepted mean reads files old new p answer count runs) → AreApart accepted.sessions → IsOfTheRules p answer
 headline law files old new p answer count runs accepted apart = is_of_the_rules law p answer (accepted.means apart)
 
--- ---- the answer is one, whether or not prints are apart
+-- ---- the answer is one, whether or not fingerprints are apart
 
 last_is : (past : Option SessionValue) (ss : List SessionValue) → AllByRecursion IsSession ss → ((s : SessionValue) → past ≡ Some s → IsSession s)
     → (s : SessionValue) → last_of past ss ≡ Some s → IsSession s

@@ -1,4 +1,4 @@
--- What an accepted chain of sessions of MiniJava projects tells.
+-- What an accepted chain of sessions of MiniJava projects says.
 use Rattle.std.specs.Prelude.{◌≡◌, ℕ, List, [], map, length}
 use Rattle.std.specs.List.{AllByRecursion}
 use Rattle.item_ids.specs.declared.key.Key.{Key}

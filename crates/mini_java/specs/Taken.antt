@@ -1,4 +1,4 @@
--- What an auditor of MiniJava sessions has taken, and what one more call tells of it.
+-- What an auditor of MiniJava sessions has taken, and what one more call says about it.
 use Rattle.std.specs.Prelude.{◌≡◌, ◌⊎◌, ℕ, List, [], ◌∷◌, ◌++◌, length, Err}
 use Rattle.query_rules.specs.Meaning.{mean}
 use Rattle.query_rules.specs.Reads.{reads}

@@ -18,14 +18,14 @@ use mj_rules::answer_laws;
 use providers::{MiniJava, answer_of};
 use std::alloc::Global;
 
-/// Audits the files of a chain of sessions of MiniJava projects. Where no two different results that they record have one
-/// print, the answer of an accepted chain is what the static rules give the last session's files.
+/// Audits the files of a chain of sessions of MiniJava projects. Where no two different results that they record share
+/// a fingerprint, the answer of an accepted chain is what the static rules give the last session's files.
 pub fn audit_chain(alloc: Global, chain: &[&[u8]]) -> Result<Audited, AuditFault>
     // What was checked.
     ensures accepted { IfOk result (λ a.
         IsAcceptedChain (map (λ f. f.now) chain.now) (arc_value a.answer) a.sessions a.runs) }
-    // What follows of the sessions whose files these are, where no two different results in them have one print: each is
-    // right over the one before,
+    // What follows of the sessions whose files these are, where no two different results in them share a fingerprint:
+    // each is right over the one before,
     ensures right { IfOk result (λ _. (sessions : List SessionValue)
         → AreFilesOf sessions (map (λ f. f.now) chain.now) → AreApart sessions
         → AreRight mean reads None sessions) }

@@ -43,7 +43,7 @@ impl ChainAuditor {
         // A file was taken, whole.
         ensures taken { OnOk result ((file : List ℕ)
             × TakesFile self.old self.new (F.holds feed.old) (F.holds feed.new) file) }
-        // Why it is refused behind the files taken before, by the bytes that the feed held, where it tells them.
+        // Why it is refused after the files taken before, by the bytes that the feed held, if it tells them.
         ensures refused { IfErr result (λ fault. (files : List (List ℕ)) (bytes : List ℕ)
             → HasTaken files self.old → F.holds feed.old bytes
             → RefusesBehind files bytes fault) }
@@ -52,7 +52,7 @@ impl ChainAuditor {
         ensures again { (fault : Fault) → HasRefused fault self.old
             → (result ≡ Err fault) × (feed.new ≡ feed.old)
             × (self.new.runner ≡ self.old.runner) }
-        // A failure of the device is answered just where it was counted.
+        // A failure of the device is answered exactly where it was counted.
         ensures counted { (files : List (List ℕ)) → HasTaken files self.old
             → CountsTake result (F.failed feed.old) (F.failed feed.new) }
     {
@@ -64,8 +64,8 @@ impl ChainAuditor {
         // What was checked.
         ensures accepted { IfOk result (λ a. (files : List (List ℕ)) → HasTaken files self
             → IsAcceptedChain files (arc_value a.answer) a.sessions a.runs) }
-        // What follows of the sessions whose files were taken, where no two different results in them have one print:
-        // each is right over the one before,
+        // What follows of the sessions whose files were taken, where no two different results in them share a
+        // fingerprint: each is right over the one before,
         ensures right { IfOk result (λ _. (files : List (List ℕ)) (sessions : List SessionValue)
             → HasTaken files self → AreFilesOf sessions files → AreApart sessions
             → AreRight mean reads None sessions) }

@@ -1,4 +1,4 @@
-//! What an accepted chain tells of its last session's files.
+//! What an accepted chain says about its last session's files.
 ghost use Rattle.std.specs.Prelude.{ℕ, List, []};
 ghost use Rattle.item_ids.specs.declared.key.Key.{Key};
 ghost use Rattle.result_bytes.specs.declared.value.Value.{Value};
@@ -12,8 +12,8 @@ ghost use Rattle.mini_java.specs.Headline.{AreFilesOf, IsAcceptedChain, IsOfTheR
 
 use mj_rules::answer_laws;
 
-/// Where files of sessions are accepted, and no two different results that they record have one print, the answer is the
-/// one that the static rules give the last session's sources, whoever wrote the sessions.
+/// Where files of sessions are accepted, and no two different results that they record share a fingerprint, the answer
+/// is the one that the static rules give the last session's sources, whoever wrote the sessions.
 pub fn accepted_are_the_rules()
     ensures { (files : List (List ℕ)) (old new : List Key) (project : Project) (answer : Value)
         (count runs : ℕ)
@@ -24,8 +24,9 @@ pub fn accepted_are_the_rules()
     answer_laws();
 }
 
-/// What was checked of an accepted chain is what an audit of any runner accepts, so that, where no two different results
-/// that its sessions record have one print, the answer is the one that the static rules give the last session's sources.
+/// What was checked of an accepted chain is what an audit of any runner accepts, so that, where no two different
+/// results that its sessions record share a fingerprint, the answer is the one that the static rules give the last
+/// session's sources.
 pub fn accepted_chains_are_the_rules()
     ensures accepted { (files : List (List ℕ)) (answer : Value) (count runs : ℕ)
         → (chain : IsAcceptedChain files answer count runs)

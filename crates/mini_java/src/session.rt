@@ -14,8 +14,8 @@ use std::alloc::Global;
 use std::sync::{Arc, Wait};
 use std::thread::Threads;
 
-/// One session of a MiniJava project over the session before it, by so many workers, each in a thread of its own. The gate
-/// is called round each run.
+/// Makes one session of a MiniJava project over the previous session, by so many workers, each in a thread of its own.
+/// The gate is called around each run.
 pub fn run_session<G: Gate + Sync, T: Threads + Wait + Sync>(
     rt: &T,
     alloc: Global,
@@ -25,7 +25,7 @@ pub fn run_session<G: Gate + Sync, T: Threads + Wait + Sync>(
     gate: &G,
 ) -> Result<(Session, Reports), DriveFault>
     ensures gives { DriveGives mean reads (session_in prev) project.now workers result }
-    // Where the past and the project decide it, the session is the next one.
+    // Where the previous session and the project decide the next one, the session is that.
     ensures next { IfOk result (λ done. DecidesNext mean reads (session_in prev) project.now
         → IsNextSession mean reads (session_in prev) project.now done.0) }
 {

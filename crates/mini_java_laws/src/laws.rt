@@ -1,4 +1,4 @@
-//! What holds of chains of sessions of MiniJava projects.
+//! Laws of chains of sessions of MiniJava projects.
 ghost use Rattle.std.specs.Prelude.{◌≡◌, ◌∷◌, ◌++◌, ℕ, List, [], None, Ok};
 ghost use Rattle.item_ids.specs.declared.key.Key.{Key};
 ghost use Rattle.result_bytes.specs.declared.value.Value.{Value};
@@ -23,8 +23,8 @@ pub fn reads_own_files()
     ensures { (p : Project) → ReadsOwnFiles reads p }
 {}
 
-/// Where files were accepted, they and the file of the next session of a project over the last one are refused for want
-/// of memory alone, unless two different results in all of them have one print.
+/// Where files were accepted, they and the file of the next session of a project over the last one are refused only
+/// because memory runs out, unless two different results in all of them share a fingerprint.
 pub fn next_is_accepted()
     ensures { (files : List (List ℕ)) (old new : List Key) (project : Project) (answer : Value)
         (count runs : ℕ)
@@ -54,8 +54,8 @@ pub fn made_is_accepted()
     sessions_are_next();
 }
 
-/// Over the last one of an accepted chain the session that a check makes of a project is the next one, and its answer is what
-/// the static rules give the project's files, unless two different results in all of them have one print.
+/// Over the last one of an accepted chain the session that a check makes of a project is the next one, and its answer
+/// is what the static rules give the project's files, unless two different results in all of them share a fingerprint.
 pub fn checked_is_by_the_rules()
     ensures { (files : List (List ℕ)) (old new : List Key) (project : Project) (answer : Value)
         (count runs : ℕ)

@@ -1,4 +1,4 @@
--- The derived comparison of faults is their order.
+-- The derived comparison of diagnostics is their order.
 use Rattle.std.proofs.Common.{◌≡◌, ℕ, ◌<◌, List, [], ◌∷◌, Ordering, refl, sym, ap, ◌∙◌, arith, ◌⊎◌, inl, inr, Bool, true, false, ◌&&◌}
 use Rattle.std.specs.Prelude.{◌==◌}
 use Rattle.std.specs.Cmp.{unsigned_Decides}

@@ -1,4 +1,4 @@
--- The order of names, of places and of faults, and lists in ascending order.
+-- The order of names, of places and of diagnostics, and lists in ascending order.
 use Rattle.std.specs.Prelude.{◌≡◌, ℕ, ◌<◌, ◌↔◌, ◌⊎◌, List, [], ◌∷◌, Contains}
 use Rattle.std.specs.List.{AllByRecursion}
 use Rattle.std.specs.Ordering.{nat_cmp}
@@ -54,7 +54,7 @@ abbrev pub Before : Diagnostic → Diagnostic → Type 0
 Before d e =
     PlaceBefore d.place e.place ⊎ ((d.place ≡ e.place) × (code_number d.code < code_number e.code))
 
--- each comes before all that stand behind it
+-- each comes before all later ones
 abbrev pub IsAscendingBy : {X : Type 0} → (X → X → Type 0) → List X → Type 0
 IsAscendingBy B [] = Unit {0}
 IsAscendingBy B (x ∷ xs) = AllByRecursion (B x) xs × IsAscendingBy B xs
@@ -79,13 +79,13 @@ pub record IsInOrder (answer : AnswerValue) : Type 0 where
   pub classes : IsAscendingByName (λ class. class.name) answer.classes
   pub each : AllByRecursion IsClassInOrder answer.classes
 
--- of two that differ, just one comes before the other, and so on along a row
+-- of two that differ, exactly one comes before the other, and the order is transitive
 pub record IsStrictTotalOrder {X : Type 0} (B : X → X → Type 0) : Type 0 where
   pub irreflexive : (x : X) → B x x → ⊥
   pub transitive : (x y z : X) → B x y → B y z → B x z
   pub total : (x y : X) → B x y ⊎ ((x ≡ y) ⊎ B y x)
 
--- one list only has given elements in ascending order
+-- ascending lists with the same elements are equal
 abbrev pub OneList : (X : Type 0) → (X → X → Type 0) → Type 0
 OneList X B =
     (xs ys : List X) → IsAscendingBy B xs → IsAscendingBy B ys

@@ -14,7 +14,7 @@ use Rattle.mj_answer.specs.AnswerValues.{MethodRowValue, ClassAnswerValue, Answe
 abbrev pub code_text : Code → List ℕ
 code_text code = codes "E" ++ decimal (code_number code)
 
--- where a fault stands: the same words wherever it is printed
+-- where a diagnostic stands: the same words wherever it is printed
 abbrev pub place_text : Place → List ℕ
 place_text places.Project = codes "project"
 place_text (places.File name) = codes "file " ++ name
@@ -28,7 +28,7 @@ place_text (places.Inside method token) = codes "in " ++ method ++ codes " at " 
 abbrev pub fault_line : Diagnostic → List ℕ
 fault_line fault = code_text fault.code ++ codes " " ++ place_text fault.place ++ codes "\n"
 
--- the faults of a class are indented
+-- the diagnostics of a class are indented
 abbrev pub indented_fault_line : Diagnostic → List ℕ
 indented_fault_line fault = codes "  " ++ fault_line fault
 
@@ -56,7 +56,7 @@ method_line row =
     ++ type_text row.returns
     ++ codes " from " ++ row.owner ++ codes "\n"
 
--- a class: its name, its fields, its methods, its faults
+-- a class: its name, its fields, its methods, its diagnostics
 abbrev pub class_text : ClassAnswerValue → List ℕ
 class_text class =
     codes "class " ++ class.name ++ codes "\n"
@@ -64,6 +64,6 @@ class_text class =
     ++ flat_map method_line class.table.methods
     ++ flat_map indented_fault_line class.faults
 
--- an answer: the faults of the project itself, then its classes
+-- an answer: the diagnostics of the project itself, then its classes
 abbrev pub text_of : AnswerValue → List ℕ
 text_of answer = flat_map fault_line answer.faults ++ flat_map class_text answer.classes

@@ -1,4 +1,4 @@
-//! Codes of faults.
+//! Codes of diagnostics.
 ghost use Rattle.std.specs.Prelude.{◌≡◌, ◌++◌, ◌==◌, Some, codes, decimal};
 ghost use Rattle.std.specs.Ordering.{nat_cmp, on, as_partial_cmp};
 ghost use Rattle.std.specs.Cmp.{partial_order_from_own_ties, unsigned_ties};
@@ -9,7 +9,7 @@ ghost use Rattle.mj_answer.specs.Codes.{code_number, code_of};
 use std::cmp::Ordering;
 use std::fmt;
 
-/// What is wrong. The first digit of a code's number tells what it is about: 1 the project, 2 a declaration, 3 a body.
+/// What is wrong. The first digit of a code's number says what it is about: 1 the project, 2 a declaration, 3 a body.
 /// Codes are ordered by their numbers.
 #[derive(Clone, Copy, Debug)]
 pub enum Code {

@@ -1,11 +1,11 @@
-//! Faults with their places.
+//! Diagnostics with their places.
 ghost use Rattle.std.specs.Prelude.{◌≡◌, IfOk};
 
 use crate::code::Code;
 use mj_tree::Place;
 use std::alloc::{AllocError, Global};
 
-/// A fault with its place. Faults are ordered by place, then by code.
+/// A diagnostic with its place. Diagnostics are ordered by place, then by code.
 #[derive(Debug, Drop, PartialEq, Eq, PartialOrd, Ord)]
 pub struct Diagnostic {
     pub place: Place,
@@ -13,7 +13,7 @@ pub struct Diagnostic {
 }
 
 impl Diagnostic {
-    /// An equal fault.
+    /// An equal diagnostic.
     pub fn copy(&self, alloc: Global) -> Result<Diagnostic, AllocError>
         ensures { IfOk result (λ fault. fault ≡ self.now) }
     {
@@ -24,7 +24,7 @@ impl Diagnostic {
     }
 }
 
-/// Equal faults in the same order.
+/// Equal diagnostics in the same order.
 pub fn copy_faults(alloc: Global, faults: &[Diagnostic]) -> Result<Vec<Diagnostic>, AllocError>
     ensures { IfOk result (λ copies. copies.items ≡ faults.now) }
 {

@@ -1,4 +1,4 @@
-//! What holds of codes and of the order.
+//! Laws of codes and of the order.
 ghost use Rattle.std.specs.Prelude.{◌≡◌, ℕ, List, Some};
 ghost use Rattle.mj_answer.specs.declared.code.Code.{Code};
 ghost use Rattle.mj_answer.specs.declared.diagnostic.Diagnostic.{Diagnostic};
@@ -14,14 +14,14 @@ pub fn code_numbers()
         → code_number code ≡ number }
 {}
 
-/// Names, places and faults are in strict total orders.
+/// Names, places and diagnostics are in strict total orders.
 pub fn strict_total_orders()
     ensures names { IsStrictTotalOrder NameBefore }
     ensures places { IsStrictTotalOrder PlaceBefore }
     ensures faults { IsStrictTotalOrder Before }
 {}
 
-/// One list only has given elements in ascending order.
+/// Ascending lists with the same elements are equal.
 pub fn one_list()
     ensures names { OneList (List ℕ) NameBefore }
     ensures faults { OneList Diagnostic Before }

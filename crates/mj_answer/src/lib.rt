@@ -1,4 +1,4 @@
-//! What the checker answers: faults with their places, and the fields and methods of each class.
+//! What the checker answers: diagnostics with their places, and the fields and methods of each class.
 #![tactic(auto)]
 
 mod code;

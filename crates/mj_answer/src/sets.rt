@@ -19,7 +19,7 @@ pub fn ascending<T: Ord + Drop>(items: Vec<T>) -> Vec<T>
     items
 }
 
-/// These faults as a set.
+/// These diagnostics as a set.
 pub fn fault_set(faults: Vec<Diagnostic>) -> Vec<Diagnostic>
     ensures ascending { IsAscending result.items }
     ensures same { (fault : Diagnostic)

@@ -176,7 +176,7 @@ fn copy_methods(alloc: Global, rows: &[MethodRow]) -> Result<Vec<MethodRow>, All
     Ok(copies)
 }
 
-/// What is answered for a class: its fields and methods, and its faults in ascending order.
+/// What is answered for a class: its fields and methods, and its diagnostics in ascending order.
 #[derive(Debug, Drop)]
 pub struct ClassAnswer {
     name: Name,
@@ -219,7 +219,7 @@ impl ClassAnswer {
         &self.table
     }
 
-    /// The class's faults.
+    /// The class's diagnostics.
     pub fn faults(&self) -> &[Diagnostic]
         ensures { result.now ≡ self.now.faults }
     {
@@ -227,8 +227,8 @@ impl ClassAnswer {
     }
 }
 
-/// What is answered for a project: the faults of the project itself in ascending order, and its classes ascending by
-/// name.
+/// What is answered for a project: the diagnostics of the project itself in ascending order, and its classes ascending
+/// by name.
 #[derive(Debug, Drop)]
 pub struct Answer {
     faults: Vec<Diagnostic>,
@@ -245,14 +245,14 @@ impl Model for Answer {
 }
 
 impl Answer {
-    /// An answer of these faults and classes.
+    /// An answer of these diagnostics and classes.
     pub fn new(faults: Vec<Diagnostic>, classes: Vec<ClassAnswer>) -> Self
         ensures { result ≡ record { faults = faults.items; classes = classes.items } }
     {
         Answer { faults, classes }
     }
 
-    /// The project's own faults.
+    /// The project's own diagnostics.
     pub fn faults(&self) -> &[Diagnostic]
         ensures { result.now ≡ self.now.faults }
     {

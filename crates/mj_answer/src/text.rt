@@ -8,8 +8,8 @@ use mj_tree::{Place, Ty};
 use std::alloc::{AllocError, Global};
 use std::fmt::Write;
 
-/// The answer's text: the faults of the project itself, then each class with its fields, methods and faults, in lines
-/// that end in LF.
+/// The answer's text: the diagnostics of the project itself, then each class with its fields, methods and diagnostics,
+/// in lines that end in LF.
 pub fn render(alloc: Global, answer: &Answer) -> Result<String, AllocError>
     ensures { IfOk result (λ text. string_bytes text ≡ text_of answer.now) }
 {

@@ -61,14 +61,14 @@ abbrev pub on_from : (List Name → ClassDecl → Chain) → List Name → Name 
 on_from on names u None = (names, Undeclared u)
 on_from on names u (Some k) = on names k
 
--- how a chain goes on behind these names, the last of which extends this
+-- how a chain continues after these names, the last of which extends this
 abbrev pub on_by : List ClassDecl → (List Name → ClassDecl → Chain) → List Name → Option Name
     → Chain
 on_by cs on names None = (names, Top)
 on_by cs on names (Some u) =
     if is_in names u then (names, Repeated u) else on_from on names u (decl cs u)
 
--- the chain that goes on from these names with this class
+-- the chain that continues these names with this class
 unfoldable pub chain_from : List ClassDecl → ℕ → List Name → ClassDecl → Chain
 chain_from cs zero names k = (names, Top)
 chain_from cs (suc gas) names k = on_by cs (chain_from cs gas) (names ++ k.name ∷ []) k.superclass

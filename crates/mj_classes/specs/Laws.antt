@@ -1,4 +1,4 @@
--- What holds of chains, of what is accepted, and of members.
+-- Laws of chains, of what is accepted, and of members.
 use Rattle.std.specs.Prelude.{◌≡◌, ◌≢◌, ◌↔◌, List, Some, None}
 use Rattle.mj_tree.specs.Trees.{Name, Method}
 use Rattle.mj_tree.specs.declared.tree.Ty.{Ty}

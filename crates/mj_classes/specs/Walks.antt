@@ -22,7 +22,7 @@ is_sought (Class u) k = bytes_eq k.name u.now
 is_sought (Field x) k = is_some (own_field x.now k)
 is_sought (Method m) k = is_some (own_method m.now k)
 
--- the class of which a place of the declarations tells
+-- the class at a place of the declarations
 abbrev pub own_view : Bor OwnMembers → ClassDecl
 own_view own = class_ref_view own.now.class
 
@@ -32,7 +32,7 @@ own_view own = class_ref_view own.now.class
 abbrev pub IsPlace : List ClassDecl → ℕ → Type 0
 IsPlace cs at = (c : Name) × (place cs c ≡ Some at)
 
--- the chain of a class ends so, and these of its classes declare members
+-- the chain of a class has this end, and these of its classes declare members
 abbrev pub IsChainOf : List ClassDecl → Name → List ClassDecl → EndOf → Type 0
 IsChainOf cs c classes end =
     (option_map (λ chain. chain.1) (chain_of cs c) ≡ Some end)
@@ -67,7 +67,7 @@ pub record IsInRing (cs : List ClassDecl) (c : Name) (on : ℕ) : Type 0 where
   pub here : StandsAt cs chain number on
   pub inside : entry ≤ number
 
--- the chain of the class at the place leads into a ring of so many classes
+-- the chain of the class at the place leads into a ring of this many classes
 abbrev pub RunsInto : List ClassDecl → ℕ → ℕ → Type 0
 RunsInto cs first around =
     (c : Name) × (chain : List Name) × (entry : ℕ) × IsRing cs c chain entry

@@ -23,7 +23,7 @@ pub enum End<'a> {
     Repeated(&'a Name),
 }
 
-/// The classes from one up, as far as they are declared and distinct.
+/// The chain of a class, with its end.
 #[derive(Debug, Drop)]
 pub struct ClassChain<'a> {
     /// Those that declare a field or a method, the nearest first. The others are passed without being kept.
@@ -31,19 +31,19 @@ pub struct ClassChain<'a> {
     pub end: End<'a>,
 }
 
-/// Where a walk up leads.
+/// Where a walk up the superclasses leads.
 #[derive(Drop)]
 enum Climb<'a> {
-    /// To a class above which no other stands.
+    /// To a class without a declared superclass.
     Straight(ClassChain<'a>),
-    /// Round and round, past the class at this place.
+    /// Into a ring, past the class at this place.
     Round(usize),
 }
 
 impl<'a> Declarations<'a> {
     ghost use Rattle.mj_classes.specs.Index.{declared_in};
 
-    /// The chain of a class, if it is declared.
+    /// The chain of a class, or `None` where the class isn't declared.
     pub fn chain(&self, alloc: Global, name: &Name) -> Result<Option<ClassChain<'a>>, AllocError>
         ensures end { IfOk result (λ o.
             option_map (λ c. end_view c.end) o
@@ -73,8 +73,9 @@ impl<'a> Declarations<'a> {
         }
     }
 
-    /// Walks up from the class at this place, to the end of its chain or around. A walk that comes back meets a class
-    /// which it has passed; that class is replaced by a later one each time that twice as many steps were made.
+    /// Walks up from the class at this place, to the end of its chain or into a ring. The walk remembers one class that
+    /// it has passed and replaces it by the current one each time the number of steps doubles; where it meets that
+    /// class again there is a ring.
     fn climb_straight(&self, alloc: Global, first: usize) -> Result<Climb<'a>, AllocError>
         requires { IsPlace (declared_in self.now) first }
         ensures { IfOk result (ClimbGives (declared_in self.now) first) }
@@ -99,7 +100,7 @@ impl<'a> Declarations<'a> {
         Ok(Climb::Round(at))
     }
 
-    /// How many classes the ring has to which the class at this place belongs.
+    /// How many classes are in the ring that the class at this place belongs to.
     fn around(&self, on: usize) -> usize
         requires { (c : List ℕ) × IsInRing (declared_in self.now) c on }
         ensures { (c : List ℕ) (ring : IsInRing (declared_in self.now) c on)
@@ -115,8 +116,8 @@ impl<'a> Declarations<'a> {
         unreachable!();
     }
 
-    /// The chain of the class at this place, which leads into a ring of so many classes. A walk that is as many steps
-    /// ahead of another from the same class meets it where the ring is entered.
+    /// The chain of the class at this place, which leads into a ring of this many classes. Of two walks from the class,
+    /// of which one is that many steps ahead, both meet where the ring is entered.
     fn climb_round(
         &self,
         alloc: Global,
@@ -137,7 +138,7 @@ impl<'a> Declarations<'a> {
         self.climb_to_entry(classes, first, ahead)
     }
 
-    /// The chain of the class at the first place, of which these classes were passed on the way to the place ahead.
+    /// The chain of the class at the first place, after these classes were passed on the way to the place ahead.
     fn climb_to_entry(
         &self,
         passed: Vec<ClassRef<'a>>,
@@ -179,7 +180,7 @@ impl<'a> Declarations<'a> {
         Ok(())
     }
 
-    /// The place of the class that the one at this place extends, which is declared.
+    /// The place of the declared class that the one at this place extends.
     fn above(&self, at: usize) -> usize
         requires { (next : ℕ)
             × (slice_get (superclass_places (declared_in self.now)) at ≡ Some (Some next)) }

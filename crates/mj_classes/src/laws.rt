@@ -1,4 +1,4 @@
-//! What holds of the definitions.
+//! Laws of the definitions.
 ghost use Rattle.mj_classes.specs.Laws.{ChainLaws, AcceptanceLaws, MemberLaws};
 
 /// A declared class has one chain, and no other name has any.
@@ -6,12 +6,12 @@ pub fn chain_laws()
     ensures { ChainLaws }
 {}
 
-/// What is accepted by what is an order, cycles aside.
+/// Acceptance of types is an order, cycles aside.
 pub fn acceptance_laws()
     ensures { AcceptanceLaws }
 {}
 
-/// The functions on members give the nearest declarations, and the tables have all of these.
+/// The look-ups of members find the nearest declarations, and the tables have all of these.
 pub fn member_laws()
     ensures { MemberLaws }
 {}

@@ -41,7 +41,7 @@ impl<'a> Declarations<'a> {
         self.nearest(class, &Sought::Class(ancestor)).is_some()
     }
 
-    /// The field of a name that a class has: the nearest one.
+    /// The nearest field of this name that a class has.
     pub fn field(&self, class: &Name, name: &Name) -> Option<FieldMember<'a>>
         ensures { option_map field_member_view result
             ≡ field_of (declared_in self.now) class.now name.now }
@@ -54,7 +54,7 @@ impl<'a> Declarations<'a> {
         })
     }
 
-    /// The method of a name that a class has: the nearest one.
+    /// The nearest method of this name that a class has.
     pub fn method(&self, class: &Name, name: &Name) -> Option<MethodMember<'a>>
         ensures { option_map method_member_view result
             ≡ method_of (declared_in self.now) class.now name.now }
@@ -67,8 +67,9 @@ impl<'a> Declarations<'a> {
         })
     }
 
-    /// The first class of a chain in which something is found. A walk that comes back to a class which it has passed
-    /// has seen the whole chain; that class is replaced by a later one each time that twice as many steps were made.
+    /// The first class of a chain in which something is found. The walk remembers one class that it has passed and
+    /// replaces it by the current one each time the number of steps doubles; where it meets that class again it has
+    /// seen the whole chain.
     fn nearest<'s>(&'s self, name: &Name, sought: &Sought) -> Option<&'s OwnMembers<'a>>
         ensures { option_map own_view result
             ≡ find (is_sought sought.now) (ancestry (declared_in self.now) name.now) }

@@ -14,7 +14,7 @@ use mj_tree::{Field, MethodTree};
 use std::alloc::{AllocError, Global};
 use std::collections::BTreeMap;
 
-/// A class with the places of the first of its fields and of its methods of each name.
+/// The members that a class declares, with the place of the first field and of the first method of each name.
 #[derive(Drop)]
 pub struct OwnMembers<'a> {
     pub class: ClassRef<'a>,

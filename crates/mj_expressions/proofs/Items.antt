@@ -97,7 +97,7 @@ fails_on OutOfMemory x y f h = tt
 fails_on (NotAFile k) x y f h = f h
 fails_on TooDeep x y f h = f h
 
--- a fault whose place is counted from another token
+-- an error whose place is counted from another token
 pub fails_behind : {A B : Type 0} (e f : ParseFault) (x : Option A) (y : Option B) → ((f ≡ OutOfMemory) ↔ (e ≡ OutOfMemory)) → (x ≡ None → y ≡ None) → Fails e x → Fails f y
 fails_behind e OutOfMemory x y same g h = tt
 fails_behind OutOfMemory (NotAFile k) x y same g h = absurd (let n = same.1 refl in cc)

@@ -122,7 +122,7 @@ tier_at part ts room (suc (suc d)) i =
     tier_at part ts room (suc d) i
     >>= λ x. binary_from (suc (length ts)) part ts room (suc d) x.0 x.1
 
--- an expression of a tier, of no more than so many levels
+-- an expression of a tier, of at most this many levels
 unfoldable pub exp_at : ℕ → List Token → ℕ → ℕ → Reading
 exp_at zero ts d i = None
 exp_at (suc room) ts d i = tier_at (exp_at room ts) ts room d i

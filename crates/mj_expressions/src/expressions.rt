@@ -72,7 +72,7 @@ fn operator(tokens: &[Token], at: usize, tier: usize) -> Option<Operator>
     }
 }
 
-/// The expression, behind which this symbol has to stand, and the place after that.
+/// The expression, if this symbol follows it, and the place after the symbol.
 pub fn closed(tokens: &[Token], exp: ExpPart, terminal: Terminal) -> Result<ExpPart, ParseFault>
     requires { exp.after < 2 ^ 63 }
     ensures found { IfOk result (λ x.
@@ -85,7 +85,7 @@ pub fn closed(tokens: &[Token], exp: ExpPart, terminal: Terminal) -> Result<ExpP
     Ok(ExpPart { after, ..exp })
 }
 
-/// An expression of a tier, of no more than so many levels.
+/// Reads an expression of a tier, of at most this many levels.
 #[cycle(expressions)]
 #[tactic(auto, unfolding(crate::specs::ExpressionReading::exp_at))]
 #[inline(never)]
@@ -147,7 +147,7 @@ fn joined(
     })
 }
 
-/// An expression of a tier whose parts have no more than so many levels.
+/// Reads an expression of a tier whose parts have at most this many levels.
 #[cycle(expressions)]
 #[tactic(auto, using(crate::proofs::Loops::no_room), unfolding(crate::specs::ExpressionReading::tier_at))]
 #[inline(never)]
@@ -341,7 +341,7 @@ struct ArgumentList {
     height: usize,
 }
 
-/// The call of a method, whose name stands two places before the arguments.
+/// The call of a method; its name stands two places before the arguments.
 fn called(
     alloc: Global,
     left: ExpPart,
@@ -370,7 +370,7 @@ fn called(
     })
 }
 
-/// The length of an array, whose name has to stand behind the dot.
+/// The length of an array; the word `length` has to stand behind the dot.
 fn length_of(alloc: Global, tokens: &[Token], left: ExpPart) -> Result<ExpPart, ParseFault>
     requires within { left.after < length tokens.now }
     requires height { left.height ≡ height (exp_view left.exp) }
@@ -518,7 +518,7 @@ fn new_array(
     })
 }
 
-/// A new object of a class, whose name has to stand behind `new`.
+/// A new object of a class; its name has to stand behind `new`.
 fn new_object(alloc: Global, tokens: &[Token], at: usize) -> Result<ExpPart, ParseFault>
     requires { at < length tokens.now }
     ensures exact { Finds (λ x. (exp_view x.exp, x.after)) result (object_at tokens.now at) }

@@ -20,7 +20,7 @@ pub enum ParseFault {
 }
 
 impl ParseFault {
-    /// The fault, where its place was counted from a later token.
+    /// The same error, whose place was counted from a later token.
     pub fn behind(self, start: usize) -> Self
         ensures memory { (result ≡ ParseFault.OutOfMemory) ↔ (self ≡ ParseFault.OutOfMemory) }
         ensures deep { (result ≡ ParseFault.TooDeep) ↔ (self ≡ ParseFault.TooDeep) }

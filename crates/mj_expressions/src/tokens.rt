@@ -134,7 +134,7 @@ pub fn expect_word_and(
     expect(tokens, after, terminal)
 }
 
-/// The part, behind which this symbol or reserved word has to stand, and the place after that.
+/// The part, if this symbol or reserved word follows it, and the place after that.
 pub fn followed<T: Drop>(
     tokens: &[Token],
     part: Part<T>,
@@ -154,7 +154,7 @@ pub fn followed<T: Drop>(
     })
 }
 
-/// The part, behind which two symbols have to stand, and the place after them.
+/// The part, if these two symbols follow it, and the place after them.
 pub fn followed_by_two<T: Drop>(
     tokens: &[Token],
     part: Part<T>,

@@ -170,7 +170,7 @@ pub tokens_or_fault : (lexing : Lexing) → IsSome (result_ok lexing) ↔ IsNone
 tokens_or_fault (Ok tokens) = (λ _. refl, λ _. refl)
 tokens_or_fault (Err fault) = (λ e. absurd cc, λ e. absurd cc)
 
--- what a lexer that finds a cut or a fault can answer
+-- what a lexer that finds a cut or an error can answer
 memory_or_not : (fault : LexFault) → (fault ≡ OutOfMemory) ⊎ (fault ≢ OutOfMemory)
 memory_or_not OutOfMemory = inl refl
 memory_or_not FileTooLong = inr (λ e. cc)

@@ -10,7 +10,7 @@ use Rattle.mj_lexer.specs.declared.front.Front.TheVariants.{Nothing, Blank, Word
 use Rattle.mj_lexer.specs.Bytes.{is_white, is_letter, is_digit, is_name_byte, is_line_byte, literal_value, most_name_bytes, opens, closes}
 use Rattle.mj_lexer.specs.Words.{symbol_of, kind_of_word}
 
--- the text after the end of a comment in which this many are depth: read two bytes at a time
+-- the text behind the end of a comment at this depth; read two bytes at a time
 abbrev pub after_comment : ℕ → List ℕ → Option (List ℕ)
 after_comment zero text = Some text
 after_comment (suc depth) [] = None

@@ -29,7 +29,7 @@ pub record Lexes (text : List ℕ) (tokens : List Token) : Type 0 where
   pub till : ℕ
   pub cut : Cuts 0 text tokens till []
 
--- The text before a place is so cut, and the problem stands there.
+-- The text before a place is cut into tokens, and the problem stands there.
 pub record BreaksAt (text : List ℕ) (problem : Problem) (at : ℕ) : Type 0 where
   pub short : length text ≤ limit
   pub tokens : List Token

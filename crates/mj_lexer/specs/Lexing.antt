@@ -1,4 +1,4 @@
--- The tokens of a text, or the fault that it has in their place, computed from the left.
+-- The tokens of a text, or its error, computed from the left.
 use Rattle.std.specs.Prelude.{ℕ, zero, suc, ◌+◌, nat_lt, List, [], ◌∷◌, length, drop, Option, Result, Ok, Err, if◌then◌else◌}
 use Rattle.std.specs.Result.{result_ok, result_err}
 use Rattle.mj_lexer.specs.declared.token.Token.{Token}
@@ -25,7 +25,7 @@ lexing_at at (Word kind n) behind =
     put_first (record { kind = kind; start = at; end = at + n }) (behind n)
 lexing_at at (Wrong problem) behind = Err (fault_at problem at)
 
--- what the text from a place on gives, in so many pieces at most
+-- what the text from a place on gives, in at most this many pieces
 unfoldable pub lexing_from : ℕ → ℕ → List ℕ → Lexing
 lexing_from zero at text = Ok []
 lexing_from (suc pieces) at text =

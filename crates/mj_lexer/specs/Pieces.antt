@@ -50,7 +50,7 @@ HasNoPiece text = (bytes rest : List ℕ) → text ≡ bytes ++ rest → IsPiece
 abbrev pub OpensComment : List ℕ → Type 0
 OpensComment text = (rest : List ℕ) × (text ≡ 47 ∷ 42 ∷ rest)
 
--- an identifier has so many bytes at most
+-- an identifier has at most this many bytes
 abbrev pub IsShort : Kind → Type 0
 IsShort (Identifier name) = length name ≤ most_name_bytes
 IsShort (Literal value) = Unit {0}

@@ -11,7 +11,7 @@ use crate::token::{Kind, Terminal};
 use std::alloc::{AllocError, Global};
 use std::str;
 
-/// The value that stands for each greater one too, where a literal is over the range of `int`.
+/// Literals above the range of `int` saturate to this value.
 pub const GREATEST_LITERAL: u64 = 2147483648;
 
 /// What may be wrong at a place.
@@ -68,7 +68,7 @@ fn is_line_byte(b: u8) -> bool
     b != b'\n' && b != b'\r'
 }
 
-/// How many bytes of a name the text begins with.
+/// The length in bytes of the name at the front of the text, 0 where there is none.
 fn name_len(text: &[u8]) -> usize
     ensures value { result ≡ prefix_len is_name_byte text.now }
     ensures within { result ≤ length text.now }
@@ -76,7 +76,7 @@ fn name_len(text: &[u8]) -> usize
     text.iter().take_while(|b| is_name_byte(**b)).count()
 }
 
-/// How many digits the text begins with.
+/// The number of digits at the front of the text.
 fn digits_len(text: &[u8]) -> usize
     ensures value { result ≡ prefix_len is_digit text.now }
     ensures within { result ≤ length text.now }
@@ -84,7 +84,7 @@ fn digits_len(text: &[u8]) -> usize
     text.iter().take_while(|b| is_digit(**b)).count()
 }
 
-/// How many bytes come up to the end of the line.
+/// The number of bytes up to the end of the line.
 fn line_len(text: &[u8]) -> usize
     ensures value { result ≡ prefix_len is_line_byte text.now }
     ensures within { result ≤ length text.now }
@@ -106,7 +106,7 @@ fn closes(a: u8, b: u8) -> bool
     a == b'*' && b == b'/'
 }
 
-/// How many bytes come up to the end of the comment that is open at the front.
+/// The number of bytes up to the end of the comment that is open at the front, or `None` where it isn't closed.
 fn comment_len(text: &[u8]) -> Option<usize>
     ensures { MatchOption result (after_comment 1 text.now ≡ None)
         (λ n. (n ≤ length text.now) × (after_comment 1 text.now ≡ Some (drop n text.now))) }
@@ -218,7 +218,7 @@ fn as_text(bytes: &[u8]) -> &str
     }
 }
 
-/// The value of decimal digits, where 2147483648 stands for each greater one too.
+/// The value of decimal digits, saturated at 2147483648.
 fn number(digits: &[u8]) -> u32
     ensures { result ≡ literal_value digits.now }
 {
@@ -229,7 +229,7 @@ fn number(digits: &[u8]) -> u32
     value as u32
 }
 
-/// What stands at the front of a slash and this text behind it.
+/// What stands at the front of a text of a slash and these bytes.
 fn behind_slash(text: &[u8]) -> Front
     ensures value { result ≡ slash_front text.now }
     ensures within { IsWithin (1 + length text.now) result }

@@ -12,8 +12,8 @@ ghost use Rattle.mj_lexer.specs.Lexing.{tokens_of, lex_fault_of};
 
 use crate::name::Name;
 
-/// The tokens and the fault that are computed are those that the text is cut into, or breaks by;
-/// each text has the one or the other.
+/// The tokens or the error that are computed are those that the text is cut into, or breaks by; each text has one or
+/// the other.
 pub fn lexing_laws(text: &[u8])
     ensures tokens { (tokens : List Token)
         → Lexes text.now tokens ↔ (tokens_of text.now ≡ Some tokens) }

@@ -54,7 +54,7 @@ impl<T: Drop> From<AllocFailed<T>> for LexFault {
     }
 }
 
-/// The fault that a problem is at a place.
+/// The error for a problem at a place.
 fn fault(problem: Problem, at: usize) -> LexFault
     ensures { result ≡ fault_at problem at }
 {
@@ -95,7 +95,7 @@ fn tokens(alloc: Global, text: &[u8]) -> Result<Vec<Token>, LexFault>
 
 /// The tokens of a text, from the left.
 ///
-/// A text that is too long is refused as such; any other by the first fault from the left.
+/// A text that is too long is refused as such; any other by its first error from the left.
 pub fn lex(alloc: Global, text: &[u8]) -> Result<Vec<Token>, LexFault>
     ensures found { IfOk result (λ v. Lexes text.now v.items) }
     ensures only { (others : List Token) → Lexes text.now others

@@ -73,7 +73,7 @@ pub enum Terminal {
 pub enum Kind {
     /// A name that isn't reserved.
     Identifier(Name),
-    /// A decimal literal with its value, where 2147483648 stands for each greater one too.
+    /// A decimal literal with its value, which saturates at 2147483648.
     Literal(u32),
     /// A symbol or a reserved word.
     Terminal(Terminal),

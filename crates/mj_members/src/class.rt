@@ -7,7 +7,7 @@ ghost use Rattle.mj_members.specs.Classes.{class_ref_view};
 use mj_lexer::Name;
 use mj_tree::{ClassTree, Field, MainTree, MethodTree};
 
-/// The tree of a class.
+/// The tree of a main class or of another class.
 #[derive(Clone, Copy, Debug)]
 pub enum Tree<'a> {
     Main(&'a MainTree),

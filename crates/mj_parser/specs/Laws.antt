@@ -6,7 +6,8 @@ use Rattle.mj_parser.specs.Declarations.{Derives}
 use Rattle.mj_parser.specs.FileReading.{tree_of}
 use Rattle.mj_parser.specs.MarkBounds.{FileMarksBelow}
 
--- The tokens of a file are those that reading finds it in; so they have one file at most.
+-- Tokens are those of a file exactly where reading finds the file, so they are those of one file at
+-- most.
 abbrev pub GrammarLaws : Type 0
 GrammarLaws = (ts : List Token) (f : File) → Derives ts f ↔ (tree_of ts ≡ Some f)
 

@@ -72,7 +72,7 @@ stmt_of exp part ts i =
     if has ts i terminals.If then if_at exp part ts i else (
     if has ts i terminals.While then while_at exp part ts i else named_at exp ts i))
 
--- a statement of no more than so many levels
+-- a statement of at most this many levels
 unfoldable pub stmt_at : ℕ → List Token → PartParser Statement
 stmt_at zero ts i = None
 stmt_at (suc room) ts i = stmt_of (exp_at room ts any_tier) (stmt_at room ts) ts i

@@ -6,7 +6,7 @@ use mj_expressions::{has, name};
 use mj_lexer::{Name, Terminal, Token};
 use mj_tree::Place;
 
-/// The place of a terminal, the one with this number among those from `start` to before `end`.
+/// The place of the terminal with this number among those from `start` to before `end`.
 #[tactic(auto, using(crate::proofs::Locations::none_left, crate::proofs::Locations::here, crate::proofs::Locations::one_less, crate::proofs::Locations::passes))]
 fn nth(
     tokens: &[Token],
@@ -124,8 +124,8 @@ fn name_of_method(tokens: &[Token], class: usize, number: usize) -> Option<usize
     existing(tokens, method_name(tokens, method))
 }
 
-/// The token of a place in the class with this number; that of a whole file or project is none. Classes are numbered
-/// from 0, the main class first. The tokens are those of a file.
+/// The token of a place in the class with this number, or `None` for a whole file or project. Classes are numbered from
+/// 0, the main class first. The tokens are those of a file.
 pub fn locate(tokens: &[Token], class: u32, place: &Place) -> Option<usize>
     ensures value { result ≡ token_of tokens.now class place.now }
     ensures within { IfSome result (λ at. at < length tokens.now) }

@@ -55,8 +55,8 @@ fn expect_print_path(tokens: &[Token], at: usize) -> Result<usize, ParseFault>
     )
 }
 
-/// The place after `System . out . println (`. Another name than `System` begins a statement too, so that the fault
-/// stands behind it.
+/// The place after `System . out . println (`. Another name than `System` begins a statement too, so the error stands
+/// behind it.
 fn print_opening(tokens: &[Token], at: usize) -> Result<usize, ParseFault>
     requires { at < length tokens.now }
     ensures found { IfOk result (λ after.
@@ -233,7 +233,7 @@ fn begins_statement(tokens: &[Token], at: usize) -> bool {
         || name(tokens, at).is_some()
 }
 
-/// Why no statement is read where its levels don't suffice.
+/// Why a statement isn't read where its levels don't suffice.
 fn refusal(tokens: &[Token], at: usize) -> ParseFault
     ensures { result ≢ OutOfMemory }
 {
@@ -244,7 +244,7 @@ fn refusal(tokens: &[Token], at: usize) -> ParseFault
     }
 }
 
-/// Whether no statement that begins here has so few levels.
+/// Whether every statement that begins here has more levels than these.
 #[tactic(auto, using(crate::proofs::Rooms::none_at_zero, crate::proofs::Rooms::none_at_one))]
 fn lacks_levels(tokens: &[Token], at: usize, room: usize) -> bool
     ensures none { IsTrue result → stmt_at room tokens.now at ≡ None }
@@ -264,7 +264,7 @@ fn boxed(alloc: Global, read: Part<Stmt>) -> Result<Part<Box<Stmt>>, ParseFault>
     })
 }
 
-/// A statement inside another one, of no more than so many levels.
+/// A statement inside another one, of at most this many levels.
 #[cycle(statements)]
 #[inline(never)]
 fn branch(
@@ -369,7 +369,7 @@ fn repetition(
     })
 }
 
-/// A statement of no more than so many levels.
+/// A statement of at most this many levels.
 #[cycle(statements)]
 #[tactic(auto, using(crate::proofs::Rooms::fails), unfolding(crate::specs::StatementReading::stmt_at, crate::specs::StatementReading::stmt_of))]
 #[inline(never)]

@@ -60,7 +60,7 @@ one_type w p t u h j = let e : Some t ≡ Some u = sym (has w p t h) ∙ has w p
 pub one_list : (w : World) (ps : Phrases) (ts us : List Ty) → AllTyped w ps ts → AllTyped w ps us → ts ≡ us
 one_list w ps ts us h j = let e : Some ts ≡ Some us = sym (have_all w ps ts h) ∙ have_all w ps us j in cc
 
--- ---- faults
+-- ---- diagnostics
 
 abbrev mistake : ℕ → Code → Mistake
 mistake mark code = record { mark = mark; code = code }

@@ -34,22 +34,22 @@ module _ {S : Type 0} (stands : S → Check → Check → Type 0) where
     ends = λ start k h. g.ends start (λ ok. and_then (demand ok code next) k) (subst (stands old start) (and_then-and_then m (λ ok. demand ok code next) k) h);
   }
 
--- a loop that began with the first step at old has come to the second one
+-- a loop that began with the first step at old now stands at the second one
 pub record Comes {S X : Type 0} (stands : S → Check → Check → Type 0) (first rest : (X → Check) → Check) (old new : S) : Type 0 where
   pub comes : (start : Check) (k : X → Check) → stands old start (first k) → stands new start (rest k)
 
--- ---- want of memory
+-- ---- out of memory
 
 err_is : {A E : Type 0} (P : E → Type 0) (out : E) (r : Result A E) → IfErr r (λ e. e ≡ out) → P out → IfErr r P
 err_is P out (Ok a) h p = tt
 err_is P out (Err e) h p = subst P (sym h) p
 
 module _ {S E : Type 0} (stands : S → Check → Check → Type 0) (halts : S → Check → E → Type 0) (out : E) (wanting : (s : S) (start now : Check) → stands s start now → halts s start out) where
-  -- memory may be wanting after a step
+  -- memory may run out after a step
   pub memory : {X : Type 0} (step : (X → Check) → Check) (old : S) (x : X) (new : S) → Proceeds stands step old x new → Aborts stands halts step old out new
   memory step old x new g = record { ends = λ start k h. wanting new start (k x) (g.goes start k h) }
 
-  -- it may be wanting after the first part of a step
+  -- it may run out after the first part of a step
   pub memory_inside : {A X Y : Type 0} (whole : (Y → Check) → Check) (step : (X → Check) → Check) (rest : (Y → Check) → X → Check) → ((k : Y → Check) → whole k ≡ step (rest k)) → (old : S) (x : X) (new : S) → Proceeds stands step old x new → (r : Result A E) → IfErr r (λ e. e ≡ out) → IfErr r (λ e. Aborts stands halts whole old e new)
   memory_inside whole step rest same old x new g r h =
       err_is (λ e. Aborts stands halts whole old e new) out r h

@@ -181,7 +181,7 @@ module _ (w : World) where
 
   -- ---- parts
 
-  -- all parts have types, and the row comes to the verdict
+  -- all parts have types, and the row has the verdict
   abbrev pub Comes : (List Ty → Inquiry Verdict) → Phrases → Verdict → Type 0
   Comes row parts v = (ts : List Ty) × AllTyped w parts ts × (conclusion w (row ts) ≡ v)
 

@@ -56,7 +56,7 @@ module _ (w : World) (P : Verdict → Type 0) (wrong : (code : Code) → P (Wron
   some_row row h n (a ∷ ts) e = h a ts
 
 module _ (w : World) where
-  -- what an expression comes to
+  -- the verdict on an expression
   abbrev E : Verdict → Type 0
   E v = IsOfExpression v
 

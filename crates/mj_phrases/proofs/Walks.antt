@@ -53,7 +53,7 @@ module _ {S E : Type 0} (stands : S → Check → Check → Type 0) (halts : S �
           (a.goes start (λ first. parts_step ps first.mistakes (λ others. own_step mark row (found (and_type first.type others.type) others.mistakes) k)) h);
     }
 
-  -- ---- want of memory after the parts
+  -- ---- out of memory after the parts
 
   module _ (out : E) (wanting : (s : S) (start now : Check) → stands s start now → halts s start out) {A : Type 0} (mark : ℕ) (row : List Ty → Inquiry Verdict) (before : List Mistake) where
     pub memory_one : (p : Phrase) (first : Finding Ty) (old new : S) → Proceeds stands (phrase_step p before) old first new → (r : Result A E) → IfErr r (λ e. e ≡ out) → IfErr r (λ e. Aborts stands halts (phrase_step (phrase mark row (part p nothing)) before) old e new)

@@ -18,7 +18,7 @@ pub record World : Type 0 where
   pub method : Name → Name → Option Sig
   pub is_declared : Name → Bool
 
--- a conclusion, or a question and how it goes on after each answer
+-- a conclusion, or a question and how the check continues after each answer
 pub data Inquiry (R : Type 0) : Type 0 where
   Concludes : R → Inquiry R
   AsksDescent : (class ancestor : Name) → (Bool → Inquiry R) → Inquiry R
@@ -26,7 +26,7 @@ pub data Inquiry (R : Type 0) : Type 0 where
   AsksMethod : (class name : Name) → (Option Sig → Inquiry R) → Inquiry R
   AsksDeclared : (class : Name) → (Bool → Inquiry R) → Inquiry R
 
--- the conclusion where the declarations say so
+-- the conclusion, where the declarations give the answers
 abbrev pub conclusion : {R : Type 0} → World → Inquiry R → R
 conclusion w (Concludes r) = r
 conclusion w (AsksDescent c d k) = conclusion w (k (w.descends c d))
@@ -34,7 +34,7 @@ conclusion w (AsksField c x k) = conclusion w (k (w.field c x))
 conclusion w (AsksMethod c m k) = conclusion w (k (w.method c m))
 conclusion w (AsksDeclared c k) = conclusion w (k (w.is_declared c))
 
--- what goes on with the conclusion
+-- a check that continues with the conclusion
 abbrev pub and_then : {R S : Type 0} → Inquiry R → (R → Inquiry S) → Inquiry S
 and_then (Concludes r) next = next r
 and_then (AsksDescent c d k) next = AsksDescent c d (λ answer. and_then (k answer) next)

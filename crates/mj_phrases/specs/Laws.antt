@@ -1,4 +1,4 @@
--- What holds of the definitions.
+-- Laws of the definitions.
 use Rattle.std.specs.Prelude.{◌≡◌, ◌↔◌, ℕ, suc, true, List, [], ◌∷◌, length, Some, Contains}
 use Rattle.mj_tree.specs.Trees.{Name, Expression, Method, Main}
 use Rattle.mj_tree.specs.declared.tree.Ty.{Ty}
@@ -21,7 +21,7 @@ abbrev pub count : Phrases → ℕ
 count nothing = 0
 count (part p ps) = suc (count ps)
 
--- what an expression may come to, and what a statement may come to, once all parts have types
+-- the verdicts that an expression may have, and a statement, once all parts have types
 abbrev pub IsOfExpression : Verdict → Type 0
 IsOfExpression (Is t) = Unit {0}
 IsOfExpression Fine = ⊥

@@ -32,7 +32,7 @@ fine = Concludes Fine
 
 -- ---- phrases
 
--- a phrase has a mark, immediate expressions, and what it comes to by their types
+-- a phrase has a mark, immediate expressions, and a verdict by their types
 mutual
   pub data Phrase : Type 0 where
     phrase : (mark : ℕ) (row : List Ty → Inquiry Verdict) (parts : Phrases) → Phrase

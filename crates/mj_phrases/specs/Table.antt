@@ -47,7 +47,7 @@ are_accepted (t ∷ ts) [] = Concludes true
 are_accepted (t ∷ ts) (u ∷ us) =
     and_then (is_accepted t u) (λ ok. if ok then are_accepted ts us else Concludes false)
 
--- ---- what an expression comes to, by the types of its immediate expressions
+-- ---- the verdict on an expression, by the types of its immediate expressions
 
 -- the greatest value of `int`
 abbrev pub most_value : ℕ
@@ -103,7 +103,7 @@ new_array a = demand (is_int a) E314 (is ty.IntArray)
 unfoldable pub new_object : Name → Inquiry Verdict
 new_object c = AsksDeclared c (λ declared. demand declared E305 (is (ty.Class c)))
 
--- ---- what a statement comes to
+-- ---- the verdict on a statement
 
 unfoldable pub condition : Ty → Inquiry Verdict
 condition a = demand (is_boolean a) E316 fine

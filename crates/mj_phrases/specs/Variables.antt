@@ -27,7 +27,7 @@ abbrev pub has_name : List Variable → Name → Bool
 has_name [] x = false
 has_name (v ∷ vs) x = if is_same v.name x then true else has_name vs x
 
--- the token of a variable's name, or the greatest number of 64 bits where its number has more
+-- the token of a variable's name; its number saturates at 64 bits
 abbrev pub name_mark : Variable → ℕ
 name_mark v = min (name_token v) (2 ^ 64 - 1)
 

@@ -1,4 +1,4 @@
-//! Whom a check asks about declarations.
+//! What answers a check's questions about declarations.
 ghost use Rattle.std.specs.Prelude.{◌≡◌, IfOk, IfErr, IfSome, MatchOption, option_map};
 ghost use Rattle.mj_phrases.specs.Inquiries.{World, Sig, AsksDescent, AsksField, AsksMethod, AsksDeclared};
 ghost use Rattle.mj_phrases.specs.Steps.{Check, Proceeds, Aborts};
@@ -9,7 +9,7 @@ use mj_lexer::Name;
 use mj_tree::Ty;
 use std::alloc::{AllocError, Global};
 
-/// Why a check ended early.
+/// Why a check ended early: an answer was refused, or memory ran out.
 #[derive(Debug, Drop)]
 pub enum Stop<E> {
     OutOfMemory,
@@ -36,7 +36,7 @@ pub trait Signature {
         ensures { result.now ≡ (sig self.now).returns };
 }
 
-/// Who answers the questions of a check, one after the other, or refuses to.
+/// Answers the questions of a check, one after the other, or refuses to.
 pub trait Asking {
     type Refusal: Drop;
 
@@ -103,7 +103,7 @@ pub trait Asking {
 
     ghost transitive: { (s t u : Self) → follows s t → follows t u → follows s u };
 
-    /// A check may end for want of memory wherever it stands.
+    /// Memory may run out wherever a check stands.
     ghost wanting: { (s : Self) (start now : Check) → stands s start now
         → halts s start OutOfMemory };
 }

@@ -1,5 +1,5 @@
-//! The typing rules of phrases: what each demands and comes to, and the check of an expression or of a statement without
-//! those inside it.
+//! The typing rules of phrases: what each demands, the type that it has, and the check of an expression or of a
+//! statement without those inside it.
 #![tactic(auto)]
 
 mod asking;

@@ -1,4 +1,4 @@
-//! What phrases come to by the types of their parts.
+//! The verdict on each phrase, by the types of its parts.
 ghost use Rattle.std.specs.Prelude.{◌≡◌, length, IfOk, IfErr};
 ghost use Rattle.mj_phrases.specs.Inquiries.{Concludes, and_then};
 ghost use Rattle.mj_phrases.specs.Steps.{Proceeds, Aborts};
@@ -16,7 +16,7 @@ use std::alloc::{AllocError, Global};
 /// The greatest value of `int`.
 const GREATEST_VALUE: u32 = 2147483647;
 
-/// The type of a literal that is small enough.
+/// The type of a literal, where its value fits.
 #[tactic(auto, unfolding(crate::specs::Table::literal))]
 pub fn literal(value: u32) -> Verdict
     ensures { literal value ≡ Concludes result }
@@ -96,7 +96,7 @@ pub fn new_array(length: &Ty) -> Verdict
     }
 }
 
-/// What the condition of `if` or `while` comes to.
+/// The verdict on the condition of `if` or `while`.
 #[tactic(auto, unfolding(crate::specs::Table::condition))]
 pub fn condition(value: &Ty) -> Verdict
     ensures { condition value.now ≡ Concludes result }
@@ -108,7 +108,7 @@ pub fn condition(value: &Ty) -> Verdict
     }
 }
 
-/// What a print comes to.
+/// The verdict on what is printed.
 #[tactic(auto, unfolding(crate::specs::Table::print))]
 pub fn print(value: &Ty) -> Verdict
     ensures { print value.now ≡ Concludes result }
@@ -120,7 +120,7 @@ pub fn print(value: &Ty) -> Verdict
     }
 }
 
-/// What a store to an item of an array comes to.
+/// The verdict on an assignment to an element of an array.
 #[tactic(auto, unfolding(crate::specs::Table::store))]
 pub fn store(array: &Ty, at: &Ty, value: &Ty) -> Verdict
     ensures { store array.now at.now value.now ≡ Concludes result }
@@ -190,7 +190,7 @@ fn are_accepted<A: Asking>(
     Ok(true)
 }
 
-/// What a call of a method comes to by the types of its arguments.
+/// The verdict on a call of a method, by the types of its arguments.
 fn arguments<A: Asking>(
     alloc: Global,
     asking: &mut A,
@@ -293,7 +293,7 @@ pub fn new_object<A: Asking>(
     Ok(Verdict::Is(Ty::Class(class.copy(alloc)?)))
 }
 
-/// What an assignment comes to.
+/// The verdict on an assignment.
 pub fn assign<A: Asking>(
     alloc: Global,
     asking: &mut A,
@@ -314,7 +314,7 @@ pub fn assign<A: Asking>(
     }
 }
 
-/// What a return comes to.
+/// The verdict on a return.
 pub fn return_value<A: Asking>(
     alloc: Global,
     asking: &mut A,

@@ -52,7 +52,7 @@ impl<'a> Scope<'a> {
         }
     }
 
-    /// The scope of a method of the class; adds that the name of a formal or local stands before it.
+    /// The scope of a method of the class. Adds a mistake for each formal or local whose name stands before it.
     pub fn of_method(
         alloc: Global,
         class: &'a Name,
@@ -76,7 +76,7 @@ impl<'a> Scope<'a> {
         })
     }
 
-    /// The class of the method; none in main.
+    /// The class of the method, or `None` in main.
     pub fn class(&self) -> Option<&Name>
         ensures { option_copied result ≡ self.now.class }
     {
@@ -91,7 +91,7 @@ impl<'a> Scope<'a> {
     }
 }
 
-/// The token of a variable's name.
+/// The number of the token of a variable's name.
 fn name_mark(variable: &Variable) -> usize
     ensures { result ≡ name_mark variable.now }
 {

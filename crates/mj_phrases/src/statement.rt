@@ -24,7 +24,7 @@ pub struct Target<'a> {
     pub name_mark: usize,
 }
 
-/// Notes what is wrong.
+/// Adds the mistake of a verdict, if it is one.
 pub fn report<E>(mistakes: &mut Vec<Mistake>, mark: usize, verdict: Verdict) -> Result<(), Stop<E>>
     ensures err { IfErr result (λ e. e ≡ OutOfMemory) }
     ensures ok { OnOk result (mistakes.new.items ≡ add_own mistakes.old.items mark verdict) }
@@ -38,7 +38,7 @@ pub fn report<E>(mistakes: &mut Vec<Mistake>, mark: usize, verdict: Verdict) -> 
     }
 }
 
-/// The condition of `if` or `while`.
+/// Checks the condition of `if` or `while`.
 #[tactic(auto, unfolding(crate::specs::Phrases::phrase_step, crate::specs::Phrases::parts_step))]
 pub fn check_condition<A: Asking>(
     alloc: Global,
@@ -68,7 +68,7 @@ pub fn check_condition<A: Asking>(
     }
 }
 
-/// What is printed.
+/// Checks what is printed.
 #[tactic(auto, unfolding(crate::specs::Phrases::phrase_step, crate::specs::Phrases::parts_step))]
 pub fn check_print<A: Asking>(
     alloc: Global,
@@ -98,7 +98,7 @@ pub fn check_print<A: Asking>(
     }
 }
 
-/// `name = value`
+/// Checks `name = value`.
 #[tactic(auto, unfolding(crate::specs::Phrases::phrase_step, crate::specs::Phrases::parts_step))]
 pub fn check_assign<A: Asking>(
     alloc: Global,
@@ -141,7 +141,7 @@ pub fn check_assign<A: Asking>(
     report(mistakes, target.mark, verdict)
 }
 
-/// `name[index] = value`
+/// Checks `name[index] = value`.
 #[tactic(auto, unfolding(crate::specs::Phrases::phrase_step, crate::specs::Phrases::parts_step))]
 pub fn check_store<A: Asking>(
     alloc: Global,

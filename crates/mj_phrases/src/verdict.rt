@@ -1,8 +1,8 @@
-//! What phrases come to.
+//! Verdicts on phrases.
 use mj_answer::Code;
 use mj_tree::Ty;
 
-/// What a phrase comes to.
+/// The verdict on a phrase.
 #[derive(Debug, Drop)]
 pub enum Verdict {
     /// The expression has this type.

@@ -15,7 +15,7 @@ use mj_lexer::Name;
 use mj_tree::{Exp, Ty};
 use std::alloc::{AllocError, Global};
 
-/// Notes what is wrong, and gives the type.
+/// Adds the mistake of a verdict, if it is one, and gives its type.
 pub fn note<E>(
     mistakes: &mut Vec<Mistake>,
     mark: usize,
@@ -140,7 +140,7 @@ pub fn check<A: Asking>(
     }
 }
 
-/// What a call comes to, where all its parts have types.
+/// The verdict on a call, where all its parts have types.
 fn conclude_call<A: Asking>(
     alloc: Global,
     asking: &mut A,

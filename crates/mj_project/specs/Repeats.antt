@@ -12,6 +12,6 @@ repeats_behind before [] = []
 repeats_behind before (name ∷ names) =
     is_in before name ∷ repeats_behind (before ++ name ∷ []) names
 
--- for each name, whether it stands before itself
+-- for each name, whether it stands earlier in the list, too
 unfoldable pub repeats : List (List ℕ) → List Bool
 repeats names = repeats_behind [] names

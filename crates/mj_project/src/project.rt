@@ -62,7 +62,7 @@ impl Project {
     /// The most bytes of a file's name.
     pub const MOST_NAME_BYTES: usize = 255;
 
-    /// A project of these files.
+    /// The project of these files, or the first reason why they are none.
     pub fn new(alloc: Global, files: Vec<(String, Vec<u8>)>) -> Result<Self, ProjectFault>
         ensures accepted { IfOk result (λ project. project ≡ sources_view files.items) }
         ensures accepts { IsProject (sources_view files.items)
@@ -96,7 +96,7 @@ impl Project {
     }
 }
 
-/// The first file whose name is empty or too long.
+/// The number of the first file whose name is empty or too long.
 fn bad_name(files: &[(String, Vec<u8>)]) -> Option<usize>
     ensures { result ≡ position (λ file. not (is_file_name (string_bytes file.0))) files.now }
 {
@@ -121,7 +121,7 @@ fn first_set(flags: &[bool]) -> Option<usize>
     flags.iter().position(|flag| *flag)
 }
 
-/// The first file that has the name of an earlier one.
+/// The number of the first file that has the name of an earlier one.
 fn repeated_name(alloc: Global, files: &[(String, Vec<u8>)]) -> Result<Option<usize>, AllocError>
     ensures { IfOk result (λ number.
         number ≡ position (λ (flag : Bool). flag) (repeats (names_of (sources_view files.now)))) }

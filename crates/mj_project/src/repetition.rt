@@ -5,7 +5,7 @@ ghost use Rattle.mj_project.specs.Repeats.{repeats};
 use std::alloc::{AllocError, Global};
 use std::collections::BTreeSet;
 
-/// For each name, whether it stands before itself.
+/// For each name, whether it stands earlier in the list, too.
 pub fn repeats(alloc: Global, names: &[&str]) -> Result<Vec<bool>, AllocError>
     ensures { IfOk result (λ flags. flags.items ≡ repeats (map (λ name. name.now) names.now)) }
 {

@@ -1,4 +1,4 @@
--- The list of a class's faults has just those of the rows.
+-- The list of a class's diagnostics has just those of the rows.
 use Rattle.std.proofs.Common.{◌≡◌, ℕ, ◌<◌, Bool, true, false, not, List, [], take, slice_get, Option, Some, None, is_none, option_map, Contains, refl, sym, ap, subst, ◌∙◌, inl, inr, true≢false, ◌↔◌}
 use Rattle.std.proofs.lemmas.List.Elements.{Contains-append_left, Contains-append_right, Contains-append_cases}
 use Rattle.mj_answer.proofs.Alike.{Contains-first}

@@ -1,4 +1,4 @@
--- Faults in numbered lists.
+-- Diagnostics in numbered lists.
 use Rattle.std.proofs.Common.{◌≡◌, ℕ, zero, suc, ◌+◌, ◌<◌, Bool, true, false, List, [], ◌∷◌, slice_get, Some, Contains, refl, sym, subst, arith, inl, inr}
 use Rattle.std.proofs.lemmas.Option.{none-some, same_Some}
 use Rattle.std.proofs.lemmas.List.Elements.{Contains-append_left, Contains-append_right, Contains-append_cases}
@@ -22,7 +22,7 @@ pub to_when : (b : Bool) (place : Place) (code : Code) → b ≡ true → Contai
 to_when true place code e = Contains-first _ []
 to_when false place code e = absurd (cc)
 
--- a fault of the item at a place
+-- a diagnostic of the item at a place
 pub record IsNumbered {A : Type 0} (faults : ℕ → Bool → A → List Diagnostic) (n : ℕ) (xs : List A) (flags : List Bool) (d : Diagnostic) : Type 0 where
   pub i : ℕ
   pub flag : Bool

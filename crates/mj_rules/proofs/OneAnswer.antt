@@ -21,7 +21,7 @@ use Rattle.mj_project.proofs.Listed.{contains_at, place_of, at_map}
 use Rattle.mj_rules.proofs.Overriding.{decl-name}
 use Rattle.mj_rules.proofs.RowLemmas.{found_stands}
 
--- one list has just these faults
+-- one list has just these diagnostics
 one_fault_list : (Fault : Place → Code → Type 0) (ds es : List Diagnostic) → AreTheFaults Fault ds → AreTheFaults Fault es → ds ≡ es
 one_fault_list Fault ds es a b =
     one_list_by Diagnostic Diagnostic (λ d. d) Before faults ds es a.ascending b.ascending

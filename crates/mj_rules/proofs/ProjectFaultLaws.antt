@@ -1,4 +1,4 @@
--- The list of a project's faults has just those of the rows.
+-- The list of a project's diagnostics has just those of the rows.
 use Rattle.std.proofs.Common.{◌≡◌, ℕ, zero, suc, ◌<◌, Bool, true, false, not, ◌&&◌, ◌||◌, List, [], ◌∷◌, take, slice_get, Option, Some, None, is_some, Contains, refl, sym, ap, subst, ◌∙◌, inl, inr, true≢false}
 use Rattle.std.proofs.Math.Bool.{or_assoc}
 use Rattle.std.proofs.lemmas.Option.{none-some, same_Some}
@@ -32,7 +32,7 @@ or_false false = refl
 
 -- ---- the files
 
--- a fault of the file at a place
+-- a diagnostic of the file at a place
 record IsFileFault (before : Bool) (fs : List SourceFile) (d : Diagnostic) : Type 0 where
   i : ℕ
   f : SourceFile

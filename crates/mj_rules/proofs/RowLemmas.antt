@@ -91,7 +91,7 @@ sig_in-rows ks x =
     ap (option_map row_sig) (find_rows x (methods_along ks) ∙ ap (option_map method_row) (rows_by ks x (find (λ (r : Name × Method). bytes_eq r.1.name x) (methods_along ks)) (nearest (own_method x) ks) refl refl))
     ∙ sig_of_rows (nearest (own_method x) ks)
 
--- numbered faults by equal functions
+-- numbered diagnostics by equal functions
 pub each_same : {A : Type 0} (f g : ℕ → Bool → A → List Diagnostic) → ((n : ℕ) (b : Bool) (x : A) → f n b x ≡ g n b x) → (n : ℕ) (xs : List A) (flags : List Bool) → each_numbered f n xs flags ≡ each_numbered g n xs flags
 each_same f g same n [] flags = refl
 each_same f g same n (x ∷ xs) [] = refl

@@ -1,4 +1,4 @@
--- Steps of the loops that collect faults.
+-- Steps of the loops that collect diagnostics.
 use Rattle.std.proofs.Common.{◌≡◌, ℕ, zero, suc, ◌+◌, ◌<◌, ◌≤◌, Bool, true, false, not, ◌&&◌, ◌||◌, List, [], ◌∷◌, ◌++◌, length, get_or, drop, slice_get, Option, Some, None, option_map, refl, sym, ap, ap₂, ◌∙◌, arith, append_assoc, append-nil, ◌⊎◌, inl, inr, if◌then◌else◌}
 use Rattle.std.proofs.Math.Bool.{or_assoc}
 use Rattle.std.proofs.lemmas.Option.{none-some, same_Some, slice_get-get_or, slice_get_read, get_or_from_slice_get}
@@ -108,7 +108,7 @@ differ (v ∷ vs) (t ∷ ts) no_way = both (same_type v.ty t) (differ vs ts (λ 
     both true h = h
     both false h = refl
 
--- ---- faults of repeated classes
+-- ---- diagnostics of repeated classes
 
 pub none_added : (old : List Diagnostic) (repeated : Bool) (o : Option SourceFile) (n : ℕ) → (repeated ≡ false) ⊎ (o ≡ None) → old ≡ old ++ (if repeated then repeated_class o n else [])
 none_added old repeated o n (inl e) = sym (ap (λ b. old ++ (if b then repeated_class o n else [])) e ∙ append-nil old)

@@ -30,7 +30,7 @@ set_of compare (x ∷ xs) = with_element compare x (set_of compare xs)
 abbrev pub name_order : Name → Name → Ordering
 name_order m n = slice_cmp nat_cmp m n
 
--- faults by the kind of their place, the name in it, the number in it, then the code
+-- diagnostics by the kind of their place, the name in it, the number in it, then the code
 abbrev pub fault_order : Diagnostic → Diagnostic → Ordering
 fault_order d e =
     ordering_then (nat_cmp (place_order d.place) (place_order e.place))

@@ -1,4 +1,4 @@
--- The faults of a class, one case a row.
+-- The diagnostics of a class, one case a row.
 use Rattle.std.specs.Prelude.{◌≡◌, ◌≢◌, ℕ, ◌<◌, List, ◌∷◌, ◌++◌, Some, None, Contains, codes, slice_get}
 use Rattle.mj_tree.specs.Trees.{Name, Statement, Method, Main}
 use Rattle.mj_tree.specs.declared.tree.Ty.TheVariants as types

@@ -1,4 +1,4 @@
--- The same faults as lists, in the order in which a checker comes upon them.
+-- The same diagnostics as lists, in the order in which a checker comes upon them.
 use Rattle.std.specs.Prelude.{ℕ, ◌+◌, Bool, true, false, ◌&&◌, ◌||◌, not, is_some, is_none, List, [], ◌∷◌, ◌++◌, map, drop, Option, Some, None, option_map, Contains, slice_get, if◌then◌else◌}
 use Rattle.std.specs.Str.{bytes_eq}
 use Rattle.std.specs.List.{list_any}
@@ -28,7 +28,7 @@ use Rattle.mj_rules.specs.ClassFaults.{main_word, main_of}
 abbrev pub fault : Place → Code → Diagnostic
 fault place code = record { place = place; code = code }
 
--- a fault where the test holds
+-- a diagnostic where the test holds
 abbrev pub when_fault : Bool → Place → Code → List Diagnostic
 when_fault b place code = if b then fault place code ∷ [] else []
 

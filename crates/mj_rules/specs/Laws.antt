@@ -1,4 +1,4 @@
--- What holds of the definitions.
+-- Laws of the definitions.
 use Rattle.std.specs.Prelude.{◌≡◌, ◌↔◌, ℕ, List, Some, Contains}
 use Rattle.mj_tree.specs.Trees.{Name, Method, Main, File}
 use Rattle.mj_tree.specs.declared.place.Place.{Place}
@@ -22,7 +22,7 @@ use Rattle.mj_rules.specs.FaultLists.{fault, project_faults, class_faults}
 abbrev pub SentenceLaw : Type 0
 SentenceLaw = (bytes : List ℕ) (tree : File) → IsSentence bytes tree ↔ (file_of bytes ≡ Some tree)
 
--- the lists have just the faults of the rows
+-- the lists have just the diagnostics of the rows
 abbrev pub ProjectFaultLaw : Type 0
 ProjectFaultLaw =
     (files : List SourceFile) (place : Place) (code : Code)
@@ -35,7 +35,8 @@ ClassFaultLaw =
     → Contains (class_faults (classes_in files) k) (fault place code)
     ↔ FaultOfClass (classes_in files) k place code
 
--- what the check of a body is told is what chains, accepted types and members are
+-- the answers that the check of a body gets agree with the chains, the accepted types and the
+-- members
 abbrev pub WorldLaw : Type 0
 WorldLaw = (cs : List ClassDecl) → Says cs (world_of cs)
 

@@ -1,4 +1,4 @@
--- The faults of a project itself, one case a row.
+-- The diagnostics of a project itself, one case a row.
 use Rattle.std.specs.Prelude.{◌≡◌, ℕ, ◌<◌, List, Some, IsSome, Contains, slice_get}
 use Rattle.mj_tree.specs.Trees.{File}
 use Rattle.mj_tree.specs.declared.place.Place.{Place}

@@ -16,7 +16,7 @@ use Rattle.mj_rules.specs.Sentences.{classes_in}
 use Rattle.mj_rules.specs.ProjectFaults.{FaultOfProject}
 use Rattle.mj_rules.specs.ClassFaults.{FaultOfClass}
 
--- the faults, each once, in ascending order
+-- the diagnostics, each once, in ascending order
 pub record AreTheFaults (Fault : Place → Code → Type 0) (faults : List Diagnostic) : Type 0 where
   pub ascending : IsAscending faults
   pub exactly : (place : Place) (code : Code)
@@ -41,20 +41,20 @@ pub record IsTableOf (cs : List ClassDecl) (c : Name) (table : ClassTableValue) 
   pub methods_ascend : IsAscendingByName (λ row. row.name) table.methods
   pub methods : (row : MethodRowValue) → Contains table.methods row ↔ IsMethodOf cs c row
 
--- the table and the faults of the first class of a name
+-- the table and the diagnostics of the first class of a name
 pub record IsAnswerFor (cs : List ClassDecl) (answer : ClassAnswerValue) : Type 0 where
   pub class : ClassDecl
   pub first : decl cs answer.name ≡ Some class
   pub table : IsTableOf cs answer.name answer.table
   pub faults : AreTheFaults (FaultOfClass cs class) answer.faults
 
--- each declared class with its table and its faults, ascending by name
+-- each declared class with its table and its diagnostics, ascending by name
 pub record AreClassAnswers (cs : List ClassDecl) (answers : List ClassAnswerValue) : Type 0 where
   pub ascending : IsAscendingByName (λ class. class.name) answers
   pub each : All (IsAnswerFor cs) answers
   pub all : (k : ClassDecl) → Contains cs k → Contains (map (λ class. class.name) answers) k.name
 
--- the project's own faults, and its classes
+-- the project's own diagnostics, and its classes
 pub record Rules (files : List SourceFile) (answer : AnswerValue) : Type 0 where
   pub faults : AreTheFaults (FaultOfProject files) answer.faults
   pub classes : AreClassAnswers (classes_in files) answer.classes

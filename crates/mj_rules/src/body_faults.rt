@@ -1,4 +1,4 @@
-//! The faults of the bodies of a class.
+//! The diagnostics of the bodies of a class.
 ghost use Rattle.std.specs.Prelude.{◌≡◌, [], ◌++◌, if◌then◌else◌, map, OnOk};
 ghost use Rattle.mj_tree.specs.Views.{method_view};
 ghost use Rattle.mj_members.specs.Classes.{class_ref_view};
@@ -107,7 +107,7 @@ fn add_main(
     }
 }
 
-/// Adds the faults of the bodies of a class.
+/// Adds the diagnostics of the bodies of a class.
 pub fn add_body_faults(
     alloc: Global,
     faults: &mut Vec<Diagnostic>,

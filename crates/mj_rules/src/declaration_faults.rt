@@ -1,4 +1,4 @@
-//! The faults of the declarations of a class.
+//! The diagnostics of the declarations of a class.
 ghost use Rattle.std.specs.Prelude.{◌≡◌, ◌++◌, map, filter, Some, IfOk, OnOk, is_some, option_map, option_copied};
 ghost use Rattle.mj_tree.specs.Views.{method_view};
 ghost use Rattle.mj_answer.specs.Order.{IsAscendingByName};
@@ -37,7 +37,7 @@ fn is_undeclared(declarations: &Declarations, ty: &Ty) -> bool
     }
 }
 
-/// Adds the fault of a class that extends an undeclared name.
+/// Adds the diagnostic of a class that extends an undeclared name.
 pub fn add_superclass_fault(
     faults: &mut Vec<Diagnostic>,
     declarations: &Declarations,
@@ -60,7 +60,7 @@ pub fn add_superclass_fault(
     Ok(())
 }
 
-/// Adds the fault of a class whose chain runs into a cycle.
+/// Adds the diagnostic of a class whose chain runs into a cycle.
 pub fn add_chain_fault(faults: &mut Vec<Diagnostic>, end: &End) -> Result<(), AllocError>
     ensures { OnOk result
         (faults.new.items
@@ -282,7 +282,7 @@ fn add_method_faults(
     add_methods(alloc, faults, &rest, methods)
 }
 
-/// The faults of the declarations of a class with this chain.
+/// The diagnostics of the declarations of a class with this chain.
 pub fn declaration_faults(
     alloc: Global,
     declarations: &Declarations,

@@ -1,4 +1,4 @@
-//! What holds of the definitions.
+//! Laws of the definitions.
 ghost use Rattle.mj_rules.specs.Laws.{SentenceLaw, ProjectFaultLaw, ClassFaultLaw, WorldLaw, AnswerLaw};
 
 /// The tree that is computed for bytes is the one that they are a sentence of.
@@ -6,17 +6,18 @@ pub fn sentence_laws()
     ensures { SentenceLaw }
 {}
 
-/// The computed list of a project's faults has those of the rows and no other.
+/// The computed list of a project's diagnostics has those of the rows and no other.
 pub fn project_fault_laws()
     ensures { ProjectFaultLaw }
 {}
 
-/// The computed list of a class's faults has those of the rows and no other.
+/// The computed list of a class's diagnostics has those of the rows and no other.
 pub fn class_fault_laws()
     ensures { ClassFaultLaw }
 {}
 
-/// What the check of a body is told about declarations is what chains, accepted types and members are.
+/// The answers that the check of a body gets about declarations agree with the chains, the accepted types and the
+/// members.
 pub fn world_laws()
     ensures { WorldLaw }
 {}

@@ -1,4 +1,4 @@
-//! The faults of a project itself.
+//! The diagnostics of a project itself.
 ghost use Rattle.std.specs.Prelude.{◌≡◌, [], ◌++◌, if◌then◌else◌, ◌||◌, ◌<◌, ◌≤◌, ℕ, List, map, option_map, length, false, All, IfOk, OnOk, slice_get};
 ghost use Rattle.mj_tree.specs.Views.{file_view};
 ghost use Rattle.mj_members.specs.Classes.{class_ref_view, classes_view};
@@ -71,7 +71,7 @@ pub fn add_file_faults(
     Ok(main_before)
 }
 
-/// Adds the fault of a class, given by its file and its number there, if an earlier class has its name.
+/// Adds the diagnostic of a class, given by its file and its number there, if an earlier class has its name.
 fn add_repeated_class(
     alloc: Global,
     faults: &mut Vec<Diagnostic>,
@@ -111,7 +111,7 @@ fn repeated_classes(alloc: Global, classes: &[ClassRef]) -> Result<Vec<bool>, Al
     repeats(alloc, &names)
 }
 
-/// Adds the faults of the classes whose names earlier classes have.
+/// Adds the diagnostics of the classes whose names earlier classes have.
 pub fn add_repeated_classes(
     alloc: Global,
     faults: &mut Vec<Diagnostic>,
@@ -141,7 +141,7 @@ pub fn add_repeated_classes(
     Ok(())
 }
 
-/// The faults of a project itself.
+/// The diagnostics of a project itself.
 pub fn project_faults(
     alloc: Global,
     project: &Project,

@@ -1,4 +1,4 @@
-//! Where a fault stands.
+//! Where a diagnostic stands.
 ghost use Rattle.std.specs.Prelude.{◌≡◌, IfOk};
 
 use mj_lexer::Name;

@@ -87,7 +87,7 @@ pub enum Exp {
         method: Name,
         arguments: Vec<Exp>,
     },
-    /// A literal with its value, where 2147483648 stands for all greater ones.
+    /// A literal with its value, which saturates at 2147483648.
     Literal {
         mark: usize,
         value: u32,

@@ -1,4 +1,4 @@
--- What holds of the definitions.
+-- Laws of the definitions.
 use Rattle.std.specs.Prelude.{◌≡◌, ◌↔◌, Contains}
 use Rattle.mj_tree.specs.Trees.{Name, Method, Main}
 use Rattle.mj_phrases.specs.declared.verdict.Mistake.{Mistake}

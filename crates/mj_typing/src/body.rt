@@ -15,7 +15,7 @@ use mj_phrases::{
 use mj_tree::{Exp, Stmt, Ty};
 use std::alloc::Global;
 
-/// A value that is returned.
+/// Checks a returned value.
 #[tactic(auto, unfolding(mj_phrases::specs::Phrases::phrase_step, mj_phrases::specs::Phrases::parts_step))]
 pub fn check_return<A: Asking>(
     alloc: Global,
@@ -43,7 +43,7 @@ pub fn check_return<A: Asking>(
     report(mistakes, mark, verdict)
 }
 
-/// A statement and those inside it.
+/// Checks a statement and those inside it.
 #[cycle(statements)]
 #[inline(never)]
 #[tactic(auto, unfolding(mj_phrases::specs::Phrases::phrase_step, mj_phrases::specs::Phrases::parts_step, crate::specs::Bodies::statement_step, crate::specs::Bodies::statements_step))]
@@ -115,7 +115,7 @@ pub fn check_statement<A: Asking>(
     }
 }
 
-/// Statements in their order.
+/// Checks statements in their order.
 #[cycle(statements)]
 #[inline(never)]
 pub fn check_statements<A: Asking>(

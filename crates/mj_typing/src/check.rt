@@ -16,7 +16,7 @@ use std::alloc::{AllocError, Global};
 /// The token of a method's return type, behind `public`.
 const RETURN_TYPE_MARK: usize = 1;
 
-/// Notes that a declared type names no class.
+/// Adds the mistake of a declared type that names no class.
 fn report_undeclared(mistakes: &mut Vec<Mistake>, mark: usize) -> Result<(), AllocError>
     ensures { OnOk result
         (mistakes.new.items ≡ mistakes.old.items ++ record { mark = mark; code = E206 } ∷ []) }
@@ -28,7 +28,7 @@ fn report_undeclared(mistakes: &mut Vec<Mistake>, mark: usize) -> Result<(), All
     Ok(())
 }
 
-/// A declared type: a class is to be declared.
+/// Checks a declared type: a class has to be declared.
 fn check_type<A: Asking>(
     alloc: Global,
     asking: &mut A,
@@ -53,7 +53,7 @@ fn check_type<A: Asking>(
     Ok(())
 }
 
-/// The types of variables in their order.
+/// Checks the types of variables in their order.
 fn check_types<A: Asking>(
     alloc: Global,
     asking: &mut A,
@@ -74,7 +74,7 @@ fn check_types<A: Asking>(
     Ok(())
 }
 
-/// The types that a method declares: that of its return, its formals and its locals.
+/// Checks the types that a method declares: its return type, its formals and its locals.
 #[tactic(auto, unfolding(crate::specs::Bodies::declared_step))]
 fn check_declared<A: Asking>(
     alloc: Global,

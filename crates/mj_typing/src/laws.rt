@@ -1,4 +1,4 @@
-//! What holds of the definitions.
+//! Laws of the definitions.
 ghost use Rattle.mj_typing.specs.Laws.{BodyLaws};
 
 /// The lists of mistakes have each mistake and no other, and a check that asks concludes with them.

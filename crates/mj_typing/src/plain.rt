@@ -70,7 +70,7 @@ impl<'a, D: Environment> Asking for Plain<'a, D> {
     }
 }
 
-/// What a check that nobody refuses an answer came to.
+/// The outcome of a check that was refused no answer.
 fn mistakes_of(outcome: Result<Vec<Mistake>, Stop<Infallible>>) -> Result<Vec<Mistake>, AllocError>
     ensures { IfOk result (λ mistakes. outcome ≡ Ok mistakes) }
 {

@@ -42,7 +42,7 @@ item_at [] i lt = absurd (omega arith)
 item_at (x ∷ xs) ℕ.zero lt = (x, refl)
 item_at (x ∷ xs) (suc i) lt = item_at xs i (omega arith)
 
--- an entry is what the session tells of its key
+-- an entry is what the session says about its key
 pub told_of_entry : (s : SessionValue) → IsSession s → (r : Entry) → Contains (entries s) r → entry_at s r.key ≡ Some r
 told_of_entry s session r c =
     let lt : c.0 < length s.records = let l = c.1 in omega (arith, l, length-map s.records (entry_of s.records)) in
@@ -50,13 +50,13 @@ told_of_entry s session r c =
     let e : entry_of s.records x.0 ≡ r = ap (entry_of s.records) (sym x.1) ∙ (sym (get_or-map (entry_of s.records) s.records c.0 x.0 r lt) ∙ c.2) in
     subst (λ (y : Entry). entry_at s y.key ≡ Some y) e (entry_of_place s session c.0 x.0 lt x.1)
 
--- what a session tells of a key is one of its entries
+-- what a session says about a key is one of its entries
 pub entry_told : (s : SessionValue) (q : Key) (r : Entry) → entry_at s q ≡ Some r → Contains (entries s) r
 entry_told s q r has = found_at (λ (e : Entry). is_eq (key_cmp e.key q)) (entries s) r has
 
 module _ (mean : Meaning) (reads : ReadLists) (laws : RunnerLaws mean reads) (past : Option SessionValue) (p : Project) (s : SessionValue)
     (project : IsProject p) (own : ReadsOwnFiles reads p) (next : IsNextSession mean reads past p s) where
-  -- what the session tells of a key that is read
+  -- what the session says about a key that is read
   pub told : (q : Key) → IsReadIn reads p q → (r : Entry) × (entry_at s q ≡ Some r) × (r.value ≡ mean p q)
   told q inn =
       let a = next.told.all q inn in
@@ -139,7 +139,7 @@ none_graph = record {
   closed = λ q r e has c. absurd (none-some r has);
 }
 
--- a project that the past is one of, or any where there is none
+-- a project that the previous session is one of, or any where there is none
 pub known : (mean : Meaning) (reads : ReadLists) (past : Option SessionValue) → IfSome past (λ s. IsOfSomeProject mean reads (entry_at s)) → (p : Project) → IsProject p
     → (old : Project) × IsProject old × AreMeant mean reads (past_entry past) old
 known mean reads None h p project = (p, project, λ q r has. absurd (none-some r has))

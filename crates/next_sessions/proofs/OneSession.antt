@@ -1,4 +1,4 @@
--- Entries tell the records that they are of.
+-- Entries determine their records.
 use Rattle.std.proofs.Common.{◌≡◌, ℕ, suc, zero, ◌<◌, List, [], ◌∷◌, map, take, length, get_or, Option, refl, sym, ap, ◌∙◌, subst, inl, inr, arith, slice_index_or}
 use Rattle.std.specs.List.{AllByRecursion}
 use Rattle.std.specs.declared.cmp.Ordering.TheVariants.{Less, Equal}

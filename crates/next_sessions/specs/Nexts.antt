@@ -1,4 +1,4 @@
--- The session that a past and a project decide, which knows no event.
+-- The session that a previous session and a project decide, whatever the events are.
 use Rattle.std.specs.Prelude.{◌≡◌, ℕ, List, Option, IfSome, Contains}
 use Rattle.item_ids.specs.declared.key.Key.TheVariants.{Source}
 use Rattle.mj_project.specs.Projects.{names_of}
@@ -13,15 +13,15 @@ use Rattle.graph_rules.specs.Next.{IsOfProject, IsReadIn, HasNoClash, AreNext}
 abbrev pub IsOfSomeProject : Meaning → ReadLists → Past → Type 0
 IsOfSomeProject mean reads now = (p : Project) × IsOfProject mean reads now p
 
--- The past, where there is one, is a session of some project, and of its values and those of the
--- next session over p no two that differ have one print.
+-- The previous session, where there is one, is a session of some project, and of its values and
+-- those of the next session over p no two that differ share a fingerprint.
 pub record DecidesNext (mean : Meaning) (reads : ReadLists) (past : Option SessionValue)
     (p : Project) : Type 0 where
   pub past_is : IfSome past (λ s. IsOfSomeProject mean reads (entry_at s))
   pub apart : HasNoClash mean reads (past_entry past) p
 
--- The next session of a project over the past: number and link follow the past, and it has just the
--- inputs and the keys that Answer leads to, by the project's values and reads.
+-- The next session of a project over the previous one: number and link follow that one, and it has
+-- just the inputs and the keys that Answer leads to, by the project's values and reads.
 pub record IsNextSession (mean : Meaning) (reads : ReadLists) (past : Option SessionValue)
     (p : Project) (s : SessionValue) : Type 0 where
   pub session : IsSession s

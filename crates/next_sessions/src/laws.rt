@@ -1,4 +1,4 @@
-//! What holds of next sessions.
+//! Laws of next sessions.
 ghost use Rattle.std.specs.Prelude.{◌≡◌, Option, IfSome};
 ghost use Rattle.mj_project.specs.Projects.{IsProject};
 ghost use Rattle.recorder.specs.Projects.{Project};
@@ -8,13 +8,13 @@ ghost use Rattle.sessions.specs.Spelling.{file_of};
 ghost use Rattle.graph_rules.specs.Next.{IsRight};
 ghost use Rattle.next_sessions.specs.Nexts.{DecidesNext, IsNextSession, ReadsOwnFiles};
 
-/// Two sessions that have the same number, link and entries are one.
+/// Two sessions with the same number, link and entries are equal.
 pub fn entries_tell_all()
     ensures { (a b : SessionValue) → IsSession a → IsSession b
         → a.number ≡ b.number → a.link ≡ b.link → entries a ≡ entries b → a ≡ b }
 {}
 
-/// There is but one next session, and but one file of it.
+/// There is only one next session, and only one file of it.
 pub fn one_next_session()
     ensures session { (mean : Meaning) (reads : ReadLists) (past : Option SessionValue)
         (p : Project) (a b : SessionValue)
@@ -25,7 +25,7 @@ pub fn one_next_session()
         → file_of a ≡ file_of b }
 {}
 
-/// Where the past and the project decide it, the next session is right over the past.
+/// Where the previous session and the project decide the next one, that is right over the previous session.
 pub fn next_is_right()
     ensures { (mean : Meaning) (reads : ReadLists) → RunnerLaws mean reads
         → (past : Option SessionValue) (p : Project) (s : SessionValue) → IsProject p

@@ -1,4 +1,4 @@
-//! The next session of a project over a past: there is but one, and it is right.
+//! The next session of a project over a previous one: there is only one, and it is right.
 #![tactic(auto)]
 
 mod laws;

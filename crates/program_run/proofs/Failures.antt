@@ -79,7 +79,7 @@ words_not_chain (words.Help text) = λ e. absurd cc
 words_not_chain (words.Refused text) = λ e. absurd cc
 words_not_chain words.OutOfMemory = λ e. absurd cc
 
--- a run that ends so ends in no third way
+-- a run with this end has no other
 not_third : (one s t : Status) → Ends one s → t ≢ one → t ≢ status.OutOfMemory → s ≢ t
 not_third one s t (inl e) other never = λ same. other (sym same ∙ e)
 not_third one s t (inr e) other never = λ same. never (sym same ∙ e)

@@ -57,7 +57,7 @@ prints_check given report s a b c d reports ends number =
     let all = delivered (λ r. ReportsCheck given r ⊎ TellsHelp r) report s a b c d reports ends number in
     record { report = report; reports = all.0; written = all.1; ends = all.2 }
 
--- want of memory ends neither so nor so
+-- a run that is out of memory ends neither clean nor with diagnostics
 pub silent : (s : Status) (Said : Type 0) → (s ≡ status.Refused) ⊎ ((s ≡ status.OutOfMemory) × Said) → EndsWithAnswer (status_number s) → ⊥
 silent s Said (inl refused) (inl ends) = absurd cc
 silent s Said (inl refused) (inr ends) = absurd cc
@@ -78,7 +78,7 @@ prints_refusal held given report status.ChainRefused a b c d reports (inr writte
     record { report = report; reports = reports (sym written.0); written = written.1 }
 prints_refusal held given report status.OutOfMemory a b c d reports written number = absurd cc
 
--- want of memory is no refused chain
+-- out of memory is no refused chain
 pub no_refusal : (s : Status) (Said : Type 0) → (s ≡ status.Refused) ⊎ ((s ≡ status.OutOfMemory) × Said) → status_number s ≡ 3 → ⊥
 no_refusal s Said (inl refused) number = absurd cc
 no_refusal s Said (inr said) number = let out : s ≡ status.OutOfMemory = said.0 in absurd cc

@@ -10,8 +10,8 @@ use Rattle.program_run.specs.Endings.{status_of_answer}
 use Rattle.program_run.specs.Lines.{is_clean, IsFaultText}
 use Rattle.program_run.specs.declared.report.Report.{Report}
 
--- The text of the session's answer, and behind the notes a line for each of its faults with its place
--- in the files, and a line on the session.
+-- The text of the session's answer, and behind the notes a line for each of its diagnostics with
+-- its place in the files, and a line on the session.
 pub record TellsSession (files : List SourceFile) (notes : List ℕ) (session : SessionValue)
     (report : Report) : Type 0 where
   pub answer : AnswerValue

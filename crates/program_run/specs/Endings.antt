@@ -10,12 +10,12 @@ use Rattle.program_run.specs.declared.report.Status.TheVariants as status
 use Rattle.cached_check.specs.declared.fault.CheckFault.TheVariants as cache
 use Rattle.command_line.specs.declared.asked.WordsFault.TheVariants as words
 
--- an answer without faults is clean
+-- an answer without diagnostics is clean
 abbrev pub status_of_answer : Bool → Status
 status_of_answer true = status.Clean
 status_of_answer false = status.Diagnostics
 
--- help that was asked for is clean, and every other failure but want of memory is refused
+-- help that was asked for is clean, and every other failure but out of memory is refused
 abbrev pub status_of_failure : Failure → Status
 status_of_failure (failure.Words (words.Help text)) = status.Clean
 status_of_failure (failure.Words (words.Refused text)) = status.Refused

@@ -6,12 +6,12 @@ use Rattle.mj_project.specs.Projects.{SourceFile}
 use Rattle.fault_lines.specs.FaultLines.{AreLinesOf}
 use Rattle.fault_lines.specs.declared.lines.FaultLine.{FaultLine}
 
--- neither the project nor a class has a fault
+-- neither the project nor a class has a diagnostic
 abbrev pub is_clean : AnswerValue → Bool
 is_clean answer =
     length answer.faults == 0 && list_all (λ class. length class.faults == 0) answer.classes
 
--- the file, its line and its column, if the fault has them
+-- the file, its line and its column, if the diagnostic has them
 abbrev pub place_words : Option (List ℕ) → Option (ℕ × ℕ) → List ℕ
 place_words (Some file) (Some at) = file ++ codes ":" ++ decimal at.0 ++ codes ":" ++ decimal at.1
 place_words (Some file) None = file
@@ -23,14 +23,14 @@ line_text line =
     place_words (option_map (λ file. file.now) line.file) line.at ++ codes ": E"
     ++ decimal (code_number line.code) ++ codes "\n"
 
--- the lines of the answer's faults, each at its place in the files
+-- the lines of the answer's diagnostics, each at its place in the files
 pub record IsFaultText (files : List SourceFile) (answer : AnswerValue)
     (text : List ℕ) : Type 0 where
   pub lines : List FaultLine
   pub each : AreLinesOf files answer lines
   pub joined : text ≡ flat_map line_text lines
 
--- why files are no project; want of memory has no text
+-- why files are no project; out of memory has no text
 abbrev pub refusal_words : ProjectFault → List ℕ
 refusal_words (RepeatedFile file) =
     codes "refused: 3.1 RepeatedFile(" ++ decimal file ++ codes ")\n"

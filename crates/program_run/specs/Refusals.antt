@@ -18,7 +18,7 @@ two a b = codes "(" ++ decimal a ++ codes ", " ++ decimal b ++ codes ")"
 abbrev pub three : ℕ → ℕ → ℕ → List ℕ
 three a b c = codes "(" ++ decimal a ++ codes ", " ++ decimal b ++ codes ", " ++ decimal c ++ codes ")"
 
--- why a file is that of no session; want of memory has no text
+-- why a file is that of no session; out of memory has no text
 abbrev pub file_words : FileFault → List ℕ
 file_words file.BadMagic = codes "11.1 BadMagic"
 file_words file.Version = codes "11.2 Version"
@@ -34,7 +34,7 @@ file_words (file.BadKey n) = codes "11.11 BadKey" ++ one n
 file_words file.Number = codes "11.12 Number"
 file_words file.OutOfMemory = codes ""
 
--- why files are no accepted chain; want of memory has no text
+-- why files are no accepted chain; out of memory has no text
 abbrev pub chain_words : AuditFault → List ℕ
 chain_words chain.EmptyChain = codes "14.1 EmptyChain"
 chain_words (chain.File k why) = codes "14.2 File(" ++ decimal k ++ codes ", " ++ file_words why ++ codes ")"

@@ -22,8 +22,8 @@ use Rattle.program_run.specs.declared.report.Report.{Report}
 use Rattle.program_run.specs.declared.report.Status.{Status}
 use Rattle.program_run.specs.declared.report.Status.TheVariants as status
 
--- The answer that the rules give files of these names: its text, a line for each of its faults with
--- its place, and the status that it ends with.
+-- The answer that the rules give files of these names: its text, a line for each of its diagnostics
+-- with its place, and the status that it ends with.
 pub record ReportsOn (names : List (List ℕ)) (report : Report) : Type 0 where
   pub files : List SourceFile
   pub answer : AnswerValue

@@ -18,8 +18,8 @@ use std::fs;
 use std::io::{BufReader, Read};
 use std::rt::Files;
 
-/// The report on the chain of the session files of these names, the first session's first. Each file is read once, and let
-/// go before the next is opened.
+/// The report on the chain of the session files of these names, the first session's first. Each file is read once, and
+/// closed before the next is opened.
 pub(crate) fn audit<R: Files + AllocGlobal>(rt: &R, names: Vec<String>) -> Result<Report, Failure>
     ensures reports { IfOk result (AuditsTo (map string_bytes names.items)) }
     ensures failed { IfErr result
@@ -49,7 +49,7 @@ fn take_files<R: Files + AllocGlobal>(rt: &R, names: Vec<String>) -> Result<Chai
     Ok(auditor)
 }
 
-// Opens the file of this name and takes it behind those taken before.
+// Opens the file of this name, and takes it as the next one.
 fn take_file<R: Files + AllocGlobal>(
     rt: &R,
     auditor: &mut ChainAuditor,
@@ -66,7 +66,7 @@ fn take_file<R: Files + AllocGlobal>(
     }
 }
 
-// Takes an opened file, which has this name, behind those taken before.
+// Takes an opened file, which has this name, as the next one.
 fn take_opened<F: Read + Drop>(
     alloc: Global,
     auditor: &mut ChainAuditor,
@@ -88,7 +88,7 @@ fn take_opened<F: Read + Drop>(
     }
 }
 
-// The failure of a run that meets this fault at the file of this name.
+// The failure of a run with this fault at the file of this name.
 fn failure_in(name: String, fault: AuditFault) -> Failure
     ensures { result ≡ failure_of name fault }
 {

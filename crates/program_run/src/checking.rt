@@ -18,8 +18,8 @@ use std::rt::Files;
 use std::sync::Wait;
 use std::thread::Threads;
 
-/// The report on the project of these files by the session that comes behind the last one of the cache, whose workers are
-/// threads. All of it is made before the session's file is written.
+/// The report on a check of these files over the cache, by the session that follows the last one there, whose workers
+/// are threads. All of it is made before the session's file is written.
 pub(crate) fn check<R: Files + AllocGlobal, T: Threads + Wait + Sync>(
     rt: &R,
     threads: &T,
@@ -38,12 +38,12 @@ pub(crate) fn check<R: Files + AllocGlobal, T: Threads + Wait + Sync>(
     let session = next_session(threads, alloc, past, &project, jobs)?;
     let report = session_report(alloc, &project, notes.as_str(), &session)?;
     keep(rt, cache.as_str(), place, &session, notes)?;
-    // (the run ends here: its results are left to the system, which takes them back at once)
+    // (the run ends here: the memory of its results is left to the system, which frees all of it at once)
     forget(session);
     Ok(report)
 }
 
-// What is told of a session: the notes, the faults of its answer, and how much of it was run.
+// The report on a session: the notes, the diagnostics of its answer, and how many records were executed and green.
 fn session_report(
     alloc: Global,
     project: &Project,

@@ -12,13 +12,13 @@ use std::alloc::{AllocError, AllocFailed};
 /// The first failure of a run.
 #[derive(Debug, Drop)]
 pub enum Failure {
-    /// The words are refused, or ask for help.
+    /// The command line is refused, or asks for help.
     Words(WordsFault),
     /// The file of this name can't be read.
     CannotRead(String),
     /// The files are no project.
     Project(ProjectFault),
-    /// The files are no chain of sessions that is accepted.
+    /// The files are no accepted chain of sessions.
     Chain(AuditFault),
     /// The file is that of no session.
     SessionFile(FileFault),

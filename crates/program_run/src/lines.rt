@@ -1,4 +1,4 @@
-//! The lines of standard error: one for each fault, with its place in its file.
+//! The lines of standard error: one for each diagnostic, with its place in its file.
 ghost use Rattle.std.specs.Prelude.{◌≡◌, ◌==◌, ◌++◌, IfOk, OnOk, flat_map, length, string_bytes};
 ghost use Rattle.std.specs.List.{list_all};
 ghost use Rattle.program_run.specs.Endings.{status_of_failure};
@@ -10,7 +10,7 @@ use fault_lines::{FaultLine, ReadProject, fault_lines};
 use mj_rules::{Answer, ClassAnswer, Project, ProjectFault};
 use std::alloc::{AllocError, Global};
 
-/// Whether an answer has no fault.
+/// Whether an answer has no diagnostic.
 pub(crate) fn is_clean(answer: &Answer) -> bool
     ensures { result ≡ is_clean answer.now }
 {
@@ -23,7 +23,7 @@ fn are_clean(classes: &[ClassAnswer]) -> bool
     classes.iter().all(|class| class.faults().is_empty())
 }
 
-/// A line for each fault of the project's answer, in the order of the answer's text: its place and its code.
+/// A line for each diagnostic of the project's answer, in the order of the answer's text: its place and its code.
 pub(crate) fn fault_text(
     alloc: Global,
     project: &ReadProject,
@@ -40,7 +40,7 @@ pub(crate) fn fault_text(
     Ok(text)
 }
 
-/// A line for each fault of an answer for a project's files, which are read where it has one.
+/// A line for each diagnostic of an answer for a project's files, which are read where it has one.
 pub(crate) fn fault_text_of(
     alloc: Global,
     project: &Project,
@@ -76,7 +76,7 @@ fn write_line(text: &mut String, line: &FaultLine<'_>) -> Result<(), AllocError>
     }
 }
 
-/// A refusal of the files, with its number, its name and its argument. Want of memory has no text.
+/// A refusal of the files, with its number, its name and its argument. Out of memory has no text.
 pub(crate) fn refusal_text(alloc: Global, fault: ProjectFault) -> Result<String, AllocError>
     ensures text { IfOk result (λ text. string_bytes text ≡ refusal_words fault) }
     ensures refused { IfOk result (λ _.

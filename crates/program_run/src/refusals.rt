@@ -18,7 +18,7 @@ pub(crate) fn unreadable(alloc: Global, name: &str) -> Result<String, AllocError
     format!(in alloc; "cannot read {name}\n")
 }
 
-/// Why no session is kept. Want of memory has no text.
+/// Why no session is kept. Out of memory has no text.
 pub(crate) fn cache_refusal(alloc: Global, fault: CheckFault) -> Result<String, AllocError>
     ensures { IfOk result (λ _. status_of_failure (failure.Cache fault) ≡ status.Refused) }
 {
@@ -29,7 +29,7 @@ pub(crate) fn cache_refusal(alloc: Global, fault: CheckFault) -> Result<String, 
     }
 }
 
-/// Why a chain is refused. Want of memory has no text.
+/// Why a chain is refused. Out of memory has no text.
 pub(crate) fn chain_refusal(alloc: Global, fault: AuditFault) -> Result<String, AllocError>
     ensures text { IfOk result (λ text. string_bytes text ≡ refused_line (chain_words fault)) }
     ensures refused { IfOk result (λ _.
@@ -41,7 +41,7 @@ pub(crate) fn chain_refusal(alloc: Global, fault: AuditFault) -> Result<String, 
     Ok(text)
 }
 
-/// Why a file is that of no session. Want of memory has no text.
+/// Why a file is that of no session. Out of memory has no text.
 pub(crate) fn file_refusal(alloc: Global, fault: FileFault) -> Result<String, AllocError>
     ensures text { IfOk result (λ text. string_bytes text ≡ refused_line (file_words fault)) }
     ensures refused { IfOk result (λ _.

@@ -19,7 +19,7 @@ pub enum Status {
     Clean = 0,
     /// The answer has diagnostics.
     Diagnostics = 1,
-    /// The words, the project or the session file are refused, or a file or a stream can't be used.
+    /// The command line, the project or the session file is refused, or a file or a stream can't be used.
     Refused = 2,
     /// The chain is refused.
     ChainRefused = 3,
@@ -28,7 +28,7 @@ pub enum Status {
 }
 
 impl Status {
-    /// How a run ends whose answer this is.
+    /// The end of a run with this answer.
     pub fn of_answer(answer: &Answer) -> Status
         ensures { result ≡ status_of_answer (is_clean answer.now) }
     {
@@ -115,7 +115,7 @@ pub(crate) fn deliver<W: Write, E: Write>(report: &Report, out: &mut W, err: &mu
     report.status
 }
 
-/// Says that memory ran out, and takes none for it. Where that can't be written the run is refused.
+/// Says that memory ran out, for which it takes none. Where that can't be written the run is refused.
 pub(crate) fn no_memory<E: Write>(err: &mut E) -> Status
     ensures { (result ≡ Status.Refused)
         ⊎ ((result ≡ Status.OutOfMemory)
@@ -127,7 +127,7 @@ pub(crate) fn no_memory<E: Write>(err: &mut E) -> Status
     }
 }
 
-/// Says why the system gave no words.
+/// Says why the system handed over no command line.
 pub fn no_words<E: Write>(error: &io::Error, err: &mut E) -> Status
     ensures { (result ≡ Status.Refused)
         ⊎ ((result ≡ Status.OutOfMemory) × (error_kind error.now ≡ ErrorKind.OutOfMemory)

@@ -27,8 +27,8 @@ use std::rt::Files;
 use std::sync::Wait;
 use std::thread::Threads;
 
-/// Does what the words ask for, of which the first is the program's name. It writes standard error,
-/// then standard output, and gives the exit status. Only a check starts threads.
+/// Does what the words of the command line ask for; the first is the program's name. Writes standard error, then
+/// standard output, and gives the exit status. Only a check starts threads.
 pub fn run<R: Files + AllocGlobal, T: Threads + Wait + Sync, W: Write, E: Write>(
     rt: &R,
     threads: &T,
@@ -44,7 +44,7 @@ pub fn run<R: Files + AllocGlobal, T: Threads + Wait + Sync, W: Write, E: Write>
     ensures check { AsksCheck (map string_bytes list.items) → EndsWithAnswer result
         → PrintsCheck (map string_bytes list.items) result (W.contents out.old)
         (W.contents out.new) (E.contents err.old) (E.contents err.new) }
-    // Why an audit refuses a chain, by the bytes of the files that were opened, where their type tells them.
+    // Why an audit refuses a chain, by the bytes of the files that were opened, if their type tells them.
     ensures refused { result ≡ 3 → PrintsRefusal R.File.Read.remaining
         (map string_bytes list.items) (W.contents out.old) (W.contents out.new)
         (E.contents err.old) (E.contents err.new) }
@@ -56,7 +56,7 @@ pub fn run<R: Files + AllocGlobal, T: Threads + Wait + Sync, W: Write, E: Write>
     status.number()
 }
 
-// The texts of a run, whose words are these, and its end.
+// The texts and the end of a run with these words.
 #[tactic(auto, using(crate::proofs::Failures::reports_refusal))]
 fn report_of<R: Files + AllocGlobal, T: Threads + Wait + Sync>(
     rt: &R,
@@ -71,7 +71,7 @@ fn report_of<R: Files + AllocGlobal, T: Threads + Wait + Sync>(
         → ReportsCheck (map string_bytes list.items) report ⊎ TellsHelp report) }
     ensures refused { IfOk result (λ report. report.status ≡ Status.ChainRefused
         → ReportsRefusal R.File.Read.remaining (map string_bytes list.items) report) }
-    // An audit is refused in no other way than by a file that can't be read.
+    // The report of an audit is `Refused` only because a file can't be read.
     ensures unreadable { (names : List (List ℕ))
         → AsksPlainly (map string_bytes list.items) Subcommand.Audit names → IfOk result (λ report.
         report.status ≡ Status.Refused
@@ -145,7 +145,7 @@ fn answer_report(
     })
 }
 
-// What is written of a failure. Want of memory has no text, which would take memory.
+// What is written of a failure. Out of memory has no text, which would take memory.
 fn failure_report(alloc: Global, failure: Failure) -> Result<Report, AllocError>
     ensures status { IfOk result (λ report. report.status ≡ status_of_failure failure) }
     ensures no_answer { IfOk result (λ report.

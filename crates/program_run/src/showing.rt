@@ -1,4 +1,4 @@
-//! The print of a session file.
+//! The text of a session file.
 ghost use Rattle.std.specs.Prelude.{IfOk, IfErr};
 ghost use Rattle.program_run.specs.Audits.{ShowsFile};
 ghost use Rattle.program_run.specs.Endings.{IsPlainFailure};

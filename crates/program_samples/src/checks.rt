@@ -43,7 +43,7 @@ fn check<R: Files + AllocGlobal, T: Threads + Wait + Sync>(
 }
 
 /// The session files that checks make of these texts of a file, one over the other, in a folder of this name, which is
-/// made and taken away again.
+/// created and removed again.
 pub fn session_files<R: Files + AllocGlobal, T: Threads + Wait + Sync>(
     rt: &R,
     threads: &T,

@@ -107,7 +107,7 @@ fn a_failed_read_ends_the_run(rt: HostRuntime) -> Result<(), Fail> {
     Ok(())
 }
 
-// Each of the four reads of the two files fails in a row above.
+// Each of the four reads of the two files fails in a case above.
 #[test]
 fn two_files_are_four_reads(rt: HostRuntime) -> Result<(), Fail> {
     assert_eq!(rt; ends(&rt, rt.alloc(), &PLAIN)?.1, 4);

@@ -48,7 +48,7 @@ impl Model for Inputs {
 }
 
 impl Inputs {
-    /// Seals the inputs of a project. A source that the past has with the same bytes is the past's result.
+    /// Seals the inputs of a project. A source that the previous session has with the same bytes is taken from there.
     pub fn new(
         alloc: Global,
         past: &Option<Arc<Session>>,
@@ -64,7 +64,7 @@ impl Inputs {
         })
     }
 
-    /// The result of a key that is an input.
+    /// The result of a key that is an input, or `None` for any other key.
     #[tactic(auto, unfolding(graph_rules::specs::Keys::input_of))]
     pub fn get(&self, key: &Key) -> Option<&Arc<Sealed>>
         ensures { MatchOption result (input_of self.now key.now ≡ None)
@@ -86,7 +86,7 @@ impl Inputs {
         }
     }
 
-    /// The key of all files, and of each one.
+    /// The keys of the inputs: the names of the files, and each source.
     pub fn keys(&self, alloc: Global) -> Result<Vec<Key>, AllocError>
         ensures { IfOk result (λ v. v.items ≡ keys.Files ∷ map (λ f. keys.Source f.name) self.now) }
     {
@@ -101,7 +101,7 @@ impl Inputs {
     }
 }
 
-/// The key of all files, and of each of these.
+/// The keys of the inputs: the names of the files, and each of these sources.
 fn keys_of(alloc: Global, sources: &IndexMap<Name, Arc<Sealed>>) -> Result<Vec<Key>, AllocError>
     ensures { IfOk result (λ v. v.items
         ≡ keys.Files ∷ map (λ f. keys.Source f.name) (map file_of sources.now.entries)) }
@@ -164,7 +164,8 @@ fn add_source(
     Ok(())
 }
 
-/// The result of a file's source: the past's, where that has the same bytes, else one whose bytes are copied.
+/// The result of a file's source: that of the previous session where the bytes are the same, else one whose bytes are
+/// copied.
 fn source_result(
     alloc: Global,
     past: &Option<Arc<Session>>,
@@ -208,7 +209,7 @@ fn file_names(alloc: Global, files: &[(String, Vec<u8>)]) -> Result<Vec<Name>, A
     Ok(names)
 }
 
-/// The result of the key of all files.
+/// The result of the key for the names of the files.
 fn files_result(alloc: Global, project: &Project) -> Result<Arc<Sealed>, AllocError>
     ensures { IfOk result (λ a. arc_value a ≡ values.Files (names_of project.now)) }
 {

@@ -1,5 +1,5 @@
-//! The queries of MiniJava: a runner of every kind of key that is no input, which asks whatever reader it is given; and
-//! the answer for a project that it comes to.
+//! The queries of MiniJava: a runner for every kind of key that is no input, over whatever reader it is given, and the
+//! answer for a project in its results.
 #![tactic(auto)]
 
 mod answer;

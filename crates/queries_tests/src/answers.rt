@@ -1,4 +1,4 @@
-//! Answers that rows tell by name, most of them those of a main class alone, and whether rows are right.
+//! Answers that cases name, most of them those of a main class alone, and whether cases are right.
 
 use answer_samples::{Asked, Unfit};
 use item_ids::Kind;
@@ -101,7 +101,7 @@ pub const ANSWER_OF_ONE: Given<'static> = Given(
     "0c00000000000000000000000000000001014d000000000000000000000000000000000000000000000000",
 );
 
-/// Whether each of the rows is right.
+/// Whether each of the cases is right.
 pub fn are_right(alloc: Global, rows: &[Row]) -> Result<bool, Unfit> {
     for row in rows {
         if !is_right(alloc, *row)? {

@@ -273,12 +273,12 @@ static OF_ONE_LITERAL: [Row; 14] = [
     },
 ];
 
-/// The rows of the project of two classes.
+/// The cases of the project of two classes.
 fn rows_of_two() -> &'static [Row<'static>] {
     &TABLE
 }
 
-/// The rows of the project of one class.
+/// The cases of the project of one class.
 fn rows_of_one() -> &'static [Row<'static>] {
     &OF_ONE_LITERAL
 }
@@ -297,7 +297,7 @@ const LACKING_MEMBERS: Kept = Kept {
     refused: Some(Asked(Kind::Members, "A", "")),
 };
 
-/// Whether the row's run, over each beginning of its reads, is refused the read that comes next.
+/// Whether the case's run, over each beginning of its reads, is refused the read that comes next.
 fn is_refused_each(alloc: Global, row: &Row) -> Result<bool, Unfit> {
     for (count, next) in row.reads.iter().enumerate() {
         let kept = Kept {

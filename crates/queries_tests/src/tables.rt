@@ -1,5 +1,5 @@
-//! The chains, members, checks and faults of classes, and the answer of a project. More rows of each kind, those of the
-//! main class among them, stand with the queries of whole projects.
+//! The chains, members, checks and diagnostics of classes, and the answer of a project. More cases of each kind, those
+//! of the main class among them, stand with the queries of whole projects.
 
 use crate::answers::{
     FILE_A, HEADER_Z, INDEX_OF_ONE, NO_HEADER_A, NO_HEADER_B, NO_TREE, SIG_F, SUPERS_B, SUPERS_Z,
@@ -142,8 +142,8 @@ static CHECKS: [Row; 5] = [
     },
 ];
 
-// In order: the faults of a class with faults of both kinds, and of one with two methods of a name; the answer for a file
-// that is no sentence.
+// In order: the diagnostics of a class with diagnostics of both kinds, and of one with two methods of a name; the
+// answer for a file that is no sentence.
 static FAULTS: [Row; 3] = [
     Row {
         query: Given(

@@ -1,4 +1,4 @@
--- What one step of a driver comes to.
+-- The result of one step of a driver.
 use Rattle.std.specs.Prelude.{◌≡◌}
 use Rattle.std.specs.Arc.{arc_value}
 use Rattle.item_ids.specs.declared.key.Key.{Key}

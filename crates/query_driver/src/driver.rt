@@ -14,8 +14,8 @@ use std::alloc::{AllocError, Global};
 use std::marker::Model;
 use std::sync::Arc;
 
-/// Brings the results of queries of a project, each by one run more than it reads keys that weren't held. Contracts see
-/// the project.
+/// Evaluates queries of a project without a session. The run of a query is repeated for each key that it reads and
+/// whose result isn't held yet. Contracts see the project.
 #[derive(Drop)]
 pub struct Driver<R: Runner> {
     alloc: Global,
@@ -63,7 +63,7 @@ impl<R: Runner> Driver<R> {
         }
     }
 
-    /// Brings the key's result, and before it each that a run of it wants.
+    /// Evaluates a key, and before it each key that its run lacks.
     fn bring(&mut self, key: &Key) -> Result<(), RunFault>
         ensures same { self.new ≡ self.old }
     {
@@ -74,7 +74,7 @@ impl<R: Runner> Driver<R> {
         self.bring_all(open)
     }
 
-    /// Brings the results of the keys, the last one first.
+    /// Evaluates the keys, the last one first.
     fn bring_all(&mut self, open: Vec<Key>) -> Result<(), RunFault>
         ensures same { self.new ≡ self.old }
     {
@@ -103,7 +103,8 @@ impl<R: Runner> Driver<R> {
         )
     }
 
-    /// The result of Answer. What it reads is brought before it, so that no run is made again for each of these keys.
+    /// The result of Answer. What it reads is evaluated before it, so that its run isn't repeated for each of these
+    /// keys.
     pub fn answer(&mut self) -> Result<Arc<Sealed>, RunFault>
         ensures result { IfOk result (λ a. arc_value a ≡ R.mean self.old keys.Answer) }
         ensures same { self.new ≡ self.old }
@@ -115,7 +116,7 @@ impl<R: Runner> Driver<R> {
         self.result(&Key::Answer)
     }
 
-    /// Brings the tree of each file.
+    /// Evaluates the tree of each file.
     fn bring_trees(&mut self, files: &[Name]) -> Result<(), RunFault>
         ensures same { self.new ≡ self.old }
     {
@@ -126,7 +127,7 @@ impl<R: Runner> Driver<R> {
         Ok(())
     }
 
-    /// Brings the members and the faults of each class.
+    /// Evaluates the members and the diagnostics of each class.
     fn bring_classes(&mut self, rows: &[IndexRow]) -> Result<(), RunFault>
         ensures same { self.new ≡ self.old }
     {
@@ -136,7 +137,7 @@ impl<R: Runner> Driver<R> {
         Ok(())
     }
 
-    /// Brings the members and the faults of a class.
+    /// Evaluates the members and the diagnostics of a class.
     fn bring_class(&mut self, class: &Name) -> Result<(), RunFault>
         ensures same { self.new ≡ self.old }
     {
@@ -161,7 +162,7 @@ fn open_both(open: &mut Vec<Key>, key: Key, wanted: Key) -> Result<(), AllocErro
     Ok(())
 }
 
-/// The names of the files that a result tells.
+/// The names of the files in a result.
 fn names_in(value: &Value) -> &[Name] {
     match value {
         Value::Files(files) => files.names(),
@@ -169,7 +170,7 @@ fn names_in(value: &Value) -> &[Name] {
     }
 }
 
-/// The rows of the index that a result tells.
+/// The rows of the index in a result.
 fn rows_in(value: &Value) -> &[IndexRow] {
     match value {
         Value::Index(index) => index.rows(),

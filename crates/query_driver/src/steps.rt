@@ -15,7 +15,7 @@ use std::alloc::Global;
 use std::mem;
 use std::sync::Arc;
 
-/// What a step comes to.
+/// The result of a step.
 #[derive(Drop)]
 pub enum Step {
     /// The key's result.

@@ -1,4 +1,4 @@
--- The faults of a body are those of the demands of its phrases.
+-- The diagnostics of a body are those of the demands of its phrases.
 use Rattle.std.proofs.Common.{◌≡◌, ◌↔◌, map, Contains, refl, sym, ap, subst, ◌∙◌}
 use Rattle.std.proofs.lemmas.Option.{same_Some}
 use Rattle.std.proofs.lemmas.List.Elements.{All-contains}

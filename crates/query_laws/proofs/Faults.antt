@@ -1,4 +1,4 @@
--- The faults that the rules give are those that queries mean.
+-- The diagnostics that the rules give are those that queries mean.
 use Rattle.std.proofs.Common.{◌≡◌, ◌↔◌, ℕ, Bool, true, false, not, List, Option, Some, None, Contains, refl, sym, ap, subst, ◌∙◌, inl, inr}
 use Rattle.std.proofs.lemmas.Option.{none-some, same_Some}
 use Rattle.std.proofs.lemmas.List.Elements.{Contains-append_left, Contains-append_cases}
@@ -39,9 +39,9 @@ use Rattle.query_rules.specs.Items.{class_at, body_at, mistakes_in, fault_set, f
 use Rattle.query_laws.specs.Given.{Counts, IsFaultOf, IsInside, IsFaultInside, IsFaultOutside}
 use Rattle.query_laws.proofs.Bodies.{method_body, main_body, is_method, is_main}
 
--- ---- lists of faults
+-- ---- lists of diagnostics
 
--- one list has just these faults
+-- one list has just these diagnostics
 one_fault_list : (Fault : Place → Code → Type 0) (ds es : List Diagnostic) → AreTheFaults Fault ds → AreTheFaults Fault es → ds ≡ es
 one_fault_list Fault ds es a b =
     one_list_by Diagnostic Diagnostic (λ d. d) Before faults ds es a.ascending b.ascending
@@ -159,7 +159,7 @@ module _ (cs : List ClassDecl) (k : ClassDecl) (d : Diagnostic) where
         | inr b ↦ main_inside k.main b
       ]
 
--- ---- the faults of a class
+-- ---- the diagnostics of a class
 
 module _ (p : Project) (c : Name) where
   module _ (k : ClassDecl) (e : Counts p c k) where
@@ -200,13 +200,13 @@ module _ (p : Project) (c : Name) where
   pub declaration_faults_right : AreTheFaults (IsFaultOutside p c) (faults_of (declaration_faults (classes_in p)) (class_at p c))
   declaration_faults_right = class_right (IsFaultOutside p c) (declaration_faults (classes_in p)) (λ place code f. (f.0.declaration, f.0.counts)) outside_law
 
--- ---- the faults in a method
+-- ---- the diagnostics in a method
 
 module _ (p : Project) (c m : Name) where
   abbrev found_in : Option BodyValue → List Diagnostic
   found_in o = inside m (mistakes_in (world_of (classes_in p)) c o)
 
-  -- a mistake in the body is a fault of the class in the method
+  -- a mistake in the body is a diagnostic of the class in the method
   inside_by : (k : ClassDecl) → Counts p c k → (n : Name) → n ≡ m → (x : Mistake) (place : Place) (code : Code) → FaultOfClass (classes_in p) k (places.Inside n x.mark) x.code → fault (places.Inside m x.mark) x.code ≡ fault place code
       → IsFaultInside p c m place code
   inside_by k e n named x place code f same =

@@ -98,9 +98,9 @@ pub record IsSignatureOf (p : Project) (c m : Name) (signature : SignatureValue)
   pub formals : signature.formals ≡ map (λ v. v.ty) method.formals
   pub returns : signature.returns ≡ method.returns
 
--- ---- faults
+-- ---- diagnostics
 
--- a fault of a class
+-- a diagnostic of a class
 pub record IsFaultOf (p : Project) (c : Name) (place : Place) (code : Code) : Type 0 where
   pub declaration : ClassDecl
   pub counts : Counts p c declaration
@@ -110,7 +110,7 @@ pub record IsFaultOf (p : Project) (c : Name) (place : Place) (code : Code) : Ty
 abbrev pub IsInside : Name → Place → Type 0
 IsInside m place = (mark : ℕ) × (place ≡ Inside m mark)
 
--- a fault of a class in this method, and one in none
+-- a diagnostic of a class in this method, and one in none
 abbrev pub IsFaultInside : Project → Name → Name → Place → Code → Type 0
 IsFaultInside p c m place code = IsFaultOf p c place code × IsInside m place
 

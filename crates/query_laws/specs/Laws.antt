@@ -57,8 +57,8 @@ pub record MeanLaws (p : Project) : Type 0 where
   pub answer : (answer : AnswerValue)
       → (mean p keys.Answer ≡ values.Answer answer) ↔ Rules p answer
 
--- the check of a body finds just the faults of its formals, its locals and its return type, and
--- those that the demands of its phrases give
+-- the check of a body finds just the diagnostics of its formals, its locals and its return type,
+-- and those that the demands of its phrases give
 abbrev pub DemandLaw : Type 0
 DemandLaw =
     (p : Project) (c m : Name) (faults : List Diagnostic)

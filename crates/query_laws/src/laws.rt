@@ -1,4 +1,4 @@
-//! What holds of meanings and of reads.
+//! Laws of meanings and of reads.
 ghost use Rattle.recorder.specs.Projects.{Project};
 ghost use Rattle.query_laws.specs.Laws.{DeclarationLaw, DemandLaw, MeanLaws, ReadLaws};
 
@@ -8,13 +8,13 @@ pub fn declaration_laws()
 {}
 
 /// Each query above the inputs means what the rules give, and nothing else: a tree, the classes with their files, a
-/// declaration, a method and its types, a chain, members, the faults in and outside of methods, the answer.
+/// declaration, a method and its types, a chain, members, the diagnostics in and outside of methods, the answer.
 pub fn mean_laws()
     ensures { (p : Project) → MeanLaws p }
 {}
 
-/// The check of a body finds just the faults of its formals, its locals and its return type, and those that the demands of
-/// its phrases give.
+/// The check of a body finds just the diagnostics of its formals, its locals and its return type, and those that the
+/// demands of its phrases give.
 pub fn demand_laws()
     ensures { DemandLaw }
 {}

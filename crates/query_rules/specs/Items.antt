@@ -91,13 +91,13 @@ mistakes_in w c (Some (OfMain statement)) =
     main_faults w (record { name = c; statement = statement })
 mistakes_in w c (Some (OfMethod m)) = method_faults w c m
 
--- ---- faults
+-- ---- diagnostics
 
--- faults, each once, in ascending order
+-- diagnostics, each once, in ascending order
 unfoldable pub fault_set : List Diagnostic → List Diagnostic
 fault_set faults = set_of fault_order faults
 
--- these faults of a class, where it is declared
+-- these diagnostics of a class, where it is declared
 abbrev pub faults_of : (ClassDecl → List Diagnostic) → Option ClassDecl → List Diagnostic
 faults_of faults None = []
 faults_of faults (Some k) = fault_set (faults k)

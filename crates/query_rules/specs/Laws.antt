@@ -1,4 +1,4 @@
--- What holds of meanings and reads alone, whatever the files.
+-- Laws of meanings and reads alone, whatever the files.
 use Rattle.recorder.specs.Projects.{Project}
 use Rattle.recorder.specs.Backed.{InputLaws, KeyLaws}
 use Rattle.query_rules.specs.Meaning.{mean}

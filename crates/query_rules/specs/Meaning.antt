@@ -34,14 +34,14 @@ mean p (keys.Supers c) = values.Supers (option_map chain_value (chain_of (classe
 -- fields and methods by name, with their owners
 mean p (keys.Members c) =
     values.Members (option_map (λ k. table_of (classes_in p) c) (class_at p c))
--- the faults of the class's declarations
+-- the diagnostics of the class's declarations
 mean p (keys.CheckClass c) =
     values.CheckClass (faults_of (declaration_faults (classes_in p)) (class_at p c))
 -- the mistakes in the body
 mean p (keys.CheckBody c m) =
     values.CheckBody (fault_set (inside m
     (mistakes_in (world_of (classes_in p)) c (body_at p c m))))
--- all faults of the class
+-- all diagnostics of the class
 mean p (keys.Diags c) = values.Diags (faults_of (class_faults (classes_in p)) (class_at p c))
 -- the answer of the rules
 mean p keys.Answer = values.Answer (rules_of p)

@@ -1,4 +1,4 @@
-//! What holds of meanings and reads.
+//! Laws of meanings and reads.
 ghost use Rattle.query_rules.specs.Laws.{QueryLaws};
 
 /// The inputs are the files and read nothing; each key has a value of its kind and reads keys of lower rank, none

@@ -1,4 +1,4 @@
--- What a run tells of its row.
+-- What a run says of its case.
 use Rattle.std.proofs.Common.{List, ℕ, Bool, IsTrue, IfOk}
 use Rattle.std.specs.Prelude.{Result, Ok, Err, ◌↔◌}
 use Rattle.item_ids.specs.declared.key.Key.{Key}
@@ -26,7 +26,7 @@ ended query given key r (Ok v) of_key run came = record {
 }
 ended query given key r (Err e) of_key run came = absurd came.value
 
--- a run that comes to what the row tells is a run of it
+-- a run that comes to what the case says is a run of it
 pub come : {D E : Type 0} (query : Given) (given : List Given) (key : Key) (r : Recording D) (result : Result Value RunFault) (yes : Result Bool E)
     → IsKeyOf query.0 key → IsRun mean reads key r result → IfOk yes (λ b. IsTrue b ↔ ComesTo query.1.now given result r.told)
     → IfOk yes (λ b. IsTrue b → IsRunOf query given)

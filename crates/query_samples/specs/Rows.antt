@@ -1,4 +1,4 @@
--- Runs of the queries of MiniJava, as rows of short texts tell them.
+-- Runs of MiniJava's queries, as cases of short texts give them.
 use Rattle.std.specs.Prelude.{ℕ, List}
 use Rattle.item_ids.specs.declared.key.Key.{Key}
 use Rattle.item_ids.specs.declared.key.Key.TheVariants as keys
@@ -16,7 +16,7 @@ use Rattle.run_samples.specs.declared.reads.Given.{Given}
 use Rattle.run_samples.specs.declared.refusals.Kept.{Kept}
 use Rattle.run_samples.specs.Reading.{AreReadsOf, IsKept}
 
--- The key reads just the answers that are told, one after the other, and the value that is told
+-- The key reads just the answers that are given, one after the other, and the value that is given
 -- follows from them.
 pub record IsRunOf (query : Given) (given : List Given) : Type 0 where
   pub key : Key
@@ -37,12 +37,12 @@ pub record IsLackingRun (query : Asked) (kept : Kept) : Type 0 where
   pub next : IsNextRefused mean reads key end
   pub keeps : IsKept kept end
 
--- in the project the key has the value that is told
+-- in the project the key has the value that is given
 pub record Means (p : Project) (wanted : Given) : Type 0 where
   pub key : Key
   pub of_key : IsKeyOf wanted.0 key
   pub value : Tell wanted.1.now (canon (mean p key))
 
--- the digits tell the project's answer
+-- the digits spell the project's answer
 abbrev pub IsAnswerTold : Project → List ℕ → Type 0
 IsAnswerTold p digits = Tell digits (canon (mean p keys.Answer))

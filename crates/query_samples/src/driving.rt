@@ -1,4 +1,4 @@
-//! Results that a driver of the queries of MiniJava brings.
+//! Results of MiniJava's queries, evaluated by a driver.
 ghost use Rattle.std.specs.Prelude.{◌≡◌, IsTrue, IfOk, All};
 ghost use Rattle.answer_samples.specs.Telling.{one_file};
 ghost use Rattle.query_samples.specs.Rows.{Means, IsAnswerTold};
@@ -20,7 +20,7 @@ fn driver_of(alloc: Global, text: &str) -> Result<Driver<MiniJava>, Unfit>
     Ok(Driver::new(alloc, inputs, MiniJava::new(alloc)))
 }
 
-/// Whether the driver brings the key's result, which these digits spell.
+/// Whether the driver evaluates the key to the result that these digits spell.
 fn brings(alloc: Global, driver: &mut Driver<MiniJava>, wanted: Given) -> Result<bool, Unfit>
     ensures told { IfOk result (λ b. IsTrue b → Means driver.old wanted.entry) }
     ensures same { driver.new ≡ driver.old }
@@ -32,7 +32,7 @@ fn brings(alloc: Global, driver: &mut Driver<MiniJava>, wanted: Given) -> Result
     }
 }
 
-/// Whether one driver of the project of one file, `M.java` with this text, brings the value of each row's query.
+/// Whether one driver of the project of one file, `M.java` with this text, evaluates each case's query to its value.
 pub fn brings_each(alloc: Global, text: &str, rows: &[Row]) -> Result<bool, Unfit>
     ensures { IfOk result (λ b. IsTrue b
         → All (λ row. Means (one_file text.now) row.query) rows.now) }
@@ -46,7 +46,8 @@ pub fn brings_each(alloc: Global, text: &str, rows: &[Row]) -> Result<bool, Unfi
     Ok(true)
 }
 
-/// Whether a driver brings the answer of the project of one file, `M.java` with this text, which these digits spell.
+/// Whether a driver of the project of one file, `M.java` with this text, evaluates Answer to the result that these
+/// digits spell.
 pub fn is_answer(alloc: Global, text: &str, digits: &str) -> Result<bool, Unfit>
     ensures { IfOk result (λ b. IsTrue b → IsAnswerTold (one_file text.now) digits.now) }
 {

@@ -1,5 +1,5 @@
-//! Runs of the queries of MiniJava for tests: told by rows of short texts, run over the answers that are there, and
-//! brought by a driver.
+//! Runs of MiniJava's queries for tests: given as cases of short texts, run over the answers at hand, and evaluated by
+//! a driver.
 #![tactic(auto)]
 
 mod driving;

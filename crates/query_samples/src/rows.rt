@@ -1,4 +1,4 @@
-//! Rows of runs: what the runner of MiniJava makes of a query and of the answers that are there.
+//! Cases of runs: what the runner of MiniJava makes of a query and of the answers at hand.
 ghost use Rattle.std.specs.Prelude.{◌≡◌, ◌<◌, IsTrue, IfOk};
 ghost use Rattle.recorder.specs.Backed.{rank as rank_of};
 ghost use Rattle.answer_samples.specs.Telling.{IsKeyOf};
@@ -12,7 +12,7 @@ use recorder::{AnswerList, Recorder, Runner};
 use run_samples::{Given, Kept, comes_to, list_of, wants};
 use std::alloc::Global;
 
-/// A query with its value's canonical bytes, and the answers that are there, which are its reads in order.
+/// A query with its value's canonical bytes, and the answers at hand, which are its reads in order.
 #[derive(Clone, Copy, Debug)]
 pub struct Row<'a> {
     pub query: Given<'a>,
@@ -30,7 +30,7 @@ fn query_of(alloc: Global, asked: Asked) -> Result<Key, Unfit>
     key_of(alloc, asked)
 }
 
-/// Whether the run over the list reads just the row's answers, in their order, comes to the value, and is logged.
+/// Whether the run over the list reads just the case's answers, in their order, comes to the value, and is logged.
 fn is_run(alloc: Global, key: &Key, list: AnswerList, row: Row) -> Result<bool, Unfit>
     requires no_input { 0 < rank_of key.now }
     requires told { IsKeyOf row.query.0 key.now }
@@ -50,7 +50,7 @@ fn has_logged(runner: &MiniJava, asked: Asked) -> bool {
     matches!(runner.log(), [one] if is_key(one, asked))
 }
 
-/// Whether the row's query, run over its answers, reads just them, in their order, comes to its value, and is logged.
+/// Whether the case's query, run over its answers, reads just them, in their order, comes to its value, and is logged.
 pub fn is_right(alloc: Global, row: Row) -> Result<bool, Unfit>
     ensures { IfOk result (λ b. IsTrue b → IsRunOf row.entry.query row.entry.reads.now) }
 {
@@ -61,7 +61,7 @@ pub fn is_right(alloc: Global, row: Row) -> Result<bool, Unfit>
     }
 }
 
-/// Whether the run over the list is refused an answer that isn't there, of which this is kept, and is logged.
+/// Whether the run over the list is refused an answer that isn't there and is logged, and its recorder keeps this.
 fn is_refused(
     alloc: Global,
     key: &Key,
@@ -93,7 +93,7 @@ pub fn is_lacking(alloc: Global, query: Asked, kept: Kept) -> Result<bool, Unfit
     }
 }
 
-/// Whether the check of the body over the list reads just the row's answers, in their order, and comes to the value.
+/// Whether the check of the body over the list reads just the case's answers, in their order, and comes to the value.
 fn is_body_check(alloc: Global, key: &Key, list: AnswerList, row: Row) -> Result<bool, Unfit>
     requires told { IsKeyOf row.query.0 key.now }
     ensures { IfOk result (λ b. IsTrue b → IsRunOf row.entry.query row.entry.reads.now) }
@@ -106,8 +106,8 @@ fn is_body_check(alloc: Global, key: &Key, list: AnswerList, row: Row) -> Result
     comes_to(alloc, result, recorder, row.query.1, row.reads)
 }
 
-/// Whether the row's query is one of a body, and its check without a runner, over the row's answers, reads just them, in
-/// their order, and comes to its value.
+/// Whether the case's query is one of a body, and its check without a runner, over the case's answers, reads just them,
+/// in their order, and comes to its value.
 pub fn is_checked(alloc: Global, row: Row) -> Result<bool, Unfit>
     ensures { IfOk result (λ b. IsTrue b → IsRunOf row.entry.query row.entry.reads.now) }
 {

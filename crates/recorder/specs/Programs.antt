@@ -65,7 +65,7 @@ pub record IsAt {D : Type 0} (prog : Prog) (r : Recording D) (p : Prog) : Type 0
 abbrev pub IsAsked : List ReadValue → Prog → Key → Type 0
 IsAsked told p k = IsUnread k told × ((f : Value → Prog) × (p ≡ Ask k f))
 
--- with this recorder a run of prog has given up: at a key that was refused, or for want of memory
+-- with this recorder a run of prog has given up: a key was refused, or memory ran out
 pub record Halts {D : Type 0} (prog : Prog) (e : RunFault) (r : Recording D) : Type 0 where
   pub rest : Prog
   pub reached : Reached prog r.told rest

@@ -51,7 +51,7 @@ pub record Keeps (MayAnswer : Key → Value → Type 0) (MayRefuse : Key → Rea
 
 -- ---- a read of k
 
--- It is answered by v, by what was told before and nothing more, or as one more read.
+-- It is answered by v: from an earlier read, with nothing added, or as one more read.
 pub record Answers {D : Type 0} (old : Recording D) (k : Key) (v : Value)
     (new : Recording D) : Type 0 where
   pub before : old.refused ≡ None

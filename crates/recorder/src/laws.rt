@@ -1,4 +1,4 @@
-//! What holds of runners by programs.
+//! Laws of runners by programs.
 ghost use Rattle.std.specs.Prelude.{◌≡◌, ◌<◌, Result};
 ghost use Rattle.item_ids.specs.declared.key.Key.{Key};
 ghost use Rattle.result_bytes.specs.declared.value.Value.{Value};

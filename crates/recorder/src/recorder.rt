@@ -15,8 +15,8 @@ use std::alloc::{AllocError, Global};
 use std::marker::Model;
 use std::sync::Arc;
 
-/// A reader over another one, which keeps the first reads in order with their answers. It answers a repeated read
-/// from what it keeps. Of a refused read it keeps the fault, which it answers to every read from then on, and, unless
+/// A reader over another one, which keeps the first read of each key in order with its answer, and answers a repeated
+/// read from them. Of a refused read it keeps the fault, which it answers to every read from then on, and, unless
 /// memory ran out, the key.
 #[derive(Drop)]
 pub struct Recorder<D: Reader> {

@@ -44,8 +44,8 @@ pub trait Runner {
     /// The keys that it was asked to run, in order.
     ghost log: { Self → List Key };
 
-    /// Runs a key that is no input, with a recorder that hasn't read. Only where memory ran out for the log, nothing
-    /// is read, and the call isn't logged.
+    /// Runs a key that is no input, with a recorder that hasn't read. Only if memory runs out for the log, nothing is
+    /// read and the call isn't logged.
     fn run<D: Reader>(
         &mut self,
         alloc: Global,

@@ -76,7 +76,7 @@ impl Read {
     }
 }
 
-/// Keys and answers are such as their types keep them.
+/// Keys and answers are well formed, as their types keep.
 pub(crate) fn is_told(key: &Key, answer: &Arc<Sealed>)
     ensures { IsTold (record { key = key.now; value = arc_value answer.now }) }
 {

@@ -1,4 +1,5 @@
--- Values: what is read is spelled so, and what is spelled so is read; no spelling has two values.
+-- Values: what is read is spelled there, and each spelling is read back; no spelling has two
+-- values.
 use Rattle.std.proofs.Common.{◌≡◌, ℕ, Bool, true, false, cond, eqb, List, [], ◌∷◌, ◌++◌, length, Result, Ok, Err, refl, sym, ap, subst, eq-eqb, ◌∙◌}
 use Rattle.std.proofs.lemmas.Bool.{eqb-true}
 use Rattle.std.proofs.lemmas.List.{append-nil, nil_from_length}

@@ -37,7 +37,7 @@ kind_of_value (CheckBody faults) = kinds.CheckBody
 kind_of_value (Diags faults) = kinds.Diags
 kind_of_value (Answer a) = kinds.Answer
 
--- what stands behind the kind's number
+-- what follows the kind's number
 abbrev pub content : Value → List ℕ
 content (Files names) = list name names
 content (Source bytes) = option text bytes

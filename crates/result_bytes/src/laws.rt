@@ -1,11 +1,11 @@
-//! What holds of all values.
+//! Laws of all values.
 ghost use Rattle.std.specs.Prelude.{◌≡◌};
 ghost use Rattle.result_bytes.specs.declared.value.Value.{Value};
 ghost use Rattle.result_bytes.specs.Values.{IsValue, canon};
 
 use crate::value::Value;
 
-/// A value keeps in its type what its spelling demands.
+/// A value's type keeps what its spelling demands.
 #[tactic(auto, unfolding(crate::specs::Values::IsValue))]
 pub fn is_value(value: &Value)
     ensures { IsValue value.now }

@@ -21,7 +21,7 @@ pub enum ChainEnd {
     Repeated(Name),
 }
 
-/// A name that is there has a spelling.
+/// A name that is given has a spelling.
 pub fn check_perhaps_name(item: &Option<Name>)
     ensures { IfSome item.now IsName }
 {

@@ -49,7 +49,7 @@ fn read_value(alloc: Global, kind: Kind, bytes: &[u8]) -> Result<Value, Refusal>
     }
 }
 
-/// Reads what stands behind the kind's number.
+/// Reads the bytes that follow the kind's number.
 #[tactic(auto, unfolding(crate::specs::Values::content_at))]
 fn read_content(alloc: Global, kind: Kind, bytes: &[u8]) -> Result<(Value, &[u8]), ReadError>
     ensures { Decodes (λ x. x) result (content_at kind bytes.now) }

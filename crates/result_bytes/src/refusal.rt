@@ -8,7 +8,7 @@ pub enum Refusal {
     /// The bytes end within the value.
     #[error("5.1 Short")]
     Short,
-    /// Bytes stand behind the value.
+    /// Bytes follow the value.
     #[error("5.2 Trailing")]
     Trailing,
     /// The item with this first byte isn't written as it has to be.

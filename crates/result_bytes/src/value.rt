@@ -28,11 +28,11 @@ pub enum Value {
     Supers(Option<Supers>),
     /// The fields and methods of a class.
     Members(Option<Members>),
-    /// The faults in a class's declarations.
+    /// The diagnostics in a class's declarations.
     CheckClass(Faults),
-    /// The faults in a method's body.
+    /// The diagnostics in a method's body.
     CheckBody(Faults),
-    /// All faults of a class.
+    /// All diagnostics of a class.
     Diags(Faults),
     /// The answer for the project.
     Answer(WholeAnswer),

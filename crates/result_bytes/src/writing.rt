@@ -21,7 +21,7 @@ pub fn encode(alloc: Global, value: &Value) -> Result<Vec<u8>, AllocError>
     Ok(out)
 }
 
-/// Writes what stands behind the kind's number.
+/// Writes the bytes that follow the kind's number.
 fn put_content(out: &mut Vec<u8>, value: &Value) -> Result<(), AllocError>
     ensures { OnOk result (out.new.items ≡ out.old.items ++ content value.now) }
 {

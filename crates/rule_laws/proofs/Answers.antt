@@ -1,4 +1,5 @@
--- The faults in a method that the answer has are those of the method's phrases and declared types.
+-- The diagnostics in a method that the answer has are those of the method's phrases and declared
+-- types.
 use Rattle.std.proofs.Common.{◌≡◌, ℕ, List, Some, Contains, refl, sym, ◌∙◌, subst, ◌⊎◌, inl, inr}
 use Rattle.std.specs.Prelude.{◌↔◌}
 use Rattle.std.proofs.lemmas.Option.{same_Some}

@@ -1,4 +1,4 @@
--- The row of each phrase tells of the demands of the phrase.
+-- The row of each phrase agrees with the demands of the phrase.
 use Rattle.std.proofs.Common.{◌≡◌, ◌≤◌, ℕ, nat_le, Bool, true, false, cond, ◌&&◌, List, [], ◌∷◌, length, Option, Some, None, refl, sym, ap, ◌∙◌, subst, arith, inl}
 use Rattle.std.specs.Prelude.{nat_eq}
 use Rattle.std.proofs.lemmas.Bool.{leb-true, le-leb, eq-eqb, eqb-true}
@@ -74,7 +74,7 @@ row_of s (OfStatement (Assign mark x x_mark e)) = two_parts assign
 row_of s (OfStatement (Store mark x x_mark i e)) = three_parts store
 row_of s (OfReturn mark wanted e) = one_part (return_value wanted)
 
--- what a phrase may come to where its demands hold
+-- the verdict that a phrase may have where its demands hold
 abbrev pub kind_of : BodyPhrase → Verdict → Type 0
 kind_of (OfExpression e) = IsOfExpression
 kind_of (OfStatement a) = IsOfStatement

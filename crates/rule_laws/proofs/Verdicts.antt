@@ -1,4 +1,4 @@
--- What a verdict tells of demands: they all hold, or which is the first that fails.
+-- What a verdict says about demands: they all hold, or which is the first that fails.
 use Rattle.std.proofs.Common.{◌≡◌, Bool, true, false, [], ◌∷◌, Option, Some, None, refl, sym, ap, ◌∙◌, subst, inl, inr}
 use Rattle.mj_tree.specs.declared.tree.Ty.{Ty}
 use Rattle.mj_answer.specs.declared.code.Code.{Code}

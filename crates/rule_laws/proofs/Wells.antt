@@ -57,7 +57,7 @@ module _ (w : World) (s : Scope) where
   pub expression_law : (e : Expression) → ((t : Ty) × HasTypeByCases w s e t) ↔ IsWell w s (OfExpression e)
   expression_law e = (well_expression e, expression_well e)
 
-  -- the row tells of a statement or a return
+  -- the row is that of a statement or a return
   abbrev TellsWell : BodyPhrase → Type 0
   TellsWell p = (ts : List Ty) → HaveTypes w s (parts_of p) ts → Tells IsOfStatement (conclusion w (row_of s p ts)) (demands w s p ts)
 

@@ -19,7 +19,7 @@ pub data BodyPhrase : Type 0 where
   OfStatement : Statement → BodyPhrase
   OfReturn : (mark : ℕ) (wanted : Ty) (value : Expression) → BodyPhrase
 
--- the token by which a fault of the phrase is reported
+-- the token by which a diagnostic of the phrase is reported
 abbrev pub mark_of : BodyPhrase → ℕ
 mark_of (OfExpression (Literal mark value)) = mark
 mark_of (OfExpression (Boolean mark value)) = mark

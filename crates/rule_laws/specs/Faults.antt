@@ -1,4 +1,4 @@
--- The faults of phrases, and those of bodies, by what the phrases demand.
+-- The diagnostics of phrases, and those of bodies, by what the phrases demand.
 use Rattle.std.specs.Prelude.{◌≡◌, false, List, [], ◌∷◌, ◌++◌, map, ◌⊎◌, Contains}
 use Rattle.mj_tree.specs.Trees.{Name, Expression, Expressions, none, more, Statement, Statements, Block, If, While, Print, Assign, Store, done, next, Method, Main}
 use Rattle.mj_tree.specs.declared.tree.Ty.{Ty}
@@ -101,7 +101,7 @@ abbrev pub FaultInMain : World → Main → Mistake → Type 0
 FaultInMain w m x =
     (p : BodyPhrase) × Contains (phrases_in_main m) p × FaultWithin w main_scope p x
 
--- the statement is well, and so is each in it
+-- the statement is well, and so is each statement in it
 abbrev pub IsWellThroughout : World → Scope → Statement → Type 0
 IsWellThroughout w s a =
     (b : Statement) → Contains (statements_of a) b → IsWell w s (OfStatement b)

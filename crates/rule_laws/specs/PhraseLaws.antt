@@ -17,7 +17,7 @@ form_of s (OfExpression e) = phrase_of s e
 form_of s (OfStatement a) = own_phrase s a
 form_of s (OfReturn mark wanted e) = return_phrase s mark wanted e
 
--- a check finds the faults that the demands give
+-- a check finds the diagnostics that the demands give
 pub record FaultLaws : Type 0 where
   pub phrase : (w : World) (s : Scope) (p : BodyPhrase) (x : Mistake)
       → PhraseFault w (form_of s p) x ↔ IsAtFault w s p x

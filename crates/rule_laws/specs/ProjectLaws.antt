@@ -42,11 +42,11 @@ pub record TypeLaws : Type 0 where
       → Well (world_in files) (return_phrase s mark wanted e)
       ↔ IsWellIn files c m (OfReturn mark wanted e)
 
--- the fault at a token of a method
+-- the diagnostic at a token of a method
 abbrev pub fault_inside : Name → Mistake → Diagnostic
 fault_inside m x = record { place = Inside m x.mark; code = x.code }
 
--- the answer of the rules has just the faults of each method, and those of main
+-- the answer of the rules has just the diagnostics of each method, and those of main
 abbrev pub MethodFaultLaw : Type 0
 MethodFaultLaw =
     (files : List SourceFile) (answer : AnswerValue) → Rules files answer

@@ -48,7 +48,7 @@ HasTypeIn files c m e t =
 abbrev pub IsWellIn : List SourceFile → Name → Name → BodyPhrase → Type 0
 IsWellIn files c m p = (s : Scope) × IsScopeIn files c m s × IsWell (world_in files) s p
 
--- the method of the class has this fault, or its main has it
+-- the method of the class has this diagnostic, or its main has it
 pub data IsFaultIn (files : List SourceFile) (c m : Name) (x : Mistake) : Type 0 where
   FaultOfMethod : (method : Method) → IsMethodIn files c method → method.name ≡ m
       → FaultInMethod (world_in files) c method x → IsFaultIn files c m x

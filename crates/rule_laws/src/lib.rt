@@ -1,5 +1,5 @@
 //! What the rules say of phrases and of projects: what each phrase of a body demands, each demand with its code; the types in
-//! a project's methods, and their faults.
+//! a project's methods, and their diagnostics.
 #![tactic(auto)]
 
 mod phrase_laws;

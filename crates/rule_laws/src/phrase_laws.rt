@@ -1,5 +1,5 @@
-//! What the phrases of a body demand, each demand with its code, and the faults that follow: those that a check of the body
-//! finds.
+//! What the phrases of a body demand, each demand with its code, and the diagnostics that follow: those that a check of
+//! the body finds.
 ghost use Rattle.rule_laws.specs.PhraseLaws.{FaultLaws, WellLaws};
 
 /// A phrase is at fault where the first of its demands that fails says so, and a check of a body finds these faults.

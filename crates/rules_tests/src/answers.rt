@@ -1,5 +1,4 @@
-//! Tests: numbers of codes, and orders worked by hand. How answers are printed is compared row by row with the program's
-//! output.
+//! Tests: numbers of codes, and orders worked by hand. How answers are printed is shown by golden tests.
 use crate::made::name;
 use mj_answer::{Code, ascending, find_by_name, name_set, position_by_name};
 use mj_lexer::Name;

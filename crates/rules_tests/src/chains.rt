@@ -1,5 +1,5 @@
 //! Tests: chains and their ends are those of small programs worked by hand. Which members a class has, which type is
-//! accepted by which, and which class of a name counts are compared row by row with the program's output.
+//! accepted by which, and which class of a name counts are shown by golden tests.
 use crate::made::{name, trees_of};
 use mj_classes::{ClassChain, ClassRef, Declarations, End};
 use std::alloc::{AllocError, Global};
@@ -170,7 +170,7 @@ fn is_chain(class: &ClassRef, chain: &ClassChain, row: &Chain) -> bool {
         && is_end(&chain.end, row.end)
 }
 
-/// Whether the class of the row has this chain, or none.
+/// Whether the class of the case has this chain, or none.
 fn has_chain(alloc: Global, declarations: &Declarations, row: &Chain) -> Result<bool, AllocError> {
     let class = name(alloc, row.class)?;
     match (

@@ -1,5 +1,4 @@
-//! Tests: what is no project is told by its rules. What the program prints of projects is compared row by row with its
-//! output.
+//! Tests: which files are no project. What the program prints of projects is shown by golden tests.
 use mj_rules::{Project, ProjectFault};
 use std::alloc::{AllocError, Global};
 

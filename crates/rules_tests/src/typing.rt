@@ -1,5 +1,5 @@
-//! Tests: the questions of a check and the order of its mistakes are worked by hand from the language's rules. What each
-//! phrase demands is compared row by row with the program's output.
+//! Tests: the questions of a check and the order of its mistakes are worked by hand from the language's rules. What
+//! each phrase demands is shown by golden tests.
 use crate::made::trees_of;
 use mj_answer::Code;
 use mj_lexer::Name;
@@ -201,7 +201,7 @@ fn is_of_file(alloc: Global, tree: &FileTree, row: &Row) -> bool {
     }
 }
 
-/// Whether this comes of the check of the row's text.
+/// Whether this comes of the check of the case's text.
 fn is_right(alloc: Global, row: &Row) -> Result<bool, AllocError> {
     let trees = trees_of(alloc, row.texts)?;
     match trees.first() {

@@ -3,7 +3,7 @@ use Rattle.std.proofs.Common.{◌≡◌, List, [], ◌∷◌, ◌++◌, Result, 
 use Rattle.run_samples.specs.declared.counting.Ask.{Ask}
 use Rattle.run_samples.specs.Asking.{Counted, Becomes, AllBecome}
 
--- behind keys that became so, one more
+-- one more key behind others with their outcomes
 pub one_more : (asks : List Ask) (ask : Ask) (old between new : Counted) → AllBecome asks old between → Becomes ask between new
     → AllBecome (asks ++ ask ∷ []) old new
 one_more [] ask old between new all one = (new, subst (λ it. Becomes ask it new) all one, refl)

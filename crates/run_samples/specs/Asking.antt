@@ -1,4 +1,4 @@
--- What becomes of keys that a recorder is asked for, one after the other.
+-- The outcomes of keys that a recorder is asked for, one after the other.
 use Rattle.std.specs.Prelude.{◌≡◌, ◌⊎◌, List, [], ◌∷◌, Some, None, Contains}
 use Rattle.item_ids.specs.declared.key.Key.{Key}
 use Rattle.item_ids.specs.declared.kind.Kind.TheVariants.{Source}
@@ -22,7 +22,7 @@ use Rattle.run_samples.specs.Reading.{AreReadsOf}
 abbrev pub Counted : Type 0
 Counted = Recording Counting
 
--- the list may refuse the key so: memory ran out, or it has no answer
+-- why the list may refuse the key: memory ran out, or it has no answer
 abbrev pub MayRefuse : List ReadValue → Key → ReadFault → Type 0
 MayRefuse list key fault = (fault ≡ faults.OutOfMemory) ⊎ ((fault ≡ faults.NotHeld) × IsUnread key list)
 
@@ -41,7 +41,7 @@ pub record IsAnsweredTwice (key : Key) (old new : Counted) : Type 0 where
   pub step : Goes (AskStep key) between again new
   pub same : canon again ≡ canon value
 
--- this becomes of the key
+-- the key has this outcome
 abbrev pub BecomesOf : Ask → Key → Counted → Counted → Type 0
 BecomesOf (Again asked) key old new = IsAnsweredTwice key old new
 BecomesOf (Answered asked) key old new = IsAnswered key old new
@@ -55,13 +55,13 @@ asked_by (Answered asked) = asked
 asked_by (NotHeld asked) = asked
 asked_by (GivesUp asked) = asked
 
--- this becomes of the key that is told
+-- the key that is given has its outcome
 pub record Becomes (ask : Ask) (old new : Counted) : Type 0 where
   pub key : Key
   pub of_key : IsKeyOf (asked_by ask) key
   pub told : BecomesOf ask key old new
 
--- this becomes of the keys, one after the other
+-- the keys have these outcomes, one after the other
 abbrev pub AllBecome : List Ask → Counted → Counted → Type 0
 AllBecome [] old new = new ≡ old
 AllBecome (ask ∷ asks) old new =
@@ -71,13 +71,13 @@ AllBecome (ask ∷ asks) old new =
 abbrev pub fresh : List ReadValue → Counted
 fresh list = record { inner = record { list = list; count = 0 }; told = []; refused = None }
 
--- this became of the keys, by a recorder over the list of these answers
+-- the keys had these outcomes, by a recorder over the list of these answers
 pub record IsAfter (answers : List Given) (asks : List Ask) (end : Counted) : Type 0 where
   pub list : List ReadValue
   pub of_list : AreReadsOf answers list
   pub asked : AllBecome asks (fresh list) end
 
--- the list has an answer for the key that is told
+-- the list has an answer for the key that is given
 pub record HasAnswer (list : List ReadValue) (asked : Asked) : Type 0 where
   pub key : Key
   pub of_key : IsKeyOf asked key

@@ -1,4 +1,4 @@
--- Reads, runs and their outcomes, as short texts tell them.
+-- Reads, runs and their outcomes, as short texts give them.
 use Rattle.std.specs.Prelude.{◌≡◌, ◌≢◌, ◌↔◌, ◌⊎◌, ℕ, Bool, false, List, [], ◌∷◌, Option, Some, None, Result, Ok, Err, IsTrue, Contains}
 use Rattle.std.specs.List.{AllZip}
 use Rattle.item_ids.specs.declared.key.Key.{Key}
@@ -21,16 +21,16 @@ use Rattle.run_samples.specs.declared.refusals.Kept.{Kept}
 
 -- ---- reads
 
--- the read is of the key that is told, and the digits tell what spells its answer
+-- the read is of the key that is given, and the digits spell its answer
 pub record IsReadOf (given : Given) (read : ReadValue) : Type 0 where
   pub key : IsKeyOf given.0 read.key
   pub answer : Tell given.1.now (canon read.value)
 
--- the reads are those that are told, in their order
+-- the reads are those that are given, in their order
 abbrev pub AreReadsOf : List Given → List ReadValue → Type 0
 AreReadsOf given reads = AllZip IsReadOf given reads
 
--- the list has the read that is told
+-- the list has the read that is given
 abbrev pub IsFound : Given → List ReadValue → Type 0
 IsFound given list = (read : ReadValue) × Contains list read × IsReadOf given read
 
@@ -44,12 +44,12 @@ AnswersOtherwise given list =
     (read : ReadValue) × Contains list read × IsKeyOf given.0 read.key
     × ¬ Tell given.1.now (canon read.value)
 
--- the answer to whether the list has the answer that is told for its key
+-- the answer to whether the list has the answer that is given for its key
 pub record Holds (given : Given) (list : List ReadValue) (answer : Bool) : Type 0 where
   pub found : IsTrue answer → IsFound given list
   pub missing : answer ≡ false → LacksKey given list ⊎ AnswersOtherwise given list
 
--- the key is the one that is told, or both are missing
+-- the key is the one that is given, or both are missing
 abbrev pub IsRefusedKey : Option Asked → Option Key → Type 0
 IsRefusedKey (Some asked) (Some key) = IsKeyOf asked key
 IsRefusedKey None None = Unit {0}
@@ -63,7 +63,7 @@ pub record IsKept (kept : Kept) {D : Type 0} (r : Recording D) : Type 0 where
 
 -- ---- results
 
--- the answer to whether the results that are told, and their prints, are the same
+-- the answer to whether the results that are given, and their fingerprints, are the same
 pub record AreSame (one other : Given) (answer : Bool) : Type 0 where
   pub first : Value
   pub second : Value
@@ -71,7 +71,7 @@ pub record AreSame (one other : Given) (answer : Bool) : Type 0 where
   pub of_other : IsTold other.0.0 other.1.now second
   pub told : IsTrue answer ↔ ((first ≡ second) × (print_of first ≡ print_of second))
 
--- the answer to whether neither the results that are told nor their prints are the same
+-- the answer to whether neither the results that are given nor their fingerprints are the same
 pub record AreApart (one other : Given) (answer : Bool) : Type 0 where
   pub first : Value
   pub second : Value
@@ -79,12 +79,12 @@ pub record AreApart (one other : Given) (answer : Bool) : Type 0 where
   pub of_other : IsTold other.0.0 other.1.now second
   pub told : IsTrue answer ↔ ((first ≢ second) × (print_of first ≢ print_of second))
 
--- a program ended with the value that the digits tell
+-- a program ended with the value that the digits spell
 abbrev pub EndsWith : List ℕ → Result Value RunFault → Type 0
 EndsWith digits (Ok v) = Tell digits (canon v)
 EndsWith digits (Err e) = ⊥
 
--- a program ended with the value that the digits tell, after the reads that are told
+-- a program ended with the value that the digits spell, after the reads that are given
 pub record ComesTo (digits : List ℕ) (given : List Given) (ending : Result Value RunFault)
     (told : List ReadValue) : Type 0 where
   pub value : EndsWith digits ending
@@ -98,13 +98,13 @@ pub record Wants (kept : Kept) (ending : Result Value RunFault) {D : Type 0} (r 
 
 -- ---- runs
 
--- the outcome is of the run that is told, with its result, after the reads that are told
+-- the outcome is of the run that is given, with its result, after the reads that are given
 pub record IsOutcomeOf (run : Given) (given : List Given) (o : OutcomeValue) : Type 0 where
   pub key : IsKeyOf run.0 o.key
   pub value : Tell run.1.now (canon o.value)
   pub reads : AreReadsOf given o.told
 
--- the answer to whether an outcome of the sample runner is the one that is told
+-- the answer to whether an outcome of the sample runner is the one that is given
 pub record IsGiven (run : Given) (given : List Given) (answer : Bool) : Type 0 where
   pub outcome : OutcomeValue
   pub of_runner : IsOutcome sample_mean sample_reads outcome
@@ -113,19 +113,19 @@ pub record IsGiven (run : Given) (given : List Given) (answer : Bool) : Type 0 w
 
 -- ---- runs whose reads are refused
 
--- just the key that is told is logged
+-- just the key that is given is logged
 abbrev pub IsLoggedAs : List Key → Asked → Type 0
 IsLoggedAs (key ∷ []) asked = IsKeyOf asked key
 IsLoggedAs _ asked = ⊥
 
--- a run of the key that is told read so far, each key where the sample runner reads it
+-- a run of the key that is given has read this far, each key where the sample runner reads it
 pub record IsHalted (asked : Asked) {D : Type 0} (r : Recording D) : Type 0 where
   pub key : Key
   pub of_key : IsKeyOf asked key
   pub in_order : AsksInOrder sample_mean sample_reads key r.told
   pub next : IsNextRefused sample_mean sample_reads key r
 
--- a run of the key that is told is refused with this fault, and its recorder keeps just this
+-- a run of the key that is given is refused with this fault, and its recorder keeps just this
 pub record IsLeft (asked : Asked) (fault : ReadFault) (kept : Kept) {D : Type 0} (r : Recording D)
     : Type 0 where
   pub halted : IsHalted asked r

@@ -66,7 +66,7 @@ pub fn holds(alloc: Global, answers: &[Given], given: Given) -> Result<bool, Unf
     has(alloc, &list, given)
 }
 
-/// Whether two answers are one result with one print.
+/// Whether two answers are one result with one fingerprint.
 pub fn are_same(alloc: Global, one: Given, other: Given) -> Result<bool, Unfit>
     ensures { IfOk result (AreSame one.entry other.entry) }
 {

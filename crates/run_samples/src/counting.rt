@@ -53,16 +53,16 @@ impl Reader for Counting {
     }
 }
 
-/// A key that a recorder is asked for, and what becomes of it.
+/// A key that a recorder is asked for, and the outcome of that.
 #[derive(Clone, Copy, Debug)]
 pub enum Ask<'a> {
-    /// It has an answer, a source, which a step of a program is given again.
+    /// It has an answer, a source; a step of a program is given it again.
     Again(Asked<'a>),
     /// It has an answer.
     Answered(Asked<'a>),
     /// No answer is held.
     NotHeld(Asked<'a>),
-    /// A step of a program gives up, as no answer is held.
+    /// A step of a program gives up, because no answer is held.
     GivesUp(Asked<'a>),
 }
 
@@ -125,7 +125,7 @@ fn asked_by(ask: Ask) -> Asked
     }
 }
 
-/// Whether this becomes of the key.
+/// Whether the key has this outcome.
 fn becomes_of(recorder: &mut Recorder<Counting>, key: &Key, ask: Ask) -> bool
     ensures { IsTrue result → BecomesOf ask.entry key.now recorder.old recorder.new }
 {
@@ -137,7 +137,7 @@ fn becomes_of(recorder: &mut Recorder<Counting>, key: &Key, ask: Ask) -> bool
     }
 }
 
-/// Whether this becomes of the key that is told.
+/// Whether the key that is given has its outcome.
 fn becomes(alloc: Global, recorder: &mut Recorder<Counting>, ask: Ask) -> Result<bool, Unfit>
     ensures { IfOk result (λ b. IsTrue b → Becomes ask.entry recorder.old recorder.new) }
 {
@@ -145,7 +145,7 @@ fn becomes(alloc: Global, recorder: &mut Recorder<Counting>, ask: Ask) -> Result
     Ok(becomes_of(recorder, &key, ask))
 }
 
-/// Whether this becomes of the keys, one after the other.
+/// Whether the keys have these outcomes, one after the other.
 fn all_become(alloc: Global, recorder: &mut Recorder<Counting>, asks: &[Ask]) -> Result<bool, Unfit>
     ensures { IfOk result (λ b. IsTrue b → AllBecome asks.now recorder.old recorder.new) }
 {
@@ -166,7 +166,7 @@ fn recorder_of(alloc: Global, answers: &[Given]) -> Result<Recorder<Counting>, U
     Ok(Recorder::new(alloc, Counting { list, count: 0 }))
 }
 
-/// The reader of a recorder behind what becomes of these keys.
+/// The reader of a recorder that was asked for these keys.
 fn reader_after(alloc: Global, answers: &[Given], asks: &[Ask]) -> Result<Counting, Unfit>
     ensures { IfOk result (λ reader. (end : Counted) × IsAfter answers.now asks.now end
         × (reader ≡ end.inner)) }
@@ -180,7 +180,7 @@ fn reader_after(alloc: Global, answers: &[Given], asks: &[Ask]) -> Result<Counti
     }
 }
 
-/// Whether this becomes of the keys, of which a recorder over the list of these answers keeps just this.
+/// Whether the keys have these outcomes by a recorder over the list of these answers, which then keeps just this.
 pub fn keeps_after(
     alloc: Global,
     answers: &[Given],

@@ -1,4 +1,4 @@
-//! What a query's program comes to over a list of answers.
+//! What a query's program does over a list of answers.
 ghost use Rattle.std.specs.Prelude.{◌≡◌, ◌↔◌, IsTrue, IfOk};
 ghost use Rattle.std.specs.Arc.{arc_value};
 ghost use Rattle.result_bytes.specs.Values.{canon};
@@ -21,7 +21,7 @@ fn share(alloc: Global, value: Value) -> Result<Arc<Sealed>, AllocError>
     Ok(Arc::new(alloc, seal(alloc, value)?)?)
 }
 
-/// Whether the digits tell the spelling of the value.
+/// Whether the digits spell the value.
 fn has_digits(alloc: Global, value: Value, digits: &str) -> Result<bool, Unfit>
     ensures { IfOk result (λ b. IsTrue b ↔ Tell digits.now (canon value)) }
 {

@@ -34,7 +34,7 @@ fn answers_that_are_not_there(rt: HostRuntime) -> Result<(), Fail> {
     Ok(())
 }
 
-/// Whether the fault is written so.
+/// Whether the diagnostic is written so.
 fn is_written<F: Display>(rt: HostRuntime, fault: &F, text: &str) -> Result<bool, Fail> {
     let written = format!(in rt.alloc(); "{fault}")?;
     Ok(written.as_str() == text)

@@ -48,8 +48,8 @@ const BOTH: Given = Given(Asked(Kind::Files, "", ""), "0000000000000000020161016
 
 const ONE: Given = Given(Asked(Kind::Files, "", ""), "0000000000000000010161");
 
-// Headers; signatures; checks of classes, with one fault where some file is empty: E310 at the class; checks of bodies,
-// with one fault where the phrase of both names has no type; kinds that read nothing.
+// Headers; signatures; checks of classes, with one diagnostic where some file is empty: E310 at the class; checks of
+// bodies, with one diagnostic where the phrase of both names has no type; kinds that read nothing.
 const RUNS: &[Run] = &[
     Run {
         gives: HEADER_A,

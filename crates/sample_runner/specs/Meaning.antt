@@ -61,12 +61,12 @@ abbrev mutual
   types_of p NoMore s = s
   types_of p (More e rest) s = types_of p rest (meet p s (type_of p e))
 
--- one fault, or none
+-- one diagnostic, or none
 abbrev pub faults_if : Bool → List Diagnostic
 faults_if false = []
 faults_if true = record { place = Class; code = codes.E310 } ∷ []
 
--- the value of a kind that tells nothing
+-- the empty value of a kind
 abbrev pub empty_of : Key → Value
 empty_of keys.Index = Index []
 empty_of (keys.Method c m) = Method None

@@ -10,7 +10,7 @@ use Rattle.recorder.specs.Programs.{Prog, Ret, Ask, asks, each}
 use Rattle.sample_runner.specs.Phrases.{Phrase, Phrases, Named, Called, NoMore, More, phrase_for}
 use Rattle.sample_runner.specs.Meaning.{header_value, is_main, signature_of, faults_if, empty_of, sample_mean}
 
--- ---- what an answer tells
+-- ---- what an answer says
 
 abbrev pub names_in : Value → List (List ℕ)
 names_in (Files names) = names

@@ -16,7 +16,7 @@ use recorder::{Reader, Recorder, RunFault, ask_key};
 use result_bytes::Value;
 use std::alloc::{AllocError, Global};
 
-/// The names that an answer tells.
+/// The names in an answer.
 fn names_in(value: &Value) -> &[Name]
     ensures { result.now ≡ names_told value.now }
 {
@@ -26,7 +26,7 @@ fn names_in(value: &Value) -> &[Name]
     }
 }
 
-/// Whether an answer tells the header of an empty file.
+/// Whether an answer has the header of an empty file.
 fn is_main_in(value: &Value) -> bool
     ensures { result ≡ is_main (header_told value.now) }
 {
@@ -36,7 +36,7 @@ fn is_main_in(value: &Value) -> bool
     }
 }
 
-/// One fault, or none.
+/// One diagnostic, or none.
 fn faults_for(alloc: Global, found: bool) -> Result<Faults, AllocError>
     ensures { IfOk result (λ faults. faults ≡ faults_if found) }
 {
@@ -87,7 +87,7 @@ fn look_at_all<D: Reader>(
     Ok(found)
 }
 
-/// A fault where some file is empty.
+/// A diagnostic where some file is empty.
 pub fn check_class<D: Reader>(alloc: Global, recorder: &mut Recorder<D>) -> Result<Value, RunFault>
     ensures ok { IfOk result (λ v. Goes class_steps recorder.old v recorder.new) }
     ensures err { IfErr result (λ e. GivesUp class_steps recorder.old e recorder.new) }
@@ -99,7 +99,7 @@ pub fn check_class<D: Reader>(alloc: Global, recorder: &mut Recorder<D>) -> Resu
     Ok(Value::CheckClass(faults))
 }
 
-/// A fault where the phrase for two names has no type.
+/// A diagnostic where the phrase for two names has no type.
 pub fn check_body<D: Reader>(
     alloc: Global,
     recorder: &mut Recorder<D>,

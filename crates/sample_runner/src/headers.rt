@@ -31,7 +31,7 @@ pub fn ask_header<D: Reader>(
     ask_key(recorder, &key)
 }
 
-/// The header that an answer tells.
+/// The header in an answer.
 pub fn header_in(value: &Value) -> Option<&Header>
     ensures { option_copied result ≡ header_told value.now }
 {
@@ -41,7 +41,7 @@ pub fn header_in(value: &Value) -> Option<&Header>
     }
 }
 
-/// The signature that an answer tells.
+/// The signature in an answer.
 pub fn signature_in(value: &Value) -> Option<&Signature>
     ensures { option_copied result ≡ signature_told value.now }
 {
@@ -51,7 +51,7 @@ pub fn signature_in(value: &Value) -> Option<&Signature>
     }
 }
 
-/// The bytes that an answer tells.
+/// The bytes in an answer.
 fn bytes_in(value: &Value) -> Option<&Text>
     ensures { option_copied result ≡ bytes_told value.now }
 {
@@ -89,7 +89,7 @@ pub fn run_header<D: Reader>(
     Ok(Value::Header(header_for(alloc, bytes_in(sealed.value()))))
 }
 
-/// The signature of a file that is there.
+/// The signature of a file that exists.
 fn signature_for(
     alloc: Global,
     header: Option<&Header>,
@@ -133,7 +133,7 @@ pub fn run_signature<D: Reader>(
     }
 }
 
-/// The rest of a signature, where the file is there.
+/// The rest of a signature, if the file exists.
 fn run_both<D: Reader>(
     alloc: Global,
     recorder: &mut Recorder<D>,

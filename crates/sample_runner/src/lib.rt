@@ -1,5 +1,5 @@
-//! A runner with a small meaning of its own, written by query programs alone.
-//! Which files are there, and which of them are empty, is all that it looks at.
+//! A runner with a small meaning of its own, written as query programs. It only looks at which files there are, and
+//! which of them are empty.
 #![tactic(auto)]
 
 mod checks;

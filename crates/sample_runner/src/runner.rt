@@ -13,7 +13,7 @@ use recorder::{Reader, Recorder, RunFault, Runner};
 use result_bytes::{Index, Value};
 use std::alloc::{AllocError, AllocFailed, Global};
 
-/// A runner that only asks which files are there, and which of them are empty.
+/// A runner that only asks which files there are, and which of them are empty.
 #[derive(Drop)]
 pub struct SampleRunner {
     log: Vec<Key>,
@@ -37,7 +37,7 @@ impl SampleRunner {
     }
 }
 
-/// The value of a kind that tells nothing.
+/// The empty value of a kind.
 fn empty_value(alloc: Global, key: &Key) -> Value
     ensures { result ≡ empty_of key.now }
 {

@@ -11,7 +11,7 @@ use mj_lexer::Name;
 use recorder::{Reader, Recorder, RunFault, ask_key};
 use std::alloc::Global;
 
-/// The type of a name: the name itself, where the file is there.
+/// The type of a name: the name itself, if there is a file of this name.
 fn walk_name<D: Reader>(
     alloc: Global,
     recorder: &mut Recorder<D>,

@@ -31,13 +31,13 @@ abbrev pub next_chain : ℕ → Option Place
 next_chain chain =
     if nat_lt chain most then Some (record { chain = chain + 1; number = 0 }) else None
 
--- The session goes on the chain of the one at this place.
+-- The session continues the chain of the one at this place.
 pub record ContinuesChain (last : Place) (s : SessionValue) (start : Start) : Type 0 where
   pub past : session_in start.past ≡ Some s
   pub place : start.place ≡ Some (record { chain = last.chain; number = last.number + 1 })
   pub note : start.note ≡ None
 
--- It begins the next chain, since the file at this place can't be gone on from.
+-- It begins the next chain, since the file at this place can't be continued.
 pub record BeginsNext (last : Place) (why : Why) (start : Start) : Type 0 where
   pub past : session_in start.past ≡ None
   pub place : start.place ≡ next_chain last.chain
@@ -70,8 +70,9 @@ IsLast NoChain = Unit {0}
 IsLast (NoSession chain) = chain ≤ most
 IsLast (File last read) = IsPlace last
 
--- The place, where there is one, is that of the next session, which the past leaves room for. What is
--- noted is noted of a place, and where there is none for the session, of one in the last chain.
+-- The place, where there is one, is that of the next session, for which the previous one leaves
+-- room. What is noted is noted of a place, and where there is none for the session, of one in the
+-- last chain.
 pub record IsStart (start : Start) : Type 0 where
   pub place : IfSome start.place IsPlace
   pub number : IfSome start.place (λ p. p.number ≡ next_number (session_in start.past))

@@ -28,8 +28,8 @@ pub fn find_start<R: Files + AllocGlobal>(rt: &R, dir: &str) -> Result<Start, Ca
     }
 }
 
-/// Reads the last file of the last chain in the cache of this folder. A folder that isn't there is an empty cache; an empty
-/// word names no folder, and can't be read.
+/// Reads the last file of the last chain in the cache of this folder. A folder that doesn't exist is an empty cache. An
+/// empty word names no folder, and can't be read.
 pub fn find_last<R: Files + AllocGlobal>(rt: &R, dir: &str) -> Result<Last, CacheFault>
     ensures last { IfOk result IsLast }
     ensures startless { IfErr result (IsStartless dir.now) }
@@ -80,7 +80,7 @@ fn file_at<R: Files + AllocGlobal>(rt: &R, dir: &str, place: Place) -> Result<La
     }
 }
 
-/// The names of what stands in a folder, but for those that are no text.
+/// The names in a folder, without those that aren't UTF-8.
 fn names_in<R: Files + AllocGlobal>(rt: &R, folder: &str) -> io::Result<Vec<String>> {
     let alloc = rt.alloc();
     let mut names = Vec::new(alloc);
@@ -138,7 +138,7 @@ pub fn write_file<R: Files + AllocGlobal>(
     }
 }
 
-/// Makes the folder where it is missing, and a file in it.
+/// Makes the folder if it is missing, and a new file in it.
 fn write_new<R: Files>(rt: &R, folder: &str, path: &str, bytes: &[u8]) -> io::Result<()> {
     fs::create_dir_all(rt, folder)?;
     let mut file = fs::File::create_new(rt, path)?;

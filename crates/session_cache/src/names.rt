@@ -5,7 +5,7 @@ ghost use Rattle.session_cache.specs.Names.{most, four_digits, name_of, IsDigit,
 use sessions::Session;
 use std::alloc::AllocError;
 
-/// The greatest number of a chain in its cache, which is that of a session in its chain.
+/// The greatest number of a chain in its cache; it is the same for a session in its chain.
 pub(crate) const MOST: u32 = Session::MOST;
 
 /// What has a number in a cache.
@@ -17,7 +17,7 @@ pub enum Named {
     Session,
 }
 
-/// The greatest number of those whose names are among these; all other names are passed over.
+/// The greatest number that one of these names has. Other names are passed over.
 pub fn highest(what: Named, names: &[String]) -> Option<u32>
     ensures { IsHighest what (map string_bytes names.now) result }
 {
@@ -28,7 +28,7 @@ pub fn highest(what: Named, names: &[String]) -> Option<u32>
     highest
 }
 
-/// The greater of a number and that of a name, which has none where it is another one.
+/// The greater of a number and that of a name, if the name has one.
 #[tactic(auto, using(crate::proofs::NameRules::raised, crate::proofs::NameRules::passed))]
 fn higher(what: Named, highest: Option<u32>, name: &[u8]) -> Option<u32>
     ensures { (front : List (List ℕ)) → IsHighest what front highest
@@ -40,7 +40,7 @@ fn higher(what: Named, highest: Option<u32>, name: &[u8]) -> Option<u32>
     }
 }
 
-/// The greater of two numbers, of which one may be missing.
+/// The greater of two numbers, the first of which may be missing.
 fn greater(highest: Option<u32>, number: u32) -> u32
     ensures number { number ≤ result }
     ensures highest { IfSome highest (λ n. n ≤ result) }
@@ -52,7 +52,7 @@ fn greater(highest: Option<u32>, number: u32) -> u32
     }
 }
 
-/// The number of this name.
+/// The number in this name, or `None` where it is no such name.
 fn number_in(what: Named, name: &[u8]) -> Option<u32>
     ensures { IsSpelled (name_of what) name.now result }
 {
@@ -62,7 +62,7 @@ fn number_in(what: Named, name: &[u8]) -> Option<u32>
     }
 }
 
-/// The number of a session, without the letter.
+/// The number in the name of a session, without the letter.
 #[tactic(auto, using(crate::proofs::NameRules::other_end, crate::proofs::NameRules::read_before, crate::proofs::NameRules::too_short))]
 fn number_before(name: &[u8]) -> Option<u32>
     ensures { IsSpelled (λ n. four_digits n ++ codes ".mjrg") name.now result }
@@ -81,7 +81,7 @@ fn is_session_end(end: &[u8]) -> bool
     end == b".mjrg".as_slice()
 }
 
-/// The number that stands in four decimal digits.
+/// The number that four decimal digits spell.
 #[tactic(auto, using(crate::proofs::NameRules::not_four))]
 fn parse_number(digits: &[u8]) -> Option<u32>
     ensures { IsSpelled four_digits digits.now result }

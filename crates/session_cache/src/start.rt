@@ -46,12 +46,13 @@ pub enum Last {
     NoChain,
     /// The chain of this number, the greatest one, has no session.
     NoSession(u32),
-    /// The file at this place, that of the greatest number in the chain of the greatest number, was read so.
+    /// The file at this place was read, with this result. It has the greatest number in the chain of the greatest
+    /// number.
     File(Place, Result<Session, FileFault>),
 }
 
-/// Where the next session of a cache begins, by what was read of its last chain: there, the first chain where there is none,
-/// or in the next chain behind a file that can't be gone on from.
+/// Where the next session of a cache begins, by what was read of its last chain: in that chain, in the first one where
+/// there is none, or in the next one behind a file that can't be continued.
 pub fn start_behind(alloc: Global, last: Last) -> Result<Start, AllocError>
     requires { IsLast last }
     ensures behind { IfOk result (IsStartBehind last) }
@@ -116,7 +117,7 @@ fn start_after(alloc: Global, last: Place, session: Session) -> Result<Start, Al
     })
 }
 
-/// The beginning of the next chain, with what is said of the file that isn't gone on from.
+/// The beginning of the next chain, with what is said of the file that can't be continued.
 fn begin_next(last: Place, why: Why) -> Start
     requires { IsPlace last }
     ensures next { BeginsNext last why result }

@@ -12,7 +12,7 @@ Counts (Err e) old new = new ≡ one_more old
 
 -- ---- sinks, by the bytes that they hold
 
--- so many of the bytes, and some where there are some
+-- this many of the bytes, at least one if there are any
 pub record IsCount (bytes : List ℕ) (n : ℕ) : Type 0 where
   pub within : n ≤ length bytes
   pub some : 0 < length bytes → 0 < n

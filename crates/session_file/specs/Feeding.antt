@@ -43,7 +43,7 @@ pub record Left (new : List ℕ → Type 0) (part bytes : List ℕ) : Type 0 whe
 pub record Given (old new : List ℕ → Type 0) (part : List ℕ) : Type 0 where
   pub left : (bytes : List ℕ) → old bytes → Left new part bytes
 
--- what was held, where that is told, is shorter than so many bytes
+-- what was held, where that is told, is shorter than this many bytes
 pub record IsShort (old : List ℕ → Type 0) (count : ℕ) : Type 0 where
   pub short : (bytes : List ℕ) → old bytes → length bytes < count
 

@@ -34,7 +34,7 @@ same true b = b
 same false true = false
 same false false = true
 
--- a name is there just where the kind has one
+-- a name is there exactly where the kind has one
 abbrev pub are_names : Kind → Option (List ℕ) → Option (List ℕ) → Bool
 are_names kind class member =
     same (is_some class) (has_class kind) && same (is_some member) (has_member kind)

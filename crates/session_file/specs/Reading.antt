@@ -90,7 +90,7 @@ abbrev pub is_behind : Option RecordValue → Key → Bool
 is_behind None key = true
 is_behind (Some last) key = is_lt (key_cmp last.key key)
 
--- the key is greater than the one before, and it is an input just where it is marked so
+-- the key is greater than the one before, and its mark is Input exactly where it is an input
 unfoldable pub check_place : List RecordValue → ItemValue → Result (Unit {0}) FileFault
 check_place front item = do
   order ← demand (is_behind (slice_get front (length front - 1)) item.key) (KeyOrder (length front))
@@ -123,7 +123,7 @@ abbrev pub value_with_print : List ℕ → Result Value Refusal → Option Value
 value_with_print print (Ok v) = if bytes_eq print (print_of v) then Some v else None
 value_with_print print (Err refusal) = None
 
--- a value of a kind that has the print in front of it
+-- a value of a kind that has the fingerprint in front of it
 unfoldable pub result_at : ℕ → Kind → Parser Value
 result_at i kind bytes = do
   print ← bytes_at 32 bytes
@@ -135,7 +135,7 @@ pub record RestValue : Type 0 where
   pub edges : List ℕ
   pub value : Value
 
--- what stands behind a key and its mark
+-- what follows a key and its mark
 unfoldable pub rest_at : List RecordValue → Key → Parser RestValue
 rest_at front key bytes = do
   edges ← edges_at front key bytes
@@ -170,7 +170,7 @@ pub record HeadValue : Type 0 where
 abbrev pub magic : List ℕ
 magic = 0x4d ∷ 0x4a ∷ 0x52 ∷ 0x47 ∷ []
 
--- what stands behind the first four bytes
+-- what follows the first four bytes
 unfoldable pub magic_at : List ℕ → Result (List ℕ) FileFault
 magic_at bytes =
     if nat_lt (length bytes) 4 then Err BadMagic
@@ -213,7 +213,7 @@ session_at bytes = do
   s ← front_at bytes
   Ok s.0
 
--- the session whose file the bytes are, or the first breach; nothing stands behind the file
+-- the session whose file the bytes are, or the first breach; nothing follows the file
 unfoldable pub file_at : List ℕ → Result SessionValue FileFault
 file_at bytes = do
   s ← front_at bytes

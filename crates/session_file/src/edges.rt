@@ -35,7 +35,7 @@ pub(crate) fn read_edges<F: Feed>(
     }
 }
 
-/// Reads so many edges. Memory is taken for those alone that were there.
+/// Reads this many edges. Memory is only taken for edges that were there.
 fn read_items<F: Feed>(
     alloc: Global,
     feed: &mut F,

@@ -24,13 +24,13 @@ pub enum FileFault {
     /// An edge of this record isn't the index of a record before it whose key has a lower rank, or was there before.
     #[error("11.6 BadEdge({0}, {1})")]
     BadEdge(usize, usize),
-    /// The result of this record isn't canonical for its kind, or its print is another one.
+    /// The result of this record isn't canonical for its kind, or its fingerprint is another one.
     #[error("11.7 Result({0})")]
     Result(usize),
     /// The mark of this record is Input on a key that is no input, or another one on an input.
     #[error("11.8 InputKind({0})")]
     InputKind(usize),
-    /// Bytes stand behind the file.
+    /// Bytes follow the file.
     #[error("11.9 Trailing")]
     Trailing,
     /// The device failed.

@@ -6,7 +6,7 @@ use crate::fault::FileFault;
 use crate::hashing::HashingSink;
 use crate::stop::Stop;
 
-/// Fills the room with what the feed holds; where that is less, it is a breach.
+/// Fills the room with what the feed holds. Where that is less, it is a breach.
 fn fill<F: Feed>(feed: &mut F, room: &mut [u8]) -> Result<(), Stop>
     ensures filled { Fills (F.holds feed.old) (F.holds feed.new) room.old room.new result }
     ensures counted { CountsStop result (F.failed feed.old) (F.failed feed.new) }

@@ -52,21 +52,21 @@ pub fn read(alloc: Global, bytes: &[u8]) -> Result<Session, FileFault>
     }
 }
 
-/// The session with whose file the feed begins, which is taken and no byte behind it, or the first breach from the left.
-/// Memory is taken for what was there alone. After a refusal the feed stands somewhere in the file.
+/// The session whose file the feed begins with, or the first breach from the left. Just that file is taken. Memory is
+/// only taken for bytes that were there. After a refusal the feed stands somewhere in the file.
 pub fn read_from<F: Feed>(alloc: Global, feed: &mut F) -> Result<Session, FileFault>
     // What is read is a session.
     ensures session { IfOk result IsSession }
     // Its file was taken from what the feed held, and the rest is left, where the feed tells its bytes.
     ensures found { IfOk result (λ s. Given (F.holds feed.old) (F.holds feed.new) (file_of s)) }
-    // The file of a session is read, whatever stands behind it, unless memory runs out or the device fails.
+    // The file of a session is read, whatever follows it, unless memory runs out or the device fails.
     ensures only { (s : SessionValue) (rest : List ℕ) → IsSession s
         → F.holds feed.old (file_of s ++ rest)
         → IsUnlessStopped result (Ok s) }
     // Which breach it is.
     ensures exact { (bytes : List ℕ) → F.holds feed.old bytes
         → IsUnlessStopped result (session_at bytes) }
-    // A failure of the device is answered just where it was counted.
+    // A failure of the device is answered exactly where it was counted.
     ensures counted { CountsDevice result (F.failed feed.old) (F.failed feed.new) }
 {
     match read_session(alloc, feed) {

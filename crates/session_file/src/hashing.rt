@@ -39,7 +39,7 @@ impl HashingSink {
         self.hasher.update(bytes);
     }
 
-    /// The SHA-256 of the bytes that it holds. It goes on holding them.
+    /// The SHA-256 of the bytes that it holds. It still holds them afterwards.
     pub(crate) fn so_far(&self) -> [u8; 32]
         ensures { (bytes : List ℕ) → Holds256 self.now.hasher bytes → result ≡ sha256 bytes }
     {
@@ -73,7 +73,7 @@ impl HashingSink {
     }
 }
 
-/// The SHA-256 of a body, and that of the body with its SHA-256 at its end. The body is walked once.
+/// The SHA-256 of a body, and that of the body with its SHA-256 at its end. The body is hashed once.
 pub(crate) fn digests(body: &[u8]) -> ([u8; 32], [u8; 32])
     ensures body { result.0 ≡ sha256 body.now }
     ensures file { result.1 ≡ sha256 (body.now ++ sha256 body.now) }

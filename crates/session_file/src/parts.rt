@@ -103,7 +103,7 @@ pub(crate) fn text<F: Feed>(
 /// The greatest number of bytes that are taken at a time.
 const PIECE: usize = 1024;
 
-/// So many bytes. Memory is taken for those alone that were there.
+/// Reads this many bytes. Memory is only taken for bytes that were there.
 pub(crate) fn bytes<F: Feed>(
     alloc: Global,
     feed: &mut F,

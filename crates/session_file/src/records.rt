@@ -20,14 +20,14 @@ use sessions::{Record, SeenEdges, is_marked};
 use std::alloc::Global;
 use std::sync::Arc;
 
-/// What stands behind a key and its mark.
+/// What follows a key and its mark.
 #[derive(Drop)]
 struct Rest {
     edges: Vec<usize>,
     sealed: Arc<Sealed>,
 }
 
-/// Reads so many records. Memory is taken for those alone that were there.
+/// Reads this many records. Memory is only taken for records that were there.
 pub(crate) fn read_records<F: Feed>(
     alloc: Global,
     feed: &mut F,
@@ -104,7 +104,7 @@ fn read_record<F: Feed>(
     }
 }
 
-/// The key is greater than the one before, and it is an input just where it is marked so.
+/// The key is greater than the one before, and its mark is Input exactly where it is an input.
 #[tactic(auto, unfolding(crate::specs::Reading::check_place))]
 fn check_place(front: &[Record], item: &Item) -> Result<(), FileFault>
     ensures value { result ≡ check_place front.now item.now }
@@ -129,7 +129,7 @@ fn is_behind(last: Option<&Record>, key: &Key) -> bool
     }
 }
 
-/// Reads what stands behind a key and its mark.
+/// Reads what follows a key and its mark.
 fn read_rest<F: Feed>(
     alloc: Global,
     feed: &mut F,

@@ -47,7 +47,7 @@ pub(crate) fn read_result<F: Feed>(
     }
 }
 
-/// The value of a kind that the text spells, where it has the print.
+/// The value of a kind that the text spells, where it has the fingerprint.
 fn open(
     alloc: Global,
     kind: Kind,

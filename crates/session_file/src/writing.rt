@@ -34,7 +34,7 @@ pub fn write<W: Sink>(session: &Session, sink: &mut W) -> Result<(), FileFault>
     }
 }
 
-/// The SHA-256 of the session's file, which one that was read keeps. It takes no memory.
+/// The SHA-256 of the session's file: the one that was kept when it was read, else computed. It takes no memory.
 pub fn digest(session: &Session) -> [u8; 32]
     ensures { result ≡ digest_of session.now }
 {
@@ -191,7 +191,7 @@ fn put_edges<W: Sink>(sink: &mut W, edges: &[usize]) -> Result<(), DeviceFault>
     Ok(())
 }
 
-/// Appends the print of a result, the number of its bytes, and its bytes.
+/// Appends the fingerprint of a result, the number of its bytes, and its bytes.
 fn put_result<W: Sink>(sink: &mut W, sealed: &Sealed) -> Result<(), DeviceFault>
     ensures holds { Puts (W.holds sink.old) (W.holds sink.new) (result_bytes sealed.now) result }
     ensures counted { Counts result (W.failed sink.old) (W.failed sink.new) }

@@ -88,7 +88,7 @@ impl FailingSink {
         self.bytes.as_slice()
     }
 
-    /// Takes away what it holds. Its calls are counted on.
+    /// Empties the sink. Its calls are still counted.
     pub fn empty(&mut self) {
         self.bytes.clear();
     }
@@ -143,7 +143,7 @@ impl<'a> FailingFeed<'a> {
         self.rest
     }
 
-    /// Has it hold these bytes. Its calls are counted on.
+    /// Fills the feed with these bytes. Its calls are still counted.
     pub fn refill(&mut self, bytes: &'a [u8]) {
         self.rest = bytes;
     }

@@ -26,7 +26,7 @@ pub fn write_to<W: Sink>(
     ensures device { IfOk result (λ ending. IfErr ending (λ fault. fault ≡ Device)) }
     ensures counted { IfOk result (λ ending.
         Counts ending (W.failed sink.old) (W.failed sink.new)) }
-    // Nothing is written where the records tell no session.
+    // Nothing is written where the records make no session.
     ensures unfit { IfErr result (λ _. sink.new ≡ sink.old) }
 {
     let session = session_of(alloc, 0, [0; 32], kept)?;
@@ -84,7 +84,7 @@ pub fn is_read_again(alloc: Global, bytes: &[u8]) -> bool
     }
 }
 
-/// The SHA-256 of its file that a session tells which was taken from a feed.
+/// The SHA-256 of its file that a session read from a feed keeps.
 pub fn digest_of_taken<F: Feed>(alloc: Global, feed: &mut F) -> Result<[u8; 32], FileFault>
     ensures taken { IfOk result (λ digest. (s : SessionValue) × IsSession s
         × Given (F.holds feed.old) (F.holds feed.new) (file_of s) × (digest ≡ digest_of s)) }
@@ -96,7 +96,7 @@ pub fn digest_of_taken<F: Feed>(alloc: Global, feed: &mut F) -> Result<[u8; 32],
     }
 }
 
-/// The SHA-256 of its file that a session tells which was read from these bytes.
+/// The SHA-256 of its file that a session read from these bytes keeps.
 pub fn digest_of_read(alloc: Global, bytes: &[u8]) -> Option<[u8; 32]>
     ensures { IfSome result (λ digest. (s : SessionValue) × IsFileOf bytes.now s
         × (digest ≡ digest_of s)) }

@@ -1,4 +1,4 @@
-//! Sessions from rows of texts.
+//! Sessions from short texts.
 ghost use Rattle.std.specs.Prelude.{◌≡◌, List, [], ◌∷◌, ◌++◌, IfOk, OnOk};
 ghost use Rattle.answer_samples.specs.Telling.{IsKeyOf};
 ghost use Rattle.session_samples.specs.declared.records.Kept.{Kept as SpecKept};
@@ -61,7 +61,7 @@ fn push(records: &mut Vec<Record>, last: Record) -> Result<(), AllocError>
     Ok(records.push(last)?)
 }
 
-/// The record that is told.
+/// The record that is given.
 fn record_of(alloc: Global, kept: &Kept) -> Result<Record, Unfit>
     ensures { IfOk result (IsRecordOf kept.now) }
 {
@@ -69,7 +69,7 @@ fn record_of(alloc: Global, kept: &Kept) -> Result<Record, Unfit>
     record_of_key(alloc, kept, key)
 }
 
-/// The record that is told, of this key.
+/// The record that is given, of this key.
 fn record_of_key(alloc: Global, kept: &Kept, key: Key) -> Result<Record, Unfit>
     requires { IsKeyOf kept.now.key key }
     ensures { IfOk result (IsRecordOf kept.now) }
@@ -78,7 +78,7 @@ fn record_of_key(alloc: Global, kept: &Kept, key: Key) -> Result<Record, Unfit>
     record_with_edges(alloc, kept, key, edges)
 }
 
-/// The record that is told, of this key and with these edges.
+/// The record that is given, of this key and with these edges.
 fn record_with_edges(
     alloc: Global,
     kept: &Kept,

@@ -101,7 +101,7 @@ const TAKEN: &[Taken] = &[
     },
 ];
 
-/// Whether the write ends as the row says.
+/// Whether the write ends as the case says.
 fn has_ended(alloc: Global, sink: &mut Slow, row: &Taken) -> bool {
     match write_to(alloc, FIRST, sink) {
         Ok(Ok(())) => row.whole && sink.failures() == 0,

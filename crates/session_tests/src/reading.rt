@@ -69,7 +69,7 @@ const CHANGED: &[Changed] = &[
         byte: 0x28,
         fault: FileFault::Number,
     },
-    // An unknown kind, a name that the kind hasn't, an unknown mark, and a name that is no text.
+    // An unknown kind, a name that doesn't belong to the kind, an unknown mark, and a name that is no text.
     Changed {
         at: 50,
         byte: 13,
@@ -128,7 +128,7 @@ const CHANGED: &[Changed] = &[
         byte: 0xff,
         fault: FileFault::BadEdge(3, 0),
     },
-    // Another print, another result, and a longer one than there are bytes.
+    // Another fingerprint, another result, and a longer one than there are bytes.
     Changed {
         at: 62,
         byte: 0,
@@ -207,7 +207,7 @@ fn bytes_behind_a_file_are_refused(rt: HostRuntime) -> Result<(), Fail> {
     Ok(())
 }
 
-// A file of one record, Files, whose result lists no file. Its print and the digest are right.
+// A file of one record, Files, whose result lists no file. Its fingerprint and the digest are right.
 const NO_FILES: &str =
     "4d4a5247000100000000000000000000000000000000000000000000000000000000000000000000000000000000000000010000000000000000000000003e7077fd2f66d689e0cee6a7cf5b37bf2dca7c979af356d0a31cbc5c85605c7d0000000000000009000000000000000000a67b99a530199faa9d031478038debdc7cf41ff74b6311e5116721beb47bee78";
 

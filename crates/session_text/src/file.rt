@@ -7,7 +7,7 @@ use session_file::{FileFault, read};
 use std::alloc::Global;
 use std::sync::Arc;
 
-/// The text of the session whose file the bytes are, or why they are none's.
+/// The text of the session whose file the bytes are, or the first breach.
 pub fn file_text(alloc: Global, bytes: &[u8]) -> Result<String, FileFault>
     ensures shown { IfOk result (λ text. IsTextOfFile bytes.now (string_bytes text)) }
     ensures refused { IfErr result (RefusesFile bytes.now) }

@@ -1,4 +1,4 @@
--- What a session tells of a key, by its records.
+-- What a session says about a key, by its records.
 use Rattle.std.proofs.Common.{◌≡◌, ◌≢◌, ℕ, suc, zero, ◌<◌, ◌≤◌, Bool, true, false, cond, List, [], ◌∷◌, map, take, length, get_or, find, Option, Some, None, option_map, All, inl, inr, refl, sym, ap, ◌∙◌, subst, arith}
 use Rattle.std.specs.Prelude.{Contains, HoldsAt}
 use Rattle.std.specs.List.Sorted.{IsNonDecreasingBy, IsPartitionPoint}
@@ -70,7 +70,7 @@ above_not (r ∷ rs) key h = (less_not (key_cmp r.key key) h.0, above_not rs key
 pub key_of_place : (s : SessionValue) (i : ℕ) (r : RecordValue) → i < length s.records → get_or s.records i r ≡ r → key_at s.records i ≡ r.key
 key_of_place s i r lt is = get_or-map (λ (x : RecordValue). x.key) s.records i r Files lt ∙ ap (λ (x : RecordValue). x.key) is
 
--- a record is what the session tells of its key
+-- a record is what the session says about its key
 pub entry_of_place : (s : SessionValue) → IsSession s → (i : ℕ) (r : RecordValue) → i < length s.records → get_or s.records i r ≡ r → entry_at s r.key ≡ Some (entry_of s.records r)
 entry_of_place s session i r lt is =
     let fits = record_fits s session i r lt is in

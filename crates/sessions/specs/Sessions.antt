@@ -1,4 +1,4 @@
--- What a session is, and what it tells of each key.
+-- What a session is, and what it says about each key.
 use Rattle.std.specs.Prelude.{◌≡◌, ◌≢◌, ℕ, ◌<◌, ◌≤◌, ◌^◌, List, [], ◌∷◌, map, length, take, find, slice_index_or, Option, Some, None, ◌+◌}
 use Rattle.std.specs.List.{AllByRecursion}
 use Rattle.std.specs.Ordering.{is_eq}
@@ -46,7 +46,7 @@ most_number = 9999
 abbrev pub IsAbove : List RecordValue → Key → Type 0
 IsAbove front key = AllByRecursion (λ r. key_cmp r.key key ≡ Less) front
 
--- the mark is Input just where the key is one of an input
+-- the mark is Input exactly where the key is one of an input
 abbrev pub IsMarked : RecordValue → Type 0
 IsMarked r = is_input_mark r.mark ≡ is_input (kind_of r.key)
 
@@ -91,7 +91,7 @@ pub record IsSession (s : SessionValue) : Type 0 where
   pub few : length s.records < 2 ^ 64
   pub records : AreRecords s.records
 
--- ---- what a session tells, with keys for edges
+-- ---- what a session says, with keys for edges
 
 -- a key, how it became done, the keys that it read, in order, and its result
 pub record Entry : Type 0 where
@@ -108,7 +108,7 @@ entry_of records r =
 abbrev pub entries : SessionValue → List Entry
 entries s = map (entry_of s.records) s.records
 
--- what a session tells of a key, where it has a record of it
+-- what a session says about a key, where it has a record of it
 abbrev pub entry_at : SessionValue → Key → Option Entry
 entry_at s key = find (λ e. is_eq (key_cmp e.key key)) (entries s)
 
@@ -125,7 +125,7 @@ abbrev pub AreOnce : List Key → Type 0
 AreOnce [] = Unit {0}
 AreOnce (key ∷ keys) = AllByRecursion (λ e. e ≢ key) keys × AreOnce keys
 
--- what a session before, where there is one, tells of a key
+-- what a previous session, where there is one, says about a key
 abbrev pub past_entry : Option SessionValue → Key → Option Entry
 past_entry None key = None
 past_entry (Some s) key = entry_at s key

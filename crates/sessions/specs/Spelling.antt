@@ -19,7 +19,7 @@ start = 0x4d ∷ 0x4a ∷ 0x52 ∷ 0x47 ∷ 0 ∷ 1 ∷ []
 unfoldable pub key_bytes : Key → List ℕ
 key_bytes key = number_of (kind_of key) ∷ (name (class_text key) ++ name (member_text key))
 
--- the print of a result, the number of its bytes, and its bytes
+-- the fingerprint of a result, the number of its bytes, and its bytes
 unfoldable pub result_bytes : Value → List ℕ
 result_bytes v = print_of v ++ (eight (length (canon v)) ++ canon v)
 

@@ -60,7 +60,7 @@ fn check_record(seen: &mut SeenEdges, front: &[Record], item: &Record) -> Result
     Ok(())
 }
 
-/// Whether the key is greater than those of the records in front.
+/// Whether the key is greater than those of the records before it.
 pub fn is_above(front: &[Record], key: &Key) -> bool
     requires { AreRecords front.now }
     ensures { IsTrue result ↔ IsAbove front.now key.now }
@@ -78,14 +78,14 @@ fn is_less(key: &Key, other: &Key) -> bool
     key.cmp(other).is_lt()
 }
 
-/// Whether a key of this kind may be marked so.
+/// Whether a key of this kind may have this mark.
 pub fn is_marked(mark: Mark, kind: Kind) -> bool
     ensures { IsTrue result ↔ (is_input_mark mark ≡ is_input kind) }
 {
     matches!(kind, Kind::Files | Kind::Source) == matches!(mark, Mark::Input)
 }
 
-/// The place of the first edge that isn't the index of a record in front whose key has a lower rank, or was there
+/// The place of the first edge that isn't the index of an earlier record whose key has a lower rank, or that was there
 /// before.
 fn first_bad_edge(
     seen: &mut SeenEdges,
@@ -115,7 +115,7 @@ fn is_of_kind(item: &Record) -> bool
     item.sealed().value().kind() == item.key().kind()
 }
 
-/// A record keeps in its type what its spelling demands.
+/// A record's type keeps what its spelling demands.
 pub fn check_kept(item: &Record)
     ensures { IsRecord item.now }
 {
@@ -125,7 +125,7 @@ pub fn check_kept(item: &Record)
     let _few = item.edges().len();
 }
 
-/// A key keeps in its type that its names are names.
+/// A key's type keeps that its names are names.
 pub fn check_key(key: &Key)
     ensures { IsKey key.now }
 {

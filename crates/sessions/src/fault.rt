@@ -1,4 +1,4 @@
-//! Why records are no session.
+//! Why records make no session.
 
 /// The first fault of a number and records, from the left. `usize` values are indices: of the record, and of the edge
 /// in the record's list of edges.

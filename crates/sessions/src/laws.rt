@@ -1,4 +1,4 @@
-//! What holds of every session.
+//! Laws of every session.
 ghost use Rattle.std.specs.Prelude.{◌≡◌, Some};
 ghost use Rattle.item_ids.specs.declared.key.Key.{Key};
 ghost use Rattle.sessions.specs.Sessions.{Entry, SessionValue, IsSession, AreBelow, AreOnce, entry_at};

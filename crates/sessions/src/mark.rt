@@ -9,7 +9,7 @@ pub enum Mark {
     Input,
     /// It was run.
     Executed,
-    /// Its result is that of the session before, and so is all that it read.
+    /// Its result, and all that it read, is that of the previous session.
     Green,
 }
 
@@ -25,7 +25,7 @@ impl Mark {
         }
     }
 
-    /// The mark that has this number.
+    /// The mark that has this number, or `None` where none has.
     pub fn from_number(number: u8) -> Option<Mark>
         ensures found { IfSome result (λ mark. mark_number mark ≡ number) }
         ensures known { IsSome result ↔ (number < 3) }

@@ -9,10 +9,10 @@ use item_ids::{Key, rank};
 use std::alloc::{AllocError, Global};
 use std::marker::Model;
 
-/// Which of the records in front of a record are edges of it so far. Contracts see a boolean for each.
+/// Which of the earlier records are edges of a record so far. Contracts see a boolean for each.
 #[derive(Drop)]
 pub struct SeenEdges {
-    // for each record in front, the index of the last record that was seen to have it as an edge, and 0 for none
+    // for each earlier record, the index of the last record that was seen to have it as an edge, and 0 for none
     last: Vec<usize>,
 }
 
@@ -29,7 +29,7 @@ impl Model for SeenEdges {
 }
 
 impl SeenEdges {
-    /// Those of the first record, which has none in front of it.
+    /// No edges, for the first record, which has no earlier one.
     pub fn new(alloc: Global) -> Self
         ensures { result ≡ [] }
     {
@@ -38,7 +38,7 @@ impl SeenEdges {
         }
     }
 
-    /// Those of the next record, which has no edge yet.
+    /// Begins the next record, which has no edge yet.
     pub fn next(&mut self) -> Result<(), AllocError>
         ensures length { OnOk result (length self.new ≡ length self.old + 1) }
         ensures unseen { OnOk result (AllByRecursion (λ seen. seen ≡ false) self.new) }
@@ -47,7 +47,8 @@ impl SeenEdges {
         Ok(())
     }
 
-    /// Whether the next edge of a key is the index of a record in front whose key has a lower rank, and wasn't seen.
+    /// Whether an edge of a key is the index of an earlier record whose key has a lower rank, and wasn't seen; from now
+    /// on it was.
     pub fn admit(&mut self, front: &[Record], key: &Key, edge: usize) -> bool
         requires { length self.old ≡ length front.now }
         ensures admitted { IsTrue result ↔ IsNewEdge self.old front.now key.now edge }
@@ -64,7 +65,7 @@ impl SeenEdges {
     }
 }
 
-/// Writes at an index how many items there are.
+/// Notes at an index that the current record has it as an edge.
 fn see(last: &mut Vec<usize>, index: usize)
     requires { index < length last.old.items }
     ensures { last.new.items ≡ slice_set last.old.items index (length last.old.items) }
@@ -73,7 +74,7 @@ fn see(last: &mut Vec<usize>, index: usize)
     last[index] = now;
 }
 
-/// Whether an edge of a key is the index of a record in front whose key has a lower rank.
+/// Whether an edge of a key is the index of an earlier record whose key has a lower rank.
 fn is_edge(front: &[Record], edge: usize, key: &Key) -> bool
     ensures { IsTrue result ↔ IsEdge front.now key.now edge }
 {

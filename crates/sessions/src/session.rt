@@ -11,8 +11,8 @@ use item_ids::Key;
 use std::alloc::Global;
 use std::marker::Model;
 
-/// A session: its number in its chain, the SHA-256 of the file of the session before it (zeros where there is none),
-/// and its records. Where the SHA-256 of its own file is known, it keeps that too; contracts don't see it.
+/// A session: its number in its chain, its link, which is the SHA-256 of the previous session's file (zeros where there
+/// is none), and its records. Where the SHA-256 of its own file is known, it keeps that too; contracts don't see it.
 #[derive(Drop)]
 pub struct Session {
     number: u32,
@@ -42,7 +42,7 @@ impl Session {
     /// The greatest number of a session.
     pub const MOST: u32 = 9999;
 
-    /// The session of this number, link and records, or their first fault.
+    /// The session of this number, link and records, or the first fault of these.
     pub fn new(
         alloc: Global,
         number: u32,
@@ -65,7 +65,7 @@ impl Session {
         }
     }
 
-    /// The session of this number, link and records, which are known to make one.
+    /// The session of this number, link and records, for a caller who knows that they make one.
     pub fn of(number: u32, link: [u8; 32], records: Vec<Record>) -> Session
         requires number { number ≤ most_number }
         requires records { AreRecords records.items }
@@ -81,7 +81,7 @@ impl Session {
         }
     }
 
-    /// The session, which keeps the SHA-256 of its file from now on.
+    /// The same session, with the SHA-256 of its file kept.
     pub fn with_digest(mut self, digest: [u8; 32]) -> Session
         requires { digest ≡ digest_of self }
         ensures { result ≡ self }
@@ -104,7 +104,7 @@ impl Session {
         self.number
     }
 
-    /// The SHA-256 of the file of the session before it.
+    /// The SHA-256 of the previous session's file.
     pub fn link(&self) -> &[u8; 32]
         ensures { result.now ≡ self.now.link }
     {
@@ -119,7 +119,7 @@ impl Session {
         self.records.as_slice()
     }
 
-    /// The record of a key.
+    /// The record of a key, or `None` where there is none.
     pub fn find(&self, key: &Key) -> Option<&Record>
         ensures found { MatchOption result (entry_at self.now key.now ≡ None)
             (λ r. entry_at self.now key.now ≡ Some (entry_of self.now.records r.now)) }
@@ -133,7 +133,7 @@ impl Session {
     }
 }
 
-/// The index of the record of a key, by halves, since the keys ascend.
+/// The index of the record of a key, by binary search, since the keys ascend.
 fn place_of(records: &[Record], key: &Key) -> Option<usize>
     requires { AreRecords records.now }
     ensures within { IfSome result (λ i. i < length records.now) }

@@ -15,8 +15,8 @@ use sessions::Session;
 use std::alloc::AllocError;
 use std::sync::Arc;
 
-/// The seat of a worker who is alone at a table. It tells all of the table, so that nothing has to be locked, and no result
-/// that was read is compared with the table's again. It doesn't wait.
+/// The seat of a worker who is alone at a table. Contracts see the whole table, so nothing is locked, no result that
+/// was read is compared with the table's again, and nothing waits.
 #[derive(Drop)]
 pub struct Alone<'a, J: Naming, R: Runner, G: Gate> {
     counted: &'a mut Counted<J, R>,
@@ -25,7 +25,7 @@ pub struct Alone<'a, J: Naming, R: Runner, G: Gate> {
 }
 
 impl<'a, J: Naming, R: Runner, G: Gate> Alone<'a, J, R, G> {
-    /// The seat of the worker whose events this count counts. The gate is called round each run.
+    /// The seat of the worker with this count of events. The gate is called around each run.
     pub fn new(counted: &'a mut Counted<J, R>, tally: &'a mut Tally<J>, gate: &'a G) -> Self {
         Alone {
             counted,

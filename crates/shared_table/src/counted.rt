@@ -1,4 +1,4 @@
-//! A table with the sum of the events that were made at it.
+//! A table with the sum of its workers' events.
 ghost use Rattle.std.specs.Prelude.{◌≡◌, IfOk, length};
 ghost use Rattle.std.specs.Arc.{arc_value};
 ghost use Rattle.graph_rules.specs.Steps.{AreHeld};
@@ -20,8 +20,8 @@ use std::marker::Model;
 use std::sync::Arc;
 use std::sync::ledger::{Book, Share};
 
-/// The table of the session that it is named for, and the sum of the workers' events, which is the length of the table's
-/// history. Each call is the one of the table, and its event is counted for the worker who made it.
+/// The table of the session that its name stands for, and the sum of its workers' events, which is the length of the
+/// table's history. Each call is that of the table, and its event is counted for the worker that made it.
 #[derive(Drop)]
 pub struct Counted<J: Naming, R: Runner> {
     table: Table<R>,
@@ -152,7 +152,7 @@ impl<J: Naming, R: Runner> Counted<J, R> {
         self.table.history().last()
     }
 
-    /// The session before.
+    /// The previous session.
     pub(crate) fn past(&self) -> Result<Option<Arc<Session>>, AllocError>
         ensures { IfOk result (λ past. session_in past ≡ self.now.past) }
     {

@@ -1,8 +1,8 @@
-//! Gates, which see each run.
+//! Gates: hooks around each run.
 
 use item_ids::Key;
 
-/// What is called round each run of a key, while no lock is held.
+/// A hook around each run of a key, called while no lock is held.
 pub trait Gate {
     /// The worker is about to run the key.
     fn before_run(&self, worker: u32, key: &Key);

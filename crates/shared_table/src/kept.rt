@@ -6,7 +6,8 @@ use item_ids::Key;
 use std::alloc::{AllocError, Global};
 use std::sync::Arc;
 
-/// The results of done keys that a worker was given. What is done stays done, so that a worker asks the table once for each.
+/// The results of done keys that a worker was given. What is done stays done, so the worker asks the table once for
+/// each.
 #[derive(Drop)]
 pub(crate) struct Kept {
     alloc: Global,

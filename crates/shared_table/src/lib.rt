@@ -1,4 +1,5 @@
-//! One table for many workers: the lock round it, each worker's seat at it, and the counts of the events that each makes.
+//! One table for many workers: the lock around it, each worker's seat at it, and the count of the events that each
+//! makes.
 #![tactic(auto)]
 
 mod alone;

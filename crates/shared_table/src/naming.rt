@@ -3,14 +3,15 @@
 use std::marker::Brand;
 use std::sync::ledger::Ledger;
 
-/// The session over this past, of this project, and the ledger of the events that its workers make. Whoever makes a
-/// session picks its name, so that what workers share and what each has of its own can be told to be of one session.
+/// The name of a session: its previous session, its project, and the ledger of its workers' events. Whoever makes a
+/// session picks its name, so that contracts can say that the shared table and each worker's count belong to one
+/// session.
 pub trait Naming: Ledger {
     ghost use Rattle.std.specs.Prelude.{Option};
     ghost use Rattle.recorder.specs.Projects.{Project};
     ghost use Rattle.sessions.specs.Sessions.{SessionValue};
 
-    /// The session before it, where there is one.
+    /// The previous session, where there is one.
     ghost past: { Option SessionValue };
 
     /// Its project.

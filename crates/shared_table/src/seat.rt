@@ -16,9 +16,9 @@ use sessions::Session;
 use std::alloc::{AllocError, Global};
 use std::sync::{Arc, Wait};
 
-/// A worker's seat at a table that all share: the store that it works with. It says nothing of the table, which others may
-/// change at any time; to ask for a key that another worker has it waits. It keeps the results of done keys that it was
-/// given, and answers for them by itself. No lock is held while the gate is called.
+/// A worker's seat at a shared table: the store that it works with. Contracts say nothing of the table, which others
+/// may change at any time. A worker that asks for a key which another one has waits. The seat keeps the results of done
+/// keys that it was given, and answers for them by itself. No lock is held while the gate is called.
 #[derive(Drop)]
 pub struct Seat<'a, J: Naming, R: Runner, T: Wait, G: Gate> {
     rt: &'a T,

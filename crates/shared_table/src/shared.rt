@@ -14,9 +14,9 @@ use sessions::Session;
 use std::alloc::{AllocError, Global};
 use std::sync::{Arc, Condvar, Mutex, Wait};
 
-/// One table for all workers of a session. What is kept of it whenever the lock is free is what its type keeps: the state is
-/// the replay of the history, which is legal, and each worker's events are counted. The session before it, which never
-/// changes, lies beside the lock.
+/// One table for all workers of a session, under a lock. Its type keeps, whenever the lock is free, that the state is
+/// the replay of the history, that the history is legal, and that each worker's events are counted. The previous
+/// session, which never changes, lies beside the lock.
 #[derive(Drop)]
 pub struct Shared<J: Naming, R: Runner> {
     counted: Mutex<Counted<J, R>>,
@@ -35,7 +35,7 @@ impl<J: Naming, R: Runner> Shared<J, R> {
         })
     }
 
-    /// A worker's seat at the table, whose events this count counts. The gate is called round each run.
+    /// A worker's seat at the table, with this count of events. The gate is called around each run.
     pub fn seat<'a, T: Wait, G: Gate>(
         &'a self,
         alloc: Global,
@@ -78,7 +78,7 @@ impl<J: Naming, R: Runner> Shared<J, R> {
         unreachable!()
     }
 
-    /// Takes over the past's result, and wakes who waits.
+    /// Takes over the previous session's result, and wakes the workers that wait.
     pub(crate) fn mark<T: Wait>(
         &self,
         rt: &T,
@@ -102,7 +102,7 @@ impl<J: Naming, R: Runner> Shared<J, R> {
         self.counted.lock(rt).begin_run(tally, w, key)
     }
 
-    /// Ends a run, and wakes who waits.
+    /// Ends a run, and wakes the workers that wait.
     pub(crate) fn finish<T: Wait>(
         &self,
         rt: &T,
@@ -115,7 +115,7 @@ impl<J: Naming, R: Runner> Shared<J, R> {
         answer
     }
 
-    /// Notes that a worker gives up, and wakes who waits.
+    /// Notes that a worker gives up, and wakes the workers that wait.
     pub(crate) fn fail<T: Wait>(
         &self,
         rt: &T,
@@ -127,7 +127,7 @@ impl<J: Naming, R: Runner> Shared<J, R> {
         answer
     }
 
-    /// The session before.
+    /// The previous session.
     pub(crate) fn past(&self) -> Result<Option<Arc<Session>>, AllocError> {
         match &self.past {
             Some(past) => Ok(Some(Arc::try_clone(past)?)),

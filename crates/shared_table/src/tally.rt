@@ -6,7 +6,7 @@ use job_table::Table;
 use recorder::Runner;
 use std::sync::ledger::{Book, Share};
 
-/// How many events a worker has made, of which its share of the ledger has the same amount.
+/// How many events a worker has made; its share of the ledger has the same amount.
 #[derive(Drop)]
 pub struct Tally<J: Naming> {
     events: usize,
@@ -33,7 +33,7 @@ impl<J: Naming> Tally<J> {
         (events, share)
     }
 
-    /// Counts the last event of the table, which the book lacks.
+    /// Counts the last event of the table, which the ledger's book doesn't have yet.
     pub(crate) fn count<R: Runner>(&mut self, table: &Table<R>, book: &mut Book<J>)
         requires { length table.now.history ≡ book.old.total + 1 }
         ensures { length table.now.history ≡ book.new.total }
@@ -45,7 +45,7 @@ impl<J: Naming> Tally<J> {
     }
 }
 
-/// One more than a number of events that doesn't come up to the table's.
+/// One more than a number of events that is less than the table's.
 fn next_count<R: Runner>(table: &Table<R>, events: usize) -> usize
     requires { events + 1 ≤ length table.now.history }
     ensures { result ≡ events + 1 }

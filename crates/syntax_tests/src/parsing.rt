@@ -1,5 +1,5 @@
 //! Tests: expected values are from the language's rules and its worked examples. Which texts are no file, where they
-//! stop being one, and the levels are compared row by row with the program's output.
+//! stop being one, and the levels are shown by golden tests.
 use mj_lexer::{LexFault, Name, Token, lex};
 use mj_parser::{locate, parse};
 use mj_tree::{ClassTree, Exp, MainTree, MethodTree, Place, Stmt, Ty, Variable};

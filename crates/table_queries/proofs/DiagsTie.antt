@@ -1,4 +1,4 @@
--- All faults of a class in a project.
+-- All diagnostics of a class in a project.
 use Rattle.std.proofs.Common.{◌≡◌, ℕ, ◌+◌, Bool, true, false, List, [], ◌∷◌, ◌++◌, map, Option, Some, None, is_some, option_map, refl, sym, ap, ap₂, subst, ◌∙◌, arith, append_assoc, append-nil, if◌then◌else◌}
 use Rattle.std.specs.Prelude.{flat_map}
 use Rattle.std.specs.List.{AllByRecursion}
@@ -43,7 +43,7 @@ module _ (p : Project) (c : Name) where
   abbrev cs : List ClassDecl
   cs = classes_in p
 
-  -- the faults in a body, as they are found
+  -- the diagnostics in a body, as they are found
   abbrev body_list : Name → List Diagnostic
   body_list m = inside m (mistakes_in (world_of cs) c (body_at p c m))
 
@@ -51,7 +51,7 @@ module _ (p : Project) (c : Name) where
     method_there : (m : Method) → k.main ≡ None → own_method m.name k ≡ Some m → body_at p c m.name ≡ Some (OfMethod m)
     method_there m none own = rw (e, none, own) refl
 
-    -- ---- the faults of the bodies
+    -- ---- the diagnostics of the bodies
 
     abbrev flags_behind : List Method → List Method → List Bool
     flags_behind done rest = repeats_behind (map name_of done) (map name_of rest)

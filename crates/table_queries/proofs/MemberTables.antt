@@ -100,7 +100,7 @@ values_rows : {X A : Type 0} (view : X → A) (es : List (Bor Name × X)) → va
 values_rows view [] = refl
 values_rows view (e ∷ es) = ap (λ ys. view e.1 ∷ ys) (values_rows view es)
 
--- the values of a map that says what the headers tell
+-- the values of a map that says what the headers say
 pub table_is : {X A : Type 0} (seen : X → Name × A) (name : A → Name) (own : Option HeaderValue → List A) (rows : List (Bor Name × X)) (xs : List X) (ls : List Link)
     → IsStrictlySortedBy name_order (keys_of rows) → SayAlike (rows_by seen rows) (rows_along name own ls) → xs ≡ values_of rows → map seen xs ≡ firsts (rows_along name own ls)
 table_is seen name own rows xs ls up h is = ap (map seen) is ∙ (sym (values_rows seen rows) ∙ firsts_are (rows_by seen rows) (rows_along name own ls) (sorted_rows seen rows up) h)
@@ -135,7 +135,7 @@ module _ {A : Type 0} (name : A → Name) (own : Option HeaderValue → List A) 
     abbrev table : List (Name × (Name × A))
     table = names.entries (names.from_entries {R = by_bytes} all)
 
-    -- what stands in the table was told
+    -- what stands in the table was answered
     was_told : (e : Name × (Name × A)) → Contains table e → Contains all e
     was_told e h =
         let up = IsDistinct-from_sorted by_bytes (keys_of table) (firsts_ascend all) in

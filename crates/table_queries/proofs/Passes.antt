@@ -1,4 +1,5 @@
--- A program where each query has its value: the keys that it asks, one after the other, and what it comes to.
+-- A program where each query has its value: the keys that it asks, one after the other, and its
+-- result.
 use Rattle.std.proofs.Common.{◌≡◌, List, [], ◌∷◌, ◌++◌, map, refl, sym, ap, ap₂, ◌∙◌, if◌then◌else◌}
 use Rattle.std.specs.Prelude.{flat_map}
 use Rattle.std.specs.List.{AllByRecursion}
@@ -47,7 +48,7 @@ pub flat_one : {A B : Type 0} (f : A → B) (xs : List A) → flat_map (λ (x : 
 flat_one f [] = refl
 flat_one f (x ∷ xs) = ap (λ ys. f x ∷ ys) (flat_one f xs)
 
--- a program that comes to the value of its key, and asks what the key reads
+-- a program that gives the value of its key, and asks what the key reads
 pub ties_by : (q : Key) (prog : Prog) (asked : Project → List Key)
     → ((p : Project) → Passes (mean p) prog (asked p) (Ret (mean p q)))
     → ((p : Project) → first_keys [] (asked p) ≡ reads p q) → Fits q prog → Ties q prog

@@ -1,4 +1,4 @@
--- Faults in places of a class.
+-- Diagnostics in places of a class.
 use Rattle.std.proofs.Common.{◌≡◌, List, [], ◌∷◌, ◌++◌, refl}
 use Rattle.mj_answer.specs.declared.diagnostic.Diagnostic.{Diagnostic}
 use Rattle.answer_bytes.specs.Storable.{AreClassFaults}

@@ -31,7 +31,7 @@ module _ (p : Project) where
   abbrev cs : List ClassDecl
   cs = classes_in p
 
-  -- the superclass that the header of a declared class tells
+  -- the superclass in the header of a declared class
   superclass_told : (c : Name) (k : ClassDecl) (s : Option Name) → decl cs c ≡ Some k → k.superclass ≡ s → option_and_then (λ (h : HeaderValue). h.superclass) (header_in (mean p (keys.Header c))) ≡ s
   unfolding mean
   superclass_told c k s e f = rw e f

@@ -1,4 +1,4 @@
--- Tables of what headers tell are those of the declarations.
+-- Tables from headers are those of the declarations.
 use Rattle.std.proofs.Common.{◌≡◌, Bool, true, false, List, [], ◌∷◌, ◌++◌, map, Option, Some, option_map, cond, refl, sym, ap, ap₂, subst, ◌∙◌, inl, inr, ◌&&◌}
 use Rattle.std.specs.Prelude.{Contains, T}
 use Rattle.std.specs.List.{AllByRecursion, filter_map}

@@ -1,5 +1,5 @@
--- All faults of a class: its header, the check of its declarations, then the check of each of its
--- bodies.
+-- All diagnostics of a class: its header, the check of its declarations, then the check of each of
+-- its bodies.
 use Rattle.std.specs.Prelude.{List, [], ◌∷◌, ◌++◌, Option, Some, None, if◌then◌else◌}
 use Rattle.item_ids.specs.declared.key.Key.TheVariants as keys
 use Rattle.mj_tree.specs.Trees.{Name}
@@ -16,7 +16,7 @@ use Rattle.table_queries.specs.Facts.{first_names, header_in, faults_in}
 abbrev pub bodies_in : HeaderValue → List Name
 bodies_in h = if h.is_main then main_word ∷ [] else first_names h.methods
 
--- the faults with those of one more body
+-- the diagnostics with those of one more body
 abbrev pub body_step : Name → Name → List Diagnostic → (List Diagnostic → Prog) → Prog
 body_step c m faults k = Ask (keys.CheckBody c m) (λ v. k (faults ++ faults_in v))
 

@@ -1,4 +1,4 @@
--- What answers tell the queries that are put together from them.
+-- What the queries that are put together from answers take from them.
 use Rattle.std.specs.Prelude.{Bool, List, [], ◌∷◌, Option, None, if◌then◌else◌}
 use Rattle.std.specs.List.{list_any}
 use Rattle.std.specs.Str.{bytes_eq}
@@ -30,7 +30,7 @@ abbrev pub signature_in : Value → Option SignatureValue
 signature_in (Sig s) = s
 signature_in _ = None
 
--- the faults in an answer that is a list of faults
+-- the diagnostics in an answer that is a list of diagnostics
 abbrev pub faults_in : Value → List Diagnostic
 faults_in (CheckClass faults) = faults
 faults_in (CheckBody faults) = faults

@@ -18,14 +18,14 @@ use Rattle.table_queries.specs.Facts.{rows_in, is_listed, header_in}
 abbrev pub chain : List Name → ChainEnd → ChainValue
 chain names end = record { classes = names; end = end }
 
--- where a chain of these names goes on, the last of which extends this
+-- where a chain of these names continues, the last of which extends this
 abbrev pub climb_by : List IndexRow → List Name → Option Name → Climb
 climb_by rows names None = Over Top
 climb_by rows names (Some u) =
     if is_in names u then Over (Repeated u) else if is_listed rows u
     then At u else Over (Undeclared u)
 
--- the header of one more class: the names with it, and where the chain goes on
+-- the header of one more class: the names with it, and where the chain continues
 abbrev pub climb_step : List IndexRow → List Name → Name → (List Name × Climb → Prog) → Prog
 climb_step rows names c k =
     Ask (keys.Header c) (λ v. k (
@@ -38,7 +38,7 @@ abbrev pub climb_on : (List Name → Name → (ChainValue → Prog) → Prog) �
 climb_on on (names, At c) k = on names c k
 climb_on on (names, Over end) k = k (chain names end)
 
--- the chain of these names and so many more classes at most, of which this is the first
+-- the chain of these names and at most this many more classes, of which this is the first
 unfoldable pub chain_steps : ℕ → List IndexRow → List Name → Name → (ChainValue → Prog) → Prog
 chain_steps zero rows names c k = k (chain names Top)
 chain_steps (suc more) rows names c k =

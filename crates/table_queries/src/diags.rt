@@ -1,4 +1,4 @@
-//! All faults of a class.
+//! All diagnostics of a class.
 ghost use Rattle.std.specs.Prelude.{◌≡◌, ◌++◌, ◌∷◌, [], option_copied, if◌then◌else◌, IfOk, IfErr, OnOk};
 ghost use Rattle.answer_bytes.specs.Storable.{AreClassFaults};
 ghost use Rattle.mj_rules.specs.ClassFaults.{main_word};
@@ -67,7 +67,7 @@ fn bodies_in(alloc: Global, header: &Header) -> Result<Vec<Name>, AllocError>
     }
 }
 
-/// Adds faults.
+/// Adds diagnostics.
 fn add_faults(
     alloc: Global,
     faults: &mut Vec<Diagnostic>,
@@ -81,7 +81,7 @@ fn add_faults(
     Ok(())
 }
 
-/// Asks the faults in one more body, and adds them.
+/// Asks the diagnostics in one more body, and adds them.
 #[tactic(auto, using(crate::proofs::Places::places_append))]
 fn ask_body<D: Reader>(
     alloc: Global,
@@ -104,7 +104,7 @@ fn ask_body<D: Reader>(
     Ok(())
 }
 
-/// These faults and those in bodies of a class.
+/// These diagnostics and those in bodies of a class.
 #[tactic(auto, using(recorder::proofs::Rules::loop_more, recorder::proofs::Rules::loop_up, recorder::proofs::Rules::loop_end))]
 fn ask_bodies<D: Reader>(
     alloc: Global,
@@ -128,7 +128,7 @@ fn ask_bodies<D: Reader>(
     Ok(faults)
 }
 
-/// All faults of a class that is declared, by its header.
+/// All diagnostics of a class that is declared, by its header.
 fn declared_faults<D: Reader>(
     alloc: Global,
     recorder: &mut Recorder<D>,
@@ -147,7 +147,7 @@ fn declared_faults<D: Reader>(
     Ok(class_fault_set(faults))
 }
 
-/// All faults of a class, where it is declared.
+/// All diagnostics of a class, where it is declared.
 #[tactic(auto, using(crate::proofs::Places::no_faults))]
 fn faults_by<D: Reader>(
     alloc: Global,
@@ -170,7 +170,7 @@ fn faults_by<D: Reader>(
     }
 }
 
-/// All faults of a class, by its header, the check of its declarations and those of its bodies.
+/// All diagnostics of a class, by its header, the check of its declarations and those of its bodies.
 pub fn run_diags<D: Reader>(
     alloc: Global,
     recorder: &mut Recorder<D>,

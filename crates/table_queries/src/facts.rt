@@ -1,4 +1,4 @@
-//! What answers tell the queries that are put together from them.
+//! What the queries that are put together from answers take from them.
 ghost use Rattle.std.specs.Prelude.{◌≡◌, option_copied, position};
 ghost use Rattle.std.specs.Str.{bytes_eq};
 ghost use Rattle.mj_answer.specs.Order.{IsAscendingByName};
@@ -9,7 +9,7 @@ use mj_answer::Diagnostic;
 use mj_lexer::Name;
 use result_bytes::{Header, IndexRow, Signature, Supers, Value};
 
-/// The rows of the index that an answer tells.
+/// The rows of the index in an answer.
 pub fn rows_in(value: &Value) -> &[IndexRow]
     ensures value { result.now ≡ rows_told value.now }
     ensures order { IsAscendingByName (λ row. row.class) result.now }
@@ -20,7 +20,7 @@ pub fn rows_in(value: &Value) -> &[IndexRow]
     }
 }
 
-/// The place of a class's row, by halves, since the rows ascend.
+/// The place of a class's row, by binary search, since the rows ascend.
 fn place_of(rows: &[IndexRow], class: &Name) -> Option<usize>
     requires { IsAscendingByName (λ row. row.class) rows.now }
     ensures { result ≡ position (λ row. bytes_eq row.class class.now) rows.now }
@@ -36,7 +36,7 @@ pub fn is_listed(rows: &[IndexRow], class: &Name) -> bool
     place_of(rows, class).is_some()
 }
 
-/// The header that an answer tells.
+/// The header in an answer.
 pub fn header_in(value: &Value) -> Option<&Header>
     ensures { option_copied result ≡ header_told value.now }
 {
@@ -46,7 +46,7 @@ pub fn header_in(value: &Value) -> Option<&Header>
     }
 }
 
-/// The chain that an answer tells.
+/// The chain in an answer.
 pub fn chain_in(value: &Value) -> Option<&Supers>
     ensures { option_copied result ≡ chain_told value.now }
 {
@@ -56,7 +56,7 @@ pub fn chain_in(value: &Value) -> Option<&Supers>
     }
 }
 
-/// The types of a method that an answer tells.
+/// The types of a method in an answer.
 pub fn signature_in(value: &Value) -> Option<&Signature>
     ensures { option_copied result ≡ signature_told value.now }
 {
@@ -66,7 +66,7 @@ pub fn signature_in(value: &Value) -> Option<&Signature>
     }
 }
 
-/// The faults in an answer that is a list of faults.
+/// The diagnostics in an answer that is a list of diagnostics.
 pub fn faults_in(value: &Value) -> &[Diagnostic]
     ensures value { result.now ≡ faults_told value.now }
     ensures places { AreClassFaults result.now }

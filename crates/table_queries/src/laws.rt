@@ -1,5 +1,5 @@
-//! What holds of the queries: in every project the program of each kind gives the value of the query and asks what it
-//! reads; whatever the answers, it asks keys of lower rank and gives a value of the kind.
+//! Laws of the queries: in every project the program of each kind gives the value of the query and asks what it reads;
+//! whatever the answers, it asks keys of lower rank and gives a value of the kind.
 ghost use Rattle.table_queries.specs.Laws.{SupersTies, MembersTies, DiagsTies};
 
 /// The chain of a class.
@@ -12,7 +12,7 @@ pub fn members_ties()
     ensures { MembersTies }
 {}
 
-/// All faults of a class.
+/// All diagnostics of a class.
 pub fn diags_ties()
     ensures { DiagsTies }
 {}

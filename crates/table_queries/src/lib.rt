@@ -1,4 +1,5 @@
-//! The queries that are put together from the answers of others: the chain of a class, its members and all its faults.
+//! The queries that are put together from the answers of others: the chain of a class, its members and all its
+//! diagnostics.
 #![tactic(auto)]
 
 mod diags;

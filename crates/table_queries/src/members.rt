@@ -30,7 +30,7 @@ use std::collections::BTreeMap;
 use std::marker::Model;
 use std::sync::Arc;
 
-/// A class of a chain with the answer that tells its header.
+/// A class of a chain with the answer that has its header.
 #[derive(Drop)]
 struct Link<'c> {
     class: &'c Name,
@@ -247,7 +247,7 @@ fn method_row(
     Ok(MethodRow::new(name, owner, formals, returns))
 }
 
-/// Adds the row of a method, where its types are there.
+/// Adds the row of a method, if it has types.
 fn add_types(
     alloc: Global,
     rows: &mut Vec<MethodRow>,
@@ -323,7 +323,7 @@ fn members_of(alloc: Global, links: &[Link], methods: Vec<MethodRow>) -> Result<
     Ok(Members::new(table))
 }
 
-/// The fields and methods along a chain whose headers are told.
+/// The fields and methods along a chain with these headers.
 fn ask_table<D: Reader>(
     alloc: Global,
     recorder: &mut Recorder<D>,

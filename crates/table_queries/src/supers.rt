@@ -16,12 +16,12 @@ use std::alloc::{AllocError, Global};
 use std::collections::BTreeSet;
 use std::marker::Model;
 
-/// Where a chain goes on.
+/// Where a chain continues after its last class.
 #[derive(Drop)]
 pub enum Climb {
     /// At a declared class that isn't in the chain.
     At(Name),
-    /// Nowhere.
+    /// Nowhere: the chain has this end.
     Over(ChainEnd),
 }
 
@@ -79,7 +79,7 @@ impl Ascent {
     }
 }
 
-/// Where a chain goes on whose last class extends this one.
+/// Where a chain continues whose last class extends this one.
 fn climb_to(rows: &[IndexRow], ascent: &Ascent, class: Name) -> Climb
     requires { IsAscendingByName (λ row. row.class) rows.now }
     ensures { result ≡ climb_told rows.now ascent.now (Some class) }
@@ -93,7 +93,7 @@ fn climb_to(rows: &[IndexRow], ascent: &Ascent, class: Name) -> Climb
     }
 }
 
-/// Where a chain goes on, by the header of its last class.
+/// Where a chain continues, by the header of its last class.
 fn climb_by(
     alloc: Global,
     rows: &[IndexRow],
@@ -115,7 +115,7 @@ fn climb_by(
     }
 }
 
-/// Asks the header of one more class of a chain: the classes with it, and where the chain goes on.
+/// Asks the header of one more class of a chain: the classes with it, and where the chain continues.
 fn ask_next<D: Reader>(
     alloc: Global,
     recorder: &mut Recorder<D>,

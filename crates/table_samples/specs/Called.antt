@@ -93,7 +93,7 @@ Says (calls.Finish records) w q said t u =
 Says calls.Fail w q said t u = SaysOfFail w said t u
 Says calls.Close w q said t u = SaysOfClose said t × (u ≡ t)
 
--- the call says what it should, and the table has so many events then
+-- the call says what it should, and the table has this many events then
 pub record IsSaid (saying : Saying) (t u : TableValue) : Type 0 where
   pub key : Key
   pub of_key : IsKeyOf saying.key key
@@ -109,7 +109,7 @@ pub record AreSaid (calls : Calls) : Type 0 where
 
 -- ---- whole histories
 
--- the key is claimed, and its past result taken over
+-- the key is claimed, and its previous result taken over
 abbrev pub IsTakenOver : Key → TableValue → TableValue → Type 0
 IsTakenOver q t u = (b : TableValue) × SaysOfAsk 0 q Yours t b × SaysOfMark 0 q Done b u
 
@@ -117,7 +117,7 @@ IsTakenOver q t u = (b : TableValue) × SaysOfAsk 0 q Yours t b × SaysOfMark 0 
 abbrev pub IsBegun : Key → TableValue → TableValue → Type 0
 IsBegun q t u = (b : TableValue) × SaysOfAsk 0 q Yours t b × SaysOfBegin 0 q Done b u
 
--- the record's key is brought to done, as the mark says
+-- the record's key is evaluated, as the mark says
 abbrev pub IsBroughtBy : Mark → List Kept → Kept → Key → TableValue → TableValue → Type 0
 IsBroughtBy Input records kept q t u = u ≡ t
 IsBroughtBy Green records kept q t u = IsTakenOver q t u
@@ -128,21 +128,21 @@ IsBroughtBy Executed records kept q t u =
 abbrev pub IsDoneAs : Key → List ℕ → TableValue → Type 0
 IsDoneAs q digits t = (v : Value) × Tell digits (canon v) × IsDoneWith v ((state_of t).at q)
 
--- the record's key is brought to done, and done with its result
+-- the record's key is evaluated, and done with its result
 pub record IsBrought (records : List Kept) (kept : Kept) (t u : TableValue) : Type 0 where
   pub key : Key
   pub of_key : IsKeyOf kept.key key
   pub brought : IsBroughtBy kept.mark records kept key t u
   pub done : IsDoneAs key kept.digits.now u
 
--- the records, and those beside them, are brought to done in turn
+-- the records, and those beside them, are evaluated in turn
 pub record AreBrought (records beside : List Kept) (t u : TableValue) : Type 0 where
   pub middle : TableValue
   pub records_brought : InTurn (IsBrought records) records t middle
   pub beside_brought : InTurn (IsBrought records) beside middle u
 
--- The table stands behind the chain, and closes with a session that has the file of the next one of
--- these records.
+-- The file of the table's previous session has the digest of the chain's last one, and the table
+-- closes with a session that has the file of the next one of these records.
 pub record ClosesAs (chain : List Change) (records : List Kept) (t : TableValue) : Type 0 where
   pub past : Option SessionValue
   pub last : IsLastOf chain past
@@ -153,14 +153,14 @@ pub record ClosesAs (chain : List Change) (records : List Kept) (t : TableValue)
   pub told : IsNextOf past records wanted
   pub same : digest_of session ≡ digest_of wanted
 
--- These records and those beside them lead from t to u by so many events, and u closes with just the
--- records.
+-- These records and those beside them lead from t to u by this many events, and u closes with just
+-- the records.
 pub record IsLed (history : History) (records : List Kept) (t u : TableValue) : Type 0 where
   pub brought : AreBrought records history.beside.now t u
   pub events : length u.history ≡ history.events
   pub closed : ClosesAs history.chain.now records u
 
--- the session comes about so
+-- the session is made as the history says
 pub record IsHistory (history : History) : Type 0 where
   pub records : List Kept
   pub changed : AreChanged history.change records
@@ -186,13 +186,13 @@ pub record AreEventsOf (replay : Replay) (events : List Event) : Type 0 where
   pub run : IsRunOf replay.records.now kept outcome
   pub are : events ≡ run_events replay.begins key outcome
 
--- how many events the replay has with no past, or why there is none
+-- how many events the replay has with no previous session, or why there is none
 abbrev pub EndsSo : Project → List Event → Result ℕ ReplayFault → Type 0
 EndsSo p events (Ok n) =
     (t : TableValue) × ReplayGives None p events (Ok t) × (n ≡ length t.history)
 EndsSo p events (Err fault) = ReplayGives None p events (Err fault)
 
--- the replay of the events that are told ends so
+-- the replay of the events that are given ends like this
 pub record IsReplay (replay : Replay) (ending : Result ℕ ReplayFault) : Type 0 where
   pub events : List Event
   pub of_replay : AreEventsOf replay events

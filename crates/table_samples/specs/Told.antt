@@ -1,4 +1,4 @@
--- Runs, chains of sessions and tables, as short texts tell them.
+-- Runs, chains of sessions and tables, as short texts give them.
 use Rattle.std.specs.Prelude.{◌≡◌, ℕ, Bool, true, false, ◌==◌, List, [], ◌∷◌, Contains, find, slice_get, Option, Some, None, Ok}
 use Rattle.std.specs.List.{AllByRecursion, AllZip, list_any, enumerate_from}
 use Rattle.recorder.specs.Backed.{ReadValue}
@@ -24,14 +24,14 @@ InTurn {A} {S} Leads (x ∷ xs) s t = (between : S) × Leads x s between × InTu
 
 -- ---- runs
 
--- the answer that the record at this index tells
+-- the answer of the record at this index
 pub record IsAnswerAt (records : List Kept) (at : ℕ) (answer : ReadValue) : Type 0 where
   pub kept : Kept
   pub stands : slice_get records at ≡ Some kept
   pub key : IsKeyOf kept.key answer.key
   pub value : IsTold kept.key.0 kept.digits.now answer.value
 
--- the answers that the records at these indices tell
+-- the answers of the records at these indices
 abbrev pub AreAnswersAt : List Kept → List ℕ → List ReadValue → Type 0
 AreAnswersAt records edges answers = AllZip (IsAnswerAt records) edges answers
 
@@ -66,7 +66,7 @@ pub record IsChanged (change : Change) (at : ℕ) (before after : Kept) : Type 0
   pub digits : after.digits.now
       ≡ digits_told (find (λ other. other.at == at) change.others.now) before.digits.now
 
--- the records of the session that changed so
+-- the records of the session with these changes
 abbrev pub AreChanged : Change → List Kept → Type 0
 AreChanged change records =
     AllZip (λ x. IsChanged change x.0 x.1) (enumerate_from 0 change.records.now) records
@@ -75,7 +75,7 @@ AreChanged change records =
 abbrev pub IsNextOf : Option SessionValue → List Kept → SessionValue → Type 0
 IsNextOf past records s = IsToldSession (next_number past) (next_link past) records s
 
--- after is the session that changed so, behind the one before
+-- after is the session with these changes, behind the one before
 pub record IsBehind (change : Change) (before after : Option SessionValue) : Type 0 where
   pub records : List Kept
   pub changed : AreChanged change records

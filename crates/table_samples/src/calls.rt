@@ -27,7 +27,7 @@ pub enum Call {
     Close,
 }
 
-/// What a call says. `Done` is also that of a call which gives a result, a session or nothing.
+/// What a call says. `Done` is also said by a call that gives a result, a session or nothing.
 #[derive(Clone, Copy, PartialEq, Eq)]
 pub enum Said {
     Yours,
@@ -165,7 +165,7 @@ pub(crate) fn events(table: &Table<MiniJava>) -> usize
     table.history().len()
 }
 
-/// Whether this is what should be said, and the table has so many events.
+/// Whether this is what the call should say, and the table has this many events.
 fn is_so(table: &Table<MiniJava>, saying: &Saying, said: Said) -> bool
     ensures said { IsTrue result → said ≡ saying.now.said }
     ensures events { IsTrue result → length table.now.history ≡ saying.now.events }
@@ -173,7 +173,7 @@ fn is_so(table: &Table<MiniJava>, saying: &Saying, said: Said) -> bool
     said == saying.said && events(table) == saying.events
 }
 
-/// Whether the call with this key says so, and the table has so many events then.
+/// Whether the call with this key says what it should, and the table has this many events then.
 fn says_of(
     alloc: Global,
     table: &mut Table<MiniJava>,
@@ -187,7 +187,7 @@ fn says_of(
     Ok(is_so(table, saying, said))
 }
 
-/// Whether the call says so, and the table has so many events then.
+/// Whether the call says what it should, and the table has this many events then.
 fn says(alloc: Global, table: &mut Table<MiniJava>, saying: &Saying) -> Result<bool, Unfit>
     ensures { IfOk result (λ b. IsTrue b → IsSaid saying.now table.old table.new) }
 {

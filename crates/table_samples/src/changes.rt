@@ -137,7 +137,7 @@ pub(crate) fn share(alloc: Global, session: Session) -> Result<Arc<Session>, All
     Ok(Arc::new(alloc, session)?)
 }
 
-/// The session that changed so, behind this one.
+/// The session after this one, with these changes.
 fn past_behind(
     alloc: Global,
     past: &Option<Arc<Session>>,

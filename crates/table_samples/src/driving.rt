@@ -31,14 +31,14 @@ pub struct Unmade {
     pub workers: usize,
 }
 
-/// Whether the reports tell so.
+/// Whether the reports have these counts.
 fn tells(reports: &Reports, counts: &Counts) -> bool
     ensures { IsTrue result → HasCounts counts.now reports.now }
 {
     reports.history == counts.history && reports.events.as_slice() == counts.events
 }
 
-/// The session over this past, where it is reported so.
+/// The session over this previous session, if its reports have these counts.
 fn session_over<T: Threads + Wait + Sync>(
     rt: &T,
     alloc: Global,
@@ -67,7 +67,7 @@ fn session_if(alloc: Global, session: Session, holds: bool) -> Result<Option<Arc
     }
 }
 
-/// Whether a first session of the project is reported so, and one over it again so.
+/// Whether the reports of a first session of the project, and of one over it, have these counts.
 fn are_reported_of<T: Threads + Wait + Sync>(
     rt: &T,
     alloc: Global,
@@ -86,7 +86,7 @@ fn are_reported_of<T: Threads + Wait + Sync>(
     }
 }
 
-/// Whether a first session of a project of this text is reported so, and one over it again so.
+/// Whether the reports of a first session of a project of this text, and of one over it, have these counts.
 pub fn are_reported<T: Threads + Wait + Sync>(
     rt: &T,
     alloc: Global,
@@ -132,7 +132,7 @@ fn fault_over<T: Threads + Wait + Sync>(
     Ok(fault_behind(rt, alloc, past, project, unmade.workers))
 }
 
-/// Why there is no session over this past, or `None` where there is one.
+/// Why there is no session over this previous session, or `None` where there is one.
 fn fault_behind<T: Threads + Wait + Sync>(
     rt: &T,
     alloc: Global,

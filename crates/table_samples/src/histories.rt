@@ -30,7 +30,7 @@ pub struct History {
     pub events: usize,
 }
 
-/// Claims the key and takes over its result from the past.
+/// Claims the key and takes over its result from the previous session.
 fn is_marked(table: &mut Table<MiniJava>, key: &Key) -> bool
     ensures { IsTrue result → IsTakenOver key.now table.old table.new }
 {
@@ -80,7 +80,7 @@ fn is_done(
     }
 }
 
-/// Brings the record's key to done: whether it is done then with the record's result.
+/// Evaluates the record's key, and tells whether it is done then with the record's result.
 fn comes_done(
     alloc: Global,
     table: &mut Table<MiniJava>,
@@ -93,7 +93,7 @@ fn comes_done(
     Ok(is_brought(alloc, table, records, kept, &key)? && is_done(alloc, table, &key, kept.digits)?)
 }
 
-/// Brings these keys to done: whether each is done then with its result. The edges are indices of `records`.
+/// Evaluates these keys, and tells whether each is done then with its result. The edges are indices of `records`.
 fn all_done(
     alloc: Global,
     table: &mut Table<MiniJava>,
@@ -111,7 +111,7 @@ fn all_done(
     Ok(true)
 }
 
-/// Brings the keys of the records to done, and then those beside them.
+/// Evaluates the keys of the records, and then those beside them.
 fn are_brought(
     alloc: Global,
     table: &mut Table<MiniJava>,
@@ -135,7 +135,7 @@ fn closes_with(table: &Table<MiniJava>, wanted: [u8; 32]) -> bool
     }
 }
 
-/// Whether the table stands behind this session.
+/// Whether the file of the table's previous session has the digest of this one's.
 fn is_behind(table: &Table<MiniJava>, past: &Option<Arc<Session>>) -> Result<bool, AllocError>
     ensures { IfOk result (λ b. IsTrue b
         → next_link table.now.past ≡ next_link (session_in past.now)) }
@@ -143,7 +143,8 @@ fn is_behind(table: &Table<MiniJava>, past: &Option<Arc<Session>>) -> Result<boo
     Ok(link_behind(&table.past()?) == link_behind(past))
 }
 
-/// Whether the table stands behind the chain, and closes with just these records.
+/// Whether the table was opened over the last session of the chain, by the digest of its file, and closes with just
+/// these records.
 fn closes(
     alloc: Global,
     table: &Table<MiniJava>,
@@ -157,7 +158,7 @@ fn closes(
     Ok(is_behind(table, &past)? && closes_with(table, wanted))
 }
 
-/// Whether the table comes so to its end.
+/// Whether the table ends as the history says.
 fn is_led(
     alloc: Global,
     table: &mut Table<MiniJava>,
@@ -182,8 +183,8 @@ fn is_of_records(alloc: Global, history: &History, records: &[Kept]) -> Result<b
     is_led(alloc, &mut table, history, records)
 }
 
-/// Whether the session comes about so: each of its keys is claimed and marked or run as its record says, and is done
-/// with the record's result; so many events lead there; and the table closes with just these records.
+/// Whether the session is made as the history says: each of its keys is claimed and marked or run as its record says,
+/// and is done with the record's result; this many events lead there; and the table closes with just these records.
 pub fn is_history(alloc: Global, history: &History) -> Result<bool, Unfit>
     ensures { IfOk result (λ b. IsTrue b → IsHistory history.now) }
 {

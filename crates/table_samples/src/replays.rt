@@ -86,7 +86,7 @@ fn events_of(alloc: Global, replay: &Replay) -> Result<Events, Unfit>
     }
 }
 
-/// How many events the replay has in a project with no past, or why there is none.
+/// How many events the replay has in a project with no previous session, or why there is none.
 fn replay_in(
     alloc: Global,
     project: &Project,
@@ -112,7 +112,7 @@ fn replay_over(
     Ok(replay_in(alloc, project, &events))
 }
 
-/// How many events the replay has with no past, or why there is none.
+/// How many events the replay has with no previous session, or why there is none.
 pub fn replay_of(alloc: Global, replay: &Replay) -> Result<Result<usize, ReplayFault>, Unfit>
     ensures { IfOk result (IsReplay replay.now) }
 {

@@ -1,4 +1,4 @@
-//! Runs of MiniJava's queries over the answers that records tell.
+//! Runs of MiniJava's queries over the answers of records.
 ghost use Rattle.std.specs.Prelude.{◌≡◌, ◌<◌, ℕ, List, [], ◌∷◌, ◌++◌, slice_get, Contains, Some, None, MatchOption, IfOk, OnOk};
 ghost use Rattle.std.specs.Arc.{arc_value};
 ghost use Rattle.std.specs.List.{AllByRecursion};
@@ -25,7 +25,7 @@ fn record_at(records: &[Kept], at: usize) -> Option<&Kept>
     records.get(at)
 }
 
-/// Adds the answer that the record of an index tells.
+/// Adds the answer of the record at an index.
 fn add(alloc: Global, list: &mut AnswerList, records: &[Kept], at: usize) -> Result<(), Unfit>
     ensures { (before : List ℕ) → AreAnswersAt records.now before list.old
         → OnOk result (AreAnswersAt records.now (before ++ at ∷ []) list.new) }
@@ -40,7 +40,7 @@ fn add(alloc: Global, list: &mut AnswerList, records: &[Kept], at: usize) -> Res
     }
 }
 
-/// Adds the answers that the records of these indices tell to an empty list.
+/// Adds the answers of the records at these indices to an empty list.
 fn add_all(
     alloc: Global,
     list: &mut AnswerList,
@@ -56,7 +56,7 @@ fn add_all(
     Ok(())
 }
 
-/// The answers that the records of these indices tell.
+/// The answers of the records at these indices.
 fn answers_of(alloc: Global, records: &[Kept], edges: &[usize]) -> Result<AnswerList, Unfit>
     ensures { IfOk result (AreAnswersAt records.now edges.now) }
 {

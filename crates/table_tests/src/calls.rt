@@ -14,7 +14,7 @@ const INDEX: Asked<'static> = Asked(Kind::Index, "", "");
 
 const ANSWER: Asked<'static> = Asked(Kind::Answer, "", "");
 
-/// Two workers, no past, and one of them gives up.
+/// Two workers, no previous session, and one of them gives up.
 const FAILED: &[Saying] = &[
     Saying {
         call: Call::Ask,

@@ -19,7 +19,7 @@ struct Row {
     events: usize,
 }
 
-/// Whether the session of the row comes about so.
+/// Whether the session of the case is made as it says.
 fn is_led(alloc: Global, chain: &'static [Change], row: &Row) -> Result<bool, Unfit> {
     match (chain.first(), chain.get(..row.behind)) {
         (Some(first), Some(behind)) => {
@@ -103,7 +103,7 @@ static ROWS_OF_ONE: [Row; 6] = [
         beside: &[],
         events: 26,
     },
-    // It prints 1 again: the same are executed, since the session before is looked at alone.
+    // It prints 1 again: the same are executed, since the previous session is looked at alone.
     Row {
         behind: 2,
         text: ONE,

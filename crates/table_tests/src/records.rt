@@ -14,9 +14,9 @@ pub(crate) const ONE: &str =
 pub(crate) const TWO: &str =
     "class M { public static void main(String[] a) { System.out.println(new A().f()); } } class A { public int f() { return 1; } public int g() { return 2; } }";
 
-/// A chain of sessions of the class that prints 1: all ten queries are executed; and then, where it prints 2, the tree, the
-/// index, the header, the method, the check of its body and the answer. It is a static, since a function that names a long
-/// constant writes it out in its frame, which is dear to prove.
+/// A chain of sessions of the class that prints 1: all ten queries are executed; and then, where it prints 2, the tree,
+/// the index, the header, the method, the check of its body and the answer. It is a static, since a function that names
+/// a long constant writes it out in its frame, which is expensive to prove.
 pub(crate) static SESSIONS_OF_ONE: [Change; 2] = [
     Change {
         records: FIRST,

@@ -54,9 +54,9 @@ module _ (q : Key) (high : 2 < rank q) (k : Option File → Prog) (fits : (tree 
   unfolding Fits
   tree_fits c = (high, λ v. file_fits (file_in v c))
 
--- ---- what the tree tells of the class
+-- ---- what the tree says about the class
 
--- What doesn't depend on where a class stands is told by the tree of its file.
+-- What doesn't depend on where a class stands follows from the tree of its file.
 pub class_told : {A : Type 0} (seen : ClassDecl → Option A) → ((i : ℕ) (k : ClassDecl) → seen (moved i k) ≡ seen k) → (p : Project) → IsProject p → (c : Name)
     → option_and_then seen (option_and_then (class_named c) (tree_for p (class_at p c))) ≡ option_and_then seen (class_at p c)
 class_told {A} seen alike p is c = by_class (class_at p c) refl

@@ -1,4 +1,4 @@
--- What a tree tells of a class, and the header of the class in it.
+-- What a tree says about a class, and the header of the class in it.
 use Rattle.std.proofs.Common.{◌≡◌, ℕ, suc, Bool, true, false, cond, List, [], ◌∷◌, map, find, Option, Some, None, option_map, refl, ap, ◌∙◌}
 use Rattle.std.specs.Prelude.{option_and_then}
 use Rattle.std.specs.Str.{bytes_eq}
@@ -55,7 +55,7 @@ module _ (c : Name) where
   unfolding decl
   in_tree tree = behind_main tree.main tree.classes
 
-  -- the header that a tree tells is that of the class which it tells
+  -- the header that a tree has for a name is that of the class that it has for it
   pub tree_tells : (o : Option File) → option_and_then (header_named c) o ≡ option_map header_of (option_and_then (class_named c) o)
   tree_tells None = refl
   tree_tells (Some tree) = in_tree tree

@@ -1,4 +1,4 @@
--- What the index of a project tells.
+-- The index of a project.
 use Rattle.std.proofs.Common.{◌≡◌, Option, Some, None, option_map, find, refl, ap, ◌∙◌}
 use Rattle.std.specs.Str.{bytes_eq}
 use Rattle.item_ids.specs.declared.key.Key.TheVariants as keys
@@ -23,7 +23,7 @@ class_found : (p : Project) (c : Name) → find (λ (k : ClassDecl). bytes_eq k.
 unfolding decl
 class_found p c = found_first (λ (k : ClassDecl). k.name) (classes_in p) c
 
--- the file that the index tells for a class is the one that declares it
+-- the file that the index has for a class is the one that declares it
 pub index_tells : (p : Project) (c : Name) → file_in (mean p keys.Index) c ≡ option_map (file_of_class p) (class_at p c)
 unfolding mean
 index_tells p c =

@@ -12,7 +12,7 @@ abbrev pub file_step : Option Name → (Option File → Prog) → Prog
 file_step None k = k None
 file_step (Some f) k = Ask (keys.Tree f) (λ v. k (tree_in v))
 
--- Index, then Tree of the file that it tells for the class
+-- Index, then Tree of the file that it has for the class
 abbrev pub class_tree_step : Name → (Option File → Prog) → Prog
 class_tree_step c k = Ask keys.Index (λ v. file_step (file_in v c) k)
 

@@ -1,4 +1,4 @@
--- What answers tell of texts and trees.
+-- What answers say about texts and trees.
 use Rattle.std.specs.Prelude.{ℕ, List, [], Option, None, option_map, find}
 use Rattle.std.specs.Str.{bytes_eq}
 use Rattle.mj_tree.specs.Trees.{Name}

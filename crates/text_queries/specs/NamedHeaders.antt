@@ -1,4 +1,4 @@
--- What a file tells of a class by its name.
+-- What a file says about a class, by its name.
 use Rattle.std.specs.Prelude.{List, [], map, true, false, Option, Some, None, option_map, if◌then◌else◌}
 use Rattle.std.specs.Str.{bytes_eq}
 use Rattle.mj_tree.specs.Trees.{Name, Main, Class, File}

@@ -8,7 +8,7 @@ use Rattle.recorder.specs.Programs.{Prog, Ask}
 use Rattle.query_rules.specs.Items.{signature_of}
 use Rattle.text_queries.specs.Facts.{body_in}
 
--- Method(c, m), then the types of the method that it tells
+-- Method(c, m), then the types of that method
 abbrev pub sig_steps : Name → Name → (Value → Prog) → Prog
 sig_steps c m k =
     Ask (keys.Method c m) (λ v. k (values.Sig (option_and_then signature_of (body_in v))))

@@ -15,7 +15,7 @@ use std::alloc::Global;
 use std::sync::Arc;
 use tree_bytes::Tree;
 
-/// The tree in an answer that is there.
+/// The tree in an answer, if there is one.
 pub fn tree_of(answer: &Option<Arc<Sealed>>) -> Option<&Tree>
     ensures { option_copied result ≡ option_and_then tree_told (option_map arc_value answer.now) }
 {

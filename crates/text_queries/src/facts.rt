@@ -1,4 +1,4 @@
-//! What answers tell of texts and trees.
+//! What answers say about texts and trees.
 ghost use Rattle.std.specs.Prelude.{◌≡◌, find, position, option_copied};
 ghost use Rattle.std.specs.Str.{bytes_eq};
 ghost use Rattle.mj_answer.specs.Order.{IsAscendingByName};
@@ -8,7 +8,7 @@ use mj_lexer::Name;
 use result_bytes::{IndexRow, Text, Value};
 use tree_bytes::{Body, Tree};
 
-/// The names of the files that an answer tells.
+/// The names of the files in an answer.
 pub fn names_in(value: &Value) -> &[Name]
     ensures { result.now ≡ names_told value.now }
 {
@@ -18,7 +18,7 @@ pub fn names_in(value: &Value) -> &[Name]
     }
 }
 
-/// The bytes of a file that an answer tells.
+/// The bytes of a file in an answer.
 pub fn bytes_in(value: &Value) -> Option<&Text>
     ensures { option_copied result ≡ bytes_told value.now }
 {
@@ -28,7 +28,7 @@ pub fn bytes_in(value: &Value) -> Option<&Text>
     }
 }
 
-/// The tree that an answer tells.
+/// The tree in an answer.
 pub fn tree_in(value: &Value) -> Option<&Tree>
     ensures { option_copied result ≡ tree_told value.now }
 {
@@ -38,7 +38,7 @@ pub fn tree_in(value: &Value) -> Option<&Tree>
     }
 }
 
-/// The place of a class's row, by halves, since the rows ascend.
+/// The place of a class's row, by binary search, since the rows ascend.
 fn place_of(rows: &[IndexRow], class: &Name) -> Option<usize>
     requires { IsAscendingByName (λ row. row.class) rows.now }
     ensures { result ≡ position (λ row. bytes_eq row.class class.now) rows.now }
@@ -55,7 +55,7 @@ fn row_of<'v>(rows: &'v [IndexRow], class: &Name) -> Option<&'v IndexRow>
     rows.get(at)
 }
 
-/// The file of a class that an answer tells.
+/// The file of a class in an answer.
 pub fn file_in<'v>(value: &'v Value, class: &Name) -> Option<&'v Name>
     ensures { option_copied result ≡ file_told value.now class.now }
 {
@@ -68,7 +68,7 @@ pub fn file_in<'v>(value: &'v Value, class: &Name) -> Option<&'v Name>
     }
 }
 
-/// The body that an answer tells.
+/// The body in an answer.
 pub fn body_in(value: &Value) -> Option<&Body>
     ensures { option_copied result ≡ body_told value.now }
 {

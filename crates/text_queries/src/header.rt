@@ -84,7 +84,7 @@ fn header_in(alloc: Global, tree: &Tree, class: &Name) -> Result<Option<Header>,
     }
 }
 
-/// The header of the class of this name in a tree that is there.
+/// The header of the class of this name in a tree, if there is one.
 fn header_for(
     alloc: Global,
     tree: Option<&Tree>,

@@ -1,4 +1,4 @@
-//! What holds of the queries.
+//! Laws of the queries.
 ghost use Rattle.text_queries.specs.Laws.{TreeTies, IndexTies, SigTies, HeaderTies, MethodTies};
 
 /// In every project the program of a file's tree gives the value of the query and asks what it reads; whatever the

@@ -1,4 +1,4 @@
-//! The queries of what one file's text and tree tell.
+//! The queries about one file's text and tree.
 #![tactic(auto)]
 
 mod class_trees;

@@ -11,7 +11,7 @@ use result_bytes::Value;
 use std::alloc::{AllocError, Global};
 use tree_bytes::{Body, Tree};
 
-/// The body of these names in a tree that is there.
+/// The body of these names in a tree, if there is one.
 fn body_for(
     alloc: Global,
     tree: Option<&Tree>,

@@ -40,7 +40,7 @@ fn signature_of(alloc: Global, body: &Body) -> Result<Option<Signature>, AllocEr
     }
 }
 
-/// The types of a body that is there.
+/// The types of a body, if there is one.
 fn signature_for(alloc: Global, body: Option<&Body>) -> Result<Option<Signature>, AllocError>
     ensures { IfOk result (λ signature. signature
         ≡ option_and_then signature_of (option_copied body.entry)) }

@@ -25,7 +25,7 @@ fn read_tree(alloc: Global, bytes: &[u8]) -> Result<Option<Tree>, AllocError>
     }
 }
 
-/// The tree of a file that is there.
+/// The tree of a file, if there is one.
 fn tree_for(alloc: Global, text: Option<&Text>) -> Result<Option<Tree>, AllocError>
     ensures { IfOk result (λ tree. tree ≡ option_and_then file_of (option_copied text.entry)) }
 {

@@ -77,7 +77,7 @@ lawful_literal = record {
 
 -- ---- one level
 
--- what stands behind a tag and a mark, and what was read there
+-- what follows a tag and a mark, and what was read there
 record Body (room : ℕ) (tag : ExpTag) (mark : ℕ) (bytes : List ℕ) (t : Expression)
     (rest : List ℕ) : Type 0 where
   pub text : List ℕ
@@ -169,7 +169,7 @@ tagged_takes room part law whole b (Some tag) is bytes t rest fits e =
     ∙ ap (λ (x : List ℕ). x ++ rest) (sym body.spelled) in
     (record { parts = all; rest_fits = both.rest_fits }, body.fits)
 
--- an expression whose parts are read so
+-- an expression whose parts are read back
 spelled_at : Decoder Expression → List ℕ → Result (Expression × List ℕ) Breach
 spelled_at part bytes = byte_at bytes >>= λ tag. exp_behind_tag part bytes (exp_tag_of tag.0) tag.1
 

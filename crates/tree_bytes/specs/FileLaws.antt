@@ -1,4 +1,5 @@
--- Methods, classes, files and bodies: what is read is spelled so, and what is spelled so is read.
+-- Methods, classes, files and bodies: what is read is spelled there, and each spelling is read
+-- back.
 use Rattle.std.proofs.Common.{◌≡◌, ℕ, zero, suc, ◌<◌, ◌^◌, List, [], ◌∷◌, ◌++◌, Ok, refl, subst}
 use Rattle.mj_tree.specs.Trees.{Method}
 use Rattle.byte_readers.specs.Spelling.{eight}

@@ -1,4 +1,4 @@
--- Lists that a tree holds: what is read of one is spelled so, and what is spelled so is read.
+-- Lists that a tree holds: what is read of one is spelled there, and each spelling is read back.
 use Rattle.std.proofs.Common.{◌≡◌, ℕ, suc, ◌<◌, ◌^◌, List, [], ◌∷◌, ◌++◌, length, refl, sym, ap, subst, ◌∙◌, arith}
 use Rattle.std.specs.List.{flat_map, AllByRecursion}
 use Rattle.std.proofs.lemmas.List.Concat.{flat_map-cons}

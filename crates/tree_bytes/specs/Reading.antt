@@ -62,7 +62,7 @@ exps_at part bytes = made_at expressions_of (list_at part any) bytes
 abbrev pub stmts_at : Decoder Statement → Decoder Statements
 stmts_at part bytes = made_at statements_of (list_at part any) bytes
 
--- what stands behind a tag and a mark
+-- what follows a tag and a mark
 abbrev pub exp_body_at : Decoder Expression → ExpTag → ℕ → Decoder Expression
 exp_body_at part (tags.Two two) mark bytes =
     made_at (λ x. two_of two mark x.0 x.1) (pair_at part part) bytes
@@ -82,13 +82,13 @@ exp_behind_tag part bytes (Some tag) rest = do
   mark ← four_at rest
   exp_body_at part tag mark.0 mark.1
 
--- an expression of no more than so many levels
+-- an expression of at most this many levels
 unfoldable pub exp_at : ℕ → Decoder Expression
 exp_at zero bytes = byte_at bytes >>= λ tag. not_canonical bytes
 exp_at (suc room) bytes =
     byte_at bytes >>= λ tag. exp_behind_tag (exp_at room) bytes (exp_tag_of tag.0) tag.1
 
--- what stands behind a tag and a mark
+-- what follows a tag and a mark
 abbrev pub stmt_body_at : Decoder Expression → Decoder Statement → StmtTag → ℕ → Decoder Statement
 stmt_body_at value part statements.Block mark bytes =
     made_at (trees.Block mark) (stmts_at part) bytes
@@ -110,7 +110,7 @@ stmt_behind_tag value part bytes (Some tag) rest = do
   mark ← four_at rest
   stmt_body_at value part tag mark.0 mark.1
 
--- a statement of no more than so many levels
+-- a statement of at most this many levels
 unfoldable pub stmt_at : ℕ → Decoder Statement
 stmt_at zero bytes = byte_at bytes >>= λ tag. not_canonical bytes
 stmt_at (suc room) bytes =

@@ -53,7 +53,7 @@ lawful_stmts room law = lawful_items (are_listed room) law
 
 -- ---- one level
 
--- what stands behind a tag and a mark, and what was read there
+-- what follows a tag and a mark, and what was read there
 record Body (room : ℕ) (tag : StmtTag) (mark : ℕ) (bytes : List ℕ) (t : Statement)
     (rest : List ℕ) : Type 0 where
   pub text : List ℕ
@@ -118,7 +118,7 @@ tagged_takes room part law whole b (Some tag) is bytes t rest fits e =
     ∙ ap (λ (x : List ℕ). x ++ rest) (sym body.spelled) in
     (record { parts = all; rest_fits = both.rest_fits }, body.fits)
 
--- a statement whose parts are read so
+-- a statement whose parts are read back
 spelled_at : ℕ → Decoder Statement → List ℕ → Result (Statement × List ℕ) Breach
 spelled_at room part bytes =
     byte_at bytes >>= λ tag. stmt_behind_tag (exp_at room) part bytes (stmt_tag_of tag.0) tag.1

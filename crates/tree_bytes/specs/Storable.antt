@@ -29,7 +29,7 @@ abbrev pub VariableFits : Variable → Type 0
 VariableFits v = IsName v.name × (TyFits v.ty × IsMark v.mark)
 
 abbrev mutual
-  -- with no more than so many levels
+  -- with at most this many levels
   pub ExpFits : ℕ → Expression → Type 0
   ExpFits zero e = ⊥
   ExpFits (suc room) (trees.Binary operator mark left right) =
@@ -55,7 +55,7 @@ abbrev mutual
   ExpsFit room (more e es) = ExpFits room e × ExpsFit room es
 
 abbrev mutual
-  -- with no more than so many levels
+  -- with at most this many levels
   pub StmtFits : ℕ → Statement → Type 0
   StmtFits zero s = ⊥
   StmtFits (suc room) (trees.Block mark body) =

@@ -1,5 +1,5 @@
--- Declared types, and what is declared with them: what is read is spelled so, and what is spelled
--- so is read.
+-- Declared types, and what is declared with them: what is read is spelled there, and each spelling
+-- is read back.
 use Rattle.std.proofs.Common.{◌≡◌, ℕ, zero, suc, List, [], ◌∷◌, ◌++◌, Result, Ok, refl, sym, subst}
 use Rattle.mj_tree.specs.declared.tree.Ty.{Ty}
 use Rattle.mj_tree.specs.declared.tree.Ty.TheVariants.{Int, Boolean, IntArray, Class}

@@ -19,7 +19,7 @@ pub fn read_top_exp(alloc: Global, bytes: &[u8]) -> Result<(Exp, &[u8]), ReadErr
     read_exp(alloc, bytes, MOST_LEVELS)
 }
 
-/// Reads an expression of no more than so many levels.
+/// Reads an expression of at most this many levels.
 #[cycle(expressions)]
 #[tactic(auto, unfolding(crate::specs::Reading::exp_at))]
 #[inline(never)]

@@ -26,7 +26,7 @@ pub fn read_top_stmts(alloc: Global, bytes: &[u8]) -> Result<(Vec<Stmt>, &[u8]),
     read_stmts(alloc, bytes, MOST_LEVELS)
 }
 
-/// Reads a statement of no more than so many levels.
+/// Reads a statement of at most this many levels.
 #[cycle(statements)]
 #[tactic(auto, unfolding(crate::specs::Reading::stmt_at))]
 #[inline(never)]

@@ -157,7 +157,7 @@ fn reads_the_options_of_a_check(rt: HostRuntime) -> Result<(), Fail> {
     Ok(())
 }
 
-/// Command lines and how the text begins that is told in place of their files, and whether it is help.
+/// Command lines that give no files, how the text given instead begins, and whether it is help.
 const TOLD: &[(&[&str], bool, &str)] = &[
     (
         &["another", "--help"],
@@ -183,7 +183,7 @@ fn is_whole_help(text: &str, want: &str) -> bool {
         && text.ends_with("  4  out of memory\n")
 }
 
-/// Whether a text is told in place of files, which begins so.
+/// Whether a text that begins like this is given instead of files.
 fn is_told(alloc: Global, given: &[&str], is_help: bool, want: &str) -> Result<bool, Fail> {
     match words(alloc, list(alloc, given)?) {
         Err(WordsFault::Help(text)) => Ok(is_help && is_whole_help(text.as_str(), want)),
@@ -200,7 +200,7 @@ fn tells_of_other_words(rt: HostRuntime) -> Result<(), Fail> {
     Ok(())
 }
 
-/// What is told of the version, under whatever name the program runs.
+/// The text on the version, under whatever name the program runs.
 const VERSION: &str = "mjrg 0.1.0\nsession files: version 1\nlanguage: profile 1\n";
 
 /// Command lines that ask for the version.
@@ -211,7 +211,7 @@ const VERSIONS: &[&[&str]] = &[
     &["mjrg", "--version", "scratch", "M.java"],
 ];
 
-/// Whether the version is told in place of files.
+/// Whether the version is given instead of files.
 fn is_version(alloc: Global, given: &[&str]) -> Result<bool, Fail> {
     match words(alloc, list(alloc, given)?) {
         Err(WordsFault::Help(text)) => Ok(text.as_str() == VERSION),

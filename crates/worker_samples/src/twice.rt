@@ -1,8 +1,8 @@
-//! What is made once more where it can't be made at first.
+//! What is made once more if it can't be made at first.
 
 use answer_samples::Unfit;
 
-/// Makes it, and once more where that is refused: at most one allocation is, where each is refused in turn.
+/// Makes it, and once more if that is refused. Where each allocation is refused in turn, at most one is.
 pub(crate) fn twice<T, F: Fn() -> Result<T, Unfit>>(make: &F) -> Result<T, Unfit>
     requires { F.IsAlwaysCallable make.now }
 {

@@ -28,7 +28,7 @@ struct Hiring {
 /// For so many turns a run waits for the worker that fails.
 const TURNS: u64 = 100_000_000;
 
-/// Runs as MiniJava's runner does. The one that fails ends its first run for want of memory; each other one waits with its
+/// Runs as MiniJava's runner does. The first run of the one that fails is out of memory; each other one waits with its
 /// first run for that, so that the failing worker finds one to do.
 #[derive(Drop)]
 struct Waiting<'a> {

@@ -67,7 +67,7 @@ returns-then-self g c =
 events_after : (g : Over) (c : After-note g) → map event_of c.note.new.history.items ≡ map event_of c.self.inside.history.items ++ MarkGreen c.args.w c.args.key.now ∷ []
 events_after g c = rw (c.note.ensures.events, c.room_for_mark.ensures.history.0, c.in-Some-room_for_mark.ensures.key) refl
 
--- what the past has of the key
+-- what the previous session has of the key
 abbrev entry_before : (g : Over) (c : After-note g) → Entry
 entry_before g c = entry_of (arc_value c.in-Some-past.past).records c.in-Some-find.record.now
 
