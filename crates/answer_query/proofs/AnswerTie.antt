@@ -20,9 +20,9 @@ use Rattle.query_rules.specs.Items.{index_row, index_of, fault_set}
 use Rattle.query_rules.specs.Meaning.{mean}
 use Rattle.query_rules.specs.Reads.{all_trees, answer_parts, asked_keys, reads}
 use Rattle.text_queries.specs.Facts.{names_in, tree_in}
-use Rattle.table_queries.specs.Facts.{rows_in}
-use Rattle.table_queries.proofs.Passes.{Passes, Stays, Reads, passes_runs, passes_asks, passes_then, passes_each, flat_one}
-use Rattle.table_queries.proofs.FaultSets.{fold_append}
+use Rattle.member_queries.specs.Facts.{rows_in}
+use Rattle.member_queries.proofs.Passes.{Passes, Stays, Reads, passes_runs, passes_asks, passes_then, passes_each, flat_one}
+use Rattle.member_queries.proofs.FaultSets.{fold_append}
 use Rattle.answer_query.specs.Trees.{NamedTree, tree_step}
 use Rattle.answer_query.specs.ProjectFaults.{project_faults}
 use Rattle.answer_query.specs.Answer.{class_answer, class_step, answer, classes_steps, answer_steps}

@@ -7,7 +7,7 @@ use Rattle.mj_rules.specs.Sentences.{file_of}
 use Rattle.recorder.specs.Projects.{Project}
 use Rattle.query_rules.specs.Items.{tree_at}
 use Rattle.text_queries.proofs.Files.{tree_by_name}
-use Rattle.table_queries.proofs.Tables.{map_twice}
+use Rattle.member_queries.proofs.Tables.{map_twice}
 use Rattle.answer_query.specs.Trees.{NamedTree, trees_of}
 
 abbrev pub read_file : SourceFile → NamedTree

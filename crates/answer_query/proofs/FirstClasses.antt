@@ -6,7 +6,7 @@ use Rattle.mj_members.specs.Declarations.{ClassDecl}
 use Rattle.mj_classes.specs.Declarations.{decl}
 use Rattle.mj_classes.proofs.Climb.{decl_name}
 use Rattle.mj_rules.specs.Answering.{first_classes}
-use Rattle.table_queries.proofs.Indexed.{AreDeclared, names_once, once_declared}
+use Rattle.member_queries.proofs.Indexed.{AreDeclared, names_once, once_declared}
 
 module _ (cs : List ClassDecl) where
   abbrev pub IsFirst : ClassDecl → Type 0

@@ -11,7 +11,7 @@ use Rattle.result_bytes.specs.declared.value.Value.{Value}
 use Rattle.result_bytes.specs.declared.value.Value.TheVariants.{Files, Source, Tree, Index, Header, Method, Sig, Supers, Members, CheckClass, CheckBody, Diags, Answer}
 use Rattle.result_bytes.specs.Values.{IsValue}
 use Rattle.recorder.proofs.Recorded.{all_map}
-use Rattle.table_queries.specs.Facts.{rows_in, faults_in}
+use Rattle.member_queries.specs.Facts.{rows_in, faults_in}
 use Rattle.answer_query.specs.Answer.{table_in, class_answer}
 
 -- ---- the rows of an index ascend

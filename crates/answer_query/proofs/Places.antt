@@ -15,7 +15,7 @@ use Rattle.query_rules.proofs.Firsts.{all_append}
 use Rattle.recorder.proofs.Recorded.{all_at}
 use Rattle.body_query.proofs.Bounds.{small}
 use Rattle.body_query.proofs.Sets.{Same}
-use Rattle.table_queries.proofs.Tables.{all_from}
+use Rattle.member_queries.proofs.Tables.{all_from}
 use Rattle.answer_query.specs.Trees.{NamedTree, trees_of}
 use Rattle.answer_query.specs.ProjectFaults.{any_main, files_faults, repeated_class, repeat_faults, classes_faults, project_faults}
 

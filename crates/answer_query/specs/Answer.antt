@@ -11,7 +11,7 @@ use Rattle.result_bytes.specs.declared.value.Value.TheVariants.{Members}
 use Rattle.recorder.specs.Programs.{Prog, Ask, each}
 use Rattle.query_rules.specs.Items.{fault_set}
 use Rattle.text_queries.specs.Facts.{names_in}
-use Rattle.table_queries.specs.Facts.{rows_in, faults_in}
+use Rattle.member_queries.specs.Facts.{rows_in, faults_in}
 use Rattle.answer_query.specs.Trees.{tree_step}
 use Rattle.answer_query.specs.ProjectFaults.{project_faults}
 

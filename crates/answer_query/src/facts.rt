@@ -3,15 +3,15 @@ ghost use Rattle.std.specs.Prelude.{◌≡◌, IfOk, option_copied};
 ghost use Rattle.mj_answer.specs.Order.{IsAscendingByName};
 ghost use Rattle.answer_bytes.specs.Storable.{IsClassStorable};
 ghost use Rattle.text_queries.specs.Facts.{names_in as names_told, tree_in as tree_told};
-ghost use Rattle.table_queries.specs.Facts.{rows_in as rows_told};
+ghost use Rattle.member_queries.specs.Facts.{rows_in as rows_told};
 ghost use Rattle.answer_query.specs.Answer.{table_in as table_told, class_answer};
 
 use fingerprint::Sealed;
+use member_queries::{faults_in, rows_in};
 use mj_answer::{ClassAnswer, ClassTable, Diagnostic, copy_faults};
 use mj_lexer::Name;
 use result_bytes::{IndexRow, Value};
 use std::alloc::{AllocError, Global};
-use table_queries::{faults_in, rows_in};
 use tree_bytes::Tree;
 
 /// The names of the files in an answer.

@@ -1,12 +1,12 @@
 //! What an audit says of a chain of MiniJava sessions beside a project: ten records of the first session were run.
 
 use crate::said::{Said, told};
-use answer_samples::project_of;
+use answer_fixtures::project_of;
 use audit_graph::AuditFault;
 use audit_replay::audit_against;
 use mj_project::Project;
 use providers::MiniJava;
-use session_samples::{FIRST, file_of};
+use session_fixtures::{FIRST, file_of};
 use std::alloc::Global;
 use std::test::*;
 

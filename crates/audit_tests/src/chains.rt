@@ -2,10 +2,10 @@
 
 use crate::files::Turned;
 use crate::said::{Said, is_accepted_with, said_of_none, said_of_one, said_of_second, said_of_two};
-use answer_samples::Asked;
+use answer_fixtures::Asked;
 use audit_graph::AuditFault;
 use item_ids::Kind;
-use session_samples::Kept;
+use session_fixtures::Kept;
 use sessions::Mark;
 use std::test::*;
 

@@ -1,9 +1,9 @@
 //! Sessions of a project of one file `a`, which has the one byte `A`, and their files.
 
-use answer_samples::{Asked, Unfit};
+use answer_fixtures::{Asked, Unfit};
 use item_ids::Kind;
 use session_file::{MemorySink, write};
-use session_samples::{Kept, digest_of, file_of, session_of};
+use session_fixtures::{Kept, digest_of, file_of, session_of};
 use sessions::{Mark, Session};
 use std::alloc::{AllocError, Global};
 

@@ -1,11 +1,11 @@
 //! What an audit says of files.
 
 use crate::files::{Turned, file_behind, file_of_first};
-use answer_samples::{Asked, is_key, sealed_of};
+use answer_fixtures::{Asked, is_key, sealed_of};
 use audit_graph::AuditFault;
 use audit_replay::{Audited, audit};
 use item_ids::{Key, Kind};
-use sample_runner::SampleRunner;
+use runner_fixtures::SampleRunner;
 use std::alloc::Global;
 
 /// What an audit says: how many sessions there are and records were run, or its refusal.

@@ -1,5 +1,5 @@
 use crate::values::{ANSWERS, CLASS_OF_EVERY_PHRASE, EVERY_PHRASE};
-use answer_samples::{has_body, is_copied, is_printed_again};
+use answer_fixtures::{has_body, is_copied, is_printed_again};
 use item_ids::Kind;
 use std::test::*;
 

@@ -1,4 +1,4 @@
-use answer_samples::{Asked, Unfit, is_copy, is_less, is_made, is_named, key_of};
+use answer_fixtures::{Asked, Unfit, is_copy, is_less, is_made, is_named, key_of};
 use indexmap::IndexMap;
 use item_ids::{Key, Kind, rank};
 use std::alloc::Global;

@@ -1,4 +1,4 @@
-use answer_samples::{is_opened, is_print, is_sealed, open_fault};
+use answer_fixtures::{is_opened, is_print, is_sealed, open_fault};
 use fingerprint::{OpenFault, Print};
 use item_ids::Kind;
 use result_bytes::Refusal;

@@ -1,4 +1,4 @@
-use answer_samples::{Unfit, bytes_of, is_printed, is_spelling, is_tight, refusal_of, spells};
+use answer_fixtures::{Unfit, bytes_of, is_printed, is_spelling, is_tight, refusal_of, spells};
 use item_ids::Kind;
 use result_bytes::Refusal;
 use std::alloc::AllocError;

@@ -36,11 +36,11 @@ use Rattle.body_query.specs.Bounds.{bound}
 use Rattle.body_questions.specs.Facts.{is_declared_in, chain_classes, method_in}
 use Rattle.body_query.proofs.Bounds.{same_number}
 use Rattle.body_query.proofs.Worlds.{world_same}
-use Rattle.table_queries.specs.Facts.{header_in, chain_in}
-use Rattle.table_queries.proofs.Passes.{Passes, Stays, Reads, passes_each, passes_then, flat_one, ties_by}
-use Rattle.table_queries.proofs.Declared.{found_behind}
-use Rattle.table_queries.proofs.FaultSets.{fold_append}
-use Rattle.table_queries.proofs.Tables.{all_from}
+use Rattle.member_queries.specs.Facts.{header_in, chain_in}
+use Rattle.member_queries.proofs.Passes.{Passes, Stays, Reads, passes_each, passes_then, flat_one, ties_by}
+use Rattle.member_queries.proofs.Declared.{found_behind}
+use Rattle.member_queries.proofs.FaultSets.{fold_append}
+use Rattle.member_queries.proofs.Tables.{all_from}
 use Rattle.class_query.specs.Signatures.{differ}
 use Rattle.class_query.specs.Told.{superclass_told, cycle_told, chain_told, field_told, method_told, faults_told}
 use Rattle.class_query.specs.CheckClass.{type_step, field_type_step, overridden_class, differ_in, override_step, declared_steps, check_class_by, check_class_steps}

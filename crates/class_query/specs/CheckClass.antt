@@ -13,7 +13,7 @@ use Rattle.result_bytes.specs.declared.value.Value.TheVariants as values
 use Rattle.recorder.specs.Programs.{Prog, Ask, each}
 use Rattle.query_rules.specs.Items.{fault_set}
 use Rattle.body_questions.specs.Facts.{is_declared_in, chain_classes, method_in}
-use Rattle.table_queries.specs.Facts.{header_in, chain_in}
+use Rattle.member_queries.specs.Facts.{header_in, chain_in}
 use Rattle.class_query.specs.Signatures.{differ}
 use Rattle.class_query.specs.Told.{faults_told}
 

@@ -2,7 +2,7 @@
 ghost use Rattle.std.specs.Prelude.{◌≡◌, [], IfOk, IfErr, option_copied};
 ghost use Rattle.item_ids.specs.declared.key.Key.TheVariants as keys;
 ghost use Rattle.recorder.specs.Programs.{Goes, GivesUp, Ask};
-ghost use Rattle.table_queries.specs.Facts.{chain_in as chain_told};
+ghost use Rattle.member_queries.specs.Facts.{chain_in as chain_told};
 ghost use Rattle.body_questions.specs.Facts.{chain_classes};
 ghost use Rattle.class_query.specs.CheckClass.{declared_steps, check_class_by, check_class_steps};
 
@@ -12,11 +12,11 @@ use crate::told::faults_of;
 use answer_bytes::Faults;
 use body_questions::read;
 use item_ids::Key;
+use member_queries::{chain_in, header_in};
 use mj_lexer::Name;
 use recorder::{Reader, Recorder, RunFault};
 use result_bytes::{Header, Supers, Value};
 use std::alloc::Global;
-use table_queries::{chain_in, header_in};
 
 /// The classes of a chain.
 fn classes_in(chain: Option<&Supers>) -> &[Name]

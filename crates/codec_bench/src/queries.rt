@@ -8,12 +8,12 @@ ghost use Rattle.result_bytes.specs.declared.value.Value.TheVariants as values;
 ghost use Rattle.query_rules.specs.Meaning.{mean};
 
 use crate::invalid;
+use driver_fixtures::Driver;
 use fingerprint::Sealed;
 use mj_answer::render;
 use mj_project::Project;
 use project_inputs::Inputs;
 use providers::MiniJava;
-use query_driver::Driver;
 use result_bytes::Value;
 use std::alloc::Global;
 use std::io;

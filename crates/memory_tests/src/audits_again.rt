@@ -1,7 +1,7 @@
 //! Audits that are refused memory, and made again.
 
-use memory_samples::{Changed, Links, Other, audit_again, auditor_stays};
-use session_samples::FIRST;
+use memory_fixtures::{Changed, Links, Other, audit_again, auditor_stays};
+use session_fixtures::FIRST;
 use std::test::*;
 
 /// What the class prints is edited, and edited back: 22 runs.

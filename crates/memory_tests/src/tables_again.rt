@@ -1,7 +1,7 @@
 //! The calls of tables, each made again where it is refused memory.
 
-use memory_samples::{Way, end_again, open_again, replay_again, session_again};
-use session_samples::FIRST;
+use memory_fixtures::{Way, end_again, open_again, replay_again, session_again};
+use session_fixtures::FIRST;
 use std::test::*;
 
 /// The text of the file of the first session.

@@ -1,6 +1,6 @@
 //! Audits of files that give a few bytes a read, and of files of which a read fails.
 
-use program_samples::{Memory, audit, classes, scratch, session_files};
+use program_fixtures::{Memory, audit, classes, scratch, session_files};
 use std::alloc::{AllocError, Global};
 use std::cell::Cell;
 use std::io::ErrorKind;

@@ -1,5 +1,5 @@
 //! Reads and writes that fail.
-use program_samples::{Full, Logged, Memory, scratch};
+use program_fixtures::{Full, Logged, Memory, scratch};
 use std::alloc::Global;
 use std::cell::{Cell, RefCell};
 use std::io::ErrorKind;

@@ -14,9 +14,9 @@ use Rattle.text_queries.proofs.IndexTie.{index_ties}
 use Rattle.text_queries.proofs.HeaderTie.{header_ties}
 use Rattle.text_queries.proofs.MethodTie.{method_ties}
 use Rattle.text_queries.proofs.SigTie.{sig_ties}
-use Rattle.table_queries.proofs.SupersTie.{supers_ties}
-use Rattle.table_queries.proofs.MembersTie.{members_ties}
-use Rattle.table_queries.proofs.DiagsTie.{diags_ties}
+use Rattle.member_queries.proofs.SupersTie.{supers_ties}
+use Rattle.member_queries.proofs.MembersTie.{members_ties}
+use Rattle.member_queries.proofs.DiagsTie.{diags_ties}
 use Rattle.body_query.proofs.Ties.{body_ties}
 use Rattle.class_query.proofs.CheckClassTie.{check_class_ties}
 use Rattle.answer_query.proofs.AnswerTie.{answer_ties}

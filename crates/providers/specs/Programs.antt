@@ -10,9 +10,9 @@ use Rattle.text_queries.specs.Index.{index_steps}
 use Rattle.text_queries.specs.Header.{header_steps}
 use Rattle.text_queries.specs.Method.{method_steps}
 use Rattle.text_queries.specs.Sig.{sig_steps}
-use Rattle.table_queries.specs.Supers.{supers_steps}
-use Rattle.table_queries.specs.Members.{members_steps}
-use Rattle.table_queries.specs.Diags.{diags_steps}
+use Rattle.member_queries.specs.Supers.{supers_steps}
+use Rattle.member_queries.specs.Members.{members_steps}
+use Rattle.member_queries.specs.Diags.{diags_steps}
 use Rattle.body_query.specs.Body.{body_steps}
 use Rattle.class_query.specs.CheckClass.{check_class_steps}
 use Rattle.answer_query.specs.Answer.{answer_steps}

@@ -13,10 +13,10 @@ use answer_query::run_answer;
 use body_query::check_body;
 use class_query::run_check_class;
 use item_ids::{Key, Kind};
+use member_queries::{run_diags, run_members, run_supers};
 use recorder::{Reader, Recorder, RunFault, Runner};
 use result_bytes::Value;
 use std::alloc::{AllocError, AllocFailed, Global};
-use table_queries::{run_diags, run_members, run_supers};
 use text_queries::{run_header, run_index, run_method, run_sig, run_tree};
 
 /// The queries of MiniJava. It keeps the keys that it was asked to run.

@@ -1,9 +1,9 @@
 //! Answers that cases name, most of them those of a main class alone, and whether cases are right.
 
-use answer_samples::{Asked, Unfit};
+use answer_fixtures::{Asked, Unfit};
 use item_ids::Kind;
-use query_samples::{Row, is_right};
-use run_samples::Given;
+use query_fixtures::{Row, is_right};
+use run_fixtures::Given;
 use std::alloc::Global;
 
 pub const FILE_A: Given<'static> = Given(Asked(Kind::Files, "", ""), "0000000000000000010161");

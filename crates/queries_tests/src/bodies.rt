@@ -2,10 +2,10 @@
 //! the queries of whole projects.
 
 use crate::answers::{BODY_F, BODY_H, HEADER_Z, NO_HEADER_A, SUPERS_B, are_right};
-use answer_samples::Asked;
+use answer_fixtures::Asked;
 use item_ids::Kind;
-use query_samples::{Row, is_checked};
-use run_samples::Given;
+use query_fixtures::{Row, is_checked};
+use run_fixtures::Given;
 use std::test::*;
 
 const BARE_HEADER_B: Given<'static> = Given(

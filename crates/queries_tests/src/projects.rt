@@ -6,11 +6,11 @@ use crate::answers::{
     HEADER_M, HEADER_Z, INDEX_OF_ONE, MAIN_OF_ONE, MEMBERS_A, MEMBERS_M, MEMBERS_Z, METHOD_MAIN,
     SIG_F, SIG_MAIN, SUPERS_M, SUPERS_Z, TREE_OF_ONE, are_right,
 };
-use answer_samples::{Asked, Unfit};
+use answer_fixtures::{Asked, Unfit};
 use item_ids::Kind;
-use query_samples::{Row, brings_each, is_answer, is_lacking};
+use query_fixtures::{Row, brings_each, is_answer, is_lacking};
 use recorder::ReadFault;
-use run_samples::{Given, Kept};
+use run_fixtures::{Given, Kept};
 use std::alloc::Global;
 use std::test::*;
 

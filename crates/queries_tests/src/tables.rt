@@ -5,10 +5,10 @@ use crate::answers::{
     FILE_A, HEADER_Z, INDEX_OF_ONE, NO_HEADER_A, NO_HEADER_B, NO_TREE, SIG_F, SUPERS_B, SUPERS_Z,
     are_right,
 };
-use answer_samples::Asked;
+use answer_fixtures::Asked;
 use item_ids::Kind;
-use query_samples::Row;
-use run_samples::Given;
+use query_fixtures::Row;
+use run_fixtures::Given;
 use std::test::*;
 
 const HEADER_B: Given<'static> = Given(

@@ -1,11 +1,11 @@
 //! The queries that read texts and trees.
 
 use crate::answers::{FILE_A, NO_HEADER_A, NO_HEADER_B, NO_TREE, are_right};
-use answer_samples::Asked;
+use answer_fixtures::Asked;
 use item_ids::Kind;
-use query_samples::{Row, is_lacking};
+use query_fixtures::{Row, is_lacking};
 use recorder::ReadFault;
-use run_samples::{Given, Kept};
+use run_fixtures::{Given, Kept};
 use std::test::*;
 
 const INDEX_OF_A: Given<'static> = Given(Asked(Kind::Index, "", ""), "03000000000000000101410161");

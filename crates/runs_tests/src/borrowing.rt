@@ -1,6 +1,6 @@
-use answer_samples::Asked;
+use answer_fixtures::Asked;
 use item_ids::Kind;
-use run_samples::{Given, gives_over_lent};
+use run_fixtures::{Given, gives_over_lent};
 use std::test::*;
 
 const SOURCE: Given = Given(Asked(Kind::Source, "a", ""), "0101000000000000000141");

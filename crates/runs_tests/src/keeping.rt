@@ -1,9 +1,9 @@
-use answer_samples::Asked;
+use answer_fixtures::Asked;
 use fingerprint::OpenFault;
 use item_ids::Kind;
 use recorder::{ReadFault, RunFault};
 use result_bytes::Refusal;
-use run_samples::{Given, are_apart, are_same, holds};
+use run_fixtures::{Given, are_apart, are_same, holds};
 use std::fmt::Display;
 use std::test::*;
 

@@ -1,7 +1,7 @@
-use answer_samples::Asked;
+use answer_fixtures::Asked;
 use item_ids::Kind;
 use recorder::ReadFault;
-use run_samples::{
+use run_fixtures::{
     Ask, Given, Kept, answers_after, count_after, has_read_copy, is_copy_of, keeps_after,
 };
 use std::test::*;

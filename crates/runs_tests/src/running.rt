@@ -1,7 +1,7 @@
-use answer_samples::Asked;
+use answer_fixtures::Asked;
 use item_ids::Kind;
 use recorder::ReadFault;
-use run_samples::{Given, Kept, gives, is_log_empty, leaves, leaves_refused};
+use run_fixtures::{Given, Kept, gives, is_log_empty, leaves, leaves_refused};
 use std::test::*;
 
 /// A run: its key and its result, and the answers that it reads, in their order.

@@ -3,7 +3,7 @@ ghost use Rattle.std.specs.Prelude.{◌≡◌};
 ghost use Rattle.session_file.specs.Devices.{one_more};
 
 use session_file::{DeviceFault, Feed, FileFault, MemoryFeed, ReaderFeed, Sink, WriterSink};
-use session_samples::{FIRST, file_of, write_to};
+use session_fixtures::{FIRST, file_of, write_to};
 use std::alloc::Global;
 use std::test::*;
 

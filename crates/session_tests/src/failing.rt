@@ -2,7 +2,7 @@
 
 use crate::first::file_of_first;
 use session_file::{Feed, FileFault, Sink};
-use session_samples::{
+use session_fixtures::{
     FIRST, Failing, FailingFeed, FailingSink, Manner, digest_of, digest_of_taken, file_fault_of,
     file_of, write_to,
 };

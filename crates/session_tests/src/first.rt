@@ -1,8 +1,8 @@
 //! The records of a first session.
 
-use answer_samples::Unfit;
+use answer_fixtures::Unfit;
 use session_file::MemorySink;
-use session_samples::{FIRST, file_of};
+use session_fixtures::{FIRST, file_of};
 use std::alloc::Global;
 
 /// The file of so many of these records, from the first.

@@ -2,7 +2,7 @@
 
 use crate::first::file_of_first;
 use session_file::FileFault;
-use session_samples::{FIRST, file_fault_of, file_of, is_read_again};
+use session_fixtures::{FIRST, file_fault_of, file_of, is_read_again};
 use std::alloc::Global;
 use std::test::*;
 

@@ -1,10 +1,10 @@
 //! Files of sessions, and faults as texts.
 
 use crate::first::file_of_first;
-use answer_samples::is_print;
+use answer_fixtures::is_print;
 use fingerprint::Print;
 use session_file::FileFault;
-use session_samples::{FIRST, digest_of, digest_of_read};
+use session_fixtures::{FIRST, digest_of, digest_of_read};
 use std::alloc::Global;
 use std::test::*;
 

@@ -1,12 +1,12 @@
 //! The calls of tables in turn, and what each says.
 
 use crate::records::{COMMENTED, ONE, PLAIN, SESSIONS_OF_ONE, TRUE};
-use answer_samples::{Asked, Unfit};
+use answer_fixtures::{Asked, Unfit};
 use item_ids::Kind;
 use job_table::{CloseFault, ReplayFault, TableFault};
 use std::alloc::Global;
 use std::test::*;
-use table_samples::{Call, Calls, Replay, Said, Saying, are_said, replay_of};
+use table_fixtures::{Call, Calls, Replay, Said, Saying, are_said, replay_of};
 
 const TREE: Asked<'static> = Asked(Kind::Tree, "M.java", "");
 

@@ -1,8 +1,8 @@
 //! How often one worker runs the keys of a session: each that is executed just once.
 
 use crate::records::{ONE, TWO};
-use answer_samples::Unfit;
-use crew_samples::{File, Runs, chain, one_body, runs_in, runs_of};
+use answer_fixtures::Unfit;
+use crew_fixtures::{File, Runs, chain, one_body, runs_in, runs_of};
 use std::test::*;
 
 /// The files of a first session, those of one behind it, and how many keys are executed in each.

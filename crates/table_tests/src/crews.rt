@@ -1,8 +1,8 @@
 //! Sessions by several workers: that they make the same files, and that their runs go on at the same time.
 
 use crate::records::{ONE, TWO};
-use answer_samples::Unfit;
-use crew_samples::{
+use answer_fixtures::Unfit;
+use crew_fixtures::{
     Edit, File, Made, digest_by, fault_of_failing, fellows_stop, made_by, made_while_held,
     seats_meet, workers_meet,
 };

@@ -7,7 +7,7 @@ use std::alloc::Global;
 use std::sync::Wait;
 use std::test::*;
 use std::thread::Threads;
-use table_samples::{Counts, Unmade, are_reported, drive_fault};
+use table_fixtures::{Counts, Unmade, are_reported, drive_fault};
 
 /// Ten queries are executed, three events for each.
 const FIRST: Counts = Counts {

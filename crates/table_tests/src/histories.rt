@@ -1,11 +1,11 @@
 //! Whole sessions: which keys are executed, how many events lead there, and what the table closes with.
 
 use crate::records::{MISSING, ONE, SESSIONS_OF_ONE, SESSIONS_OF_TWO, TWO};
-use answer_samples::Unfit;
-use session_samples::Kept;
+use answer_fixtures::Unfit;
+use session_fixtures::Kept;
 use std::alloc::Global;
 use std::test::*;
-use table_samples::{Change, History, Other, is_history};
+use table_fixtures::{Change, History, Other, is_history};
 
 /// A session of a project of this text behind so many sessions of a chain, with the keys and edges of the chain's first:
 /// which records are executed, which have another result, what is run beside them and reached by nothing, and how many

@@ -1,10 +1,10 @@
 //! The records of sessions, worked by hand from the rules: which key reads which, and the canonical bytes of each result.
 
-use answer_samples::Asked;
+use answer_fixtures::Asked;
 use item_ids::Kind;
-use session_samples::{FIRST, Kept};
+use session_fixtures::{FIRST, Kept};
 use sessions::Mark;
-use table_samples::{Change, Other};
+use table_fixtures::{Change, Other};
 
 /// A main class that prints 1.
 pub(crate) const ONE: &str =

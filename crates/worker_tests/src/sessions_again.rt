@@ -1,8 +1,8 @@
 //! Sessions that are refused memory, and made again.
 
-use session_samples::FIRST;
+use session_fixtures::FIRST;
 use std::test::*;
-use worker_samples::run_again;
+use worker_fixtures::run_again;
 
 /// The text of the file of the first session.
 const ONE: &str = "class M { public static void main(String[] a) { System.out.println(1); } }";

@@ -2,7 +2,7 @@
 
 use driver::DriveFault;
 use std::test::*;
-use worker_samples::{all_stop, fault_of_worker};
+use worker_fixtures::{all_stop, fault_of_worker};
 
 #[test]
 fn all_others_stop(rt: HostRuntime) {

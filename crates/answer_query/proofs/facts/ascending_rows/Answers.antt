@@ -1,7 +1,7 @@
 use Rattle.std.proofs.Common.{sym, ap, subst, ◌∙◌}
 use Rattle.mj_answer.specs.Order.{IsAscendingByName}
 use Rattle.result_bytes.specs.declared.files.IndexRow.{IndexRow}
-use Rattle.table_queries.specs.Facts.{rows_in}
+use Rattle.member_queries.specs.Facts.{rows_in}
 use Rattle.answer_query.proofs.Kept.{rows_ascend}
 use Rattle.answer_query.proofs.facts.ascending_rows.Goals as goal
 

@@ -1,6 +1,6 @@
 use Rattle.std.proofs.Common.{sym, ap, subst, ◌∙◌}
 use Rattle.answer_bytes.specs.Storable.{IsClassStorable}
-use Rattle.table_queries.specs.Facts.{faults_in}
+use Rattle.member_queries.specs.Facts.{faults_in}
 use Rattle.answer_query.specs.Answer.{table_in}
 use Rattle.answer_query.proofs.Kept.{class_told, class_storable}
 use Rattle.answer_query.proofs.facts.class_answer.Goals as goal

@@ -1,0 +1,12 @@
+-- What is made of two projects is made of some.
+use Rattle.std.proofs.Common.{ℕ}
+use Rattle.std.specs.Prelude.{Result, Ok, Err, IfOk}
+use Rattle.recorder.specs.Projects.{Project}
+use Rattle.answer_fixtures.specs.declared.unfit.Unfit.{Unfit}
+use Rattle.crew_fixtures.specs.Made.{AreMade}
+use Rattle.crew_fixtures.specs.declared.making.Made.{Made}
+
+pub of_some : (p q : Project) (workers : ℕ) (r : Result (Made × Made) Unfit) → IfOk r (λ both. AreMade p q workers both.0 both.1)
+    → IfOk r (λ both. (x : Project) × (y : Project) × AreMade x y workers both.0 both.1)
+of_some p q workers (Ok both) made = (p, q, made)
+of_some p q workers (Err e) made = tt

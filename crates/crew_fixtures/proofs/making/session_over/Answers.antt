@@ -1,0 +1,18 @@
+use Rattle.std.proofs.Common.{ap, sym, subst, ◌∙◌}
+use Rattle.query_rules.specs.Meaning.{mean}
+use Rattle.query_rules.specs.Reads.{reads}
+use Rattle.sessions.specs.Sessions.{SessionValue, session_in}
+use Rattle.sessions.specs.Spelling.{digest_of}
+use Rattle.driver.specs.Sessions.{IsSessionOf}
+use Rattle.crew_fixtures.proofs.making.session_over.Goals as goal
+
+pub returns-in_ok-share-in-Ok : goal.returns-in_ok-share-in-Ok
+returns-in_ok-share-in-Ok g c =
+    let same = sym c.in_ok-share-in-Ok.ensures in
+    record {
+      reports = c.in-Ok.reports;
+      of = subst (λ (s : SessionValue). IsSessionOf mean reads (session_in c.args.past) c.args.project.now c.args.workers s c.in-Ok.reports) same c.in-Ok.ensures.gives.2;
+      digest = c.in_ok-made-in-Ok.ensures.digest ∙ ap digest_of same;
+      history = c.in_ok-made-in-Ok.ensures.history;
+      events = c.in_ok-made-in-Ok.ensures.events;
+    }

@@ -1,0 +1,90 @@
+-- The sessions that are made from short texts, and what is reported of them.
+use Rattle.std.specs.Prelude.{◌≡◌, ◌==◌, ℕ, Bool, List, [], ◌∷◌, map, sum, count_by, Option, Some, None, Ok, Err}
+use Rattle.mj_project.specs.Projects.{SourceFile}
+use Rattle.recorder.specs.Projects.{Project}
+use Rattle.query_rules.specs.Meaning.{mean}
+use Rattle.query_rules.specs.Reads.{reads}
+use Rattle.sessions.specs.declared.mark.Mark.{Mark}
+use Rattle.sessions.specs.declared.mark.Mark.TheVariants.{Executed}
+use Rattle.sessions.specs.Marks.{mark_number}
+use Rattle.sessions.specs.Sessions.{RecordValue, SessionValue}
+use Rattle.sessions.specs.Spelling.{digest_of}
+use Rattle.driver.specs.Sessions.{DriveGives, IsSessionOf}
+use Rattle.driver.specs.declared.fault.DriveFault.{DriveFault}
+use Rattle.driver.specs.declared.reports.Reports.{Reports}
+use Rattle.crew_fixtures.specs.declared.files.File.{File}
+use Rattle.crew_fixtures.specs.declared.making.Edit.{Edit}
+use Rattle.crew_fixtures.specs.declared.making.Made.{Made}
+use Rattle.crew_fixtures.specs.declared.runs.Runs.{Runs}
+
+-- ---- projects
+
+abbrev pub file_told : File → SourceFile
+file_told f = record { name = f.0.now; bytes = f.1.now }
+
+abbrev pub files_told : List File → Project
+files_told files = map file_told files
+
+-- the project of the one file
+abbrev pub before : Edit → Project
+before edit = file_told edit.file ∷ []
+
+-- the project of it with the other text
+abbrev pub after : Edit → Project
+after edit = (record { name = edit.file.0.now; bytes = edit.edited.now }) ∷ []
+
+-- ---- sessions
+
+-- It is a session of the project over the previous one by so many workers, of which this was made:
+-- the SHA-256 of its file, and how many events there were.
+pub record IsMadeOf (past : Option SessionValue) (p : Project) (workers : ℕ) (s : SessionValue)
+    (made : Made) : Type 0 where
+  pub reports : Reports
+  pub of : IsSessionOf mean reads past p workers s reports
+  pub digest : made.digest ≡ digest_of s
+  pub history : made.history ≡ reports.history
+  pub events : made.events ≡ sum reports.events.items
+
+-- this was made of a first session of one project, and of one over it of another
+pub record AreMade (p q : Project) (workers : ℕ) (first second : Made) : Type 0 where
+  pub first_session : SessionValue
+  pub first_made : IsMadeOf None p workers first_session first
+  pub next_session : SessionValue
+  pub next_made : IsMadeOf (Some first_session) q workers next_session second
+
+-- the SHA-256 of the file of a first session of the project
+pub record IsDigestOf (p : Project) (workers : ℕ) (digest : List ℕ) : Type 0 where
+  pub session : SessionValue
+  pub reports : Reports
+  pub of : IsSessionOf mean reads None p workers session reports
+  pub digest_is : digest ≡ digest_of session
+
+-- why there is no first session, or none where there is one
+abbrev pub IsFaultOf : Project → ℕ → Option DriveFault → Type 0
+IsFaultOf p workers None =
+    (s : SessionValue) × (r : Reports) × DriveGives mean reads None p workers (Ok (s, r))
+IsFaultOf p workers (Some fault) = DriveGives mean reads None p workers (Err fault)
+
+-- ---- records that are executed
+
+-- a record has the mark; marks are told apart by their numbers
+abbrev pub has_mark : Mark → RecordValue → Bool
+has_mark mark r = mark_number r.mark == mark_number mark
+
+-- how many records have the mark
+abbrev pub many_of : Mark → List RecordValue → ℕ
+many_of mark records = count_by (has_mark mark) records
+
+-- it is a session over this previous session by one worker, in which so many records are executed
+pub record HasExecuted (past : Option SessionValue) (p : Project) (s : SessionValue) (runs : Runs)
+    : Type 0 where
+  pub reports : Reports
+  pub of : IsSessionOf mean reads past p 1 s reports
+  pub executed : runs.executed ≡ many_of Executed s.records
+
+-- the same of a first session of one project, and of one over it of another
+pub record HaveExecuted (p q : Project) (first second : Runs) : Type 0 where
+  pub first_session : SessionValue
+  pub first_executed : HasExecuted None p first_session first
+  pub next_session : SessionValue
+  pub next_executed : HasExecuted (Some first_session) q next_session second

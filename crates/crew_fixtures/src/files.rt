@@ -1,0 +1,42 @@
+//! Projects of files from short texts.
+ghost use Rattle.std.specs.Prelude.{◌≡◌, IfOk, map};
+ghost use Rattle.mj_project.specs.Projects.{source_view, sources_view};
+ghost use Rattle.crew_fixtures.specs.Made.{file_told, files_told};
+
+use answer_fixtures::Unfit;
+use mj_project::Project;
+use std::alloc::{AllocError, Global};
+
+/// The name of a file and its text.
+#[derive(Clone, Copy)]
+pub struct File(pub &'static str, pub &'static str);
+
+/// The project of these files.
+pub(crate) fn project_of(alloc: Global, files: &[File]) -> Result<Project, Unfit>
+    ensures { IfOk result (λ p. p ≡ files_told files.now) }
+{
+    let files = files_of(alloc, files)?;
+    match Project::new(alloc, files) {
+        Ok(project) => Ok(project),
+        Err(_) => Err(Unfit),
+    }
+}
+
+fn files_of(alloc: Global, files: &[File]) -> Result<Vec<(String, Vec<u8>)>, AllocError>
+    ensures { IfOk result (λ list. sources_view list.items ≡ files_told files.now) }
+{
+    let mut list = Vec::new(alloc);
+    for file in files {
+        list.push(file_of(alloc, file)?)?;
+    }
+    Ok(list)
+}
+
+fn file_of(alloc: Global, file: &File) -> Result<(String, Vec<u8>), AllocError>
+    ensures { IfOk result (λ f. source_view f ≡ file_told file.now) }
+{
+    let File(name, text) = *file;
+    let name = String::from_str(alloc, name)?;
+    let bytes = text.as_bytes().to_vec(alloc)?;
+    Ok((name, bytes))
+}

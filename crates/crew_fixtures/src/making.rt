@@ -1,0 +1,158 @@
+//! Sessions by several workers.
+ghost use Rattle.std.specs.Prelude.{◌≡◌, None, IfOk, IfSome, sum};
+ghost use Rattle.std.specs.Arc.{arc_value};
+ghost use Rattle.query_rules.specs.Meaning.{mean};
+ghost use Rattle.query_rules.specs.Reads.{reads};
+ghost use Rattle.sessions.specs.Spelling.{digest_of};
+ghost use Rattle.sessions.specs.Sessions.{session_in};
+ghost use Rattle.driver.specs.Sessions.{IsSessionOf};
+ghost use Rattle.crew_fixtures.specs.Made.{AreMade, IsMadeOf, after, before};
+
+use crate::files::{File, project_of};
+use crate::holding::Holding;
+use crate::large::{chain, cut_chain};
+use crate::meeting::Meeting;
+use answer_fixtures::Unfit;
+use item_ids::Kind;
+use mini_java::{Gate, Open, Reports, run_session};
+use mj_project::Project;
+use session_file::digest;
+use sessions::Session;
+use std::alloc::{AllocError, AllocFailed, Global};
+use std::sync::{Arc, Wait};
+use std::thread::Threads;
+
+/// A project of one file, and the text of this file after an edit.
+#[derive(Clone, Copy)]
+pub struct Edit {
+    pub file: File,
+    pub edited: &'static str,
+}
+
+/// What was made of a session: the SHA-256 of its file, the length of the history, and how many events its workers have
+/// counted together.
+#[derive(Clone, Copy, PartialEq, Eq)]
+pub struct Made {
+    pub digest: [u8; 32],
+    pub history: usize,
+    pub events: usize,
+}
+
+/// How many events the workers have counted together. None where that is past the numbers that there are.
+fn total(events: &[usize]) -> Option<usize>
+    ensures { IfSome result (λ n. n ≡ sum events.now) }
+{
+    let mut total = 0usize;
+    for made in events {
+        total = total.checked_add(*made)?;
+    }
+    Some(total)
+}
+
+fn made_of(session: &Session, reports: &Reports) -> Result<Made, Unfit>
+    ensures digest { IfOk result (λ made. made.digest ≡ digest_of session.now) }
+    ensures history { IfOk result (λ made. made.history ≡ reports.now.history) }
+    ensures events { IfOk result (λ made. made.events ≡ sum reports.now.events.items) }
+{
+    match total(reports.events.as_slice()) {
+        Some(events) => Ok(Made {
+            digest: digest(session),
+            history: reports.history,
+            events,
+        }),
+        None => Err(Unfit),
+    }
+}
+
+/// A session, to be shared.
+pub(crate) fn share(alloc: Global, session: Session) -> Result<Arc<Session>, AllocError>
+    ensures { IfOk result (λ shared. arc_value shared ≡ session) }
+{
+    Ok(Arc::new(alloc, session)?)
+}
+
+/// The session of a project over the previous one, by so many workers, and what was made of it.
+fn session_over<T: Threads + Wait + Sync, G: Gate + Sync>(
+    rt: &T,
+    alloc: Global,
+    past: Option<Arc<Session>>,
+    project: &Project,
+    workers: usize,
+    gate: &G,
+) -> Result<(Arc<Session>, Made), Unfit>
+    ensures { IfOk result (λ both.
+        IsMadeOf (session_in past) project.now workers (arc_value both.0) both.1) }
+{
+    match run_session(rt, alloc, past, project, workers, gate) {
+        Ok((session, reports)) => {
+            let made = made_of(&session, &reports)?;
+            Ok((share(alloc, session)?, made))
+        }
+        Err(_) => Err(Unfit),
+    }
+}
+
+/// What is made of a first session of one project, and of the one over it of another, by so many workers.
+fn made_of_both<T: Threads + Wait + Sync, G: Gate + Sync>(
+    rt: &T,
+    alloc: Global,
+    first: &Project,
+    second: &Project,
+    workers: usize,
+    gate: &G,
+) -> Result<(Made, Made), Unfit>
+    ensures { IfOk result (λ both. AreMade first.now second.now workers both.0 both.1) }
+{
+    let (past, first) = session_over(rt, alloc, None, first, workers, gate)?;
+    let (_session, second) = session_over(rt, alloc, Some(past), second, workers, gate)?;
+    Ok((first, second))
+}
+
+/// What is made of a first session of the project, and of the one over it after the edit, by so many workers.
+pub fn made_by<T: Threads + Wait + Sync>(
+    rt: &T,
+    alloc: Global,
+    edit: &Edit,
+    workers: usize,
+) -> Result<(Made, Made), Unfit>
+    ensures { IfOk result (λ both. AreMade (before edit.now) (after edit.now) workers both.0 both.1) }
+{
+    let project = project_of(alloc, &[edit.file])?;
+    let edited = project_of(alloc, &[File(edit.file.0, edit.edited)])?;
+    made_of_both(rt, alloc, &project, &edited, workers, &Open)
+}
+
+/// What is made of a first session of a chain of so many classes, and of the one over it after the chain is cut in the middle,
+/// by so many workers, whose runs are held as this seed decides.
+#[tactic(auto, using(crate::proofs::SomeProjects::of_some))]
+pub fn made_while_held<T: Threads + Wait + Sync>(
+    rt: &T,
+    alloc: Global,
+    classes: usize,
+    workers: usize,
+    seed: u64,
+) -> Result<(Made, Made), Unfit>
+    ensures { IfOk result (λ both. (p : Project) × (q : Project) × AreMade p q workers both.0 both.1) }
+{
+    let project = chain(alloc, classes)?;
+    let edited = cut_chain(alloc, classes, classes / 2)?;
+    made_of_both(rt, alloc, &project, &edited, workers, &Holding::new(seed))
+}
+
+/// Whether in a session of these files by so many workers the first run of the kind that begins, held for so many turns at
+/// most, sees another one end.
+pub fn workers_meet<T: Threads + Wait + Sync>(
+    rt: &T,
+    alloc: Global,
+    files: &[File],
+    kind: Kind,
+    workers: usize,
+    turns: u64,
+) -> Result<bool, Unfit> {
+    let project = project_of(alloc, files)?;
+    let gate = Meeting::new(kind, turns);
+    match run_session(rt, alloc, None, &project, workers, &gate) {
+        Ok(_) => Ok(gate.has_met()),
+        Err(_) => Err(Unfit),
+    }
+}

@@ -1,0 +1,154 @@
+//! Runs that are counted, and one that fails.
+ghost use Rattle.std.specs.Prelude.{◌≡◌, ◌∷◌, [], None, IfOk};
+ghost use Rattle.std.specs.Arc.{arc_value};
+ghost use Rattle.sessions.specs.Sessions.{SessionValue, session_in};
+ghost use Rattle.crew_fixtures.specs.Made.{HasExecuted, HaveExecuted, IsDigestOf, IsFaultOf, file_told, files_told, has_mark, many_of};
+
+use crate::counting::Counting;
+use crate::files::{File, project_of};
+use crate::making::share;
+use answer_fixtures::Unfit;
+use driver::{Crew, DriveFault, Open, drive};
+use mj_project::Project;
+use session_file::digest;
+use sessions::{Mark, Record, Session};
+use std::alloc::Global;
+use std::sync::atomic::{AtomicU64, Ordering};
+use std::sync::{Arc, Wait};
+use std::thread::Threads;
+
+/// How often keys were run in a session by one worker, and how many of its records are executed.
+#[derive(Clone, Copy, Debug, PartialEq, Eq)]
+pub struct Runs {
+    pub runs: u64,
+    pub executed: usize,
+}
+
+/// How many records have this mark.
+fn count_in(records: &[Record], mark: Mark) -> usize
+    ensures { result ≡ many_of mark records.now }
+{
+    records.iter().filter(|item| has_mark(item, mark)).count()
+}
+
+/// Whether a record has this mark.
+fn has_mark(item: &Record, mark: Mark) -> bool
+    ensures { result ≡ has_mark mark item.now }
+{
+    item.mark().number() == mark.number()
+}
+
+/// The session of a project over the previous one by one worker, and its runs.
+fn counted_over<T: Threads + Wait + Sync>(
+    rt: &T,
+    alloc: Global,
+    past: Option<Arc<Session>>,
+    project: &Project,
+) -> Result<(Session, Runs), Unfit>
+    ensures { IfOk result (λ both. HasExecuted (session_in past) project.now both.0 both.1) }
+{
+    let runs = AtomicU64::new(0);
+    match drive(
+        rt,
+        alloc,
+        &|| Counting::new(alloc, &runs, None),
+        past,
+        project,
+        Crew::of(1),
+        &Open,
+    ) {
+        Ok((session, _)) => {
+            let executed = count_in(session.records(), Mark::Executed);
+            Ok((
+                session,
+                Runs {
+                    runs: runs.load(Ordering::SeqCst),
+                    executed,
+                },
+            ))
+        }
+        Err(_) => Err(Unfit),
+    }
+}
+
+/// The runs of a first session of these files by one worker, and of a session of the others over it.
+pub fn runs_of<T: Threads + Wait + Sync>(
+    rt: &T,
+    alloc: Global,
+    files: &[File],
+    edited: &[File],
+) -> Result<(Runs, Runs), Unfit>
+    ensures { IfOk result (λ both.
+        HaveExecuted (files_told files.now) (files_told edited.now) both.0 both.1) }
+{
+    let project = project_of(alloc, files)?;
+    let (past, first) = counted_over(rt, alloc, None, &project)?;
+    let past = share(alloc, past)?;
+    let project = project_of(alloc, edited)?;
+    let (_session, second) = counted_over(rt, alloc, Some(past), &project)?;
+    Ok((first, second))
+}
+
+/// The runs of a first session of a project by one worker.
+pub fn runs_in<T: Threads + Wait + Sync>(
+    rt: &T,
+    alloc: Global,
+    project: &Project,
+) -> Result<Runs, Unfit>
+    ensures { IfOk result (λ runs. (s : SessionValue) × HasExecuted None project.now s runs) }
+{
+    let (_session, runs) = counted_over(rt, alloc, None, project)?;
+    Ok(runs)
+}
+
+/// Why there is no session of this file by so many workers where the run of this number, from 0, is out of memory, or
+/// `None` where there is one.
+pub fn fault_of_failing<T: Threads + Wait + Sync>(
+    rt: &T,
+    alloc: Global,
+    file: File,
+    workers: usize,
+    failing: u64,
+) -> Result<Option<DriveFault>, Unfit>
+    ensures { IfOk result (IsFaultOf (file_told file ∷ []) workers) }
+{
+    let project = project_of(alloc, &[file])?;
+    let runs = AtomicU64::new(0);
+    match drive(
+        rt,
+        alloc,
+        &|| Counting::new(alloc, &runs, Some(failing)),
+        None,
+        &project,
+        Crew::of(workers),
+        &Open,
+    ) {
+        Ok(_) => Ok(None),
+        Err(fault) => Ok(Some(fault)),
+    }
+}
+
+/// The SHA-256 of the file of a first session of this file by a crew.
+pub fn digest_by<T: Threads + Wait + Sync>(
+    rt: &T,
+    alloc: Global,
+    file: File,
+    crew: Crew,
+) -> Result<[u8; 32], Unfit>
+    ensures { IfOk result (IsDigestOf (file_told file ∷ []) crew.workers) }
+{
+    let project = project_of(alloc, &[file])?;
+    let runs = AtomicU64::new(0);
+    match drive(
+        rt,
+        alloc,
+        &|| Counting::new(alloc, &runs, None),
+        None,
+        &project,
+        crew,
+        &Open,
+    ) {
+        Ok((session, _)) => Ok(digest(&session)),
+        Err(_) => Err(Unfit),
+    }
+}

@@ -1,0 +1,64 @@
+//! Two seats at one table.
+ghost use Rattle.std.specs.Prelude.{◌≡◌, []};
+
+use crate::files::{File, project_of};
+use answer_fixtures::{Asked, Unfit, key_of};
+use item_ids::{Key, Kind};
+use job_table::{Asked as Asking, Table};
+use mark_green::Store;
+use mini_java::{Open, Shared};
+use providers::MiniJava;
+use shared_table::{Counted, Naming, Tally};
+use std::alloc::Global;
+use std::marker::Brand;
+use std::sync::Wait;
+use std::sync::ledger::Blank;
+
+/// Whether a worker whose fellow has failed is answered that it stops.
+fn stops<J: Naming, T: Wait>(
+    rt: &T,
+    alloc: Global,
+    table: Table<MiniJava>,
+    key: &Key,
+    blank: Blank,
+) -> bool
+    requires name { blank.name ≡ J.name }
+    requires parts { blank.parts ≡ J.parts }
+    requires two { blank.parts ≡ 2 }
+    requires past { table.past ≡ J.past }
+    requires project { table.project ≡ J.project }
+    requires opened { table.history ≡ [] }
+{
+    let (book, mut one) = blank.open::<J>();
+    let mut first = Tally::new(one.split_off(1, 0));
+    let mut second = Tally::new(one);
+    let Ok(shared) = Shared::new(Counted::new(table, book)) else {
+        return false;
+    };
+    fails(&mut shared.seat(alloc, rt, &Open, &mut first), 0)
+        && is_stopped(&mut shared.seat(alloc, rt, &Open, &mut second), 1, key)
+}
+
+/// Whether the worker may fail.
+fn fails<S: Store>(store: &mut S, worker: u32) -> bool {
+    store.fail(worker).is_ok()
+}
+
+/// Whether the worker is answered that it stops.
+fn is_stopped<S: Store>(store: &mut S, worker: u32, key: &Key) -> bool {
+    match store.ask(worker, key) {
+        Ok(Asking::Stopped) => true,
+        _ => false,
+    }
+}
+
+/// Whether a worker who asks for the tree of this file, after its fellow at the same table has failed, is answered that it
+/// stops.
+pub fn fellows_stop<T: Wait>(rt: &T, alloc: Global, file: File) -> Result<bool, Unfit> {
+    let project = project_of(alloc, &[file])?;
+    let key = key_of(alloc, Asked(Kind::Tree, file.0, ""))?;
+    match Table::open(alloc, None, &project) {
+        Ok(table) => Ok(stops::<Brand, T>(rt, alloc, table, &key, Blank::new(2))),
+        Err(_) => Err(Unfit),
+    }
+}

@@ -1,7 +1,0 @@
-use Rattle.std.proofs.Common.{◌≡◌, take}
-use Rattle.mj_project.specs.Projects.{sources_view}
-use Rattle.crew_samples.specs.Made.{files_told}
-use Rattle.crew_samples.proofs.files.files_of.Given as goal
-
-abbrev pub invariant-loop-file : goal.invariant-loop-file
-invariant-loop-file l = sources_view l.list.items ≡ files_told (take l.file-index l.files)

@@ -1,7 +1,0 @@
-use Rattle.crew_samples.proofs.pairs.seats_meet.Given as goal
-
-abbrev pub ghosts-both_bring-J-Ledger : goal.ghosts-both_bring-J-Ledger
-ghosts-both_bring-J-Ledger g a = record { name = a.blank.name; parts = a.blank.parts }
-
-abbrev pub ghosts-both_bring-J-Naming : goal.ghosts-both_bring-J-Naming
-ghosts-both_bring-J-Naming g a = record { past = a.table.past; project = a.table.project }

@@ -1,7 +1,0 @@
-use Rattle.crew_samples.proofs.seats.fellows_stop.Given as goal
-
-abbrev pub ghosts-stops-J-Ledger : goal.ghosts-stops-J-Ledger
-ghosts-stops-J-Ledger g a = record { name = a.blank.name; parts = a.blank.parts }
-
-abbrev pub ghosts-stops-J-Naming : goal.ghosts-stops-J-Naming
-ghosts-stops-J-Naming g a = record { past = a.table.past; project = a.table.project }

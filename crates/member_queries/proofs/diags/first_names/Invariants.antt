@@ -1,0 +1,10 @@
+use Rattle.std.proofs.Common.{◌≡◌, take}
+use Rattle.mj_project.proofs.RepeatLemmas.{HasNames}
+use Rattle.member_queries.specs.Facts.{first_names}
+use Rattle.member_queries.proofs.diags.first_names.Given as goal
+
+abbrev pub invariant-loop-name : goal.invariant-loop-name
+invariant-loop-name l = record {
+  met : HasNames l.met (take l.name-index l.names);
+  firsts : l.firsts.items ≡ first_names (take l.name-index l.names);
+}

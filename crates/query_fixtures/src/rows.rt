@@ -1,0 +1,119 @@
+//! Cases of runs: what the runner of MiniJava makes of a query and of the answers at hand.
+ghost use Rattle.std.specs.Prelude.{◌≡◌, ◌<◌, IsTrue, IfOk};
+ghost use Rattle.recorder.specs.Backed.{rank as rank_of};
+ghost use Rattle.answer_fixtures.specs.Telling.{IsKeyOf};
+ghost use Rattle.query_fixtures.specs.Rows.{IsRunOf, IsLackingRun};
+
+use answer_fixtures::{Asked, Unfit, is_key, key_of};
+use body_query::check_body;
+use item_ids::{Key, Kind, rank};
+use providers::MiniJava;
+use recorder::{AnswerList, Recorder, Runner};
+use run_fixtures::{Given, Kept, comes_to, list_of, wants};
+use std::alloc::Global;
+
+/// A query with its value's canonical bytes, and the answers at hand, which are its reads in order.
+#[derive(Clone, Copy, Debug)]
+pub struct Row<'a> {
+    pub query: Given<'a>,
+    pub reads: &'a [Given<'a>],
+}
+
+/// The key of a query that is no input.
+fn query_of(alloc: Global, asked: Asked) -> Result<Key, Unfit>
+    ensures no_input { IfOk result (λ key. 0 < rank_of key) }
+    ensures told { IfOk result (IsKeyOf asked.entry) }
+{
+    if rank(asked.0) == 0 {
+        return Err(Unfit);
+    }
+    key_of(alloc, asked)
+}
+
+/// Whether the run over the list reads just the case's answers, in their order, comes to the value, and is logged.
+fn is_run(alloc: Global, key: &Key, list: AnswerList, row: Row) -> Result<bool, Unfit>
+    requires no_input { 0 < rank_of key.now }
+    requires told { IsKeyOf row.query.0 key.now }
+    ensures { IfOk result (λ b. IsTrue b → IsRunOf row.entry.query row.entry.reads.now) }
+{
+    let mut runner = MiniJava::new(alloc);
+    let mut recorder = Recorder::new(alloc, list);
+    let result = runner.run(alloc, key, &mut recorder);
+    if !has_logged(&runner, row.query.0) {
+        return Ok(false);
+    }
+    comes_to(alloc, result, recorder, row.query.1, row.reads)
+}
+
+/// Whether the runner was asked this query alone.
+fn has_logged(runner: &MiniJava, asked: Asked) -> bool {
+    matches!(runner.log(), [one] if is_key(one, asked))
+}
+
+/// Whether the case's query, run over its answers, reads just them, in their order, comes to its value, and is logged.
+pub fn is_right(alloc: Global, row: Row) -> Result<bool, Unfit>
+    ensures { IfOk result (λ b. IsTrue b → IsRunOf row.entry.query row.entry.reads.now) }
+{
+    let key = query_of(alloc, row.query.0)?;
+    match list_of(alloc, row.reads) {
+        Ok(list) => is_run(alloc, &key, list, row),
+        Err(unfit) => Err(unfit),
+    }
+}
+
+/// Whether the run over the list is refused an answer that isn't there and is logged, and its recorder keeps this.
+fn is_refused(
+    alloc: Global,
+    key: &Key,
+    list: AnswerList,
+    query: Asked,
+    kept: Kept,
+) -> Result<bool, Unfit>
+    requires no_input { 0 < rank_of key.now }
+    requires told { IsKeyOf query key.now }
+    ensures { IfOk result (λ b. IsTrue b → IsLackingRun query.entry kept.entry) }
+{
+    let mut runner = MiniJava::new(alloc);
+    let mut recorder = Recorder::new(alloc, list);
+    let result = runner.run(alloc, key, &mut recorder);
+    if !has_logged(&runner, query) {
+        return Ok(false);
+    }
+    wants(alloc, result, recorder, kept)
+}
+
+/// Whether the run of the query over the answers that are kept is refused another one, and is logged.
+pub fn is_lacking(alloc: Global, query: Asked, kept: Kept) -> Result<bool, Unfit>
+    ensures { IfOk result (λ b. IsTrue b → IsLackingRun query.entry kept.entry) }
+{
+    let key = query_of(alloc, query)?;
+    match list_of(alloc, kept.reads) {
+        Ok(list) => is_refused(alloc, &key, list, query, kept),
+        Err(unfit) => Err(unfit),
+    }
+}
+
+/// Whether the check of the body over the list reads just the case's answers, in their order, and comes to the value.
+fn is_body_check(alloc: Global, key: &Key, list: AnswerList, row: Row) -> Result<bool, Unfit>
+    requires told { IsKeyOf row.query.0 key.now }
+    ensures { IfOk result (λ b. IsTrue b → IsRunOf row.entry.query row.entry.reads.now) }
+{
+    if key.kind() != Kind::CheckBody {
+        return Err(Unfit);
+    }
+    let mut recorder = Recorder::new(alloc, list);
+    let result = check_body(alloc, key, &mut recorder);
+    comes_to(alloc, result, recorder, row.query.1, row.reads)
+}
+
+/// Whether the case's query is one of a body, and its check without a runner, over the case's answers, reads just them,
+/// in their order, and comes to its value.
+pub fn is_checked(alloc: Global, row: Row) -> Result<bool, Unfit>
+    ensures { IfOk result (λ b. IsTrue b → IsRunOf row.entry.query row.entry.reads.now) }
+{
+    let key = query_of(alloc, row.query.0)?;
+    match list_of(alloc, row.reads) {
+        Ok(list) => is_body_check(alloc, &key, list, row),
+        Err(unfit) => Err(unfit),
+    }
+}

@@ -1,0 +1,85 @@
+//! Lists of answers.
+ghost use Rattle.std.specs.Prelude.{◌≡◌, ◌↔◌, List, [], ◌∷◌, ◌++◌, IsTrue, IfOk, OnOk};
+ghost use Rattle.fingerprint.specs.Prints.{print_of};
+ghost use Rattle.answer_fixtures.specs.Telling.{IsTold};
+ghost use Rattle.run_fixtures.specs.declared.reads.Given.{Given as SpecGiven};
+ghost use Rattle.recorder.specs.Backed.{ReadValue};
+ghost use Rattle.run_fixtures.specs.Reading.{AreReadsOf, Holds, AreSame, AreApart};
+
+use crate::reads::{Given, is_read};
+use answer_fixtures::{Unfit, key_of, sealed_of};
+use recorder::AnswerList;
+use std::alloc::Global;
+
+/// Adds one more answer.
+fn add(alloc: Global, list: &mut AnswerList, given: Given) -> Result<(), Unfit>
+    ensures { (before : List SpecGiven) → AreReadsOf before list.old
+        → OnOk result (AreReadsOf (before ++ given.entry ∷ []) list.new) }
+{
+    let Given(asked, digits) = given;
+    let key = key_of(alloc, asked)?;
+    match sealed_of(alloc, asked.0, digits) {
+        Ok(answer) => Ok(list.add(key, answer)?),
+        Err(fault) => Err(fault),
+    }
+}
+
+/// Adds these answers to an empty list.
+fn add_all(alloc: Global, list: &mut AnswerList, given: &[Given]) -> Result<(), Unfit>
+    requires { list.old ≡ [] }
+    ensures { OnOk result (AreReadsOf given.now list.new) }
+{
+    for one in given {
+        add(alloc, list, *one)?;
+    }
+    Ok(())
+}
+
+/// The list of these answers.
+pub fn list_of(alloc: Global, given: &[Given]) -> Result<AnswerList, Unfit>
+    ensures { IfOk result (AreReadsOf given.now) }
+{
+    let mut list = AnswerList::new(alloc);
+    match add_all(alloc, &mut list, given) {
+        Ok(()) => Ok(list),
+        Err(fault) => Err(fault),
+    }
+}
+
+/// Whether the list has this answer for its key.
+fn has(alloc: Global, list: &AnswerList, given: Given) -> Result<bool, Unfit>
+    ensures { IfOk result (Holds given.entry list.now) }
+{
+    let key = key_of(alloc, given.0)?;
+    match list.find(&key) {
+        Some(read) => is_read(alloc, read, given),
+        None => Ok(false),
+    }
+}
+
+/// Whether the list of these answers has this answer for its key.
+pub fn holds(alloc: Global, answers: &[Given], given: Given) -> Result<bool, Unfit>
+    ensures { IfOk result (λ b. (list : List ReadValue) × AreReadsOf answers.now list
+        × Holds given.entry list b) }
+{
+    let list = list_of(alloc, answers)?;
+    has(alloc, &list, given)
+}
+
+/// Whether two answers are one result with one fingerprint.
+pub fn are_same(alloc: Global, one: Given, other: Given) -> Result<bool, Unfit>
+    ensures { IfOk result (AreSame one.entry other.entry) }
+{
+    let one = sealed_of(alloc, one.0.0, one.1)?;
+    let other = sealed_of(alloc, other.0.0, other.1)?;
+    Ok(one.same_result(&other) && one.same_print(&other))
+}
+
+/// Whether neither the results nor the prints of two answers are the same.
+pub fn are_apart(alloc: Global, one: Given, other: Given) -> Result<bool, Unfit>
+    ensures { IfOk result (AreApart one.entry other.entry) }
+{
+    let one = sealed_of(alloc, one.0.0, one.1)?;
+    let other = sealed_of(alloc, other.0.0, other.1)?;
+    Ok(!one.same_result(&other) && !one.same_print(&other))
+}

@@ -1,6 +1,0 @@
-use Rattle.std.proofs.Common.{take}
-use Rattle.run_samples.specs.Reading.{AreReadsOf}
-use Rattle.run_samples.proofs.answers.add_all.Given as goal
-
-abbrev pub invariant-loop-one : goal.invariant-loop-one
-invariant-loop-one l = AreReadsOf (take l.one-index l.given) l.list

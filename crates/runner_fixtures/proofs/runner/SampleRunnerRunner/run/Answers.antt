@@ -1,0 +1,17 @@
+use Rattle.std.proofs.Common.{refl}
+use Rattle.recorder.proofs.Rules.{run_performed}
+use Rattle.runner_fixtures.specs.Meaning.{sample_mean}
+use Rattle.runner_fixtures.specs.Programs.{sample_reads, prog_of, steps_of}
+use Rattle.runner_fixtures.specs.Tie.{sample_tied}
+use Rattle.runner_fixtures.proofs.runner.SampleRunnerRunner.run.Goals as goal
+
+pub returns-clause-run : goal.returns-clause-run
+returns-clause-run g c =
+    run_performed sample_mean sample_reads c.args.key.now (prog_of c.args.key.now) (sample_tied.each c.args.key.now c.requires.no_input) c.args.recorder.now c.run_kind.new.recorder c.run_kind.result (record {
+      unread = c.requires.unread;
+      unrefused = c.requires.unrefused;
+      step = steps_of c.args.key.now;
+      whole = refl;
+      ok = c.run_kind.ensures.ok;
+      err = c.run_kind.ensures.err;
+    })

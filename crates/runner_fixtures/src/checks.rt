@@ -1,0 +1,119 @@
+//! Checks: of all files, and of a phrase.
+ghost use Rattle.std.specs.Prelude.{◌≡◌, List, ℕ, Bool, false, IfOk, IfErr, OnOk, OnErr};
+ghost use Rattle.recorder.specs.Programs.{Goes, GivesUp, each};
+ghost use Rattle.runner_fixtures.specs.Meaning.{is_main, faults_if};
+ghost use Rattle.runner_fixtures.specs.Programs.{names_in as names_told, header_in as header_told, main_step, class_steps, body_steps};
+
+use crate::headers::{ask_header, header_in};
+use crate::phrase::phrase_of;
+use crate::walk::walk;
+use answer_bytes::Faults;
+use item_ids::Key;
+use mj_answer::{Code, Diagnostic};
+use mj_lexer::Name;
+use mj_tree::Place;
+use recorder::{Reader, Recorder, RunFault, ask_key};
+use result_bytes::Value;
+use std::alloc::{AllocError, Global};
+
+/// The names in an answer.
+fn names_in(value: &Value) -> &[Name]
+    ensures { result.now ≡ names_told value.now }
+{
+    match value {
+        Value::Files(files) => files.names(),
+        _ => &[],
+    }
+}
+
+/// Whether an answer has the header of an empty file.
+fn is_main_in(value: &Value) -> bool
+    ensures { result ≡ is_main (header_told value.now) }
+{
+    match header_in(value) {
+        Some(header) => header.is_main(),
+        None => false,
+    }
+}
+
+/// One diagnostic, or none.
+fn faults_for(alloc: Global, found: bool) -> Result<Faults, AllocError>
+    ensures { IfOk result (λ faults. faults ≡ faults_if found) }
+{
+    let mut list = Vec::new(alloc);
+    if found {
+        list.push(Diagnostic {
+            place: Place::Class,
+            code: Code::E310,
+        })?;
+    }
+    Ok(Faults::new(list))
+}
+
+/// Whether one more file is empty, or one was found before.
+fn look_at<D: Reader>(
+    alloc: Global,
+    recorder: &mut Recorder<D>,
+    name: &Name,
+    found: bool,
+) -> Result<bool, RunFault>
+    ensures ok { IfOk result (λ b. Goes (main_step name.now found) recorder.old b recorder.new) }
+    ensures err { IfErr result (λ e. GivesUp (main_step name.now found) recorder.old e
+        recorder.new) }
+    ensures follows { D.follows recorder.old.inner recorder.new.inner }
+{
+    let sealed = ask_header(alloc, recorder, name)?;
+    let is_main = is_main_in(sealed.value());
+    Ok(found || is_main)
+}
+
+/// Whether some file is empty.
+#[tactic(auto, using(recorder::proofs::Rules::loop_more, recorder::proofs::Rules::loop_up, recorder::proofs::Rules::loop_end))]
+fn look_at_all<D: Reader>(
+    alloc: Global,
+    recorder: &mut Recorder<D>,
+    names: &[Name],
+) -> Result<bool, RunFault>
+    ensures ok { IfOk result (λ b. Goes (each main_step names.now false) recorder.old b
+        recorder.new) }
+    ensures err { IfErr result (λ e. GivesUp (each main_step names.now false) recorder.old e
+        recorder.new) }
+    ensures follows { D.follows recorder.old.inner recorder.new.inner }
+{
+    let mut found = false;
+    for name in names {
+        found = look_at(alloc, recorder, name, found)?;
+    }
+    Ok(found)
+}
+
+/// A diagnostic where some file is empty.
+pub fn check_class<D: Reader>(alloc: Global, recorder: &mut Recorder<D>) -> Result<Value, RunFault>
+    ensures ok { IfOk result (λ v. Goes class_steps recorder.old v recorder.new) }
+    ensures err { IfErr result (λ e. GivesUp class_steps recorder.old e recorder.new) }
+    ensures follows { D.follows recorder.old.inner recorder.new.inner }
+{
+    let sealed = ask_key(recorder, &Key::Files)?;
+    let found = look_at_all(alloc, recorder, names_in(sealed.value()))?;
+    let faults = faults_for(alloc, found)?;
+    Ok(Value::CheckClass(faults))
+}
+
+/// A diagnostic where the phrase for two names has no type.
+pub fn check_body<D: Reader>(
+    alloc: Global,
+    recorder: &mut Recorder<D>,
+    first: &Name,
+    second: &Name,
+) -> Result<Value, RunFault>
+    ensures ok { IfOk result (λ v. Goes (body_steps first.now second.now) recorder.old v
+        recorder.new) }
+    ensures err { IfErr result (λ e. GivesUp (body_steps first.now second.now) recorder.old e
+        recorder.new) }
+    ensures follows { D.follows recorder.old.inner recorder.new.inner }
+{
+    let phrase = phrase_of(alloc, first, second)?;
+    let found = walk(alloc, recorder, &phrase)?;
+    let faults = faults_for(alloc, found.is_none())?;
+    Ok(Value::CheckBody(faults))
+}

@@ -1,0 +1,35 @@
+-- Sessions and their files, as short texts give them.
+use Rattle.std.specs.Prelude.{◌≡◌, ℕ, List, replicate}
+use Rattle.std.specs.List.{AllZip}
+use Rattle.answer_fixtures.specs.Telling.{IsKeyOf, IsTold}
+use Rattle.sessions.specs.Sessions.{RecordValue, SessionValue, IsSession}
+use Rattle.sessions.specs.Spelling.{file_of}
+use Rattle.session_fixtures.specs.declared.records.Kept.{Kept}
+
+-- the record of the key that is given, with its mark, its edges, and the result that the digits
+-- spell
+pub record IsRecordOf (kept : Kept) (r : RecordValue) : Type 0 where
+  pub key : IsKeyOf kept.key r.key
+  pub mark : r.mark ≡ kept.mark
+  pub edges : r.edges ≡ kept.edges.now
+  pub value : IsTold kept.key.0 kept.digits.now r.value
+
+-- the records are those that are given, in their order
+abbrev pub AreRecordsOf : List Kept → List RecordValue → Type 0
+AreRecordsOf kept records = AllZip IsRecordOf kept records
+
+-- the session of the number, the link and the records that are given
+pub record IsToldSession (number : ℕ) (link : List ℕ) (kept : List Kept) (s : SessionValue) : Type 0 where
+  pub session : IsSession s
+  pub number_told : s.number ≡ number
+  pub link_told : s.link ≡ link
+  pub records_told : AreRecordsOf kept s.records
+
+-- the first session of a chain, with the records that are given
+abbrev pub IsFirstOf : List Kept → SessionValue → Type 0
+IsFirstOf kept s = IsToldSession 0 (replicate 32 0) kept s
+
+-- the bytes are the file of this session
+pub record IsFileOf (bytes : List ℕ) (s : SessionValue) : Type 0 where
+  pub session : IsSession s
+  pub file : bytes ≡ file_of s

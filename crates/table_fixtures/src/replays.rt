@@ -1,0 +1,121 @@
+//! Replays of events.
+ghost use Rattle.std.specs.Prelude.{◌≡◌, List, [], ◌∷◌, ◌++◌, map, IfOk, OnOk};
+ghost use Rattle.std.specs.Arc.{arc_value};
+ghost use Rattle.recorder.specs.Runs.{OutcomeValue};
+ghost use Rattle.graph_rules.specs.Steps.{Event as SpecEvent, Finish};
+ghost use Rattle.answer_fixtures.specs.Telling.{one_file};
+ghost use Rattle.job_table.specs.Kept.{event_of};
+ghost use Rattle.table_fixtures.specs.Called.{IsLast, run_events, AreEventsOf, EndsSo, IsReplay};
+
+use crate::calls::events;
+use crate::runs::outcome_of;
+use answer_fixtures::{Unfit, key_of, project_of};
+use item_ids::Key;
+use job_table::{Event, ReplayFault, Table};
+use mj_project::Project;
+use providers::MiniJava;
+use recorder::Outcome;
+use session_fixtures::Kept;
+use std::alloc::{AllocError, AllocFailed, Global};
+use std::sync::Arc;
+
+/// The events of a run by the worker 0 in a project of this text: the key of the last of these records is claimed and
+/// finished over the answers of its edges, with a begin between them or without.
+#[derive(Clone, Copy)]
+pub struct Replay {
+    pub text: &'static str,
+    pub records: &'static [Kept],
+    pub begins: bool,
+}
+
+type Events = Vec<Event<MiniJava>>;
+
+fn add(events: &mut Events, event: Event<MiniJava>) -> Result<(), AllocError>
+    ensures { OnOk result (events.new.items ≡ events.old.items ++ event ∷ []) }
+{
+    Ok(events.push(event)?)
+}
+
+/// Adds that the key is claimed, and begun where it is.
+fn add_start(alloc: Global, events: &mut Events, key: &Key, begins: bool) -> Result<(), AllocError>
+    requires { events.old.items ≡ [] }
+    ensures { (o : OutcomeValue) → OnOk result
+        (map event_of events.new.items ++ Finish 0 o ∷ [] ≡ run_events begins key.now o) }
+{
+    add(events, Event::Claim(0, key.copy(alloc)?))?;
+    if begins {
+        add(events, Event::Begin(0, key.copy(alloc)?))?;
+    }
+    Ok(())
+}
+
+/// The events of a run of the key that has this outcome.
+fn run_of(
+    alloc: Global,
+    key: &Key,
+    begins: bool,
+    outcome: Arc<Outcome<MiniJava>>,
+) -> Result<Events, AllocError>
+    ensures { IfOk result (λ events.
+        map event_of events.items ≡ run_events begins key.now (arc_value outcome)) }
+{
+    let mut events = Vec::new(alloc);
+    add_start(alloc, &mut events, key, begins)?;
+    add(&mut events, Event::Finish(0, outcome))?;
+    Ok(events)
+}
+
+/// The events of the run of a record's key.
+fn events_by(alloc: Global, replay: &Replay, kept: &Kept) -> Result<Events, Unfit>
+    requires { IsLast replay.now.records.now kept.now }
+    ensures { IfOk result (λ events. AreEventsOf replay.now (map event_of events.items)) }
+{
+    let key = key_of(alloc, kept.key)?;
+    match outcome_of(alloc, replay.records, kept) {
+        Ok(outcome) => Ok(run_of(alloc, &key, replay.begins, outcome)?),
+        Err(fault) => Err(fault),
+    }
+}
+
+fn events_of(alloc: Global, replay: &Replay) -> Result<Events, Unfit>
+    ensures { IfOk result (λ events. AreEventsOf replay.now (map event_of events.items)) }
+{
+    match replay.records.last() {
+        Some(kept) => events_by(alloc, replay, kept),
+        None => Err(Unfit),
+    }
+}
+
+/// How many events the replay has in a project with no previous session, or why there is none.
+fn replay_in(
+    alloc: Global,
+    project: &Project,
+    list: &[Event<MiniJava>],
+) -> Result<usize, ReplayFault>
+    ensures { EndsSo project.now (map event_of list.now) result }
+{
+    match Table::replay(alloc, None, project, list) {
+        Ok(table) => Ok(events(&table)),
+        Err(fault) => Err(fault),
+    }
+}
+
+fn replay_over(
+    alloc: Global,
+    project: &Project,
+    replay: &Replay,
+) -> Result<Result<usize, ReplayFault>, Unfit>
+    ensures { IfOk result (λ ending. (events : List SpecEvent) × AreEventsOf replay.now events
+        × EndsSo project.now events ending) }
+{
+    let events = events_of(alloc, replay)?;
+    Ok(replay_in(alloc, project, &events))
+}
+
+/// How many events the replay has with no previous session, or why there is none.
+pub fn replay_of(alloc: Global, replay: &Replay) -> Result<Result<usize, ReplayFault>, Unfit>
+    ensures { IfOk result (IsReplay replay.now) }
+{
+    let project = project_of(alloc, replay.text)?;
+    replay_over(alloc, &project, replay)
+}

@@ -1,0 +1,120 @@
+//! Runs of MiniJava's queries over the answers of records.
+ghost use Rattle.std.specs.Prelude.{◌≡◌, ◌<◌, ℕ, List, [], ◌∷◌, ◌++◌, slice_get, Contains, Some, None, MatchOption, IfOk, OnOk};
+ghost use Rattle.std.specs.Arc.{arc_value};
+ghost use Rattle.std.specs.List.{AllByRecursion};
+ghost use Rattle.recorder.specs.Backed.{rank as rank_of};
+ghost use Rattle.recorder.specs.Runs.{IsOutcome};
+ghost use Rattle.query_rules.specs.Meaning.{mean};
+ghost use Rattle.query_rules.specs.Reads.{reads};
+ghost use Rattle.answer_fixtures.specs.Telling.{IsKeyOf};
+ghost use Rattle.table_fixtures.specs.Told.{IsAnswerAt, AreAnswersAt, IsRunOf};
+
+use answer_fixtures::{Asked, Unfit, key_of, sealed_of};
+use item_ids::{Key, rank};
+use providers::MiniJava;
+use recorder::{AnswerList, Outcome, Recorder, record};
+use session_fixtures::Kept;
+use std::alloc::{AllocError, AllocFailed, Global};
+use std::sync::Arc;
+
+/// The record of an index.
+fn record_at(records: &[Kept], at: usize) -> Option<&Kept>
+    ensures { MatchOption result (slice_get records.now at ≡ None)
+        (λ kept. slice_get records.now at ≡ Some kept.now) }
+{
+    records.get(at)
+}
+
+/// Adds the answer of the record at an index.
+fn add(alloc: Global, list: &mut AnswerList, records: &[Kept], at: usize) -> Result<(), Unfit>
+    ensures { (before : List ℕ) → AreAnswersAt records.now before list.old
+        → OnOk result (AreAnswersAt records.now (before ++ at ∷ []) list.new) }
+{
+    let Some(kept) = record_at(records, at) else {
+        return Err(Unfit);
+    };
+    let key = key_of(alloc, kept.key)?;
+    match sealed_of(alloc, kept.key.0, kept.digits) {
+        Ok(answer) => Ok(list.add(key, answer)?),
+        Err(fault) => Err(fault),
+    }
+}
+
+/// Adds the answers of the records at these indices to an empty list.
+fn add_all(
+    alloc: Global,
+    list: &mut AnswerList,
+    records: &[Kept],
+    edges: &[usize],
+) -> Result<(), Unfit>
+    requires { list.old ≡ [] }
+    ensures { OnOk result (AreAnswersAt records.now edges.now list.new) }
+{
+    for edge in edges {
+        add(alloc, list, records, *edge)?;
+    }
+    Ok(())
+}
+
+/// The answers of the records at these indices.
+fn answers_of(alloc: Global, records: &[Kept], edges: &[usize]) -> Result<AnswerList, Unfit>
+    ensures { IfOk result (AreAnswersAt records.now edges.now) }
+{
+    let mut list = AnswerList::new(alloc);
+    match add_all(alloc, &mut list, records, edges) {
+        Ok(()) => Ok(list),
+        Err(fault) => Err(fault),
+    }
+}
+
+/// The key of a query that is no input.
+fn query_of(alloc: Global, asked: Asked) -> Result<Key, Unfit>
+    ensures no_input { IfOk result (λ key. 0 < rank_of key) }
+    ensures told { IfOk result (IsKeyOf asked.entry) }
+{
+    if rank(asked.0) == 0 {
+        return Err(Unfit);
+    }
+    key_of(alloc, asked)
+}
+
+/// The outcome, to be shared.
+fn share(alloc: Global, outcome: Outcome<MiniJava>) -> Result<Arc<Outcome<MiniJava>>, AllocError>
+    ensures { IfOk result (λ o. arc_value o ≡ outcome) }
+{
+    Ok(Arc::new(alloc, outcome)?)
+}
+
+/// The outcome of the key's run over the list.
+fn outcome_over(alloc: Global, key: &Key, list: AnswerList) -> Result<Arc<Outcome<MiniJava>>, Unfit>
+    requires { 0 < rank_of key.now }
+    ensures key { IfOk result (λ o. (arc_value o).key ≡ key.now) }
+    ensures read { IfOk result (λ o. AllByRecursion (λ t. Contains list t) (arc_value o).told) }
+    ensures outcome { IfOk result (λ o. IsOutcome mean reads (arc_value o)) }
+{
+    let mut runner = MiniJava::new(alloc);
+    let mut recorder = Recorder::new(alloc, list);
+    match record(alloc, &mut runner, key, &mut recorder) {
+        Ok(outcome) => {
+            // What was read is answered by the list, by the recorder's type.
+            let _reads = recorder.reads();
+            Ok(share(alloc, outcome)?)
+        }
+        Err(_) => Err(Unfit),
+    }
+}
+
+/// The outcome of a run of the record's key over the answers of its edges, which are indices of these records.
+pub(crate) fn outcome_of(
+    alloc: Global,
+    records: &[Kept],
+    kept: &Kept,
+) -> Result<Arc<Outcome<MiniJava>>, Unfit>
+    ensures { IfOk result (λ o. IsRunOf records.now kept.now (arc_value o)) }
+{
+    let key = query_of(alloc, kept.key)?;
+    match answers_of(alloc, records, kept.edges) {
+        Ok(list) => outcome_over(alloc, &key, list),
+        Err(fault) => Err(fault),
+    }
+}

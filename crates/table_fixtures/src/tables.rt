@@ -1,0 +1,36 @@
+//! Tables of projects of one file.
+ghost use Rattle.std.specs.Prelude.{Option, IfOk, Ok};
+ghost use Rattle.sessions.specs.Sessions.{SessionValue};
+ghost use Rattle.answer_fixtures.specs.Telling.{one_file};
+ghost use Rattle.job_table.specs.Calls.{OpenGives};
+ghost use Rattle.table_fixtures.specs.Told.{IsLastOf, IsTableOf};
+
+use crate::changes::{Change, past_of};
+use answer_fixtures::{Unfit, project_of};
+use job_table::Table;
+use mj_project::Project;
+use providers::MiniJava;
+use std::alloc::Global;
+
+/// The table of a project of this text, opened behind a chain of sessions.
+pub(crate) fn table_of(
+    alloc: Global,
+    chain: &[Change],
+    text: &str,
+) -> Result<Table<MiniJava>, Unfit>
+    ensures { IfOk result (IsTableOf chain.now text.now) }
+{
+    let project = project_of(alloc, text)?;
+    table_over(alloc, chain, &project)
+}
+
+fn table_over(alloc: Global, chain: &[Change], project: &Project) -> Result<Table<MiniJava>, Unfit>
+    ensures { IfOk result (λ t. (past : Option SessionValue) × IsLastOf chain.now past
+        × OpenGives past project.now (Ok t)) }
+{
+    let past = past_of(alloc, chain)?;
+    match Table::open(alloc, past, project) {
+        Ok(table) => Ok(table),
+        Err(_) => Err(Unfit),
+    }
+}

@@ -1,5 +1,0 @@
-use Rattle.table_queries.proofs.MembersTie as tie
-use Rattle.table_queries.proofs.laws.members_ties.Goals as goal
-
-pub returns : goal.returns
-returns c = tie.members_ties

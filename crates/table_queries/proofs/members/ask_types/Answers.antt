@@ -1,5 +1,0 @@
-use Rattle.std.specs.Option.{option_copied}
-use Rattle.table_queries.proofs.members.ask_types.Goals as goal
-
-pub returns-clause-row : goal.returns-clause-row
-returns-clause-row g c = (option_copied c.signature_in.result, c.in_ok-add_types.ensures)

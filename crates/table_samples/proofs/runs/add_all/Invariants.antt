@@ -1,6 +1,0 @@
-use Rattle.std.proofs.Common.{take}
-use Rattle.table_samples.specs.Told.{AreAnswersAt}
-use Rattle.table_samples.proofs.runs.add_all.Given as goal
-
-abbrev pub invariant-loop-edge : goal.invariant-loop-edge
-invariant-loop-edge l = AreAnswersAt l.records (take l.edge-index l.edges) l.list

@@ -1,0 +1,7 @@
+use Rattle.worker_fixtures.proofs.seats.all_stop.Given as goal
+
+abbrev pub ghosts-stop-J-Ledger : goal.ghosts-stop-J-Ledger
+ghosts-stop-J-Ledger g a = record { name = a.blank.name; parts = a.blank.parts }
+
+abbrev pub ghosts-stop-J-Naming : goal.ghosts-stop-J-Naming
+ghosts-stop-J-Naming g a = record { past = a.table.past; project = a.table.project }
