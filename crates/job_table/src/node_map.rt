@@ -95,7 +95,7 @@ impl NodeMap {
         let _pending = &self.pending;
     }
 
-    /// The place of a key and how it stands, or `None` for a key that wasn't asked for.
+    /// The place of a key and how it stands, or `None` for a key that the map lacks.
     pub fn find(&self, key: &Key) -> Option<(usize, &Standing)>
         ensures none { IfNone result (status_in self.now key.now ≡ Unknown) }
         ensures first { IfSome result (λ r. IsFirst self.now key.now r.0) }
