@@ -1,5 +1,5 @@
 -- The sessions that the project alone decides.
-use Rattle.std.specs.Prelude.{◌≡◌, ℕ, ◌<◌, List, Some, None, Contains}
+use Rattle.std.specs.Prelude.{◌≡◌, ℕ, ◌<◌, List, Some, Contains}
 use Rattle.item_ids.specs.declared.key.Key.{Key}
 use Rattle.item_ids.specs.declared.key.Key.TheVariants.{Files, Source}
 use Rattle.result_bytes.specs.declared.value.Value.TheVariants as values
@@ -49,10 +49,6 @@ pub record IsRight (mean : Meaning) (reads : ReadLists) (past now : Past) : Type
   pub project : Project
   pub of_project : IsOfProject mean reads now project
   pub greens : (q : Key) (r : Entry) → now q ≡ Some r → r.mark ≡ Green → StandsIn past now r
-
--- without a past there is no key
-abbrev pub no_past : Past
-no_past q = None
 
 -- ---- the next session
 

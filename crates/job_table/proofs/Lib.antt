@@ -2,6 +2,7 @@ pub mod NodeRules
 pub mod PendingRules
 pub mod StepRules
 pub mod EventRules
+pub mod KeptRules
 pub mod WalkRules
 pub mod CallRules
 pub mod ReplayRules

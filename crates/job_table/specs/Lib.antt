@@ -1,4 +1,5 @@
 pub mod Tables
+pub mod KeptKeys
 pub mod Nodes
 pub mod PendingNodes
 pub mod Kept

@@ -18,7 +18,7 @@ Node = Key × Standing
 abbrev pub status_of : Standing → Status
 status_of (standing.Claimed w) = Claimed w
 status_of (standing.Running w) = Running w
-status_of (standing.Done v es m) = Done (arc_value v) es.items m
+status_of (standing.Done v es m) = Done (arc_value v) es m
 
 -- how the key stands in a list of nodes
 abbrev pub status_in : List Node → Key → Status

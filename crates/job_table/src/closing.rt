@@ -13,6 +13,7 @@ ghost use Rattle.job_table.specs.Nodes.{status_at, state_of_nodes, AreInputs};
 ghost use Rattle.job_table.specs.Closes.{IsClosing};
 ghost use Rattle.job_table.specs.Reached.{Ascend, key_in, AreRoots, AreReached, HasEdges, Adds, IsRecordOf, AreRecordsOf};
 
+use crate::edge_keys::EdgeKeys;
 use crate::node_map::NodeMap;
 use crate::nodes::entry_of;
 use indexmap::IndexSet;
@@ -53,14 +54,16 @@ fn reach(alloc: Global, inputs: &Inputs, nodes: &NodeMap) -> Result<IndexSet<Key
     ensures { IfOk result (λ set. AreReached inputs.now
         (state_of_nodes inputs.now nodes.now false) set.keys) }
 {
-    let first = roots(alloc, inputs)?;
-    let mut found = IndexSet::new(alloc);
+    let none = EdgeKeys::none(alloc);
+    let keys = roots(alloc, inputs)?;
+    let first = EdgeKeys::own(keys);
+    let mut found = IndexSet::with_capacity(alloc, nodes.len())?;
     add(alloc, &mut found, &first)?;
     for i in 0..usize::MAX {
         let Some(key) = found.get_index(i) else {
             return Ok(found);
         };
-        let entry = entry_of(inputs, nodes, key);
+        let entry = entry_of(inputs, nodes, &none, key);
         add(alloc, &mut found, entry.edges)?;
     }
     // No set is as long as that.
@@ -68,12 +71,14 @@ fn reach(alloc: Global, inputs: &Inputs, nodes: &NodeMap) -> Result<IndexSet<Key
     Ok(found)
 }
 
-/// Sorts the keys.
+/// Sorts the keys. Those of one kind are mostly found in order, so that the sort by kinds, which compares numbers alone,
+/// leaves little to compare.
 fn sort(keys: &mut IndexSet<Key>) -> Result<(), AllocError>
     ensures ascend { OnOk result (Ascend keys.new.keys) }
     ensures same { OnOk result ((q : KeyValue) → Contains keys.new.keys q
         ↔ Contains keys.old.keys q) }
 {
+    keys.sort_by_key(|key| key.kind().number())?;
     keys.sort()?;
     Ok(())
 }
@@ -88,11 +93,11 @@ fn roots(alloc: Global, inputs: &Inputs) -> Result<Vec<Key>, AllocError>
 }
 
 /// Adds the edges that the set doesn't have yet.
-fn add(alloc: Global, found: &mut IndexSet<Key>, edges: &[Key]) -> Result<(), AllocError>
+fn add(alloc: Global, found: &mut IndexSet<Key>, edges: &EdgeKeys) -> Result<(), AllocError>
     ensures { OnOk result (Adds found.old.keys edges.now found.new.keys) }
 {
-    for key in edges {
-        add_key(alloc, found, key)?;
+    for i in 0..edges.len() {
+        add_key(alloc, found, edges.at(i))?;
     }
     Ok(())
 }
@@ -123,9 +128,10 @@ fn records_of(
     ensures { IfOk result (λ v. AreRecordsOf (state_of_nodes inputs.now nodes.now false)
         keys.now.keys v.items) }
 {
-    let mut records = Vec::new(alloc);
+    let none = EdgeKeys::none(alloc);
+    let mut records = Vec::with_capacity(alloc, keys.len())?;
     for key in keys.as_slice() {
-        records.push(record_of(alloc, inputs, nodes, keys, key)?)?;
+        records.push(record_of(alloc, inputs, nodes, &none, keys, key)?)?;
     }
     Ok(records)
 }
@@ -135,9 +141,11 @@ fn record_of(
     alloc: Global,
     inputs: &Inputs,
     nodes: &NodeMap,
+    none: &EdgeKeys,
     keys: &IndexSet<Key>,
     key: &Key,
 ) -> Result<Record, AllocError>
+    requires none { none.now ≡ [] }
     requires inputs { AreInputs inputs.now nodes.now }
     requires done { IsDone (status_at inputs.now nodes.now key.now) }
     requires edges { HasEdges (state_of_nodes inputs.now nodes.now false) keys.now.keys key.now }
@@ -145,7 +153,7 @@ fn record_of(
     ensures entry { IfOk result (IsRecordOf (state_of_nodes inputs.now nodes.now false)
         keys.now.keys) }
 {
-    let entry = entry_of(inputs, nodes, key);
+    let entry = entry_of(inputs, nodes, none, key);
     let edges = places_of(alloc, keys, entry.edges)?;
     let sealed = Arc::try_clone(entry.sealed)?;
     let own = key.copy(alloc)?;
@@ -156,14 +164,19 @@ fn record_of(
 }
 
 /// The places of the edges.
-fn places_of(alloc: Global, keys: &IndexSet<Key>, edges: &[Key]) -> Result<Vec<usize>, AllocError>
+fn places_of(
+    alloc: Global,
+    keys: &IndexSet<Key>,
+    edges: &EdgeKeys,
+) -> Result<Vec<usize>, AllocError>
     requires { (q : KeyValue) → Contains edges.now q → Contains keys.now.keys q }
     ensures same { IfOk result (λ v. map (key_in keys.now.keys) v.items ≡ edges.now) }
     ensures inside { IfOk result (λ v. AllByRecursion (λ e. e < length keys.now.keys) v.items) }
 {
-    let mut places = Vec::new(alloc);
-    for edge in edges {
-        places.push(place_of(keys, edge))?;
+    let count = edges.len();
+    let mut places = Vec::with_capacity(alloc, count)?;
+    for i in 0..count {
+        places.push(place_of(keys, edges.at(i)))?;
     }
     Ok(places)
 }

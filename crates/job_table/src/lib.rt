@@ -2,6 +2,7 @@
 #![tactic(auto)]
 
 mod closing;
+mod edge_keys;
 mod event;
 mod fault;
 mod node_map;

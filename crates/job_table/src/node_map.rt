@@ -10,6 +10,7 @@ ghost use Rattle.job_table.specs.Nodes.{status_of, status_in, AreOpened, KeysSta
 ghost use Rattle.job_table.specs.PendingNodes.{ArePending, IsAboveAt, IsPendingAt};
 ghost use Rattle.job_table.specs.Reached.{AllQuiet};
 
+use crate::edge_keys::EdgeKeys;
 use crate::nodes::{Standing, is_held_by, is_quiet};
 use indexmap::IndexMap;
 use item_ids::{Key, rank};
@@ -47,23 +48,24 @@ impl Model for NodeMap {
 }
 
 impl NodeMap {
-    /// No keys.
-    fn new(alloc: Global) -> Self
-        ensures { result ≡ [] }
+    /// No keys, and room for so many.
+    fn with_room(alloc: Global, room: usize) -> Result<Self, AllocError>
+        ensures { IfOk result (λ map. map ≡ []) }
     {
-        NodeMap {
-            nodes: IndexMap::new(alloc),
+        let nodes = IndexMap::with_capacity(alloc, room)?;
+        Ok(NodeMap {
+            nodes,
             pending: Vec::new(alloc),
-        }
+        })
     }
 
-    /// The inputs of a project, all of them done.
-    pub fn of_inputs(alloc: Global, inputs: &Inputs) -> Result<Self, AllocError>
+    /// The inputs of a project, all of them done, in a map that has room for so many keys.
+    pub fn of_inputs(alloc: Global, inputs: &Inputs, room: usize) -> Result<Self, AllocError>
         ensures opened { IfOk result (AreOpened inputs.now) }
         ensures apart { IfOk result KeysStandOnce }
     {
         let keys = inputs.keys(alloc)?;
-        let mut nodes = NodeMap::new(alloc);
+        let mut nodes = NodeMap::with_room(alloc, room)?;
         for key in &keys {
             nodes.add_input(alloc, inputs, key)?;
         }
@@ -84,7 +86,7 @@ impl NodeMap {
             return Ok(());
         };
         let shared = Arc::try_clone(sealed)?;
-        let done = Standing::Done(shared, Vec::new(alloc), Mark::Input);
+        let done = Standing::Done(shared, EdgeKeys::none(alloc), Mark::Input);
         add_done(alloc, &mut self.nodes, &self.pending, key, done)
     }
 
@@ -93,6 +95,13 @@ impl NodeMap {
         ensures { KeysStandOnce self.now }
     {
         let _pending = &self.pending;
+    }
+
+    /// How many keys there are.
+    pub fn len(&self) -> usize
+        ensures { result ≡ length self.now }
+    {
+        self.nodes.len()
     }
 
     /// The place of a key and how it stands, or `None` for a key that the map lacks.

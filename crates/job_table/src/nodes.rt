@@ -1,11 +1,12 @@
 //! How keys stand that were asked for.
-ghost use Rattle.std.specs.Prelude.{◌≡◌, ◌↔◌, ◌<◌, length, IsTrue, IfSome, IfNone};
+ghost use Rattle.std.specs.Prelude.{◌≡◌, ◌↔◌, ◌<◌, [], length, IsTrue, IfSome, IfNone};
 ghost use Rattle.std.specs.Arc.{arc_value};
 ghost use Rattle.graph_rules.specs.Steps.{Claimed, Running, Done, IsHeldBy, IsDone, IsDoneWith, IsNotDone, at_opening};
 ghost use Rattle.graph_rules.specs.Keys.{input_of};
 ghost use Rattle.job_table.specs.Nodes.{status_of, status_in, status_at, AreInputs, IsFirst};
 ghost use Rattle.job_table.specs.Closes.{IsQuiet};
 
+use crate::edge_keys::EdgeKeys;
 use crate::node_map::NodeMap;
 use fingerprint::Sealed;
 use item_ids::Key;
@@ -18,7 +19,7 @@ use std::sync::Arc;
 pub enum Standing {
     Claimed(u32),
     Running(u32),
-    Done(Arc<Sealed>, Vec<Key>, Mark),
+    Done(Arc<Sealed>, EdgeKeys, Mark),
 }
 
 /// Whether the worker has claimed the key or runs it.
@@ -53,24 +54,30 @@ pub fn result_of<'a>(inputs: &'a Inputs, nodes: &'a NodeMap, key: &Key) -> Optio
 #[derive(Clone, Copy)]
 pub struct Entry<'a> {
     pub sealed: &'a Arc<Sealed>,
-    pub edges: &'a [Key],
+    pub edges: &'a EdgeKeys,
     pub mark: Mark,
 }
 
-/// How a key is done.
-pub fn entry_of<'a>(inputs: &'a Inputs, nodes: &'a NodeMap, key: &Key) -> Entry<'a>
+/// How a key is done. None were read for an input.
+pub fn entry_of<'a>(
+    inputs: &'a Inputs,
+    nodes: &'a NodeMap,
+    none: &'a EdgeKeys,
+    key: &Key,
+) -> Entry<'a>
+    requires none { none.now ≡ [] }
     requires inputs { AreInputs inputs.now nodes.now }
     requires done { IsDone (status_at inputs.now nodes.now key.now) }
     ensures { status_at inputs.now nodes.now key.now
         ≡ Done (arc_value result.sealed.now) result.edges.now result.mark }
 {
     let Some((_, standing)) = nodes.find(key) else {
-        return input_entry(inputs, key);
+        return input_entry(inputs, none, key);
     };
     match standing {
         Standing::Done(sealed, edges, mark) => Entry {
             sealed,
-            edges: edges.as_slice(),
+            edges,
             mark: *mark,
         },
         Standing::Claimed(_) => unreachable!(),
@@ -79,8 +86,9 @@ pub fn entry_of<'a>(inputs: &'a Inputs, nodes: &'a NodeMap, key: &Key) -> Entry<
 }
 
 /// How an input is done that isn't among the nodes.
-fn input_entry<'a>(inputs: &'a Inputs, key: &Key) -> Entry<'a>
-    requires { IsDone (at_opening (input_of inputs.now key.now)) }
+fn input_entry<'a>(inputs: &'a Inputs, none: &'a EdgeKeys, key: &Key) -> Entry<'a>
+    requires none { none.now ≡ [] }
+    requires done { IsDone (at_opening (input_of inputs.now key.now)) }
     ensures { at_opening (input_of inputs.now key.now)
         ≡ Done (arc_value result.sealed.now) result.edges.now result.mark }
 {
@@ -89,7 +97,7 @@ fn input_entry<'a>(inputs: &'a Inputs, key: &Key) -> Entry<'a>
     };
     Entry {
         sealed,
-        edges: &[],
+        edges: none,
         mark: Mark::Input,
     }
 }

@@ -1,12 +1,13 @@
 //! Reserves the memory that a call needs, before the call changes anything.
-ghost use Rattle.std.specs.Prelude.{◌≡◌, ◌+◌, ◌<◌, ◌≤◌, ◌++◌, ◌∷◌, [], IfOk, IfSome, map, vec_len, vec_capacity};
+ghost use Rattle.std.specs.Prelude.{◌≡◌, ◌+◌, ◌<◌, ◌≤◌, ◌++◌, ◌∷◌, [], IfOk, IfSome, length, map, vec_len, vec_capacity};
 ghost use Rattle.std.specs.Arc.{arc_value};
 ghost use Rattle.mj_project.specs.Projects.{IsProject};
 ghost use Rattle.recorder.specs.Backed.{keys};
 ghost use Rattle.recorder.specs.Runs.{IsOutcome};
-ghost use Rattle.sessions.specs.Sessions.{AreInside, key_at};
+ghost use Rattle.sessions.specs.Sessions.{AreInside, key_at, session_in};
 ghost use Rattle.job_table.specs.Kept.{event_of};
 
+use crate::edge_keys::EdgeKeys;
 use crate::event::Event;
 use fingerprint::Sealed;
 use item_ids::Key;
@@ -28,7 +29,17 @@ pub fn note<R: Runner>(history: &mut Vec<Event<R>>, event: Event<R>)
     history.push_reserved(event);
 }
 
-/// The inputs of a project, and a history with room for one event.
+/// How many records the previous session has.
+pub fn past_len(past: &Option<Arc<Session>>) -> usize
+    ensures { IfSome (session_in past.now) (λ s. result ≡ length s.records) }
+{
+    match past {
+        Some(past) => past.records().len(),
+        None => 0,
+    }
+}
+
+/// The inputs of a project, and a history with room for two events for each record of the previous session, and for one more.
 pub fn room_for_opening<R: Runner>(
     alloc: Global,
     past: &Option<Arc<Session>>,
@@ -37,7 +48,8 @@ pub fn room_for_opening<R: Runner>(
     ensures inputs { IfSome result (λ r. (r.0 ≡ project.now) × IsProject r.0) }
     ensures history { IfSome result (λ r. (r.1.items ≡ []) × (vec_len r.1 < vec_capacity r.1)) }
 {
-    let history = Vec::with_capacity(alloc, 1).ok()?;
+    let events = past_len(past).saturating_mul(2).saturating_add(1);
+    let history = Vec::with_capacity(alloc, events).ok()?;
     let inputs = Inputs::new(alloc, past, project).ok()?;
     // Inputs are those of a project, by their type.
     inputs.project();
@@ -64,7 +76,7 @@ pub fn room_for_event<R: Runner>(
 #[derive(Drop)]
 pub struct MarkParts {
     pub noted: Key,
-    pub edges: Vec<Key>,
+    pub edges: EdgeKeys,
     pub sealed: Arc<Sealed>,
     pub answer: Arc<Sealed>,
 }
@@ -74,16 +86,16 @@ pub fn room_for_mark<R: Runner>(
     alloc: Global,
     history: &mut Vec<Event<R>>,
     key: &Key,
-    past: &Session,
+    past: &Arc<Session>,
     had: &Record,
 ) -> Option<MarkParts>
-    requires { AreInside past.now.records had.now.edges }
+    requires { AreInside (arc_value past.now).records had.now.edges }
     ensures history { (history.new.items ≡ history.old.items)
         × (vec_len history.new ≡ vec_len history.old)
         × (vec_capacity history.old ≤ vec_capacity history.new) }
     ensures key { IfSome result (λ parts. parts.noted ≡ key.now) }
-    ensures edges { IfSome result (λ parts. parts.edges.items
-        ≡ map (key_at past.now.records) had.now.edges) }
+    ensures edges { IfSome result (λ parts. parts.edges
+        ≡ map (key_at (arc_value past.now).records) had.now.edges) }
     ensures results { IfSome result (λ parts. (arc_value parts.sealed ≡ had.now.value)
         × (arc_value parts.answer ≡ had.now.value)) }
     ensures room { IfSome result (λ _. vec_len history.new + 1 < vec_capacity history.new) }
@@ -96,19 +108,19 @@ pub fn room_for_mark<R: Runner>(
 fn mark_parts(
     alloc: Global,
     key: &Key,
-    past: &Session,
+    past: &Arc<Session>,
     had: &Record,
 ) -> Result<MarkParts, AllocError>
-    requires { AreInside past.now.records had.now.edges }
+    requires { AreInside (arc_value past.now).records had.now.edges }
     ensures key { IfOk result (λ parts. parts.noted ≡ key.now) }
-    ensures edges { IfOk result (λ parts. parts.edges.items
-        ≡ map (key_at past.now.records) had.now.edges) }
+    ensures edges { IfOk result (λ parts. parts.edges
+        ≡ map (key_at (arc_value past.now).records) had.now.edges) }
     ensures results { IfOk result (λ parts. (arc_value parts.sealed ≡ had.now.value)
         × (arc_value parts.answer ≡ had.now.value)) }
 {
     let sealed = Arc::try_clone(had.sealed())?;
     let answer = Arc::try_clone(had.sealed())?;
-    let edges = edge_keys(alloc, past, had.edges())?;
+    let edges = EdgeKeys::of_past(alloc, past, had.edges())?;
     let noted = key.copy(alloc)?;
     Ok(MarkParts {
         noted,
@@ -118,23 +130,10 @@ fn mark_parts(
     })
 }
 
-/// The keys of previous edges.
-fn edge_keys(alloc: Global, past: &Session, edges: &[usize]) -> Result<Vec<Key>, AllocError>
-    requires { AreInside past.now.records edges.now }
-    ensures { IfOk result (λ v. v.items ≡ map (key_at past.now.records) edges.now) }
-{
-    let mut copies = Vec::new(alloc);
-    let records = past.records();
-    for at in edges {
-        copies.push(records[*at].key().copy(alloc)?)?;
-    }
-    Ok(copies)
-}
-
 /// What ending a run needs: the keys that were read, and the result.
 #[derive(Drop)]
 pub struct FinishParts {
-    pub edges: Vec<Key>,
+    pub edges: EdgeKeys,
     pub sealed: Arc<Sealed>,
 }
 
@@ -147,7 +146,7 @@ pub fn room_for_finish<R: Runner>(
     ensures history { (history.new.items ≡ history.old.items)
         × (vec_len history.new ≡ vec_len history.old)
         × (vec_capacity history.old ≤ vec_capacity history.new) }
-    ensures edges { IfSome result (λ parts. parts.edges.items ≡ keys outcome.now.told) }
+    ensures edges { IfSome result (λ parts. parts.edges ≡ keys outcome.now.told) }
     ensures value { IfSome result (λ parts. arc_value parts.sealed ≡ outcome.now.value) }
     ensures outcome { IsOutcome R.mean R.reads outcome.now }
     ensures room { IfSome result (λ _. vec_len history.new + 1 < vec_capacity history.new) }
@@ -160,11 +159,11 @@ pub fn room_for_finish<R: Runner>(
 
 /// What ending a run needs.
 fn finish_parts<R: Runner>(alloc: Global, outcome: &Outcome<R>) -> Result<FinishParts, AllocError>
-    ensures edges { IfOk result (λ parts. parts.edges.items ≡ keys outcome.now.told) }
+    ensures edges { IfOk result (λ parts. parts.edges ≡ keys outcome.now.told) }
     ensures value { IfOk result (λ parts. arc_value parts.sealed ≡ outcome.now.value) }
 {
     let sealed = Arc::try_clone(outcome.sealed())?;
-    let edges = read_keys(alloc, outcome.reads())?;
+    let edges = EdgeKeys::own(read_keys(alloc, outcome.reads())?);
     Ok(FinishParts { edges, sealed })
 }
 

@@ -1,6 +1,7 @@
 //! Tables.
 ghost use Rattle.std.specs.Prelude.{◌≡◌, ◌↔◌, map, IfOk, IsTrue};
 ghost use Rattle.std.specs.Arc.{arc_value};
+ghost use Rattle.sessions.specs.Sessions.{session_in};
 ghost use Rattle.job_table.specs.Tables.{IsFull};
 ghost use Rattle.job_table.specs.Kept.{event_of};
 
@@ -11,7 +12,8 @@ use crate::node_map::NodeMap;
 use crate::nodes::{Standing, find_claimed, find_running, result_of};
 use crate::reads::first_stale;
 use crate::room::{
-    FinishParts, MarkParts, note, room_for_event, room_for_finish, room_for_mark, room_for_opening,
+    FinishParts, MarkParts, note, past_len, room_for_event, room_for_finish, room_for_mark,
+    room_for_opening,
 };
 use crate::walks::{WalkEnd, walk_edges, why_not};
 use fingerprint::Sealed;
@@ -42,7 +44,6 @@ impl<R: Runner> Model for Table<R> {
     ghost use Rattle.result_bytes.specs.contracts.value.Value as value_contracts;
     ghost use Rattle.sessions.specs.Sessions.{past_entry, session_in};
     ghost use Rattle.graph_rules.specs.Sound.{AreBacked};
-    ghost use Rattle.sessions.specs.Sessions.{session_in};
     ghost use Rattle.job_table.specs.Tables.{TableValue, IsFull};
     ghost use Rattle.job_table.specs.Kept.{event_of, IsKept};
 
@@ -86,7 +87,7 @@ impl<R: Runner> Table<R> {
         let Some((inputs, history)) = room_for_opening(alloc, &past, project) else {
             return Err(OpenFault::OutOfMemory);
         };
-        let Ok(nodes) = NodeMap::of_inputs(alloc, &inputs) else {
+        let Ok(nodes) = NodeMap::of_inputs(alloc, &inputs, past_len(&past)) else {
             return Err(OpenFault::OutOfMemory);
         };
         Ok(Table {

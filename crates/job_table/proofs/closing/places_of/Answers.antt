@@ -4,13 +4,13 @@ use Rattle.job_table.proofs.closing.places_of.Goals as goal
 
 pub place_of-requires : goal.place_of-requires
 place_of-requires c =
-    let lt : c.loop-edge.edge-index < length c.args.edges.now = omega arith in
-    c.requires c.edge-item.result (c.loop-edge.edge-index, lt, sym c.edge-item.is)
+    let lt : c.loop-i.i < length c.args.edges.now = omega (arith, c.len-count.ensures) in
+    c.requires c.at.result.now (c.loop-i.i, lt, sym c.at.ensures)
 
-pub loop-edge-preserved : goal.loop-edge-preserved
-loop-edge-preserved c =
-    let lt : c.loop-edge.edge-index < length c.args.edges.now = omega arith in
+pub loop-i-preserved : goal.loop-i-preserved
+loop-i-preserved c =
+    let lt : c.loop-i.i < length c.args.edges.now = omega (arith, c.len-count.ensures) in
     rw c.in_ok-push.ensures.items (record {
-      same = places_more c.args.keys.now.keys c.args.edges.now c.loop-edge.places.items c.loop-edge.edge-index c.edge-item.result c.place_of.result lt c.edge-item.is c.loop-edge.invariant.same c.place_of.ensures.same;
-      inside = inside_more (length c.args.keys.now.keys) c.loop-edge.places.items c.place_of.result c.loop-edge.invariant.inside c.place_of.ensures.inside;
+      same = places_more c.args.keys.now.keys c.args.edges.now c.loop-i.places.items c.loop-i.i c.at.result.now c.place_of.result lt c.at.ensures c.loop-i.invariant.same c.place_of.ensures.same;
+      inside = inside_more (length c.args.keys.now.keys) c.loop-i.places.items c.place_of.result c.loop-i.invariant.inside c.place_of.ensures.inside;
     })

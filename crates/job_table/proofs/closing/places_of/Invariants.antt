@@ -3,8 +3,8 @@ use Rattle.std.specs.List.{AllByRecursion}
 use Rattle.job_table.specs.Reached.{key_in}
 use Rattle.job_table.proofs.closing.places_of.Given as goal
 
-abbrev pub invariant-loop-edge : goal.invariant-loop-edge
-invariant-loop-edge l = record {
-  same : map (key_in l.keys.keys) l.places.items ≡ take l.edge-index l.edges;
+abbrev pub invariant-loop-i : goal.invariant-loop-i
+invariant-loop-i l = record {
+  same : map (key_in l.keys.keys) l.places.items ≡ take l.i l.edges;
   inside : AllByRecursion (λ e. e < length l.keys.keys) l.places.items;
 }

@@ -7,7 +7,7 @@ use Rattle.job_table.proofs.CloseRules.{roots_done}
 use Rattle.job_table.proofs.closing.reach.Goals as goal
 
 pub loop-i-init : goal.loop-i-init
-loop-i-init c = spreads_first _ _ _ _ c.in_ok-first.ensures (rw (c.new-found.ensures.empty, c.deref.ensures.value) at c.in_ok-add.ensures)
+loop-i-init c = spreads_first _ _ _ _ c.in_ok-keys.ensures (rw (c.in_ok-found.ensures.empty, c.own-first.ensures) at c.in_ok-add.ensures)
 
 pub entry_of-entry-requires-clause-done : goal.entry_of-entry-requires-clause-done
 entry_of-entry-requires-clause-done c =

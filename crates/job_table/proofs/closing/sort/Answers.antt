@@ -7,5 +7,8 @@ returns-clause-ascend c = sorted_ascend _ c.in_ok-sort.ensures.sorted c.sort.ens
 
 pub returns-clause-same : goal.returns-clause-same
 returns-clause-same c = λ q.
-    let moved = c.sort.ensures.reordered.0 in
-    (Contains-permutation _ _ q (IsPermutation-sym _ _ moved), Contains-permutation _ _ q moved)
+    let first = c.sort_by_key.ensures.reordered.0 in
+    let moved = c.sort.ensures.reordered.0 in (
+      (λ has. Contains-permutation _ _ q (IsPermutation-sym _ _ first) (Contains-permutation _ _ q (IsPermutation-sym _ _ moved) has)),
+      (λ has. Contains-permutation _ _ q moved (Contains-permutation _ _ q first has)),
+    )

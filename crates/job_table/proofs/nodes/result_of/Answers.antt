@@ -1,8 +1,8 @@
-use Rattle.std.proofs.Common.{sym, ap, ◌∙◌, subst, refl, Some, None}
+use Rattle.std.proofs.Common.{sym, ap, ◌∙◌, subst, refl}
 use Rattle.std.specs.Arc.{arc_value}
-use Rattle.graph_rules.specs.Steps.{Status, IsDoneWith, IsNotDone, at_opening}
+use Rattle.graph_rules.specs.Steps.{Status, IsDoneWith, IsNotDone}
 use Rattle.job_table.specs.Nodes.{status_of}
-use Rattle.job_table.proofs.NodeRules.{status_done, status_held, status_none, answer_none, answer_some}
+use Rattle.job_table.proofs.NodeRules.{status_done, status_held, answer_none, answer_some}
 use Rattle.job_table.proofs.nodes.result_of.Goals as goal
 
 pub returns-in_default-clause-none : goal.returns-in_default-clause-none

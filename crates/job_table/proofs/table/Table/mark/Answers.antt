@@ -77,8 +77,8 @@ past_has_entry g c = let e = c.in-Some-find.ensures.found in rw c.deref.ensures 
 walk_is_unchanged : (g : Over) (c : After-note g) → AllUnchanged ≡ walk (entry_at (arc_value c.in-Some-past.past)) (state_of_nodes c.self.inside.inputs c.self.inside.nodes false) (entry_before g c).reads
 walk_is_unchanged g c = let e = c.in-AllUnchanged.ensures in rw (c.deref-2.ensures, c.edges.ensures) at e
 
-edges_same : (g : Over) (c : After-note g) → c.in-Some-room_for_mark.field-0.edges.items ≡ (entry_before g c).reads
-edges_same g c = let e = c.in-Some-room_for_mark.ensures.edges in rw c.deref-3.ensures at e
+edges_same : (g : Over) (c : After-note g) → c.in-Some-room_for_mark.field-0.edges ≡ (entry_before g c).reads
+edges_same g c = c.in-Some-room_for_mark.ensures.edges
 
 pub invariant_of-self-2 : goal.invariant_of-self-2
 invariant_of-self-2 g c =

@@ -1,0 +1,123 @@
+//! The keys that were read for a key.
+ghost use Rattle.std.specs.Prelude.{◌≡◌, ◌<◌, [], length, map, IfOk, slice_index_or};
+ghost use Rattle.std.specs.Arc.{arc_value};
+ghost use Rattle.item_ids.specs.declared.key.Key.{Key as KeyValue};
+ghost use Rattle.sessions.specs.Sessions.{AreInside, key_at};
+
+use item_ids::Key;
+use sessions::Session;
+use std::alloc::{AllocError, Global};
+use std::marker::Model;
+use std::sync::Arc;
+
+/// The keys that were read for a key. Those of a record of the previous session aren't copied: its edges lead to them.
+/// Contracts see the keys.
+#[derive(Drop)]
+pub struct EdgeKeys {
+    kept: KeptKeys,
+}
+
+/// Keys, or the previous session and the indices of its records that have the keys.
+#[derive(Drop)]
+enum KeptKeys {
+    Own(Vec<Key>),
+    Past(Arc<Session>, Vec<usize>),
+}
+
+impl Model for EdgeKeys {
+    ghost use Rattle.std.specs.Prelude.{List};
+    ghost use Rattle.item_ids.specs.declared.key.Key.{Key as KeyValue};
+    ghost use Rattle.job_table.specs.KeptKeys.{keys_in, AreThere};
+
+    ghost Value = { List KeyValue };
+
+    ghost view = { λ edges. keys_in edges.kept };
+
+    ghost invariant = { λ edges. AreThere edges.kept };
+}
+
+impl EdgeKeys {
+    /// No keys.
+    pub fn none(alloc: Global) -> Self
+        ensures { result ≡ [] }
+    {
+        EdgeKeys::own(Vec::new(alloc))
+    }
+
+    /// These keys.
+    pub fn own(keys: Vec<Key>) -> Self
+        ensures { result ≡ keys.items }
+    {
+        EdgeKeys {
+            kept: KeptKeys::Own(keys),
+        }
+    }
+
+    /// The keys of the previous session's records at these indices.
+    pub fn of_past(
+        alloc: Global,
+        past: &Arc<Session>,
+        indices: &[usize],
+    ) -> Result<Self, AllocError>
+        requires { AreInside (arc_value past.now).records indices.now }
+        ensures { IfOk result
+            (λ edges. edges ≡ map (key_at (arc_value past.now).records) indices.now) }
+    {
+        let copies = Vec::from_slice(alloc, indices)?;
+        let shared = Arc::try_clone(past)?;
+        Ok(EdgeKeys {
+            kept: KeptKeys::Past(shared, copies),
+        })
+    }
+
+    /// How many keys there are.
+    pub fn len(&self) -> usize
+        ensures { result ≡ length self.now }
+    {
+        match &self.kept {
+            KeptKeys::Own(keys) => {
+                let own = keys.as_slice();
+                own.len()
+            }
+            KeptKeys::Past(_, indices) => {
+                let edges = indices.as_slice();
+                edges.len()
+            }
+        }
+    }
+
+    /// The key at a place.
+    pub fn at(&self, place: usize) -> &Key
+        requires { place < length self.now }
+        ensures { result.now ≡ slice_index_or self.now place result.now }
+    {
+        match &self.kept {
+            KeptKeys::Own(keys) => {
+                let own = keys.as_slice();
+                own_key(own, place)
+            }
+            KeptKeys::Past(past, indices) => {
+                let edges = indices.as_slice();
+                past_key(past, edges, place)
+            }
+        }
+    }
+}
+
+/// The key at a place.
+fn own_key(keys: &[Key], place: usize) -> &Key
+    requires { place < length keys.now }
+    ensures { result.now ≡ slice_index_or keys.now place result.now }
+{
+    &keys[place]
+}
+
+/// The key that the edge at a place leads to.
+fn past_key<'a>(past: &'a Session, edges: &[usize], place: usize) -> &'a Key
+    requires place { place < length edges.now }
+    requires inside { AreInside past.now.records edges.now }
+    ensures { result.now ≡ slice_index_or (map (key_at past.now.records) edges.now) place result.now }
+{
+    let edge = edges[place];
+    past.records()[edge].key()
+}
