@@ -10,4 +10,6 @@ mod first;
 #[cfg(test)]
 mod reading;
 #[cfg(test)]
+mod stalling;
+#[cfg(test)]
 mod writing;
