@@ -3,8 +3,9 @@
 
    What fails stands in the environment. With REFUSE_FROM and REFUSE_TO the allocations of these numbers, counted from 1,
    and with REFUSE_OVER each of more bytes than that; a thread counts as an allocation. With FAIL_FROM and FAIL_TO the
-   calls on devices of these numbers, with the error FAIL_WITH, or for 0 the program is killed there; with FAIL_SHORT
-   each read and write is of one byte.
+   calls on devices of these numbers, with the error FAIL_WITH, or for 0 the program is killed there; with FAIL_NOTHING
+   only writes are counted, and those of these numbers take nothing and tell no error; with FAIL_SHORT each read and write
+   is of one byte.
    FAULTS_FD is the number of an open file for what is counted, also where the program ends by a signal. What comes
    before the program is loaded whole isn't counted and doesn't fail. */
 #define _GNU_SOURCE
@@ -35,7 +36,7 @@ struct counts {
 };
 
 static struct counts *counts;
-static uint64_t refuse_from, refuse_to, refuse_over, fail_from, fail_to, fail_with, fail_short;
+static uint64_t refuse_from, refuse_to, refuse_over, fail_from, fail_to, fail_with, fail_nothing, fail_short;
 static creating *create;
 
 static uint64_t number(const char *name) {
@@ -49,7 +50,7 @@ __attribute__((constructor)) static void begin(void) {
     create = (creating *)dlsym(RTLD_NEXT, "pthread_create");
     refuse_from = number("REFUSE_FROM"), refuse_to = number("REFUSE_TO"), refuse_over = number("REFUSE_OVER");
     fail_from = number("FAIL_FROM"), fail_to = number("FAIL_TO"), fail_with = number("FAIL_WITH");
-    fail_short = number("FAIL_SHORT");
+    fail_nothing = number("FAIL_NOTHING"), fail_short = number("FAIL_SHORT");
     shared = (void *)syscall(SYS_mmap, NULL, sizeof *counts, PROT_READ | PROT_WRITE, MAP_SHARED,
                              (int)number("FAULTS_FD"), 0L);
     if (shared == MAP_FAILED)
@@ -106,17 +107,19 @@ int pthread_create(pthread_t *thread, const pthread_attr_t *how, void *(*run)(vo
     return is_refused(0) ? EAGAIN : create(thread, how, run, with);
 }
 
-/* Counts a call on a device, and says whether it fails. */
+/* Counts a call on a device, and says whether it fails. A write has the number of its stream or 3, another call a letter. */
 static int fails(uint64_t call) {
     uint64_t at, none = 0;
 
-    if (!counts)
+    if (!counts || (fail_nothing != UINT64_MAX && call > 3))
         return 0;
     at = __atomic_add_fetch(&counts->calls, 1, __ATOMIC_SEQ_CST);
     if (at < fail_from || at > fail_to)
         return 0;
     __atomic_add_fetch(&counts->failed, 1, __ATOMIC_SEQ_CST);
     __atomic_compare_exchange_n(&counts->first, &none, call, 0, __ATOMIC_SEQ_CST, __ATOMIC_SEQ_CST);
+    if (fail_nothing != UINT64_MAX)
+        return 1;
     if (!fail_with)
         raise(SIGKILL);
     errno = (int)fail_with;
@@ -132,7 +135,9 @@ ssize_t read(int file, void *to, size_t bytes) {
 }
 
 ssize_t write(int file, const void *from, size_t bytes) {
-    return fails(file > 2 ? 3 : (uint64_t)file) ? -1 : syscall(SYS_write, file, from, shortened(bytes));
+    if (fails(file > 2 ? 3 : (uint64_t)file))
+        return fail_nothing == UINT64_MAX ? -1 : 0;
+    return syscall(SYS_write, file, from, shortened(bytes));
 }
 
 ssize_t __write(int file, const void *from, size_t bytes) {
