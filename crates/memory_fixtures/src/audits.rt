@@ -123,3 +123,24 @@ fn is_taken_or_stays(
     }
     told(auditor.end()) == wanted(links)
 }
+
+/// Whether the files are taken one by one, and again from the first on where memory was refused, by another auditor with the
+/// same runner. The log of the runner then has all that is run behind a beginning of it.
+pub fn auditor_again(alloc: Global, links: &Links) -> Result<bool, Unfit> {
+    let files = twice(&|| files_of(alloc, links))?;
+    let mut runner = MiniJava::new(alloc);
+    let said = match taken_in_turn(alloc, files.as_slice(), &mut runner) {
+        Err(AuditFault::OutOfMemory) => taken_in_turn(alloc, files.as_slice(), &mut runner),
+        said => said,
+    };
+    Ok(said == wanted(links) && links.ends(runner.log()))
+}
+
+/// What an auditor says that takes the files one by one.
+fn taken_in_turn(alloc: Global, files: &[MemorySink], runner: &mut MiniJava) -> Said {
+    let mut auditor = Auditor::new();
+    for file in files {
+        auditor.take(alloc, runner, &mut plain(file.bytes()))?;
+    }
+    told(auditor.end())
+}

@@ -68,6 +68,14 @@ impl Links {
         }
         true
     }
+
+    /// Whether the log of a runner has a beginning of all executed records' keys, and behind it all of them.
+    pub(crate) fn ends(&self, log: &[Key]) -> bool {
+        match log.len().checked_sub(self.runs()) {
+            Some(before) => self.begins(&log[..before]) && self.begins(&log[before..]),
+            None => false,
+        }
+    }
 }
 
 fn mark_of(change: &Changed, at: usize, kept: &Kept) -> Mark {

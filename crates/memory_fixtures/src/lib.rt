@@ -12,7 +12,7 @@ mod steps;
 mod tables;
 mod twice;
 
-pub use audits::{audit_again, auditor_stays};
+pub use audits::{audit_again, auditor_again, auditor_stays};
 pub use chain::{Changed, Links, Other};
 pub use feeds::fails_at_each_call;
 pub use queries::Way;

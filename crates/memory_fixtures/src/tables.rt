@@ -9,8 +9,8 @@ use job_table::{CloseFault, OpenFault, Table, TableFault};
 use mj_project::Project;
 use providers::MiniJava;
 use session_file::digest;
-use session_fixtures::{Kept, digest_of, session_of};
-use sessions::{Mark, Session};
+use session_fixtures::{Kept, digest_of, green_of, session_of};
+use sessions::Session;
 use std::alloc::{AllocError, Global};
 use std::sync::Arc;
 
@@ -102,27 +102,13 @@ fn is_answered(table: &mut Table<MiniJava>) -> bool {
     }
 }
 
-/// These records, but for the inputs green.
-fn green(alloc: Global, records: &[Kept]) -> Result<Vec<Kept>, AllocError> {
-    let mut all = Vec::new(alloc);
-    for kept in records {
-        let mark = if kept.mark == Mark::Input {
-            Mark::Input
-        } else {
-            Mark::Green
-        };
-        all.push(Kept { mark, ..*kept })?;
-    }
-    Ok(all)
-}
-
 /// The SHA-256 of the file of the session that the table is to be closed with.
 fn wanted(alloc: Global, way: Way, records: &[Kept]) -> Result<[u8; 32], Unfit> {
     let first = digest_of(alloc, 0, [0; 32], records)?;
     match way {
         Way::Run => Ok(first),
         Way::Mark => {
-            let records = green(alloc, records)?;
+            let records = green_of(alloc, records)?;
             digest_of(alloc, 1, first, records.as_slice())
         }
     }

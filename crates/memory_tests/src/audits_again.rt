@@ -1,6 +1,6 @@
 //! Audits that are refused memory, and made again.
 
-use memory_fixtures::{Changed, Links, Other, audit_again, auditor_stays};
+use memory_fixtures::{Changed, Links, Other, audit_again, auditor_again, auditor_stays};
 use session_fixtures::FIRST;
 use std::test::*;
 
@@ -44,4 +44,9 @@ fn audits_are_made_again(rt: HostRuntime) {
 #[test]
 fn auditors_that_were_refused_memory_stay_so(rt: HostRuntime) {
     assert!(rt; auditor_stays(rt.alloc(), &THERE_AND_BACK) == Ok(true));
+}
+
+#[test]
+fn another_auditor_begins_anew(rt: HostRuntime) {
+    assert!(rt; auditor_again(rt.alloc(), &THERE_AND_BACK) == Ok(true));
 }
