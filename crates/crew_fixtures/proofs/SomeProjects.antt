@@ -1,4 +1,4 @@
--- What is made of two projects is made of some.
+-- What is made of two projects, or of one, is made of some.
 use Rattle.std.proofs.Common.{ℕ}
 use Rattle.std.specs.Prelude.{Result, Ok, Err, IfOk}
 use Rattle.recorder.specs.Projects.{Project}
@@ -10,3 +10,8 @@ pub of_some : (p q : Project) (workers : ℕ) (r : Result (Made × Made) Unfit) 
     → IfOk r (λ both. (x : Project) × (y : Project) × AreMade x y workers both.0 both.1)
 of_some p q workers (Ok both) made = (p, q, made)
 of_some p q workers (Err e) made = tt
+
+pub of_one : (p : Project) (workers : ℕ) (r : Result (Made × Made) Unfit) → IfOk r (λ both. AreMade p p workers both.0 both.1)
+    → IfOk r (λ both. (x : Project) × AreMade x x workers both.0 both.1)
+of_one p workers (Ok both) made = (p, made)
+of_one p workers (Err e) made = tt

@@ -1,11 +1,11 @@
 -- The sessions that are made from short texts, and what is reported of them.
-use Rattle.std.specs.Prelude.{◌≡◌, ◌==◌, ℕ, Bool, List, [], ◌∷◌, map, sum, count_by, Option, Some, None, Ok, Err}
+use Rattle.std.specs.Prelude.{◌≡◌, ◌==◌, ℕ, Bool, List, [], ◌∷◌, length, map, sum, count_by, Option, Some, None, Ok, Err}
 use Rattle.mj_project.specs.Projects.{SourceFile}
 use Rattle.recorder.specs.Projects.{Project}
 use Rattle.query_rules.specs.Meaning.{mean}
 use Rattle.query_rules.specs.Reads.{reads}
 use Rattle.sessions.specs.declared.mark.Mark.{Mark}
-use Rattle.sessions.specs.declared.mark.Mark.TheVariants.{Executed}
+use Rattle.sessions.specs.declared.mark.Mark.TheVariants.{Executed, Green}
 use Rattle.sessions.specs.Marks.{mark_number}
 use Rattle.sessions.specs.Sessions.{RecordValue, SessionValue}
 use Rattle.sessions.specs.Spelling.{digest_of}
@@ -33,15 +33,28 @@ before edit = file_told edit.file ∷ []
 abbrev pub after : Edit → Project
 after edit = (record { name = edit.file.0.now; bytes = edit.edited.now }) ∷ []
 
+-- ---- records by their marks
+
+-- a record has the mark; marks are told apart by their numbers
+abbrev pub has_mark : Mark → RecordValue → Bool
+has_mark mark r = mark_number r.mark == mark_number mark
+
+-- how many records have the mark
+abbrev pub many_of : Mark → List RecordValue → ℕ
+many_of mark records = count_by (has_mark mark) records
+
 -- ---- sessions
 
--- It is a session of the project over the previous one by so many workers, of which this was made:
--- the SHA-256 of its file, and how many events there were.
+-- It is a session of the project over the previous one by so many workers, of which this was made: the
+-- SHA-256 of its file, how many records there are and have each mark, and how many events there were.
 pub record IsMadeOf (past : Option SessionValue) (p : Project) (workers : ℕ) (s : SessionValue)
     (made : Made) : Type 0 where
   pub reports : Reports
   pub of : IsSessionOf mean reads past p workers s reports
   pub digest : made.digest ≡ digest_of s
+  pub records : made.records ≡ length s.records
+  pub executed : made.executed ≡ many_of Executed s.records
+  pub green : made.green ≡ many_of Green s.records
   pub history : made.history ≡ reports.history
   pub events : made.events ≡ sum reports.events.items
 
@@ -66,14 +79,6 @@ IsFaultOf p workers None =
 IsFaultOf p workers (Some fault) = DriveGives mean reads None p workers (Err fault)
 
 -- ---- records that are executed
-
--- a record has the mark; marks are told apart by their numbers
-abbrev pub has_mark : Mark → RecordValue → Bool
-has_mark mark r = mark_number r.mark == mark_number mark
-
--- how many records have the mark
-abbrev pub many_of : Mark → List RecordValue → ℕ
-many_of mark records = count_by (has_mark mark) records
 
 -- it is a session over this previous session by one worker, in which so many records are executed
 pub record HasExecuted (past : Option SessionValue) (p : Project) (s : SessionValue) (runs : Runs)

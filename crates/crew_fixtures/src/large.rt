@@ -9,6 +9,16 @@ use std::alloc::{AllocError, Global};
 /// A class that prints a number.
 const MAIN: &str = "class M { public static void main(String[] a) { System.out.println(1); } }\n";
 
+/// So many classes without members, whose names have three digits and more.
+fn empty_text(alloc: Global, classes: usize) -> Result<String, AllocError> {
+    let mut text = String::new(alloc);
+    for at in 0..classes {
+        let class = format!(in alloc; "class C{at:03} {{ }}\n")?;
+        text.push_str(class.as_str())?;
+    }
+    Ok(text)
+}
+
 /// One file of this text.
 fn files_of(alloc: Global, text: String) -> Result<Vec<(String, Vec<u8>)>, AllocError>
     ensures { IfOk result (λ files.
@@ -20,15 +30,38 @@ fn files_of(alloc: Global, text: String) -> Result<Vec<(String, Vec<u8>)>, Alloc
     Ok(files)
 }
 
+/// Two files of these texts.
+fn two_files_of(
+    alloc: Global,
+    first: String,
+    second: String,
+) -> Result<Vec<(String, Vec<u8>)>, AllocError>
+    ensures { IfOk result (λ files.
+        names_of (sources_view files.items) ≡ codes "M.java" ∷ codes "c.java" ∷ []) }
+{
+    let mut files = files_of(alloc, first)?;
+    let name = String::from_str(alloc, "c.java")?;
+    files.push((name, second.into_bytes()))?;
+    Ok(files)
+}
+
+/// The project of these files.
+fn project_with(alloc: Global, files: Vec<(String, Vec<u8>)>) -> Result<Project, Unfit>
+    ensures { IfOk result (λ p. p ≡ sources_view files.items) }
+{
+    match Project::new(alloc, files) {
+        Ok(project) => Ok(project),
+        Err(_) => Err(Unfit),
+    }
+}
+
 /// The project of one file of this text.
 fn project_of_text(alloc: Global, text: String) -> Result<Project, Unfit>
     ensures { IfOk result (λ p. names_of p ≡ codes "M.java" ∷ []) }
 {
     let files = files_of(alloc, text)?;
-    match Project::new(alloc, files) {
-        Ok(project) => Ok(project),
-        Err(_) => Err(Unfit),
-    }
+    let project = project_with(alloc, files)?;
+    Ok(project)
 }
 
 /// So many classes of a field and a method, each of which extends the one before it, but for the first and the one of this
@@ -101,4 +134,14 @@ pub fn one_body(alloc: Global, classes: usize) -> Result<Project, Unfit>
 {
     let text = body_text(alloc, classes)?;
     project_of_text(alloc, text)
+}
+
+/// The project of a class that prints a number, in the one file, and of so many classes without members, in the other.
+pub(crate) fn empty_classes(alloc: Global, classes: usize) -> Result<Project, Unfit>
+    ensures { IfOk result (λ p. names_of p ≡ codes "M.java" ∷ codes "c.java" ∷ []) }
+{
+    let main = String::from_str(alloc, MAIN)?;
+    let text = empty_text(alloc, classes)?;
+    let files = two_files_of(alloc, main, text)?;
+    Ok(project_with(alloc, files)?)
 }

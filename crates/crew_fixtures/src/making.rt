@@ -1,23 +1,24 @@
 //! Sessions by several workers.
-ghost use Rattle.std.specs.Prelude.{◌≡◌, None, IfOk, IfSome, sum};
+ghost use Rattle.std.specs.Prelude.{◌≡◌, None, IfOk, IfSome, length, sum};
 ghost use Rattle.std.specs.Arc.{arc_value};
 ghost use Rattle.query_rules.specs.Meaning.{mean};
 ghost use Rattle.query_rules.specs.Reads.{reads};
 ghost use Rattle.sessions.specs.Spelling.{digest_of};
 ghost use Rattle.sessions.specs.Sessions.{session_in};
 ghost use Rattle.driver.specs.Sessions.{IsSessionOf};
-ghost use Rattle.crew_fixtures.specs.Made.{AreMade, IsMadeOf, after, before};
+ghost use Rattle.crew_fixtures.specs.Made.{AreMade, IsMadeOf, after, before, many_of};
 
 use crate::files::{File, project_of};
 use crate::holding::Holding;
-use crate::large::{chain, cut_chain};
+use crate::large::{chain, cut_chain, empty_classes};
 use crate::meeting::Meeting;
+use crate::runs::count_of;
 use answer_fixtures::Unfit;
 use item_ids::Kind;
 use mini_java::{Gate, Open, Reports, run_session};
 use mj_project::Project;
 use session_file::digest;
-use sessions::Session;
+use sessions::{Mark, Session};
 use std::alloc::{AllocError, AllocFailed, Global};
 use std::sync::{Arc, Wait};
 use std::thread::Threads;
@@ -29,11 +30,14 @@ pub struct Edit {
     pub edited: &'static str,
 }
 
-/// What was made of a session: the SHA-256 of its file, the length of the history, and how many events its workers have
-/// counted together.
+/// What was made of a session: the SHA-256 of its file, how many records it has, how many of them are executed and green, the
+/// length of the history, and how many events its workers have counted together.
 #[derive(Clone, Copy, PartialEq, Eq)]
 pub struct Made {
     pub digest: [u8; 32],
+    pub records: usize,
+    pub executed: usize,
+    pub green: usize,
     pub history: usize,
     pub events: usize,
 }
@@ -51,12 +55,19 @@ fn total(events: &[usize]) -> Option<usize>
 
 fn made_of(session: &Session, reports: &Reports) -> Result<Made, Unfit>
     ensures digest { IfOk result (λ made. made.digest ≡ digest_of session.now) }
+    ensures records { IfOk result (λ made. made.records ≡ length session.now.records) }
+    ensures executed { IfOk result (λ made.
+        made.executed ≡ many_of Mark.Executed session.now.records) }
+    ensures green { IfOk result (λ made. made.green ≡ many_of Mark.Green session.now.records) }
     ensures history { IfOk result (λ made. made.history ≡ reports.now.history) }
     ensures events { IfOk result (λ made. made.events ≡ sum reports.now.events.items) }
 {
     match total(reports.events.as_slice()) {
         Some(events) => Ok(Made {
             digest: digest(session),
+            records: session.records().len(),
+            executed: count_of(session, Mark::Executed),
+            green: count_of(session, Mark::Green),
             history: reports.history,
             events,
         }),
@@ -137,6 +148,21 @@ pub fn made_while_held<T: Threads + Wait + Sync>(
     let project = chain(alloc, classes)?;
     let edited = cut_chain(alloc, classes, classes / 2)?;
     made_of_both(rt, alloc, &project, &edited, workers, &Holding::new(seed))
+}
+
+/// What is made of a first session of so many classes without members beside one with main, and of the one over it of the
+/// same files, by so many workers.
+#[tactic(auto, using(crate::proofs::SomeProjects::of_one))]
+pub fn made_of_empty_classes<T: Threads + Wait + Sync>(
+    rt: &T,
+    alloc: Global,
+    classes: usize,
+    workers: usize,
+) -> Result<(Made, Made), Unfit>
+    ensures { IfOk result (λ both. (p : Project) × AreMade p p workers both.0 both.1) }
+{
+    let project = empty_classes(alloc, classes)?;
+    made_of_both(rt, alloc, &project, &project, workers, &Open)
 }
 
 /// Whether in a session of these files by so many workers the first run of the kind that begins, held for so many turns at

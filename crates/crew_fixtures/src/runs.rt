@@ -31,6 +31,13 @@ fn count_in(records: &[Record], mark: Mark) -> usize
     records.iter().filter(|item| has_mark(item, mark)).count()
 }
 
+/// How many records of a session have this mark.
+pub(crate) fn count_of(session: &Session, mark: Mark) -> usize
+    ensures { result ≡ many_of mark session.now.records }
+{
+    count_in(session.records(), mark)
+}
+
 /// Whether a record has this mark.
 fn has_mark(item: &Record, mark: Mark) -> bool
     ensures { result ≡ has_mark mark item.now }

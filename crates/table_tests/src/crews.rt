@@ -3,8 +3,8 @@
 use crate::records::{ONE, TWO};
 use answer_fixtures::Unfit;
 use crew_fixtures::{
-    Edit, File, Made, digest_by, fault_of_failing, fellows_stop, made_by, made_while_held,
-    seats_meet, workers_meet,
+    Edit, File, Made, digest_by, fault_of_failing, fellows_stop, made_by, made_of_empty_classes,
+    made_while_held, seats_meet, workers_meet,
 };
 use driver::Crew;
 use item_ids::Kind;
@@ -41,6 +41,75 @@ fn workers_make_the_same_files(rt: HostRuntime) {
     for workers in [1, 2, 8, 64] {
         assert!(rt; are_same(&rt, rt.alloc(), workers) == Ok(true));
     }
+}
+
+/// How many records of a session are executed and green, and how many events there are.
+#[derive(Clone, Copy, PartialEq, Eq)]
+struct Counts {
+    executed: usize,
+    green: usize,
+    events: usize,
+}
+
+/// So many classes without members stand beside the one with main.
+const EMPTY_CLASSES: usize = 200;
+
+/// Three inputs; two trees, the index and the answer; five queries of each of the 201 classes; the method and the body of main.
+const RECORDS: usize = 1014;
+
+/// At first all but the inputs are executed, three events for each.
+const FIRST: Counts = Counts {
+    executed: 1011,
+    green: 0,
+    events: 3033,
+};
+
+/// No file is edited: all are green then, two events for each.
+const UNCHANGED: Counts = Counts {
+    executed: 0,
+    green: 1011,
+    events: 2022,
+};
+
+/// Whether all records of the session are counted, and all events by its workers.
+fn has_counts(made: &Made, counts: Counts) -> bool {
+    let Made {
+        records,
+        executed,
+        green,
+        history,
+        events,
+        ..
+    } = *made;
+    let made = Counts {
+        executed,
+        green,
+        events,
+    };
+    made == counts && records == RECORDS && history == events
+}
+
+/// Whether so many workers make the same files as others, and count the same.
+fn are_counted<T: Threads + Wait + Sync>(
+    rt: &T,
+    alloc: Global,
+    workers: usize,
+    others: &(Made, Made),
+) -> Result<bool, Unfit> {
+    let (first, second) = made_of_empty_classes(rt, alloc, EMPTY_CLASSES, workers)?;
+    Ok((first, second) == *others && has_counts(&first, FIRST) && has_counts(&second, UNCHANGED))
+}
+
+#[test]
+fn workers_count_each_event(rt: HostRuntime) -> Result<(), Unfit> {
+    let by_one = made_of_empty_classes(&rt, rt.alloc(), EMPTY_CLASSES, 1)?;
+    for workers in [1, 2, 8, 64] {
+        assert!(rt;
+            are_counted(&rt, rt.alloc(), workers, &by_one) == Ok(true),
+            "{workers}"
+        );
+    }
+    Ok(())
 }
 
 /// For so many turns a run waits for another one.
