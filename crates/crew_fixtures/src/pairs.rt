@@ -7,9 +7,10 @@ use crate::waiting::Waiting;
 use answer_fixtures::{Asked, Unfit, key_of};
 use item_ids::Kind;
 use job_table::Table;
+use known_list::Opened;
 use mark_green::ensure;
 use mini_java::{Open, Shared};
-use recorder::Runner;
+use recorder::{Read, Runner};
 use shared_table::{Counted, Naming, Tally};
 use std::alloc::{AllocError, Global};
 use std::marker::Brand;
@@ -42,10 +43,12 @@ fn both_bring<J: Naming + Send + Sync, R: Runner + Drop + Send + Sync, T: Thread
     first: Task<R>,
     second: Task<R>,
     blank: Blank,
+    list: Opened<Read>,
 ) -> Result<bool, AllocError>
     requires name { blank.name ≡ J.name }
     requires parts { blank.parts ≡ J.parts }
     requires two { blank.parts ≡ 2 }
+    requires list { list.seen.book ≡ J.book }
     requires past { table.past ≡ J.past }
     requires project { table.project ≡ J.project }
     requires opened { table.history ≡ [] }
@@ -53,7 +56,7 @@ fn both_bring<J: Naming + Send + Sync, R: Runner + Drop + Send + Sync, T: Thread
     let (book, mut one) = blank.open::<J>();
     let first = worker_of(alloc, 0, first, Tally::new(one.split_off(1, 0)));
     let second = worker_of(alloc, 1, second, Tally::new(one));
-    let shared = Shared::new(Counted::new(table, book))?;
+    let shared = Shared::new(Counted::new(table, book), list)?;
     let mut team = Vec::new(alloc);
     team.push(first)?;
     team.push(second)?;
@@ -131,6 +134,7 @@ pub fn seats_meet<T: Threads + Wait + Sync>(
                 first,
                 second,
                 Blank::new(2),
+                Opened::new(),
             )?;
             Ok(both && meeting.has_met())
         }

@@ -5,9 +5,11 @@ use crate::files::{File, project_of};
 use answer_fixtures::{Asked, Unfit, key_of};
 use item_ids::{Key, Kind};
 use job_table::{Asked as Asking, Table};
+use known_list::Opened;
 use mark_green::Store;
 use mini_java::{Open, Shared};
 use providers::MiniJava;
+use recorder::Read;
 use shared_table::{Counted, Naming, Tally};
 use std::alloc::Global;
 use std::marker::Brand;
@@ -21,10 +23,12 @@ fn stops<J: Naming, T: Wait>(
     table: Table<MiniJava>,
     key: &Key,
     blank: Blank,
+    list: Opened<Read>,
 ) -> bool
     requires name { blank.name ≡ J.name }
     requires parts { blank.parts ≡ J.parts }
     requires two { blank.parts ≡ 2 }
+    requires list { list.seen.book ≡ J.book }
     requires past { table.past ≡ J.past }
     requires project { table.project ≡ J.project }
     requires opened { table.history ≡ [] }
@@ -32,7 +36,7 @@ fn stops<J: Naming, T: Wait>(
     let (book, mut one) = blank.open::<J>();
     let mut first = Tally::new(one.split_off(1, 0));
     let mut second = Tally::new(one);
-    let Ok(shared) = Shared::new(Counted::new(table, book)) else {
+    let Ok(shared) = Shared::new(Counted::new(table, book), list) else {
         return false;
     };
     fails(&mut shared.seat(alloc, rt, &Open, &mut first), 0)
@@ -58,7 +62,14 @@ pub fn fellows_stop<T: Wait>(rt: &T, alloc: Global, file: File) -> Result<bool, 
     let project = project_of(alloc, &[file])?;
     let key = key_of(alloc, Asked(Kind::Tree, file.0, ""))?;
     match Table::open(alloc, None, &project) {
-        Ok(table) => Ok(stops::<Brand, T>(rt, alloc, table, &key, Blank::new(2))),
+        Ok(table) => Ok(stops::<Brand, T>(
+            rt,
+            alloc,
+            table,
+            &key,
+            Blank::new(2),
+            Opened::new(),
+        )),
         Err(_) => Err(Unfit),
     }
 }

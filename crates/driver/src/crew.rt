@@ -3,8 +3,9 @@ ghost use Rattle.std.specs.Prelude.{◌≡◌, ◌+◌, ◌<◌, ◌≤◌, IfOk
 
 use crate::jobs::do_jobs;
 use crate::lists::Lists;
+use known_list::Opened;
 use mj_project::Project;
-use recorder::Runner;
+use recorder::{Read, Runner};
 use shared_table::{Alone, Counted, Gate, Naming, Shared, Tally};
 use std::alloc::{AllocError, Global};
 use std::sync::Wait;
@@ -79,20 +80,22 @@ pub(crate) fn work_at<
 >(
     rt: &T,
     counted: Counted<J, R>,
+    list: Opened<Read>,
     gate: &G,
     project: &Project,
     lists: &Lists,
     team: &mut Vec<Worker<J, R>>,
     alone: bool,
 ) -> Result<Counted<J, R>, AllocError>
-    requires { 0 < vec_len team.old }
+    requires team { 0 < vec_len team.old }
+    requires list { list.seen.book ≡ J.book }
     ensures { vec_len team.new ≡ vec_len team.old }
 {
     if alone {
         let first = team.len() - 1;
         return Ok(work_alone(counted, gate, project, lists, &mut team[first]));
     }
-    let shared = Shared::new(counted)?;
+    let shared = Shared::new(counted, list)?;
     work_all(rt, &shared, gate, project, lists, team);
     Ok(shared.into_counted())
 }

@@ -15,8 +15,9 @@ use crate::laws::sessions_are_next;
 use crate::lists::Lists;
 use crate::reports::Reports;
 use job_table::{CloseFault, OpenFault, Table};
+use known_list::Opened;
 use mj_project::Project;
-use recorder::Runner;
+use recorder::{Read, Runner};
 use sessions::Session;
 use shared_table::{Counted, Gate, Naming};
 use std::alloc::{AllocError, Global};
@@ -68,6 +69,7 @@ pub fn drive<
                 gate,
                 &Lists::new(step),
                 Blank::new(workers as u64),
+                Opened::new(),
             )?;
             // A session keeps in its type what its records are.
             let _records = done.0.records();
@@ -116,10 +118,12 @@ fn drive_table<
     gate: &G,
     lists: &Lists,
     blank: Blank,
+    list: Opened<Read>,
 ) -> Result<(Session, Reports), AllocError>
     requires makes { F.IsAlwaysCallable make.now }
     requires name { blank.name ≡ J.name }
     requires parts { blank.parts ≡ J.parts }
+    requires list { list.seen.book ≡ J.book }
     requires workers { blank.parts ≡ workers }
     requires crew { IsCrew workers }
     requires past { table.past ≡ J.past }
@@ -132,7 +136,7 @@ fn drive_table<
     let mut team = hire::<J, R, F>(alloc, &mut all, workers, make)?;
     let alone = workers == 1 || is_unchanged(alloc, &table, project)?;
     let counted = Counted::new(table, book);
-    let counted = work_at(rt, counted, gate, project, lists, &mut team, alone)?;
+    let counted = work_at(rt, counted, list, gate, project, lists, &mut team, alone)?;
     let events = pay(alloc, &mut all, team)?;
     let table = counted.end(&mut all);
     // A table's history is legal, by its type.

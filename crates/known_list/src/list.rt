@@ -11,6 +11,7 @@ use std::marker::{Model, PhantomData};
 const MOST: u64 = 1 << 62;
 
 /// A list that was just opened, and has no name yet.
+#[derive(Drop)]
 pub struct Opened<E> {
     head: Word<E, u64, Law>,
     seen: Seen<E, u64, Law>,

@@ -7,3 +7,4 @@ pub mod Once
 pub mod Turning
 pub mod Working
 pub mod Held
+pub mod Told

@@ -1,5 +1,5 @@
 -- The effect of one run.
-use Rattle.std.proofs.Common.{◌≡◌, ℕ, ◌<◌, List, refl, ◌∙◌, sym, subst, Option, Some, None, inl, inr, ◌⊎◌, Contains}
+use Rattle.std.proofs.Common.{◌≡◌, ℕ, ◌<◌, List, [], ◌∷◌, ◌∙◌, sym, subst, Option, Some, None, inl, inr, ◌⊎◌, Contains}
 use Rattle.std.specs.Prelude.{Result, Ok, Err, IfOk, IfErr, IfSome, option_map, option_and_then}
 use Rattle.std.specs.List.{AllByRecursion}
 use Rattle.item_ids.specs.declared.key.Key.{Key}
@@ -20,23 +20,35 @@ use Rattle.mark_green.specs.Leaves.{Knows}
 use Rattle.mark_green.specs.Moves.{IsDoneIn, Halts, Moves, IsUnanswered, IsWantOfMemory}
 use Rattle.mark_green.proofs.Running.{run_same, run_halts, run_memory, told_knows}
 
--- each read is done in the table, or held
-abbrev pub AreAnswered : List ReadValue → Option TableValue → List ReadValue → Type 0
-AreAnswered held a told = AllByRecursion (λ t. Knows (IsDoneIn t.key t.value) a ⊎ Contains held (record { key = t.key; value = t.value })) told
+-- each read is done in the table and was told by the store, or is held
+abbrev pub AreAnswered : List ReadValue → Option TableValue → (Key → Value → Type 0) → List ReadValue → Type 0
+AreAnswered held a told reads = AllByRecursion (λ t. (Knows (IsDoneIn t.key t.value) a × told t.key t.value) ⊎ Contains held (record { key = t.key; value = t.value })) reads
 
-told_where : (w r : ℕ) (last : Option Stop) (a b : Option TableValue) (held reads told : List ReadValue) → last ≡ None → told ≡ reads → Moves w r None last a b → AreAnswered held b reads
+-- of that, what the table has
+known_reads : (held : List ReadValue) (a : Option TableValue) (told : Key → Value → Type 0) (reads : List ReadValue) → AreAnswered held a told reads
+    → AllByRecursion (λ t. Knows (IsDoneIn t.key t.value) a ⊎ Contains held (record { key = t.key; value = t.value })) reads
+known_reads held a told [] h = tt
+known_reads held a told (r ∷ rs) h = (
+  elim h.0 [
+    | inl d ↦ inl d.0
+    | inr c ↦ inr c
+  ],
+  known_reads held a told rs h.1,
+)
+
+told_where : (w r : ℕ) (last : Option Stop) (a b : Option TableValue) (held reads told : List ReadValue) (by : Key → Value → Type 0) → last ≡ None → told ≡ reads → Moves w r None last a b → AreAnswered held b by reads
     → Knows (λ t. AreHeld (state_of t) held) a → Knows (λ t. AreHeld (state_of t) told) a
-told_where w r last a b held reads told none is m answered k =
+told_where w r last a b held reads told by none is m answered k =
     let same : b ≡ a = run_same w r a b (subst (λ (x : Option Stop). Moves w r None x a b) none m) in
-    told_knows held a k told (subst (λ (l : List ReadValue). AreAnswered held a l) (sym is) (subst (λ (o : Option TableValue). AreAnswered held o reads) same answered))
+    told_knows held a k told (known_reads held a by told (subst (λ (l : List ReadValue). AreAnswered held a by l) (sym is) (subst (λ (o : Option TableValue). AreAnswered held o by reads) same answered)))
 
-pub told_of_run : (made : Result OutcomeValue RunFault) (given : Result OutcomeValue Stop) (q : Key) (w r : ℕ) (last : Option Stop) (a b : Option TableValue) (held reads : List ReadValue)
-    → IfOk given (λ o. (made ≡ Ok o) × (last ≡ None)) → IfOk made (λ o. (o.key ≡ q) × (o.told ≡ reads)) → Moves w r None last a b → AreAnswered held b reads
+pub told_of_run : (made : Result OutcomeValue RunFault) (given : Result OutcomeValue Stop) (q : Key) (w r : ℕ) (last : Option Stop) (a b : Option TableValue) (held reads : List ReadValue) (by : Key → Value → Type 0)
+    → IfOk given (λ o. (made ≡ Ok o) × (last ≡ None)) → IfOk made (λ o. (o.key ≡ q) × (o.told ≡ reads)) → Moves w r None last a b → AreAnswered held b by reads
     → IfOk given (λ o. Knows (λ t. AreHeld (state_of t) held) a → Knows (λ t. AreHeld (state_of t) o.told) a)
-told_of_run made (Err x) q w r last a b held reads ok of_run m answered = tt
-told_of_run made (Ok o) q w r last a b held reads ok of_run m answered =
+told_of_run made (Err x) q w r last a b held reads by ok of_run m answered = tt
+told_of_run made (Ok o) q w r last a b held reads by ok of_run m answered =
     let made_is : (o.key ≡ q) × (o.told ≡ reads) = subst (λ (x : Result OutcomeValue RunFault). IfOk x (λ y. (y.key ≡ q) × (y.told ≡ reads))) ok.0 of_run in
-    told_where w r last a b held reads o.told ok.1 made_is.1 m answered
+    told_where w r last a b held reads o.told by ok.1 made_is.1 m answered
 
 halts_where : (w r : ℕ) (x : Stop) (last : Option Stop) (a b : Option TableValue) → (last ≡ Some x) ⊎ ((last ≡ None) × (x ≡ stop.OutOfMemory)) → Moves w r None last a b → Halts w r x a b
 halts_where w r x last a b (inl is) m = run_halts w r x a b (subst (λ (y : Option Stop). Moves w r None y a b) is m)

@@ -1,7 +1,10 @@
 -- What calls make of a table.
 use Rattle.std.specs.Prelude.{◌≡◌, ◌≢◌, ◌⊎◌, ℕ, ◌<◌, true, false, List, ◌++◌, Option, Some, None, Result, Ok}
+use Rattle.std.specs.List.{AllByRecursion}
+use Rattle.std.specs.Arc.{arc_value}
 use Rattle.item_ids.specs.declared.key.Key.{Key}
-use Rattle.recorder.specs.Backed.{rank}
+use Rattle.result_bytes.specs.declared.value.Value.{Value}
+use Rattle.recorder.specs.Backed.{ReadValue, rank}
 use Rattle.graph_rules.specs.Steps.{Status, Event, AreSteps, IsHeldBy}
 use Rattle.job_table.specs.Tables.{TableValue, past_of, state_of}
 use Rattle.job_table.specs.declared.fault.Asked.{Asked}
@@ -24,6 +27,19 @@ Tells P (Some t) (Some u) = P t u
 -- a key that is to be worked on is no input
 abbrev pub ClaimsNoInput : Key → Result Asked TableFault → Type 0
 ClaimsNoInput q r = r ≡ Ok asked.Yours → 0 < rank q
+
+-- what a store has told of a key stays told
+abbrev pub StaysTold : (Key → Value → Type 0) → (Key → Value → Type 0) → Type 0
+StaysTold old new = (q : Key) (v : Value) → old q v → new q v
+
+-- the result of a key that was found done is told
+abbrev pub TellsDone : (Key → Value → Type 0) → Key → Result Asked TableFault → Type 0
+TellsDone told q (Ok (asked.Done a)) = told q (arc_value a)
+TellsDone told q _ = Unit {0}
+
+-- each result that was read was told
+abbrev pub AreTold : (Key → Value → Type 0) → List ReadValue → Type 0
+AreTold told reads = AllByRecursion (λ r. told r.key r.value) reads
 
 -- the history continues by steps
 pub record GoesOn (t u : TableValue) : Type 0 where

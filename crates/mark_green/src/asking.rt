@@ -2,7 +2,7 @@
 ghost use Rattle.std.specs.Prelude.{◌≡◌, ◌⊎◌, ◌<◌, ℕ, IfOk, IfErr};
 ghost use Rattle.std.specs.Arc.{arc_value};
 ghost use Rattle.recorder.specs.Backed.{IsOfKind};
-ghost use Rattle.mark_green.specs.Leaves.{Knows};
+ghost use Rattle.mark_green.specs.Leaves.{Knows, StaysTold};
 ghost use Rattle.recorder.specs.Backed.{rank as rank_of_key};
 ghost use Rattle.mark_green.specs.Moves.{IsDoneIn, Halts, IsFaultOfRead};
 ghost use Rattle.mark_green.specs.declared.asking.Stop.{Stop};
@@ -45,32 +45,37 @@ pub(crate) struct Asking<'a, S: Store> {
 impl<S: Store> Reader for Asking<'_, S> {
     ghost use Rattle.std.specs.Prelude.{◌≡◌, ◌⊎◌, Contains, refl};
     ghost use Rattle.std.proofs.Common.{◌∙◌, inl, inr, subst, sym};
-    ghost use Rattle.mark_green.specs.Leaves.{Knows};
+    ghost use Rattle.mark_green.specs.Leaves.{Knows, StaysTold};
     ghost use Rattle.mark_green.specs.Moves.{IsDoneIn, IsUnanswered, Moves, moves_keep, moves_from};
 
-    ghost answers = { λ s q v. Knows (IsDoneIn q v) (S.table s.store.now)
+    ghost answers = { λ s q v. (Knows (IsDoneIn q v) (S.table s.store.now) × S.told s.store.now q v)
         ⊎ Contains s.held.now (record { key = q; value = v }) };
 
     ghost faults = { λ s q f. IsUnanswered s.below s.stop q f };
 
     ghost follows = { λ s t. (t.store.ghost_name ≡ s.store.ghost_name)
         × (t.held.now ≡ s.held.now) × (t.w ≡ s.w) × (t.below ≡ s.below)
+        × StaysTold (S.told s.store.now) (S.told t.store.now)
         × Moves s.w s.below s.stop t.stop (S.table s.store.now) (S.table t.store.now) };
 
-    ghost reflexive = { λ s. (refl, refl, refl, refl, inl (refl, refl)) };
+    ghost reflexive = { λ s. (refl, refl, refl, refl, λ q v h. h, inl (refl, refl)) };
 
     ghost transitive = { λ s t u f g. (
       g.0 ∙ f.0,
       g.1 ∙ f.1,
       g.2 ∙ f.2,
       g.3 ∙ f.3,
+      λ q v h. g.4 q v (f.4 q v h),
       moves_from s.w s.below t.w t.below s.stop t.stop u.stop (S.table s.store.now)
-          (S.table t.store.now) (S.table u.store.now) f.2 f.3 f.4 g.4,
+          (S.table t.store.now) (S.table u.store.now) f.2 f.3 f.5 g.5,
     ) };
 
     ghost kept = { λ s t q v f a. elim a [
-      | inl h ↦ inl (moves_keep s.w s.below s.stop t.stop q v (S.table s.store.now)
-          (S.table t.store.now) f.4 h)
+      | inl h ↦ inl (
+        moves_keep s.w s.below s.stop t.stop q v (S.table s.store.now)
+            (S.table t.store.now) f.5 h.0,
+        f.4 q v h.1,
+      )
       | inr h ↦ inr (subst (λ list. Contains list (record { key = q; value = v })) (sym f.1) h)
     ] };
 
@@ -114,6 +119,8 @@ fn answer_of<S: Store>(alloc: Global, store: &mut S, w: u32, key: &Key) -> Resul
     ensures kind { IfOk result (λ a. IsOfKind key.now (arc_value a)) }
     ensures same { IfOk result (λ _. S.table store.new ≡ S.table store.old) }
     ensures done { IfOk result (λ a. Knows (IsDoneIn key.now (arc_value a)) (S.table store.new)) }
+    ensures told { IfOk result (λ a. S.told store.new key.now (arc_value a)) }
+    ensures stays { StaysTold (S.told store.old) (S.told store.new) }
     ensures halts { (r : ℕ) → rank_of_key key.now < r → IfErr result
         (λ x. Halts w r x (S.table store.old) (S.table store.new)) }
 {

@@ -1,12 +1,13 @@
 //! Evaluating keys: try-mark-green, and a run where an edge is red.
 ghost use Rattle.std.specs.Prelude.{◌≡◌, ◌<◌, [], Some, IfOk, IfSome, length, map};
 ghost use Rattle.std.specs.List.{AllByRecursion};
+ghost use Rattle.std.specs.Arc.{arc_value};
 ghost use Rattle.recorder.specs.Backed.{rank as rank_of_key};
 ghost use Rattle.sessions.specs.Sessions.{key_at, session_in};
 ghost use Rattle.graph_rules.specs.Steps.{Claimed, Running, MayRun, AreHeld};
 ghost use Rattle.job_table.specs.Tables.{state_of};
 ghost use Rattle.job_table.specs.Calls.{walk_in};
-ghost use Rattle.mark_green.specs.Leaves.{Knows, Tells, HasStatus};
+ghost use Rattle.mark_green.specs.Leaves.{Knows, Tells, StaysTold, AreTold, HasStatus};
 ghost use Rattle.mark_green.specs.Ensures.{EnsureGives, WorkGives, EdgeGives, WalkGives, FetchGives, TurnGives, RunGives, told_or, IsRecordUnder, ShowsOutcomes};
 
 use crate::asking::Stop;
@@ -52,6 +53,8 @@ impl<S: Store<Out = Arc<Outcome<R>>>, R: Runner> Worker<'_, S, R> {
         requires shows { ShowsOutcomes S.outcome_in }
         ensures store { self.new.store.ghost_name ≡ self.old.store.ghost_name }
         ensures id { self.new.id ≡ self.old.id }
+        ensures stays { StaysTold (S.told self.old.store.now) (S.told self.new.store.now) }
+        ensures told { IfOk result (λ a. S.told self.new.store.now key.now (arc_value a)) }
         ensures gives { Tells (λ t u. EnsureGives t self.old.id key.now result u)
             (S.table self.old.store.now) (S.table self.new.store.now) }
     {
@@ -71,6 +74,8 @@ impl<S: Store<Out = Arc<Outcome<R>>>, R: Runner> Worker<'_, S, R> {
         requires rank { 0 < rank_of_key key.now }
         ensures store { self.new.store.ghost_name ≡ self.old.store.ghost_name }
         ensures id { self.new.id ≡ self.old.id }
+        ensures stays { StaysTold (S.told self.old.store.now) (S.told self.new.store.now) }
+        ensures told { IfOk result (λ a. S.told self.new.store.now key.now (arc_value a)) }
         ensures gives { Tells (λ t u. HasStatus (Claimed self.old.id) self.old.id key.now t
             → WorkGives t self.old.id key.now result u)
             (S.table self.old.store.now) (S.table self.new.store.now) }
@@ -88,6 +93,8 @@ impl<S: Store<Out = Arc<Outcome<R>>>, R: Runner> Worker<'_, S, R> {
         requires rank { 0 < rank_of_key key.now }
         ensures store { self.new.store.ghost_name ≡ self.old.store.ghost_name }
         ensures id { self.new.id ≡ self.old.id }
+        ensures stays { StaysTold (S.told self.old.store.now) (S.told self.new.store.now) }
+        ensures told { IfOk result (λ a. S.told self.new.store.now key.now (arc_value a)) }
         ensures gives { Tells (λ t u. session_in past.now ≡ t.past
             → HasStatus (Claimed self.old.id) self.old.id key.now t
             → WorkGives t self.old.id key.now result u)
@@ -114,6 +121,7 @@ impl<S: Store<Out = Arc<Outcome<R>>>, R: Runner> Worker<'_, S, R> {
         requires edges { AllByRecursion (IsRecordUnder past.now.records key.now) edges.now }
         ensures store { self.new.store.ghost_name ≡ self.old.store.ghost_name }
         ensures id { self.new.id ≡ self.old.id }
+        ensures stays { StaysTold (S.told self.old.store.now) (S.told self.new.store.now) }
         ensures gives { Tells (λ t u. t.past ≡ Some past.now
             → HasStatus (Claimed self.old.id) self.old.id key.now t
             → WalkGives t self.old.id (map (key_at past.now.records) edges.now) result u)
@@ -134,6 +142,7 @@ impl<S: Store<Out = Arc<Outcome<R>>>, R: Runner> Worker<'_, S, R> {
         requires within { at < length past.now.records }
         ensures store { self.new.store.ghost_name ≡ self.old.store.ghost_name }
         ensures id { self.new.id ≡ self.old.id }
+        ensures stays { StaysTold (S.told self.old.store.now) (S.told self.new.store.now) }
         ensures gives { Tells (λ t u. t.past ≡ Some past.now
             → EdgeGives t self.old.id (key_at past.now.records at) result u)
             (S.table self.old.store.now) (S.table self.new.store.now) }
@@ -150,6 +159,8 @@ impl<S: Store<Out = Arc<Outcome<R>>>, R: Runner> Worker<'_, S, R> {
         requires rank { 0 < rank_of_key key.now }
         ensures store { self.new.store.ghost_name ≡ self.old.store.ghost_name }
         ensures id { self.new.id ≡ self.old.id }
+        ensures stays { StaysTold (S.told self.old.store.now) (S.told self.new.store.now) }
+        ensures told { IfOk result (λ a. S.told self.new.store.now key.now (arc_value a)) }
         ensures gives { Tells (λ t u. HasStatus (Claimed self.old.id) self.old.id key.now t
             → MayRun (walk_in t key.now)
             → WorkGives t self.old.id key.now result u)
@@ -168,6 +179,8 @@ impl<S: Store<Out = Arc<Outcome<R>>>, R: Runner> Worker<'_, S, R> {
         requires rank { 0 < rank_of_key key.now }
         ensures store { self.new.store.ghost_name ≡ self.old.store.ghost_name }
         ensures id { self.new.id ≡ self.old.id }
+        ensures stays { StaysTold (S.told self.old.store.now) (S.told self.new.store.now) }
+        ensures told { IfOk result (λ a. S.told self.new.store.now key.now (arc_value a)) }
         ensures gives { Tells (λ t u. HasStatus (Running self.old.id) self.old.id key.now t
             → WorkGives t self.old.id key.now result u)
             (S.table self.old.store.now) (S.table self.new.store.now) }
@@ -185,9 +198,11 @@ impl<S: Store<Out = Arc<Outcome<R>>>, R: Runner> Worker<'_, S, R> {
         requires none_held { held.old ≡ [] }
         ensures store { self.new.store.ghost_name ≡ self.old.store.ghost_name }
         ensures id { self.new.id ≡ self.old.id }
+        ensures stays { StaysTold (S.told self.old.store.now) (S.told self.new.store.now) }
         ensures key { IfOk result (λ o. o.key ≡ key.now) }
         ensures held { IfOk result (λ o. Knows (λ t. AreHeld (state_of t) o.told)
             (S.table self.new.store.now)) }
+        ensures told { IfOk result (λ o. AreTold (S.told self.new.store.now) o.told) }
         ensures gives { Tells (λ t u. HasStatus (Running self.old.id) self.old.id key.now t
             → RunGives t self.old.id result u)
             (S.table self.old.store.now) (S.table self.new.store.now) }
@@ -207,11 +222,14 @@ impl<S: Store<Out = Arc<Outcome<R>>>, R: Runner> Worker<'_, S, R> {
         requires rank { 0 < rank_of_key key.now }
         ensures store { self.new.store.ghost_name ≡ self.old.store.ghost_name }
         ensures id { self.new.id ≡ self.old.id }
+        ensures stays { StaysTold (S.told self.old.store.now) (S.told self.new.store.now) }
         ensures key { IfOk result (λ ran. IfSome ran (λ o. o.key ≡ key.now)) }
         ensures held { IfOk result (λ ran. Knows (λ t. AreHeld (state_of t) held.old)
             (S.table self.old.store.now)
             → Knows (λ t. AreHeld (state_of t) (told_or ran held.new))
             (S.table self.new.store.now)) }
+        ensures told { IfOk result (λ ran. AreTold (S.told self.old.store.now) held.old
+            → AreTold (S.told self.new.store.now) (told_or ran held.new)) }
         ensures gives { Tells (λ t u. HasStatus (Running self.old.id) self.old.id key.now t
             → AreHeld (state_of t) held.old
             → TurnGives t self.old.id key.now result held.new u)
@@ -234,6 +252,9 @@ impl<S: Store<Out = Arc<Outcome<R>>>, R: Runner> Worker<'_, S, R> {
         requires rank { 0 < rank_of_key lacked }
         ensures store { self.new.store.ghost_name ≡ self.old.store.ghost_name }
         ensures id { self.new.id ≡ self.old.id }
+        ensures stays { StaysTold (S.told self.old.store.now) (S.told self.new.store.now) }
+        ensures told { IfOk result (λ _. AreTold (S.told self.old.store.now) held.old
+            → AreTold (S.told self.new.store.now) held.new) }
         ensures gives { Tells (λ t u. HasStatus (Claimed self.old.id) self.old.id lacked t
             → AreHeld (state_of t) held.old
             → FetchGives t self.old.id lacked result held.new u)

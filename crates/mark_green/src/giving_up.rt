@@ -1,6 +1,6 @@
 //! Giving up.
 ghost use Rattle.std.specs.Prelude.{◌≡◌};
-ghost use Rattle.mark_green.specs.Leaves.{Tells, GivesUp};
+ghost use Rattle.mark_green.specs.Leaves.{Tells, StaysTold, GivesUp};
 ghost use Rattle.mark_green.specs.Ensures.{IsFaultOf, IsFaultOfStop, StopsFor};
 
 use crate::asking::Stop;
@@ -15,6 +15,7 @@ impl<S: Store, R: Runner> Worker<'_, S, R> {
     pub(crate) fn give_up(&mut self, fault: TableFault) -> Fault
         ensures store { self.new.store.ghost_name ≡ self.old.store.ghost_name }
         ensures id { self.new.id ≡ self.old.id }
+        ensures stays { StaysTold (S.told self.old.store.now) (S.told self.new.store.now) }
         ensures fault { IsFaultOf fault result }
         ensures stops { Tells GivesUp (S.table self.old.store.now) (S.table self.new.store.now) }
     {
@@ -26,6 +27,7 @@ impl<S: Store, R: Runner> Worker<'_, S, R> {
     pub(crate) fn give_up_run(&mut self, stop: Stop) -> Fault
         ensures store { self.new.store.ghost_name ≡ self.old.store.ghost_name }
         ensures id { self.new.id ≡ self.old.id }
+        ensures stays { StaysTold (S.told self.old.store.now) (S.told self.new.store.now) }
         ensures fault { IsFaultOfStop stop result }
         ensures stops { Tells (StopsFor stop) (S.table self.old.store.now)
             (S.table self.new.store.now) }

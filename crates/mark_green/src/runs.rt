@@ -3,7 +3,7 @@ ghost use Rattle.std.specs.Prelude.{◌≡◌, ◌⊎◌, ◌<◌, IfOk, IfErr, 
 ghost use Rattle.recorder.specs.Backed.{rank as rank_of_key};
 ghost use Rattle.graph_rules.specs.Steps.{AreHeld};
 ghost use Rattle.job_table.specs.Tables.{state_of};
-ghost use Rattle.mark_green.specs.Leaves.{Knows};
+ghost use Rattle.mark_green.specs.Leaves.{Knows, StaysTold, AreTold};
 ghost use Rattle.mark_green.specs.Moves.{Halts, IsWantOfMemory};
 ghost use Rattle.mark_green.specs.declared.asking.Stop.{Stop};
 
@@ -25,8 +25,11 @@ pub(crate) fn run_once<S: Store, R: Runner>(
     requires rank { 0 < rank_of_key key.now }
     ensures key { IfOk result (λ o. o.key ≡ key.now) }
     ensures same { IfOk result (λ _. S.table store.new ≡ S.table store.old) }
-    ensures told { IfOk result (λ o. Knows (λ t. AreHeld (state_of t) held.now) (S.table store.old)
+    ensures held { IfOk result (λ o. Knows (λ t. AreHeld (state_of t) held.now) (S.table store.old)
         → Knows (λ t. AreHeld (state_of t) o.told) (S.table store.old)) }
+    ensures told { IfOk result (λ o. AreTold (S.told store.new) held.now
+        → AreTold (S.told store.new) o.told) }
+    ensures stays { StaysTold (S.told store.old) (S.told store.new) }
     ensures halts { IfErr result (λ x. Halts w (rank_of_key key.now) x (S.table store.old)
         (S.table store.new)) }
 {

@@ -64,6 +64,8 @@ impl<R: Runner> Store for Solo<R> {
 
     ghost table = { λ s. Some s.table };
 
+    ghost told = { λ s q v. Unit {0} };
+
     ghost outcome_in = { λ o. arc_value o };
 
     fn ask(&mut self, w: u32, key: &Key) -> Result<Asked, TableFault> {

@@ -4,7 +4,7 @@ ghost use Rattle.std.specs.Arc.{arc_value};
 ghost use Rattle.graph_rules.specs.Steps.{Claimed, Running, AllUnchanged, AreHeld};
 ghost use Rattle.job_table.specs.Tables.{state_of};
 ghost use Rattle.job_table.specs.Calls.{walk_in};
-ghost use Rattle.mark_green.specs.Leaves.{Knows, Tells, HasStatus};
+ghost use Rattle.mark_green.specs.Leaves.{Knows, Tells, StaysTold, AreTold, HasStatus};
 ghost use Rattle.mark_green.specs.Ensures.{WorkGives, ShowsOutcomes};
 
 use crate::fault::Fault;
@@ -22,6 +22,8 @@ impl<S: Store<Out = Arc<Outcome<R>>>, R: Runner> Worker<'_, S, R> {
     pub(crate) fn mark(&mut self, key: &Key) -> Result<Arc<Sealed>, Fault>
         ensures store { self.new.store.ghost_name ≡ self.old.store.ghost_name }
         ensures id { self.new.id ≡ self.old.id }
+        ensures stays { StaysTold (S.told self.old.store.now) (S.told self.new.store.now) }
+        ensures told { IfOk result (λ a. S.told self.new.store.now key.now (arc_value a)) }
         ensures gives { Tells (λ t u. HasStatus (Claimed self.old.id) self.old.id key.now t
             → walk_in t key.now ≡ Some AllUnchanged → WorkGives t self.old.id key.now result u)
             (S.table self.old.store.now) (S.table self.new.store.now) }
@@ -38,8 +40,11 @@ impl<S: Store<Out = Arc<Outcome<R>>>, R: Runner> Worker<'_, S, R> {
         requires key { outcome.key ≡ key.now }
         requires held { Knows (λ t. AreHeld (state_of t) outcome.told)
             (S.table self.old.store.now) }
+        requires told { AreTold (S.told self.old.store.now) outcome.told }
         ensures store { self.new.store.ghost_name ≡ self.old.store.ghost_name }
         ensures id { self.new.id ≡ self.old.id }
+        ensures stays { StaysTold (S.told self.old.store.now) (S.told self.new.store.now) }
+        ensures told { IfOk result (λ a. S.told self.new.store.now key.now (arc_value a)) }
         ensures gives { Tells (λ t u. HasStatus (Running self.old.id) self.old.id key.now t
             → AreHeld (state_of t) outcome.told → WorkGives t self.old.id key.now result u)
             (S.table self.old.store.now) (S.table self.new.store.now) }

@@ -1,10 +1,13 @@
 //! What a worker does with a table.
 ghost use Rattle.std.specs.Prelude.{◌≡◌, IfOk, Option};
+ghost use Rattle.std.specs.Arc.{arc_value};
+ghost use Rattle.item_ids.specs.declared.key.Key.{Key};
+ghost use Rattle.result_bytes.specs.declared.value.Value.{Value};
 ghost use Rattle.graph_rules.specs.Steps.{AreHeld};
 ghost use Rattle.sessions.specs.Sessions.{session_in};
 ghost use Rattle.job_table.specs.Tables.{state_of};
 ghost use Rattle.job_table.specs.Calls.{AskGives, MarkGives, BeginGives, FinishGives, FailGives};
-ghost use Rattle.mark_green.specs.Leaves.{Knows, Tells, ClaimsNoInput};
+ghost use Rattle.mark_green.specs.Leaves.{Knows, Tells, ClaimsNoInput, StaysTold, TellsDone, AreTold};
 
 use fingerprint::Sealed;
 use item_ids::Key;
@@ -14,7 +17,7 @@ use std::alloc::AllocError;
 use std::sync::Arc;
 
 /// The calls that a worker makes at a table, its own or a shared one. Where a store tells nothing of its table,
-/// contracts say nothing of what its calls do.
+/// contracts say nothing of what its calls do, but for the results that it told the worker: those stay so.
 pub trait Store {
     /// The outcome of a run.
     type Out;
@@ -25,6 +28,9 @@ pub trait Store {
     /// The table, where anything is known of it.
     ghost table: { Self → Option TableValue };
 
+    /// The results that it told the worker: a key that is done with a value stays done with it.
+    ghost told: { Self → Key → Value → Type 0 };
+
     /// What a run gave.
     ghost outcome_in: { Self.Out → OutcomeValue };
 
@@ -32,27 +38,39 @@ pub trait Store {
     fn ask(&mut self, w: u32, key: &Key) -> Result<Asked, TableFault>
         ensures gives { Tells (λ t u. AskGives t w key.now result u) (table self.old)
             (table self.new) }
-        ensures claims { ClaimsNoInput key.now result };
+        ensures claims { ClaimsNoInput key.now result }
+        ensures told { TellsDone (told self.new) key.now result }
+        ensures stays { StaysTold (told self.old) (told self.new) };
 
     /// Takes over the previous session's result for a key that the worker has claimed.
     fn mark(&mut self, w: u32, key: &Key) -> Result<Arc<Sealed>, TableFault>
-        ensures { Tells (λ t u. MarkGives t w key.now result u) (table self.old) (table self.new) };
+        ensures gives { Tells (λ t u. MarkGives t w key.now result u) (table self.old)
+            (table self.new) }
+        ensures told { IfOk result (λ a. told self.new key.now (arc_value a)) }
+        ensures stays { StaysTold (told self.old) (told self.new) };
 
     /// Begins the run of a key that the worker has claimed.
     fn begin_run(&mut self, w: u32, key: &Key) -> Result<(), TableFault>
-        ensures { Tells (λ t u. BeginGives t w key.now result u) (table self.old)
-            (table self.new) };
+        ensures gives { Tells (λ t u. BeginGives t w key.now result u) (table self.old)
+            (table self.new) }
+        ensures stays { StaysTold (told self.old) (told self.new) };
 
-    /// Ends the run of a key with its outcome. Where the table is known, the caller knows that all that was read still
-    /// stands there; a store that tells nothing of its table has to see to it.
+    /// Ends the run of a key with its outcome. All that was read was told by the store, so that it still stands in the
+    /// table.
     fn finish(&mut self, w: u32, outcome: Self::Out) -> Result<(), TableFault>
-        requires { Knows (λ t. AreHeld (state_of t) (outcome_in outcome).told) (table self.old) }
-        ensures { Tells (λ t u. FinishGives t w (outcome_in outcome) result u) (table self.old)
-            (table self.new) };
+        requires held { Knows (λ t. AreHeld (state_of t) (outcome_in outcome).told)
+            (table self.old) }
+        requires told { AreTold (told self.old) (outcome_in outcome).told }
+        ensures gives { Tells (λ t u. FinishGives t w (outcome_in outcome) result u)
+            (table self.old) (table self.new) }
+        ensures told { IfOk result (λ _. told self.new (outcome_in outcome).key
+            (outcome_in outcome).value) }
+        ensures stays { StaysTold (told self.old) (told self.new) };
 
     /// Notes that the worker gives up.
     fn fail(&mut self, w: u32) -> Result<(), TableFault>
-        ensures { Tells (λ t u. FailGives t w result u) (table self.old) (table self.new) };
+        ensures gives { Tells (λ t u. FailGives t w result u) (table self.old) (table self.new) }
+        ensures stays { StaysTold (told self.old) (told self.new) };
 
     /// The previous session.
     fn past(&self) -> Result<Option<Arc<Session>>, AllocError>

@@ -19,7 +19,12 @@ use Rattle.job_table.specs.contracts.nodes.Standing as standing
 use Rattle.job_table.specs.contracts.node_map.NodeMap as node_map
 use Rattle.job_table.specs.contracts.event.Event as event
 use Rattle.job_table.specs.contracts.table.Table as table
+use Rattle.known_list.specs.declared.naming.ListNaming as list_naming
+use Rattle.known_list.proofs.Sending.{known_send, known_sync}
+use Rattle.known_list.proofs.list.Head.TheSendSync as head_crosses
 use Rattle.shared_table.specs.declared.naming.Naming as naming
+use Rattle.shared_table.specs.contracts.desk.Desk as desk
+use Rattle.shared_table.specs.contracts.desk.Desk.TheInside as desk_inside
 use Rattle.shared_table.specs.contracts.counted.Counted as counted
 use Rattle.shared_table.specs.contracts.counted.Counted.TheInside as inside
 use denote.Struct.Declared as declared
@@ -68,16 +73,25 @@ module _ (R : RattleType) (g : runner.Ghosts R.Denot) where
   table_send : IsSend R → IsSync R → IsSend (table.the_row R g)
   table_send s y = search (event_send, node_map_send, inputs_send, session_send, session_sync, sealed_results) depth 60 fits 20000
 
-module _ (J R : RattleType) (g : naming.Ghosts J.Denot) (g' : ledger.Ghosts J.Denot) (g'' : runner.Ghosts R.Denot) where
-  inside_send : IsSend R → IsSync R → IsSend (inside.the_row J R g g' g'')
-  inside_send s y = let T = inside.the_type J R g g' g'' in
-      recorded_send (inside.the_field J R g g' g'').row _ _ T.to_one (struct_send (declared.shape T) (table_send R g'' s y, (book.the_send J g', tt)))
+module _ (J R : RattleType) (g : naming.Ghosts J.Denot) (g' : ledger.Ghosts J.Denot) (l : list_naming.Ghosts J.Denot) (g'' : runner.Ghosts R.Denot) where
+  inside_send : IsSend R → IsSync R → IsSend (inside.the_row J R g g' l g'')
+  inside_send s y = let T = inside.the_type J R g g' l g'' in
+      recorded_send (inside.the_field J R g g' l g'').row _ _ T.to_one (struct_send (declared.shape T) (table_send R g'' s y, (book.the_send J g', tt)))
 
-  counted_send : IsSend R → IsSync R → IsSend (counted.the_row J R g g' g'')
-  counted_send s y = let c = counted.the_row J R g g' g'' in
-      view_send (inside.the_row J R g g' g'') c.Denot c.coded (counted.the_view J R g g' g'') (counted.the_invariant J R g g' g'') (inside_send s y)
+  counted_send : IsSend R → IsSync R → IsSend (counted.the_row J R g g' l g'')
+  counted_send s y = let c = counted.the_row J R g g' l g'' in
+      view_send (inside.the_row J R g g' l g'') c.Denot c.coded (counted.the_view J R g g' l g'') (counted.the_invariant J R g g' l g'') (inside_send s y)
 
-  pub shared_sync : IsSend R → IsSync R → IsSync (shared.the_row J R g g' g'')
-  shared_sync s y = let T = shared.the_type J R g g' g'' in
-      recorded_sync (shared.the_field J R g g' g'').row _ _ T.to_one
-      (struct_sync (declared.shape T) (mutex.the_sync (counted.the_row J R g g' g'') (counted_send s y), (condvar.the_field_sync, (search (session_send, session_sync, sealed_results) depth 60 fits 20000, tt))))
+  desk_inside_send : IsSend R → IsSync R → IsSend (desk_inside.the_row J R l g g' g'')
+  desk_inside_send s y = let T = desk_inside.the_type J R l g g' g'' in
+      recorded_send (desk_inside.the_field J R l g g' g'').row _ _ T.to_one
+      (struct_send (declared.shape T) (counted_send s y, (head_crosses.the_field_send J read.the_row l, (known_send J read.the_row l, tt))))
+
+  desk_send : IsSend R → IsSync R → IsSend (desk.the_row J R l g g' g'')
+  desk_send s y = let d = desk.the_row J R l g g' g'' in
+      view_send (desk_inside.the_row J R l g g' g'') d.Denot d.coded (desk.the_view J R l g g' g'') (desk.the_invariant J R l g g' g'') (desk_inside_send s y)
+
+  pub shared_sync : IsSend R → IsSync R → IsSync (shared.the_row J R g g' l g'')
+  shared_sync s y = let T = shared.the_type J R g g' l g'' in
+      recorded_sync (shared.the_field J R g g' l g'').row _ _ T.to_one
+      (struct_sync (declared.shape T) (mutex.the_sync (desk.the_row J R l g g' g'') (desk_send s y), (condvar.the_field_sync, (search (session_send, session_sync, sealed_results) depth 60 fits 20000, (known_sync J read.the_row l, tt)))))

@@ -42,6 +42,8 @@ impl<J: Naming, R: Runner, G: Gate> Store for Alone<'_, J, R, G> {
 
     ghost table = { λ s. Some s.counted.now };
 
+    ghost told = { λ s q v. Unit {0} };
+
     ghost outcome_in = { λ o. arc_value o };
 
     fn ask(&mut self, w: u32, key: &Key) -> Result<Asked, TableFault> {

@@ -1,37 +1,88 @@
-//! Results that a worker was given.
+//! What a worker was told.
+ghost use Rattle.std.specs.Prelude.{◌≡◌, Contains, IfSome};
+ghost use Rattle.std.specs.Arc.{arc_value};
+ghost use mathlib.Core.List.{IsPrefix};
 
+use crate::naming::Naming;
 use fingerprint::Sealed;
-use indexmap::IndexMap;
 use item_ids::Key;
+use known_list::Known;
+use recorder::{AnswerList, Read};
 use std::alloc::{AllocError, Global};
+use std::marker::Model;
 use std::sync::Arc;
 
-/// The results of done keys that a worker was given. What is done stays done, so the worker asks the table once for
-/// each.
+/// What a worker was told of the keys that are done, and the results of some, so that it asks the table once for each.
+/// Contracts see it as the beginning that it knows of the list of all that the table told. What is done stays done.
 #[derive(Drop)]
-pub(crate) struct Kept {
+pub(crate) struct Kept<J: Naming> {
     alloc: Global,
-    results: IndexMap<Key, Arc<Sealed>>,
+    known: Known<J, Read>,
+    results: AnswerList,
 }
 
-impl Kept {
-    /// No results.
-    pub(crate) fn new(alloc: Global) -> Self {
+impl<J: Naming> Model for Kept<J> {
+    ghost use Rattle.std.specs.Prelude.{List, Contains};
+    ghost use Rattle.std.specs.List.{AllByRecursion};
+    ghost use Rattle.recorder.specs.Backed.{ReadValue};
+    ghost use Rattle.recorder.specs.Codes.{coded_reads};
+
+    ghost Value = { List ReadValue };
+
+    ghost coded = { coded_reads };
+
+    ghost view = { λ k. k.known };
+
+    ghost invariant = { λ k. AllByRecursion (λ r. Contains k.known r) k.results };
+}
+
+impl<J: Naming> Kept<J> {
+    /// What is known at first, and no results.
+    pub(crate) fn new(alloc: Global, known: Known<J, Read>) -> Self
+        ensures { result ≡ known }
+    {
         Kept {
             alloc,
-            results: IndexMap::new(alloc),
+            known,
+            results: AnswerList::new(alloc),
         }
     }
 
-    /// The result of a key, if it was given.
-    pub(crate) fn get(&self, key: &Key) -> Option<&Arc<Sealed>> {
-        self.results.get(key)
+    /// The beginning that is known.
+    pub(crate) fn known(&self) -> &Known<J, Read>
+        ensures { result.now ≡ self.now }
+    {
+        &self.known
     }
 
-    /// Keeps the result of a key.
-    pub(crate) fn add(&mut self, key: &Key, sealed: &Arc<Sealed>) -> Result<(), AllocError> {
+    /// Knows a longer beginning from now on.
+    pub(crate) fn learn(&mut self, longer: Known<J, Read>)
+        requires { IsPrefix self.old longer }
+        ensures { self.new ≡ longer }
+    {
+        self.known = longer;
+    }
+
+    /// The result of a key, if it is kept.
+    pub(crate) fn get(&self, key: &Key) -> Option<&Arc<Sealed>>
+        ensures { IfSome result (λ a. Contains self.now
+            (record { key = key.now; value = arc_value a.now })) }
+    {
+        match self.results.find(key) {
+            Some(read) => Some(read.answer()),
+            None => None,
+        }
+    }
+
+    /// Keeps the result of a key, which was told.
+    pub(crate) fn add(&mut self, key: &Key, sealed: &Arc<Sealed>) -> Result<(), AllocError>
+        requires { Contains self.old (record { key = key.now; value = arc_value sealed.now }) }
+        ensures { self.new ≡ self.old }
+    {
+        if sealed.value().kind() != key.kind() {
+            return Ok(());
+        }
         let own = key.copy(self.alloc)?;
-        self.results.insert(own, Arc::try_clone(sealed)?)?;
-        Ok(())
+        self.results.add(own, Arc::try_clone(sealed)?)
     }
 }

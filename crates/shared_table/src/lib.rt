@@ -4,6 +4,7 @@
 
 mod alone;
 mod counted;
+mod desk;
 mod gate;
 mod kept;
 mod naming;

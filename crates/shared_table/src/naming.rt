@@ -1,12 +1,14 @@
 //! Which session a table and the counts of its workers are of.
 
+use known_list::ListNaming;
 use std::marker::Brand;
 use std::sync::ledger::Ledger;
 
-/// The name of a session: its previous session, its project, and the ledger of its workers' events. Whoever makes a
+/// The name of a session: its previous session, its project, the ledger of its workers' events, and the list of all that
+/// its workers are told. Whoever makes a
 /// session picks its name, so that contracts can say that the shared table and each worker's count belong to one
 /// session.
-pub trait Naming: Ledger {
+pub trait Naming: Ledger + ListNaming {
     ghost use Rattle.std.specs.Prelude.{Option};
     ghost use Rattle.recorder.specs.Projects.{Project};
     ghost use Rattle.sessions.specs.Sessions.{SessionValue};

@@ -1,6 +1,7 @@
 //! A worker's seat at a table that all share.
-ghost use Rattle.std.specs.Prelude.{◌≢◌, IfOk};
+ghost use Rattle.std.specs.Prelude.{◌≡◌, IfOk};
 ghost use Rattle.std.specs.Arc.{arc_value};
+ghost use Rattle.shared_table.specs.Told.{IsFound};
 
 use crate::gate::Gate;
 use crate::kept::Kept;
@@ -13,61 +14,68 @@ use job_table::{Asked, TableFault};
 use mark_green::Store;
 use recorder::{Outcome, Runner};
 use sessions::Session;
-use std::alloc::{AllocError, Global};
+use std::alloc::AllocError;
 use std::sync::{Arc, Wait};
 
 /// A worker's seat at a shared table: the store that it works with. Contracts say nothing of the table, which others
-/// may change at any time. A worker that asks for a key which another one has waits. The seat keeps the results of done
-/// keys that it was given, and answers for them by itself. No lock is held while the gate is called.
+/// may change at any time, but for the results that the worker was told, which stay. A worker that asks for a key which
+/// another one has waits. The seat keeps the results of done keys that it was given, and answers for them by itself. No
+/// lock is held while the gate is called.
 #[derive(Drop)]
 pub struct Seat<'a, J: Naming, R: Runner, T: Wait, G: Gate> {
     rt: &'a T,
     shared: &'a Shared<J, R>,
     gate: &'a G,
     tally: &'a mut Tally<J>,
-    kept: Kept,
+    kept: Kept<J>,
 }
 
 impl<'a, J: Naming, R: Runner, T: Wait, G: Gate> Seat<'a, J, R, T, G> {
     pub(crate) fn new(
-        alloc: Global,
         rt: &'a T,
         shared: &'a Shared<J, R>,
         gate: &'a G,
         tally: &'a mut Tally<J>,
+        kept: Kept<J>,
     ) -> Self {
         Seat {
             rt,
             shared,
             gate,
             tally,
-            kept: Kept::new(alloc),
+            kept,
         }
     }
 }
 
 impl<J: Naming, R: Runner, T: Wait, G: Gate> Store for Seat<'_, J, R, T, G> {
     ghost use Rattle.std.specs.Prelude.{None};
+    ghost use Rattle.shared_table.specs.Told.{is_told};
 
     type Out = Arc<Outcome<R>>;
 
     ghost table = { λ s. None };
 
+    ghost told = { λ s q v. is_told s.kept q v };
+
     ghost outcome_in = { λ o. arc_value o };
 
     fn ask(&mut self, w: u32, key: &Key) -> Result<Asked, TableFault> {
         if let Some(sealed) = self.kept.get(key) {
-            return done_again(sealed);
+            return again(sealed);
         }
-        let answer = self.shared.ask(self.rt, self.tally, w, key);
+        let answer = self.shared.ask(self.rt, self.tally, &mut self.kept, w, key);
         if let Ok(Asked::Done(sealed)) = &answer {
-            return given(&mut self.kept, key, sealed);
+            if self.kept.add(key, sealed).is_err() {
+                return Err(TableFault::OutOfMemory);
+            }
         }
         answer
     }
 
     fn mark(&mut self, w: u32, key: &Key) -> Result<Arc<Sealed>, TableFault> {
-        self.shared.mark(self.rt, self.tally, w, key)
+        self.shared
+            .mark(self.rt, self.tally, &mut self.kept, w, key)
     }
 
     fn begin_run(&mut self, w: u32, key: &Key) -> Result<(), TableFault> {
@@ -82,7 +90,9 @@ impl<J: Naming, R: Runner, T: Wait, G: Gate> Store for Seat<'_, J, R, T, G> {
         let Ok(ended) = Arc::try_clone(&outcome) else {
             return Err(TableFault::OutOfMemory);
         };
-        let answer = self.shared.finish(self.rt, self.tally, w, outcome);
+        let answer = self
+            .shared
+            .finish(self.rt, self.tally, &mut self.kept, w, outcome, &ended);
         if let Ok(()) = &answer {
             self.gate.after_run(w, ended.key());
         }
@@ -99,21 +109,11 @@ impl<J: Naming, R: Runner, T: Wait, G: Gate> Store for Seat<'_, J, R, T, G> {
 }
 
 /// The result of a key that is done.
-fn done_again(sealed: &Arc<Sealed>) -> Result<Asked, TableFault>
-    ensures { IfOk result (λ a. a ≢ Asked.Yours) }
+fn again(sealed: &Arc<Sealed>) -> Result<Asked, TableFault>
+    ensures { IfOk result (λ a. IsFound a (arc_value sealed.now)) }
 {
     match Arc::try_clone(sealed) {
         Ok(sealed) => Ok(Asked::Done(sealed)),
-        Err(_) => Err(TableFault::OutOfMemory),
-    }
-}
-
-/// The result of a key that is done, which is kept.
-fn given(kept: &mut Kept, key: &Key, sealed: &Arc<Sealed>) -> Result<Asked, TableFault>
-    ensures { IfOk result (λ a. a ≢ Asked.Yours) }
-{
-    match kept.add(key, sealed) {
-        Ok(()) => done_again(sealed),
         Err(_) => Err(TableFault::OutOfMemory),
     }
 }

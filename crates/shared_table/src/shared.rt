@@ -1,37 +1,51 @@
 //! The table under a lock.
-ghost use Rattle.mark_green.specs.Leaves.{ClaimsNoInput};
+ghost use Rattle.std.specs.Prelude.{◌≡◌, IfOk};
+ghost use Rattle.std.specs.Arc.{arc_value};
+ghost use mathlib.Core.List.{IsPrefix};
+ghost use Rattle.mark_green.specs.Leaves.{ClaimsNoInput, TellsDone, AreTold};
+ghost use Rattle.shared_table.specs.Told.{is_told};
 
 use crate::counted::Counted;
+use crate::desk::Desk;
 use crate::gate::Gate;
+use crate::kept::Kept;
 use crate::naming::Naming;
 use crate::seat::Seat;
 use crate::tally::Tally;
 use fingerprint::Sealed;
 use item_ids::Key;
 use job_table::{Asked, TableFault};
-use recorder::{Outcome, Runner};
+use known_list::{Known, Opened};
+use recorder::{Outcome, Read, Runner};
 use sessions::Session;
 use std::alloc::{AllocError, Global};
 use std::sync::{Arc, Condvar, Mutex, Wait};
 
 /// One table for all workers of a session, under a lock. Its type keeps, whenever the lock is free, that the state is
-/// the replay of the history, that the history is legal, and that each worker's events are counted. The previous
-/// session, which never changes, lies beside the lock.
+/// the replay of the history, that the history is legal, that each worker's events are counted, and that each result that
+/// a worker was told still stands. What never changes lies beside the lock: the previous session, and what is known at
+/// first of the list of all that is told.
 #[derive(Drop)]
 pub struct Shared<J: Naming, R: Runner> {
-    counted: Mutex<Counted<J, R>>,
+    desk: Mutex<Desk<J, R>>,
     changed: Condvar,
     past: Option<Arc<Session>>,
+    known: Known<J, Read>,
 }
 
 impl<J: Naming, R: Runner> Shared<J, R> {
-    /// Shares a table.
-    pub fn new(counted: Counted<J, R>) -> Result<Self, AllocError> {
+    /// Shares a table, and the empty list of all that it tells its workers.
+    pub fn new(counted: Counted<J, R>, list: Opened<Read>) -> Result<Self, AllocError>
+        requires { list.seen.book ≡ J.book }
+    {
         let past = counted.past()?;
+        let (head, known) = list.named::<J>();
+        let told = known.again();
         Ok(Shared {
-            counted: Mutex::new(counted),
+            desk: Mutex::new(Desk::new(counted, head, told)),
             changed: Condvar::new(),
             past,
+            known,
         })
     }
 
@@ -43,17 +57,18 @@ impl<J: Naming, R: Runner> Shared<J, R> {
         gate: &'a G,
         tally: &'a mut Tally<J>,
     ) -> Seat<'a, J, R, T, G> {
-        Seat::new(alloc, rt, self, gate, tally)
+        Seat::new(rt, self, gate, tally, Kept::new(alloc, self.known.again()))
     }
 
     /// The table, when all workers have ended.
     pub fn into_counted(self) -> Counted<J, R> {
         let Shared {
-            counted,
+            desk,
             changed: _,
             past: _,
+            known: _,
         } = self;
-        counted.into_inner()
+        desk.into_inner().into_counted()
     }
 
     /// Asks for a key, and waits while another worker has it.
@@ -61,16 +76,19 @@ impl<J: Naming, R: Runner> Shared<J, R> {
         &self,
         rt: &T,
         tally: &mut Tally<J>,
+        kept: &mut Kept<J>,
         w: u32,
         key: &Key,
     ) -> Result<Asked, TableFault>
-        ensures { ClaimsNoInput key.now result }
+        ensures claims { ClaimsNoInput key.now result }
+        ensures told { TellsDone (is_told kept.new) key.now result }
+        ensures stays { IsPrefix kept.old kept.new }
     {
-        for _ in rt.forever() {
-            let mut counted = self.counted.lock(rt);
-            match counted.ask(tally, w, key) {
+        'asks: for _ in rt.forever() {
+            let mut desk = self.desk.lock(rt);
+            match desk.ask(tally, kept, w, key) {
                 Ok(Asked::Busy) => {
-                    let _counted = self.changed.wait(rt, counted);
+                    let _desk = self.changed.wait(rt, desk);
                 }
                 answer => return answer,
             }
@@ -83,10 +101,14 @@ impl<J: Naming, R: Runner> Shared<J, R> {
         &self,
         rt: &T,
         tally: &mut Tally<J>,
+        kept: &mut Kept<J>,
         w: u32,
         key: &Key,
-    ) -> Result<Arc<Sealed>, TableFault> {
-        let answer = self.counted.lock(rt).mark(tally, w, key);
+    ) -> Result<Arc<Sealed>, TableFault>
+        ensures told { IfOk result (λ a. is_told kept.new key.now (arc_value a)) }
+        ensures stays { IsPrefix kept.old kept.new }
+    {
+        let answer = self.desk.lock(rt).mark(tally, kept, w, key);
         self.changed.notify_all();
         answer
     }
@@ -99,7 +121,7 @@ impl<J: Naming, R: Runner> Shared<J, R> {
         w: u32,
         key: &Key,
     ) -> Result<(), TableFault> {
-        self.counted.lock(rt).begin_run(tally, w, key)
+        self.desk.lock(rt).begin_run(tally, w, key)
     }
 
     /// Ends a run, and wakes the workers that wait.
@@ -107,10 +129,17 @@ impl<J: Naming, R: Runner> Shared<J, R> {
         &self,
         rt: &T,
         tally: &mut Tally<J>,
+        kept: &mut Kept<J>,
         w: u32,
         outcome: Arc<Outcome<R>>,
-    ) -> Result<(), TableFault> {
-        let answer = self.counted.lock(rt).finish(tally, w, outcome);
+        ended: &Outcome<R>,
+    ) -> Result<(), TableFault>
+        requires same { ended.now ≡ arc_value outcome }
+        requires reads { AreTold (is_told kept.old) ended.now.told }
+        ensures told { IfOk result (λ _. is_told kept.new ended.now.key ended.now.value) }
+        ensures stays { IsPrefix kept.old kept.new }
+    {
+        let answer = self.desk.lock(rt).finish(tally, kept, w, outcome, ended);
         self.changed.notify_all();
         answer
     }
@@ -122,7 +151,7 @@ impl<J: Naming, R: Runner> Shared<J, R> {
         tally: &mut Tally<J>,
         w: u32,
     ) -> Result<(), TableFault> {
-        let answer = self.counted.lock(rt).fail(tally, w);
+        let answer = self.desk.lock(rt).fail(tally, w);
         self.changed.notify_all();
         answer
     }

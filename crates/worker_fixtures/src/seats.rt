@@ -5,9 +5,11 @@ use crate::workers::project_of_many;
 use answer_fixtures::{Asked, Unfit, key_of};
 use item_ids::{Key, Kind};
 use job_table::{Asked as Told, Table};
+use known_list::Opened;
 use mark_green::Store;
 use mini_java::{Open, Shared};
 use providers::MiniJava;
+use recorder::Read;
 use shared_table::{Counted, Naming, Tally};
 use std::alloc::{AllocError, Global};
 use std::marker::Brand;
@@ -87,10 +89,12 @@ fn stop<J: Naming, T: Wait>(
     keys: &[Key],
     failing: usize,
     blank: Blank,
+    list: Opened<Read>,
 ) -> bool
     requires name { blank.name ≡ J.name }
     requires parts { blank.parts ≡ J.parts }
     requires two { blank.parts ≡ 2 }
+    requires list { list.seen.book ≡ J.book }
     requires past { table.past ≡ J.past }
     requires project { table.project ≡ J.project }
     requires opened { table.history ≡ [] }
@@ -98,7 +102,7 @@ fn stop<J: Naming, T: Wait>(
     let (book, mut one) = blank.open::<J>();
     let mut first = Tally::new(one.split_off(1, 0));
     let mut second = Tally::new(one);
-    let Ok(shared) = Shared::new(Counted::new(table, book)) else {
+    let Ok(shared) = Shared::new(Counted::new(table, book), list) else {
         return false;
     };
     are_told(rt, alloc, &shared, &mut second, keys, None, Say::Yours)
@@ -124,7 +128,15 @@ pub fn all_stop<T: Wait>(
     let project = project_of_many(alloc, workers)?;
     let keys = trees_of(alloc, workers)?;
     match Table::open(alloc, None, &project) {
-        Ok(table) => Ok(stop::<Brand, T>(rt, alloc, table, &keys, failing, Blank::new(2))),
+        Ok(table) => Ok(stop::<Brand, T>(
+            rt,
+            alloc,
+            table,
+            &keys,
+            failing,
+            Blank::new(2),
+            Opened::new(),
+        )),
         Err(_) => Err(Unfit),
     }
 }

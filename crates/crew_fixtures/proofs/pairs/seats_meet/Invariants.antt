@@ -5,3 +5,6 @@ ghosts-both_bring-J-Ledger g a = record { name = a.blank.name; parts = a.blank.p
 
 abbrev pub ghosts-both_bring-J-Naming : goal.ghosts-both_bring-J-Naming
 ghosts-both_bring-J-Naming g a = record { past = a.table.past; project = a.table.project }
+
+abbrev pub ghosts-both_bring-J-ListNaming : goal.ghosts-both_bring-J-ListNaming
+ghosts-both_bring-J-ListNaming g a = record { book = a.list.seen.book }

@@ -5,3 +5,6 @@ ghosts-stops-J-Ledger g a = record { name = a.blank.name; parts = a.blank.parts 
 
 abbrev pub ghosts-stops-J-Naming : goal.ghosts-stops-J-Naming
 ghosts-stops-J-Naming g a = record { past = a.table.past; project = a.table.project }
+
+abbrev pub ghosts-stops-J-ListNaming : goal.ghosts-stops-J-ListNaming
+ghosts-stops-J-ListNaming g a = record { book = a.list.seen.book }

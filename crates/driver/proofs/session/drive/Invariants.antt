@@ -5,3 +5,6 @@ ghosts-drive_table-J-Ledger g a = record { name = a.blank.name; parts = a.blank.
 
 abbrev pub ghosts-drive_table-J-Naming : goal.ghosts-drive_table-J-Naming
 ghosts-drive_table-J-Naming g a = record { past = a.table.past; project = a.table.project }
+
+abbrev pub ghosts-drive_table-J-ListNaming : goal.ghosts-drive_table-J-ListNaming
+ghosts-drive_table-J-ListNaming g a = record { book = a.list.seen.book }

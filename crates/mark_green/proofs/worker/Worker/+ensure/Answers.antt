@@ -1,5 +1,6 @@
 use Rattle.std.proofs.Common.{rules, ◌≡◌, ℕ, ◌<◌, length, get_or, Bool, subst, ap, ◌∙◌, arith, Option, Some}
 use Rattle.std.specs.Prelude.{Result, Ok, Err}
+use Rattle.std.specs.Arc.{arc_value}
 use Rattle.std.specs.declared.alloc.Global.{Global}
 use Rattle.std.specs.declared.sync.Arc.{Arc}
 use Rattle.result_bytes.specs.declared.value.Value.{Value}
@@ -12,6 +13,7 @@ use Rattle.mark_green.specs.declared.asking.Stop.{Stop}
 use Rattle.mark_green.specs.declared.fault.Fault.{Fault}
 use Rattle.mark_green.specs.Moves.{Halts}
 use Rattle.mark_green.proofs.Held.{held_more}
+use Rattle.mark_green.proofs.Told.{told_on, told_more}
 use Rattle.graph_rules.specs.Steps.{Claimed, Running, AllUnchanged, AreHeld}
 use Rattle.job_table.specs.Tables.{state_of}
 use Rattle.job_table.specs.Calls.{walk_in}
@@ -80,7 +82,7 @@ run-returns-in_err-outcome-clause-gives g t c =
 pub start-returns-in-Ok-clause-gives : goal.start-returns-in-Ok-clause-gives
 start-returns-in-Ok-clause-gives g t c =
     let w = c.args.self.now.id in
-    let b = subst (λ (r : Result (Unit {0}) TableFault). Begins w c.args.key.now r (g.S.Store.table c.args.self.now.store.now) (g.S.Store.table c.begin_run.new.self)) c.in-Ok.is c.begin_run.ensures in
+    let b = subst (λ (r : Result (Unit {0}) TableFault). Begins w c.args.key.now r (g.S.Store.table c.args.self.now.store.now) (g.S.Store.table c.begin_run.new.self)) c.in-Ok.is c.begin_run.ensures.gives in
     start_run w c.args.key.now c.run.result tt _ _ _ b c.run.ensures.gives
 
 pub turn-returns-in_ok-fetch-in-Err-Lacks-clause-gives : goal.turn-returns-in_ok-fetch-in-Err-Lacks-clause-gives
@@ -96,6 +98,17 @@ turn-returns-in_ok-fetch-in-Err-Lacks-clause-held g t c =
     let h = subst (λ (x : Stop). Halts w (rank c.args.key.now) x (g.S.Store.table c.args.self.now.store.now) (g.S.Store.table c.run_once.new.store)) c.in-Err-Lacks.field-0-is c.in-Err-Lacks.ensures.halts in
     let f = subst (λ (r : Result (Unit {0}) Fault). Fetches w c.in-Err-Lacks.lacked r c.args.held.now c.fetch.new.held (g.S.Store.table c.run_once.new.store) (g.S.Store.table c.fetch.new.self.store.now)) c.in_ok-fetch-in-Err-Lacks.was c.fetch.ensures.gives in
     held_more w c.args.key.now c.in-Err-Lacks.lacked c.args.held.now c.fetch.new.held tt _ _ _ h f
+
+pub turn-returns-in_ok-fetch-in-Err-Lacks-clause-told : goal.turn-returns-in_ok-fetch-in-Err-Lacks-clause-told
+turn-returns-in_ok-fetch-in-Err-Lacks-clause-told g t c =
+    let told = rw c.in_ok-fetch-in-Err-Lacks.was at c.fetch.ensures.told in
+    λ all. told (told_on (g.S.Store.told c.args.self.now.store.now) (g.S.Store.told c.run_once.new.store) c.run_once.ensures.stays c.args.held.now all)
+
+pub fetch-returns-in-Ok-clause-told : goal.fetch-returns-in-Ok-clause-told
+fetch-returns-in-Ok-clause-told g t c =
+    let told = rw c.in_ok-sealed.was at c.work.ensures.told in
+    λ all. told_more (g.S.Store.told c.work.new.self.store.now) c.args.held.now c.hold.new.held c.args.lacked (arc_value c.in_ok-sealed.sealed) c.in-Ok.ensures
+    (told_on (g.S.Store.told c.args.self.now.store.now) (g.S.Store.told c.work.new.self.store.now) c.work.ensures.stays c.args.held.now all) told
 
 pub turn-returns-in_err-fetch-in-Err-Lacks-clause-gives : goal.turn-returns-in_err-fetch-in-Err-Lacks-clause-gives
 turn-returns-in_err-fetch-in-Err-Lacks-clause-gives g t c =
@@ -122,6 +135,11 @@ turns-returns-in-Some-clause-held g t c =
     let held = rw (c.in_ok-outcome.was, c.in-Some.is) at c.turn.ensures.held in
     held c.again.invariant.3
 
+pub turns-returns-in-Some-clause-told : goal.turns-returns-in-Some-clause-told
+turns-returns-in-Some-clause-told g t c =
+    let told = rw (c.in_ok-outcome.was, c.in-Some.is) at c.turn.ensures.told in
+    told c.again.invariant.5
+
 pub turns-returns-in_err-outcome-clause-gives : goal.turns-returns-in_err-outcome-clause-gives
 turns-returns-in_err-outcome-clause-gives g t c =
     let w = c.args.self.now.id in
@@ -139,7 +157,8 @@ turns-again-preserved g t c =
     let w = c.args.self.now.id in
     let h = subst (λ (r : Result (Option OutcomeValue) Fault). Turns w c.args.key.now r c.again.held c.turn.new.held (g.S.Store.table c.again.self.store.now) (g.S.Store.table c.turn.new.self.store.now)) (c.in_ok-outcome.was ∙ ap Ok c.in_default.is) (subst (λ (n : ℕ). Turns n c.args.key.now c.turn.result c.again.held c.turn.new.held (g.S.Store.table c.again.self.store.now) (g.S.Store.table c.turn.new.self.store.now)) c.again.invariant.1 c.turn.ensures.gives) in
     let held = rw (c.in_ok-outcome.was, c.in_default.is) at c.turn.ensures.held in
-    (c.turn.ensures.store ∙ c.again.invariant.0, c.turn.ensures.id ∙ c.again.invariant.1, holds_more w c.args.key.now c.again.held c.turn.new.held _ _ _ c.again.invariant.2 h, held c.again.invariant.3)
+    let told = rw (c.in_ok-outcome.was, c.in_default.is) at c.turn.ensures.told in
+    (c.turn.ensures.store ∙ c.again.invariant.0, c.turn.ensures.id ∙ c.again.invariant.1, holds_more w c.args.key.now c.again.held c.turn.new.held _ _ _ c.again.invariant.2 h, held c.again.invariant.3, λ q v is. c.turn.ensures.stays q v (c.again.invariant.4 q v is), told c.again.invariant.5)
 
 pub walk_edges-returns-then-not-branch-clause-gives : goal.walk_edges-returns-then-not-branch-clause-gives
 walk_edges-returns-then-not-branch-clause-gives g t c =
@@ -162,7 +181,7 @@ walk_edges-edges-preserved g t c =
     let w = c.args.self.now.id in
     let lt : c.edges.at-index < length c.args.edges.now = omega arith in
     let e = subst (λ (r : Result Bool Fault). Edges c.args.past.now w (key_at c.args.past.now.records (get_or c.args.edges.now c.edges.at-index 0)) r (g.S.Store.table c.edges.self.store.now) (g.S.Store.table c.is_unchanged.new.self.store.now)) (c.in_ok-is_unchanged.was ∙ ap Ok c.if-not-branch.false) (subst (λ (n : ℕ). Edges c.args.past.now n (key_at c.args.past.now.records (get_or c.args.edges.now c.edges.at-index 0)) c.is_unchanged.result (g.S.Store.table c.edges.self.store.now) (g.S.Store.table c.is_unchanged.new.self.store.now)) c.edges.invariant.1 c.is_unchanged.ensures.gives) in
-    (c.is_unchanged.ensures.store ∙ c.edges.invariant.0, c.is_unchanged.ensures.id ∙ c.edges.invariant.1, far_more c.args.past.now w c.args.key.now c.args.edges.now c.edges.at-index _ _ c.edges.invariant.2 lt _ e)
+    (c.is_unchanged.ensures.store ∙ c.edges.invariant.0, c.is_unchanged.ensures.id ∙ c.edges.invariant.1, far_more c.args.past.now w c.args.key.now c.args.edges.now c.edges.at-index _ _ c.edges.invariant.2 lt _ e, λ q v is. c.is_unchanged.ensures.stays q v (c.edges.invariant.3 q v is))
 
 pub work_over-returns-then-branch-clause-gives : goal.work_over-returns-then-branch-clause-gives
 work_over-returns-then-branch-clause-gives g t c =

@@ -1,6 +1,7 @@
 use Rattle.std.proofs.Common.{◌≡◌, ◌+◌, ◌*◌}
 use Rattle.recorder.specs.Backed.{rank}
 use Rattle.sessions.specs.Sessions.{key_at}
+use Rattle.mark_green.specs.Leaves.{StaysTold, AreTold}
 use Rattle.mark_green.proofs.Held.{Held}
 use Rattle.mark_green.proofs.Turning.{Holds}
 use Rattle.mark_green.proofs.Working.{SoFar}
@@ -41,6 +42,7 @@ invariant-walk_edges-edges g l =
     (l.self.store.ghost_name ≡ l.fn.self.store.ghost_name)
     × (l.self.id ≡ l.fn.self.id)
     × SoFar l.past l.fn.self.id l.key l.edges l.at-index (g.S.Store.table l.fn.self.store.now) (g.S.Store.table l.self.store.now)
+    × StaysTold (g.S.Store.told l.fn.self.store.now) (g.S.Store.told l.self.store.now)
 
 abbrev pub invariant-turns-again : goal.invariant-turns-again
 invariant-turns-again g l =
@@ -48,3 +50,5 @@ invariant-turns-again g l =
     × (l.self.id ≡ l.fn.self.id)
     × Holds l.fn.self.id l.key l.held (g.S.Store.table l.fn.self.store.now) (g.S.Store.table l.self.store.now)
     × Held l.held (g.S.Store.table l.self.store.now)
+    × StaysTold (g.S.Store.told l.fn.self.store.now) (g.S.Store.told l.self.store.now)
+    × AreTold (g.S.Store.told l.self.store.now) l.held

@@ -13,10 +13,10 @@ use Rattle.mark_green.proofs.worker.Worker.mark.Goals as goal
 
 pub returns-in-Ok-clause-gives : goal.returns-in-Ok-clause-gives
 returns-in-Ok-clause-gives g c =
-    let m = subst (λ (r : Result (Arc Value Global) TableFault). Tells (λ (t u : TableValue). MarkGives t c.args.self.now.id c.args.key.now r u) (g.S.Store.table c.args.self.now.store.now) (g.S.Store.table c.mark.new.self)) c.in-Ok.is c.mark.ensures in
+    let m = subst (λ (r : Result (Arc Value Global) TableFault). Tells (λ (t u : TableValue). MarkGives t c.args.self.now.id c.args.key.now r u) (g.S.Store.table c.args.self.now.store.now) (g.S.Store.table c.mark.new.self)) c.in-Ok.is c.mark.ensures.gives in
     tells_map _ _ (mark_ok c.args.self.now.id c.args.key.now c.in-Ok.sealed) _ _ m
 
 pub returns-in-Err-clause-gives : goal.returns-in-Err-clause-gives
 returns-in-Err-clause-gives g c =
-    let m = subst (λ (r : Result (Arc Value Global) TableFault). Tells (λ (t u : TableValue). MarkGives t c.args.self.now.id c.args.key.now r u) (g.S.Store.table c.args.self.now.store.now) (g.S.Store.table c.mark.new.self)) c.in-Err.is c.mark.ensures in
+    let m = subst (λ (r : Result (Arc Value Global) TableFault). Tells (λ (t u : TableValue). MarkGives t c.args.self.now.id c.args.key.now r u) (g.S.Store.table c.args.self.now.store.now) (g.S.Store.table c.mark.new.self)) c.in-Err.is c.mark.ensures.gives in
     tells_then _ _ _ (mark_ended c.args.self.now.id c.args.key.now c.in-Err.fault c.give_up.result c.give_up.ensures.fault) _ _ _ m c.give_up.ensures.stops
