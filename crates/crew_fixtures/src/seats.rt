@@ -62,14 +62,7 @@ pub fn fellows_stop<T: Wait>(rt: &T, alloc: Global, file: File) -> Result<bool, 
     let project = project_of(alloc, &[file])?;
     let key = key_of(alloc, Asked(Kind::Tree, file.0, ""))?;
     match Table::open(alloc, None, &project) {
-        Ok(table) => Ok(stops::<Brand, T>(
-            rt,
-            alloc,
-            table,
-            &key,
-            Blank::new(2),
-            Opened::new(),
-        )),
+        Ok(table) => Ok(stops::<Brand, T>(rt, alloc, table, &key, Blank::new(2), Opened::new())),
         Err(_) => Err(Unfit),
     }
 }

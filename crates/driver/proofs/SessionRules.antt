@@ -1,5 +1,5 @@
 -- The session that a table closes with when all workers have ended.
-use Rattle.std.proofs.Common.{◌≡◌, ℕ, ◌≤◌, List, Option, refl, sym, ap, subst, ◌∙◌}
+use Rattle.std.proofs.Common.{◌≡◌, ℕ, ◌≤◌, Option, sym, subst, ◌∙◌}
 use Rattle.std.specs.Prelude.{length, sum, vec_len}
 use Rattle.recorder.specs.Projects.{Project}
 use Rattle.recorder.specs.Backed.{Meaning, ReadLists}
@@ -9,7 +9,7 @@ use Rattle.graph_rules.specs.Sound.{AreBacked}
 use Rattle.job_table.specs.Tables.{TableValue, past_of, state_of}
 use Rattle.job_table.specs.Closes.{MayClose, IsClosing}
 use Rattle.driver.specs.declared.reports.Reports.{Reports}
-use Rattle.driver.specs.Sessions.{AreEventsOf, IsSessionOf, events_needed}
+use Rattle.driver.specs.Sessions.{IsSessionOf, events_needed}
 use Rattle.driver.proofs.Counts.{closed_suffices}
 
 module _ (mean : Meaning) (reads : ReadLists) (t : TableValue) (workers : ℕ) (s : SessionValue) (r : Reports)

@@ -1,4 +1,4 @@
-use Rattle.std.proofs.Common.{◌≡◌, ◌+◌, ◌≤◌, vec_len}
+use Rattle.std.proofs.Common.{◌≡◌, ◌+◌, vec_len}
 use Rattle.driver.proofs.crew.hire.Given as goal
 
 abbrev pub invariant-loop-left : goal.invariant-loop-left

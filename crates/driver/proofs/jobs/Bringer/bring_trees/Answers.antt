@@ -1,4 +1,4 @@
-use Rattle.std.proofs.Common.{arith, ◌<◌, length, sym, subst}
+use Rattle.std.proofs.Common.{◌<◌, length, sym, subst}
 use Rattle.mj_project.specs.Projects.{IsProject}
 use Rattle.project_inputs.proofs.InputRules.{good_name}
 use Rattle.driver.proofs.jobs.Bringer.bring_trees.Goals as goal
