@@ -6,18 +6,16 @@ use Rattle.mj_tree.specs.declared.place.Place.TheVariants as places
 use Rattle.mj_answer.specs.declared.code.Code.{Code}
 use Rattle.mj_answer.specs.declared.code.Code.TheVariants.{E102, E103}
 use Rattle.mj_answer.specs.declared.diagnostic.Diagnostic.{Diagnostic}
-use Rattle.mj_members.specs.Declarations.{ClassDecl}
-use Rattle.mj_classes.specs.Declarations.{declarations}
 use Rattle.mj_project.specs.Repeats.{repeats}
-use Rattle.mj_rules.specs.FaultLists.{when_fault, each_numbered, has_main, file_faults, class_names}
+use Rattle.mj_rules.specs.FaultLists.{when_fault, each_numbered, has_main, file_faults}
 use Rattle.answer_bytes.specs.Storable.{IsProjectPlace, AreProjectFaults}
 use Rattle.query_rules.proofs.Firsts.{all_append}
 use Rattle.recorder.proofs.Recorded.{all_at}
 use Rattle.body_query.proofs.Bounds.{small}
 use Rattle.body_query.proofs.Sets.{Same}
 use Rattle.member_queries.proofs.Tables.{all_from}
-use Rattle.answer_query.specs.Trees.{NamedTree, trees_of}
-use Rattle.answer_query.specs.ProjectFaults.{any_main, files_faults, repeated_class, repeat_faults, classes_faults, project_faults}
+use Rattle.answer_query.specs.Trees.{NamedTree}
+use Rattle.answer_query.specs.ProjectFaults.{any_main, files_faults, NamedClass, declared_names, class_names, repeated_class, repeat_faults, classes_faults, project_faults}
 
 abbrev InProject : Diagnostic → Type 0
 InProject fault = IsProjectPlace fault.place
@@ -39,19 +37,19 @@ module _ (files : List NamedTree) where
   repeated_placed None number = tt
   repeated_placed (Some f) number = (small number, tt)
 
-  class_placed : (n : ℕ) (repeated : Bool) (k : ClassDecl) → AreProjectFaults (repeat_faults files n repeated k)
-  class_placed n true k = repeated_placed (slice_get files k.file) k.number
-  class_placed n false k = tt
+  class_placed : (n : ℕ) (repeated : Bool) (c : NamedClass) → AreProjectFaults (repeat_faults files n repeated c)
+  class_placed n true c = repeated_placed (slice_get files c.file) c.number
+  class_placed n false c = tt
 
-  each_placed : (n : ℕ) (ks : List ClassDecl) (flags : List Bool) → AreProjectFaults (each_numbered (repeat_faults files) n ks flags)
+  each_placed : (n : ℕ) (cs : List NamedClass) (flags : List Bool) → AreProjectFaults (each_numbered (repeat_faults files) n cs flags)
   each_placed n [] flags = tt
-  each_placed n (k ∷ ks) [] = tt
-  each_placed n (k ∷ ks) (flag ∷ flags) = all_append InProject (repeat_faults files n flag k) (each_numbered (repeat_faults files) (n + 1) ks flags) (class_placed n flag k) (each_placed (n + 1) ks flags)
+  each_placed n (c ∷ cs) [] = tt
+  each_placed n (c ∷ cs) (flag ∷ flags) = all_append InProject (repeat_faults files n flag c) (each_numbered (repeat_faults files) (n + 1) cs flags) (class_placed n flag c) (each_placed (n + 1) cs flags)
 
   pub all_placed : AreProjectFaults (project_faults files)
   unfolding project_faults
   all_placed =
-      let classes : List ClassDecl = declarations (trees_of files) in
+      let classes : List NamedClass = declared_names files in
       let last : List Diagnostic = when_fault (not (any_main files)) places.Project E102 in
       all_append InProject (files_faults false files) (classes_faults files classes ++ last) (files_placed false files)
       (all_append InProject (classes_faults files classes) last (each_placed 0 classes (repeats (class_names classes))) (when_placed (not (any_main files)) places.Project E102 tt))

@@ -1,22 +1,30 @@
 //! The diagnostics of a project itself, by the trees of its files.
-ghost use Rattle.std.specs.Prelude.{◌≡◌, ◌++◌, ◌≤◌, [], if◌then◌else◌, map, false, is_some, option_copied, slice_get, IfOk, OnOk};
-ghost use Rattle.mj_tree.specs.Views.{class_view};
-ghost use Rattle.mj_classes.specs.Declarations.{classes_of, number_classes, declarations};
-ghost use Rattle.mj_members.specs.Classes.{classes_view};
+ghost use Rattle.std.specs.Prelude.{◌≡◌, ◌++◌, ◌≤◌, [], if◌then◌else◌, false, is_some, option_copied, slice_get, IfOk, OnOk};
+ghost use Rattle.mj_classes.specs.Declarations.{classes_of, number_classes};
 ghost use Rattle.mj_project.specs.Repeats.{repeats as repeated_names};
-ghost use Rattle.mj_rules.specs.FaultLists.{has_main as has_main_in, file_faults, class_names};
+ghost use Rattle.mj_rules.specs.FaultLists.{has_main as has_main_in, file_faults};
 ghost use Rattle.answer_bytes.specs.Storable.{AreProjectFaults};
-ghost use Rattle.answer_query.specs.Trees.{named_tree, named_trees, trees_of};
-ghost use Rattle.answer_query.specs.ProjectFaults.{any_main, files_faults, repeated_class, classes_faults, project_faults as project_faults_of};
+ghost use Rattle.answer_query.specs.Trees.{named_tree, named_trees};
+ghost use Rattle.answer_query.specs.ProjectFaults.{any_main, files_faults, named_classes, declared_names, class_names, names_view, repeated_class, classes_faults, project_faults as project_faults_of};
 
 use crate::trees::ParsedFile;
 use body_query::note_fault;
 use mj_answer::{Code, Diagnostic};
-use mj_classes::{ClassRef, Tree as ClassOf};
+use mj_lexer::Name;
 use mj_project::repeats;
-use mj_tree::{ClassTree, Place};
+use mj_tree::Place;
 use std::alloc::{AllocError, Global};
 use tree_bytes::Tree;
+
+/// A class by its name.
+#[derive(Clone, Copy)]
+struct DeclaredName<'t> {
+    /// The number of its file, counted from 0.
+    file: usize,
+    /// Its number in the file, counted from 0, the main class first.
+    number: usize,
+    name: &'t Name,
+}
 
 /// Whether a tree has a main class.
 fn is_main(tree: &Tree) -> bool
@@ -76,21 +84,23 @@ fn add_file_faults(
 
 /// Adds the classes of a file that aren't its main class, numbered from this number on.
 fn add_classes<'t>(
-    classes: &mut Vec<ClassRef<'t>>,
+    classes: &mut Vec<DeclaredName<'t>>,
     file: usize,
     first: usize,
-    trees: &'t [ClassTree],
+    tree: &'t Tree,
 ) -> Result<(), AllocError>
     requires { first ≤ 1 }
     ensures { OnOk result
-        (classes_view classes.new.items
-        ≡ classes_view classes.old.items ++ number_classes file first (map class_view trees.now)) }
+        (names_view classes.new.items
+        ≡ names_view classes.old.items
+        ++ named_classes (number_classes file first tree.now.classes)) }
 {
-    for (n, class) in trees.iter().enumerate() {
-        classes.push(ClassRef {
+    let root = tree.root();
+    for (n, class) in root.classes.iter().enumerate() {
+        classes.push(DeclaredName {
             file,
             number: first + n,
-            tree: ClassOf::Plain(class),
+            name: &class.name,
         })?;
     }
     Ok(())
@@ -98,32 +108,34 @@ fn add_classes<'t>(
 
 /// Adds the classes of a file. The main class comes first.
 fn add_tree<'t>(
-    classes: &mut Vec<ClassRef<'t>>,
+    classes: &mut Vec<DeclaredName<'t>>,
     file: usize,
     tree: &'t Tree,
 ) -> Result<(), AllocError>
     ensures { OnOk result
-        (classes_view classes.new.items
-        ≡ classes_view classes.old.items ++ classes_of file tree.now) }
+        (names_view classes.new.items
+        ≡ names_view classes.old.items ++ named_classes (classes_of file tree.now)) }
 {
-    let root = tree.root();
-    match &root.main {
+    match &tree.root().main {
         Some(main) => {
-            classes.push(ClassRef {
+            classes.push(DeclaredName {
                 file,
                 number: 0,
-                tree: ClassOf::Main(main),
+                name: main.name(),
             })?;
-            add_classes(classes, file, 1, &root.classes)
+            add_classes(classes, file, 1, tree)
         }
-        None => add_classes(classes, file, 0, &root.classes),
+        None => add_classes(classes, file, 0, tree),
     }
 }
 
 /// The classes of all files, in order.
-fn all_classes<'t>(alloc: Global, files: &'t [ParsedFile]) -> Result<Vec<ClassRef<'t>>, AllocError>
+fn all_classes<'t>(
+    alloc: Global,
+    files: &'t [ParsedFile],
+) -> Result<Vec<DeclaredName<'t>>, AllocError>
     ensures { IfOk result (λ classes.
-        classes_view classes.items ≡ declarations (trees_of (named_trees files.now))) }
+        names_view classes.items ≡ declared_names (named_trees files.now)) }
 {
     let mut classes = Vec::new(alloc);
     for (number, file) in files.iter().enumerate() {
@@ -135,13 +147,13 @@ fn all_classes<'t>(alloc: Global, files: &'t [ParsedFile]) -> Result<Vec<ClassRe
 }
 
 /// For each class, whether an earlier one has its name.
-fn repeated_classes(alloc: Global, classes: &[ClassRef]) -> Result<Vec<bool>, AllocError>
+fn repeated_classes(alloc: Global, classes: &[DeclaredName]) -> Result<Vec<bool>, AllocError>
     ensures { IfOk result (λ flags.
-        flags.items ≡ repeated_names (class_names (classes_view classes.now))) }
+        flags.items ≡ repeated_names (class_names (names_view classes.now))) }
 {
     let mut names = Vec::new(alloc);
     for class in classes {
-        names.push(class.name().as_str())?;
+        names.push(class.name.as_str())?;
     }
     repeats(alloc, &names)
 }
@@ -173,12 +185,12 @@ fn add_repeated_classes(
     alloc: Global,
     faults: &mut Vec<Diagnostic>,
     files: &[ParsedFile],
-    classes: &[ClassRef],
+    classes: &[DeclaredName],
 ) -> Result<(), AllocError>
     ensures { OnOk result
         (faults.new.items
         ≡ faults.old.items
-        ++ classes_faults (named_trees files.now) (classes_view classes.now)) }
+        ++ classes_faults (named_trees files.now) (names_view classes.now)) }
 {
     let repeated = repeated_classes(alloc, classes)?;
     let flags = repeated.as_slice();

@@ -1,5 +1,5 @@
 //! The query.
-ghost use Rattle.std.specs.Prelude.{◌≡◌, [], None, IfOk, IfErr, option_copied};
+ghost use Rattle.std.specs.Prelude.{◌≡◌, [], None, Some, IfOk, IfErr, option_copied};
 ghost use Rattle.item_ids.specs.Keys.{kind_of};
 ghost use Rattle.item_ids.specs.declared.kind.Kind.TheVariants as kinds;
 ghost use Rattle.recorder.specs.Programs.{Goes, GivesUp, Performs};
@@ -10,6 +10,7 @@ ghost use Rattle.query_rules.specs.Reads.{reads};
 ghost use Rattle.body_query.specs.Programs.{reads_of};
 ghost use Rattle.body_query.specs.Body.{faults_of_mistakes as faults_told, check_of, body_steps, body_prog};
 ghost use Rattle.body_questions.specs.Facts.{body_in as body_told};
+ghost use Rattle.tree_bytes.specs.BodyViews.{body_view};
 
 use crate::faults::{class_fault_set, faults_of_mistakes};
 use crate::reads::{check_main_by_reads, check_method_by_reads};
@@ -48,10 +49,48 @@ fn check_told<D: Reader>(
 {
     match body_in(value) {
         None => Ok(Vec::new(alloc)),
-        Some(body) => match body.root() {
-            MainOrMethod::Main(statement) => check_main_by_reads(alloc, recorder, statement),
-            MainOrMethod::Method(method) => check_method_by_reads(alloc, recorder, class, method),
-        },
+        Some(body) => check_opened(alloc, recorder, class, body),
+    }
+}
+
+/// The mistakes in a body, which is opened. A call drops its tree: left to its scope, the drops of all forms of a
+/// statement would be written out at each exit.
+fn check_opened<D: Reader>(
+    alloc: Global,
+    recorder: &mut Recorder<D>,
+    class: &Name,
+    body: &Body,
+) -> Result<Vec<Mistake>, RunFault>
+    ensures ok { IfOk result (λ mistakes. Goes (reads_of (check_of class.now (Some body.now)))
+        recorder.old mistakes.items recorder.new) }
+    ensures err { IfErr result (λ e. GivesUp (reads_of (check_of class.now (Some body.now)))
+        recorder.old e recorder.new) }
+    ensures follows { D.follows recorder.old.inner recorder.new.inner }
+{
+    let root = body.open(alloc)?;
+    let mistakes = check_root(alloc, recorder, class, &root);
+    drop(root);
+    mistakes
+}
+
+/// The mistakes in a body as a tree.
+fn check_root<D: Reader>(
+    alloc: Global,
+    recorder: &mut Recorder<D>,
+    class: &Name,
+    root: &MainOrMethod,
+) -> Result<Vec<Mistake>, RunFault>
+    ensures ok { IfOk result (λ mistakes.
+        Goes (reads_of (check_of class.now (Some (body_view root.now))))
+        recorder.old mistakes.items recorder.new) }
+    ensures err { IfErr result (λ e.
+        GivesUp (reads_of (check_of class.now (Some (body_view root.now))))
+        recorder.old e recorder.new) }
+    ensures follows { D.follows recorder.old.inner recorder.new.inner }
+{
+    match root {
+        MainOrMethod::Main(statement) => check_main_by_reads(alloc, recorder, statement),
+        MainOrMethod::Method(method) => check_method_by_reads(alloc, recorder, class, method),
     }
 }
 

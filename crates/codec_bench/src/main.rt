@@ -111,20 +111,29 @@ fn write_session(alloc: Global, session: &Session) -> io::Result<()> {
     }
 }
 
-/// The bytes are read; then their value is spelled or sealed where the step says so.
+/// The bytes are read; then their value is spelled or sealed where the step says so. A call drops the value: left to its
+/// scope, the drops of all kinds of results would be written out at each exit.
 fn tree_once(alloc: Global, step: &str, bytes: &[u8]) -> io::Result<()> {
     let value = read(alloc, bytes)?;
     match step {
-        "decode" => Ok(()),
+        "decode" => {
+            drop(value);
+            Ok(())
+        }
         "encode" => {
-            encode(alloc, &value)?;
+            let spelled = encode(alloc, &value);
+            drop(value);
+            spelled?;
             Ok(())
         }
         "seal" => {
             seal(alloc, value)?;
             Ok(())
         }
-        _ => Err(invalid()),
+        _ => {
+            drop(value);
+            Err(invalid())
+        }
     }
 }
 

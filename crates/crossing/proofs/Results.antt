@@ -3,7 +3,6 @@ use denote.Param.Send.{IsSend, IsSync}
 use Rattle.std.proofs.MapsCrossing
 use Rattle.item_ids.specs.contracts.key.Key as key
 use Rattle.tree_bytes.specs.contracts.tree.Tree as tree
-use Rattle.tree_bytes.specs.contracts.tree.Body as body
 use Rattle.result_bytes.specs.contracts.class.Header as header
 use Rattle.result_bytes.specs.contracts.class.Signature as signature
 use Rattle.result_bytes.specs.contracts.class.Supers as supers
@@ -12,7 +11,7 @@ use Rattle.result_bytes.specs.contracts.files.Text as text
 use Rattle.result_bytes.specs.contracts.files.Index as index
 use Rattle.result_bytes.specs.contracts.value.Value as value
 use Rattle.fingerprint.specs.contracts.sealed.Sealed as sealed
-use Rattle.crossing.proofs.Trees.{types, members, methods, trees}
+use Rattle.crossing.proofs.Trees.{types, bodies, body_send, body_sync, trees}
 use Rattle.crossing.proofs.Answers.{members_send, members_sync, faults_send, faults_sync, whole_answer_send, whole_answer_sync}
 
 pub key_send : IsSend key.the_row
@@ -27,17 +26,11 @@ tree_send = search (MapsCrossing.crosses, trees) depth 60 fits 20000
 pub tree_sync : IsSync tree.the_row
 tree_sync = search (MapsCrossing.crosses, trees) depth 60 fits 20000
 
-pub body_send : IsSend body.the_row
-body_send = search (MapsCrossing.crosses, methods) depth 60 fits 20000
-
-pub body_sync : IsSync body.the_row
-body_sync = search (MapsCrossing.crosses, methods) depth 60 fits 20000
-
 pub header_send : IsSend header.the_row
-header_send = search members depth 60 fits 20000
+header_send = search bodies depth 60 fits 20000
 
 pub header_sync : IsSync header.the_row
-header_sync = search members depth 60 fits 20000
+header_sync = search bodies depth 60 fits 20000
 
 pub signature_send : IsSend signature.the_row
 signature_send = search types depth 60 fits 20000

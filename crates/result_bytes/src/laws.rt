@@ -27,7 +27,7 @@ pub fn is_value(value: &Value)
             let _is_main = header.is_main();
         }
         Value::Method(Some(body)) => {
-            let _root = body.root();
+            let _bytes = body.bytes();
         }
         Value::Sig(Some(signature)) => {
             let _formals = signature.formals();

@@ -9,11 +9,10 @@ use Rattle.std.specs.Cmp.Lexicographic.{slice_cmp}
 use Rattle.std.specs.Str.{bytes_eq}
 use Rattle.std.proofs.lemmas.Map.Lookups.{exact_bytes}
 use Rattle.std.proofs.lemmas.Map.Views.{tells_apart}
-use Rattle.mj_tree.specs.Trees.{Name, File}
-use Rattle.mj_tree.specs.Views.{main_view, class_view, file_view}
-use Rattle.mj_tree.specs.declared.tree.MainTree.{MainTree}
-use Rattle.mj_tree.specs.declared.tree.ClassTree.{ClassTree}
-use Rattle.mj_tree.specs.declared.tree.FileTree.{FileTree}
+use Rattle.mj_tree.specs.Trees.{Name, Main, File}
+use Rattle.tree_bytes.specs.declared.stored.StoredClass.{StoredClass}
+use Rattle.tree_bytes.specs.declared.stored.StoredFile.{StoredFile}
+use Rattle.tree_bytes.specs.Stored.{stored_class, stored_file}
 use Rattle.mj_answer.specs.Order.{NameBefore, IsAscendingBy, IsAscendingByName}
 use Rattle.mj_classes.specs.Declarations.{number_classes, main_first}
 use Rattle.mj_tree.proofs.Positions.{names_tie, same_name}
@@ -26,30 +25,30 @@ use Rattle.text_queries.proofs.Firsts.{values_are, firsts_ascend}
 
 -- ---- the rows of a file
 
-numbered_rows : (file : Name) (number : ℕ) (cs : List ClassTree) → map (λ (k : ClassTree). row_in file k.name) cs ≡ map (row_in file) (class_names (number_classes 0 number (map class_view cs)))
+numbered_rows : (file : Name) (number : ℕ) (cs : List StoredClass) → map (λ (k : StoredClass). row_in file k.name) cs ≡ map (row_in file) (class_names (number_classes 0 number (map stored_class cs)))
 numbered_rows file number [] = refl
 numbered_rows file number (k ∷ cs) = ap (λ rows. row_in file k.name ∷ rows) (numbered_rows file (suc number) cs)
 
-abbrev rows_by_main : Name → List ClassTree → Option MainTree → List IndexRow
-rows_by_main file cs o = map (row_in file) (class_names (main_first 0 (option_map main_view o) (map class_view cs)))
+abbrev rows_by_main : Name → List StoredClass → Option Main → List IndexRow
+rows_by_main file cs o = map (row_in file) (class_names (main_first 0 o (map stored_class cs)))
 
-module _ (file : Name) (root : FileTree) (tree : File) (seen : file_view root ≡ tree) (old new : List IndexRow) (classes : List ClassTree) (all : classes ≡ root.classes.items) where
+module _ (file : Name) (root : StoredFile) (tree : File) (seen : stored_file root ≡ tree) (old new : List IndexRow) (classes : List StoredClass) (all : classes ≡ root.classes.items) where
   -- those of a file without a main class
-  pub rows_alone : root.main ≡ None → new ≡ old ++ map (λ (k : ClassTree). row_in file k.name) classes → new ≡ old ++ file_rows file (Some tree)
+  pub rows_alone : root.main ≡ None → new ≡ old ++ map (λ (k : StoredClass). row_in file k.name) classes → new ≡ old ++ file_rows file (Some tree)
   rows_alone none added =
       added
       ∙ ap (λ (rows : List IndexRow). old ++ rows)
-      (ap (map (λ (k : ClassTree). row_in file k.name)) all
+      (ap (map (λ (k : StoredClass). row_in file k.name)) all
       ∙ (numbered_rows file 0 root.classes.items ∙ (ap (rows_by_main file root.classes.items) (sym none) ∙ ap (λ (t : File). file_rows file (Some t)) seen)))
 
   -- those of a file with one
-  pub rows_with_main : (main : MainTree) (mid : List IndexRow) → root.main ≡ Some main → mid ≡ old ++ row_in file main.name ∷ [] → new ≡ mid ++ map (λ (k : ClassTree). row_in file k.name) classes → new ≡ old ++ file_rows file (Some tree)
+  pub rows_with_main : (main : Main) (mid : List IndexRow) → root.main ≡ Some main → mid ≡ old ++ row_in file main.name ∷ [] → new ≡ mid ++ map (λ (k : StoredClass). row_in file k.name) classes → new ≡ old ++ file_rows file (Some tree)
   rows_with_main main mid some first added =
       added
-      ∙ (ap (λ (rows : List IndexRow). rows ++ map (λ (k : ClassTree). row_in file k.name) classes) first
-      ∙ (append_assoc old (row_in file main.name ∷ []) (map (λ (k : ClassTree). row_in file k.name) classes)
+      ∙ (ap (λ (rows : List IndexRow). rows ++ map (λ (k : StoredClass). row_in file k.name) classes) first
+      ∙ (append_assoc old (row_in file main.name ∷ []) (map (λ (k : StoredClass). row_in file k.name) classes)
       ∙ ap (λ (rows : List IndexRow). old ++ rows)
-      (ap (λ (ks : List ClassTree). row_in file main.name ∷ map (λ (k : ClassTree). row_in file k.name) ks) all
+      (ap (λ (ks : List StoredClass). row_in file main.name ∷ map (λ (k : StoredClass). row_in file k.name) ks) all
       ∙ (ap (λ (rows : List IndexRow). row_in file main.name ∷ rows) (numbered_rows file 1 root.classes.items)
       ∙ (ap (rows_by_main file root.classes.items) (sym some) ∙ ap (λ (t : File). file_rows file (Some t)) seen)))))
 

@@ -3,10 +3,9 @@ use Rattle.std.proofs.Common.{◌≡◌, ℕ, suc, Bool, true, false, cond, List
 use Rattle.std.specs.Prelude.{option_and_then}
 use Rattle.std.specs.Str.{bytes_eq}
 use Rattle.mj_tree.specs.Trees.{Name, Main, Class, File}
-use Rattle.mj_tree.specs.Views.{method_view, class_view}
 use Rattle.mj_tree.specs.declared.tree.Field.{Field}
-use Rattle.mj_tree.specs.declared.tree.ClassTree.{ClassTree}
-use Rattle.mj_tree.specs.declared.tree.MethodTree.{MethodTree}
+use Rattle.tree_bytes.specs.declared.stored.StoredClass.{StoredClass}
+use Rattle.tree_bytes.specs.Stored.{stored_class}
 use Rattle.mj_members.specs.Declarations.{ClassDecl, main_decl, class_decl}
 use Rattle.mj_classes.specs.Declarations.{number_classes, main_first, decl}
 use Rattle.tree_bytes.specs.NamedBodies.{first_class}
@@ -16,16 +15,11 @@ use Rattle.text_queries.specs.NamedHeaders.{main_header, class_header, header_am
 
 -- ---- the header of a class
 
-names_seen : (ms : List MethodTree) → map (λ (m : MethodTree). m.name) ms ≡ map (λ m. m.name) (map method_view ms)
-names_seen [] = refl
-names_seen (m ∷ ms) = ap (λ (ns : List Name). m.name ∷ ns) (names_seen ms)
-
-pub class_told : (k : ClassTree) (superclass : Option Name) (fields : List Field) (methods : List Name)
-    → superclass ≡ k.superclass → fields ≡ k.fields.items → methods ≡ map (λ (m : MethodTree). m.name) k.methods.items
-    → record { is_main = false; superclass = superclass; fields = fields; methods = methods } ≡ class_header (class_view k)
+pub class_told : (k : StoredClass) (superclass : Option Name) (fields : List Field) (methods : List Name)
+    → superclass ≡ k.superclass → fields ≡ k.fields.items → methods ≡ map (λ m. m.name) k.methods.items
+    → record { is_main = false; superclass = superclass; fields = fields; methods = methods } ≡ class_header (stored_class k)
 class_told k superclass fields methods s f m =
-    let names : methods ≡ (class_header (class_view k)).methods = m ∙ names_seen k.methods.items in
-    λ i. record { is_main = false; superclass = s i; fields = f i; methods = names i }
+    λ i. record { is_main = false; superclass = s i; fields = f i; methods = m i }
 
 -- ---- the first class of a name
 

@@ -1,6 +1,6 @@
 //! The header of a class.
 ghost use Rattle.std.specs.Prelude.{◌≡◌, IfOk, IfErr, map, option_map, option_copied, option_and_then};
-ghost use Rattle.mj_tree.specs.Views.{class_view};
+ghost use Rattle.tree_bytes.specs.Stored.{stored_class};
 ghost use Rattle.recorder.specs.Programs.{Goes, GivesUp};
 ghost use Rattle.query_rules.specs.Items.{header_of};
 ghost use Rattle.text_queries.specs.ClassTrees.{class_named};
@@ -9,11 +9,11 @@ ghost use Rattle.text_queries.specs.Header.{header_steps};
 
 use crate::class_trees::{ask_class_tree, tree_of};
 use mj_lexer::Name;
-use mj_tree::{ClassTree, Field, MethodTree};
+use mj_tree::Field;
 use recorder::{Reader, Recorder, RunFault};
 use result_bytes::{Header, Value};
 use std::alloc::{AllocError, Global};
-use tree_bytes::Tree;
+use tree_bytes::{StoredClass, StoredMethod, Tree};
 
 /// The class that a class extends.
 fn copy_superclass(alloc: Global, superclass: Option<&Name>) -> Result<Option<Name>, AllocError>
@@ -37,12 +37,12 @@ fn copy_fields(alloc: Global, fields: &[Field]) -> Result<Vec<Field>, AllocError
 }
 
 /// The names of methods.
-fn method_names(alloc: Global, methods: &[MethodTree]) -> Result<Vec<Name>, AllocError>
+fn method_names(alloc: Global, methods: &[StoredMethod]) -> Result<Vec<Name>, AllocError>
     ensures { IfOk result (λ names. names.items ≡ map (λ m. m.name) methods.now) }
 {
     let mut names = Vec::new(alloc);
     for method in methods {
-        names.push(method.name.copy(alloc)?)?;
+        names.push(method.name().copy(alloc)?)?;
     }
     Ok(names)
 }
@@ -55,8 +55,8 @@ fn header_of_main(alloc: Global) -> Header
 }
 
 /// The header of a class that isn't the main class.
-fn header_of_class(alloc: Global, class: &ClassTree) -> Result<Header, AllocError>
-    ensures { IfOk result (λ header. header ≡ class_header (class_view class.now)) }
+fn header_of_class(alloc: Global, class: &StoredClass) -> Result<Header, AllocError>
+    ensures { IfOk result (λ header. header ≡ class_header (stored_class class.now)) }
 {
     let superclass = copy_superclass(alloc, class.superclass.as_ref())?;
     let fields = copy_fields(alloc, &class.fields)?;
@@ -79,7 +79,7 @@ fn header_in(alloc: Global, tree: &Tree, class: &Name) -> Result<Option<Header>,
     ensures { IfOk result (λ header. header ≡ header_named class.now tree.now) }
 {
     match &tree.root().main {
-        Some(main) if &main.name == class => Ok(Some(header_of_main(alloc))),
+        Some(main) if main.name() == class => Ok(Some(header_of_main(alloc))),
         _ => header_among(alloc, tree, class),
     }
 }

@@ -12,12 +12,11 @@ use crate::facts::{names_in, tree_in};
 use body_questions::read;
 use item_ids::Key;
 use mj_lexer::Name;
-use mj_tree::ClassTree;
 use recorder::{Reader, Recorder, RunFault};
 use result_bytes::{Index, IndexRow, Value};
 use std::alloc::{AllocError, Global};
 use std::collections::BTreeMap;
-use tree_bytes::Tree;
+use tree_bytes::{StoredClass, Tree};
 
 /// Adds the row of a class of a file.
 fn add_row(
@@ -39,7 +38,7 @@ fn add_classes(
     alloc: Global,
     rows: &mut Vec<IndexRow>,
     file: &Name,
-    classes: &[ClassTree],
+    classes: &[StoredClass],
 ) -> Result<(), AllocError>
     ensures { OnOk result
         (rows.new.items
@@ -64,7 +63,7 @@ fn add_tree(
     let root = tree.root();
     match &root.main {
         Some(main) => {
-            add_row(alloc, rows, file, &main.name)?;
+            add_row(alloc, rows, file, main.name())?;
             add_classes(alloc, rows, file, &root.classes)
         }
         None => add_classes(alloc, rows, file, &root.classes),

@@ -1,6 +1,5 @@
 //! The types of a method.
 ghost use Rattle.std.specs.Prelude.{◌≡◌, IfOk, IfErr, map, option_copied, option_and_then};
-ghost use Rattle.mj_tree.specs.Views.{method_view};
 ghost use Rattle.recorder.specs.Programs.{Goes, GivesUp};
 ghost use Rattle.query_rules.specs.Items.{signature_of};
 ghost use Rattle.text_queries.specs.Sig.{sig_steps};
@@ -9,11 +8,11 @@ use crate::facts::body_in;
 use body_questions::read;
 use item_ids::Key;
 use mj_lexer::Name;
-use mj_tree::{MethodTree, Ty, Variable};
+use mj_tree::{Ty, Variable};
 use recorder::{Reader, Recorder, RunFault};
 use result_bytes::{Signature, Value};
 use std::alloc::{AllocError, Global};
-use tree_bytes::{Body, MainOrMethod};
+use tree_bytes::{Body, MethodTypes};
 
 /// The types of variables.
 fn types_of(alloc: Global, variables: &[Variable]) -> Result<Vec<Ty>, AllocError>
@@ -30,13 +29,12 @@ fn types_of(alloc: Global, variables: &[Variable]) -> Result<Vec<Ty>, AllocError
 fn signature_of(alloc: Global, body: &Body) -> Result<Option<Signature>, AllocError>
     ensures { IfOk result (λ signature. signature ≡ signature_of body.now) }
 {
-    match body.root() {
-        MainOrMethod::Main(_) => Ok(None),
-        MainOrMethod::Method(method) => {
-            let formals = types_of(alloc, &method.formals)?;
-            let returns = method.returns.copy(alloc)?;
+    match body.types(alloc)? {
+        Some(MethodTypes { returns, formals }) => {
+            let formals = types_of(alloc, &formals)?;
             Ok(Some(Signature::new(formals, returns)))
         }
+        None => Ok(None),
     }
 }
 

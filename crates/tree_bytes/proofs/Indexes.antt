@@ -1,7 +1,7 @@
 -- The index of the classes of a file.
 use Rattle.std.proofs.Common.{◌≡◌, ℕ, zero, suc, ◌+◌, ◌<◌, List, [], ◌∷◌, ◌++◌, length, map, take, get_or, Option, Some, None, refl, subst, sym, ap, ◌∙◌, arith}
 use Rattle.std.specs.Prelude.{position, slice_get, option_and_then}
-use Rattle.std.proofs.lemmas.List.{length-map}
+use Rattle.byte_readers.specs.Views.{same_items}
 use Rattle.std.specs.BTreeMap.{BTreeMap, get}
 use Rattle.std.specs.Cmp.Lexicographic.{slice_cmp}
 use Rattle.std.specs.List.{AllZip}
@@ -10,10 +10,9 @@ use Rattle.std.specs.Str.{bytes_eq}
 use Rattle.mj_tree.proofs.NamePlaces.{more}
 use Rattle.mj_tree.proofs.Positions.{at_some, find_from_position, found_first, position_below, view_at}
 use Rattle.mj_tree.specs.Trees.{Name, Method, Class, File}
-use Rattle.mj_tree.specs.Views.{class_view, method_view, file_view}
-use Rattle.mj_tree.specs.declared.tree.ClassTree.{ClassTree}
-use Rattle.mj_tree.specs.declared.tree.FileTree.{FileTree}
-use Rattle.mj_tree.specs.declared.tree.MethodTree.{MethodTree}
+use Rattle.tree_bytes.specs.declared.stored.StoredClass.{StoredClass}
+use Rattle.tree_bytes.specs.declared.stored.StoredFile.{StoredFile}
+use Rattle.tree_bytes.specs.Stored.{stored_class, stored_file}
 use Rattle.tree_bytes.specs.declared.index.ClassIndex.{ClassIndex}
 use Rattle.tree_bytes.specs.Indexes.{FindsMethods, FindsEach, IsIndexOf}
 use Rattle.tree_bytes.specs.NamedBodies.{first_class, first_method}
@@ -25,11 +24,11 @@ zip_push R (a ∷ xs) [] x y all r = absurd all
 zip_push R (a ∷ xs) (b ∷ ys) x y all r = (all.0, zip_push R xs ys x y all.1 r)
 
 -- one class more
-pub each_more : (each : List (BTreeMap Name ℕ)) (places : BTreeMap Name ℕ) (classes : List ClassTree) (i : ℕ) (k : ClassTree) → i < length classes → k ≡ get_or classes i k
-    → FindsEach each (map class_view (take i classes)) → FindsMethods places (class_view k).methods → FindsEach (each ++ places ∷ []) (map class_view (take (i + 1) classes))
+pub each_more : (each : List (BTreeMap Name ℕ)) (places : BTreeMap Name ℕ) (classes : List StoredClass) (i : ℕ) (k : StoredClass) → i < length classes → k ≡ get_or classes i k
+    → FindsEach each (map stored_class (take i classes)) → FindsMethods places (stored_class k).methods → FindsEach (each ++ places ∷ []) (map stored_class (take (i + 1) classes))
 each_more each places classes i k lt is so_far finds =
-    subst (λ (ks : List Class). FindsEach (each ++ places ∷ []) ks) (sym (more class_view classes i k lt is))
-    (zip_push (λ p h. FindsMethods p h.methods) each (map class_view (take i classes)) places (class_view k) so_far finds)
+    subst (λ (ks : List Class). FindsEach (each ++ places ∷ []) ks) (sym (more stored_class classes i k lt is))
+    (zip_push (λ p h. FindsMethods p h.methods) each (map stored_class (take i classes)) places (stored_class k) so_far finds)
 
 -- the map of a class
 pub each_at : (each : List (BTreeMap Name ℕ)) (classes : List Class) (at : ℕ) (k : Class) (m : Name) → FindsEach each classes → slice_get classes at ≡ Some k
@@ -53,39 +52,39 @@ method_place index at m = option_and_then (λ places. get (slice_cmp nat_cmp) pl
 abbrev pub method_of : File → Name → Name → Option Method
 method_of f c m = option_and_then (λ k. first_method m k.methods) (first_class c f.classes)
 
-module _ (f : FileTree) (index : ClassIndex) (is : IsIndexOf index (file_view f).classes) (c : Name) where
-  pub class_absent : class_place index c ≡ None → first_class c (file_view f).classes ≡ None
-  class_absent none = find_from_position (λ k. bytes_eq k.name c) (file_view f).classes None (sym (is.finds_classes c) ∙ none)
+module _ (f : StoredFile) (index : ClassIndex) (is : IsIndexOf index (stored_file f).classes) (c : Name) where
+  pub class_absent : class_place index c ≡ None → first_class c (stored_file f).classes ≡ None
+  class_absent none = find_from_position (λ k. bytes_eq k.name c) (stored_file f).classes None (sym (is.finds_classes c) ∙ none)
 
-  pub no_class : (m : Name) → class_place index c ≡ None → method_of (file_view f) c m ≡ None
+  pub no_class : (m : Name) → class_place index c ≡ None → method_of (stored_file f) c m ≡ None
   no_class m none = ap (option_and_then (λ k. first_method m k.methods)) (class_absent none)
 
   module _ (at : ℕ) (here : class_place index c ≡ Some at) where
-    stands : position (λ k. bytes_eq k.name c) (file_view f).classes ≡ Some at
+    stands : position (λ k. bytes_eq k.name c) (stored_file f).classes ≡ Some at
     stands = sym (is.finds_classes c) ∙ here
 
-    below : at < length (file_view f).classes
-    below = position_below (λ k. bytes_eq k.name c) (file_view f).classes at stands
+    below : at < length (stored_file f).classes
+    below = position_below (λ k. bytes_eq k.name c) (stored_file f).classes at stands
 
-    pub no_method : (m : Name) → method_place index at m ≡ None → method_of (file_view f) c m ≡ None
+    pub no_method : (m : Name) → method_place index at m ≡ None → method_of (stored_file f) c m ≡ None
     no_method m none =
-        let k = at_some (file_view f).classes at below in
-        let found : first_class c (file_view f).classes ≡ Some k.0 = find_from_position (λ h. bytes_eq h.name c) (file_view f).classes (Some at) stands ∙ k.1 in
+        let k = at_some (stored_file f).classes at below in
+        let found : first_class c (stored_file f).classes ≡ Some k.0 = find_from_position (λ h. bytes_eq h.name c) (stored_file f).classes (Some at) stands ∙ k.1 in
         ap (option_and_then (λ h. first_method m h.methods)) found
-        ∙ find_from_position (λ h. bytes_eq h.name m) k.0.methods None (sym (each_at index.methods.items (file_view f).classes at k.0 m is.finds_methods k.1) ∙ none)
+        ∙ find_from_position (λ h. bytes_eq h.name m) k.0.methods None (sym (each_at index.methods.items (stored_file f).classes at k.0 m is.finds_methods k.1) ∙ none)
 
-    module _ (k : ClassTree) (read : k ≡ get_or f.classes.items at k) where
-      pub class_found : first_class c (file_view f).classes ≡ Some (class_view k)
-      class_found = found_first class_view (λ h. bytes_eq h.name c) f.classes.items (file_view f).classes at k refl stands read
+    module _ (k : StoredClass) (read : k ≡ get_or f.classes.items at k) where
+      pub class_found : first_class c (stored_file f).classes ≡ Some (stored_class k)
+      class_found = found_first stored_class (λ h. bytes_eq h.name c) f.classes.items (stored_file f).classes at k refl stands read
 
       module _ (m : Name) (i : ℕ) (there : method_place index at m ≡ Some i) where
-        method_stands : position (λ h. bytes_eq h.name m) (map method_view k.methods.items) ≡ Some i
-        method_stands = sym (each_at index.methods.items (file_view f).classes at (class_view k) m is.finds_methods (view_at class_view f.classes.items at k below read)) ∙ there
+        method_stands : position (λ h. bytes_eq h.name m) k.methods.items ≡ Some i
+        method_stands = sym (each_at index.methods.items (stored_file f).classes at (stored_class k) m is.finds_methods (view_at stored_class f.classes.items at k below read)) ∙ there
 
         pub method_below : i < length k.methods.items
-        method_below = omega (arith, position_below (λ h. bytes_eq h.name m) (map method_view k.methods.items) i method_stands, length-map k.methods.items method_view)
+        method_below = position_below (λ h. bytes_eq h.name m) k.methods.items i method_stands
 
-        pub method_found : (x : MethodTree) → x ≡ get_or k.methods.items i x → method_of (file_view f) c m ≡ Some (method_view x)
+        pub method_found : (x : Method) → x ≡ get_or k.methods.items i x → method_of (stored_file f) c m ≡ Some x
         method_found x is_at =
             ap (option_and_then (λ h. first_method m h.methods)) class_found
-            ∙ found_first method_view (λ h. bytes_eq h.name m) k.methods.items (map method_view k.methods.items) i x refl method_stands is_at
+            ∙ found_first (λ h. h) (λ h. bytes_eq h.name m) k.methods.items k.methods.items i x (sym (same_items k.methods.items)) method_stands is_at

@@ -1,4 +1,6 @@
 pub mod Levels
 pub mod Written
-pub mod Found
+pub mod Bodies
 pub mod Indexes
+pub mod Skipped
+pub mod Storing

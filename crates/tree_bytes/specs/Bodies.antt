@@ -1,10 +1,14 @@
 -- The statement of `main`, or a method.
-use Rattle.std.specs.Prelude.{ℕ, zero, suc, List, [], ◌∷◌, Err, refl, ◌≡◌, ◌⊎◌}
+use Rattle.std.specs.Prelude.{ℕ, zero, suc, List, [], ◌∷◌, Option, Some, None, Result, Ok, Err, refl, ◌≡◌, ◌⊎◌}
 use Rattle.std.specs.Coded.{Coded, code_by, coded⊎}
 use Rattle.std.proofs.Common.{inl, inr}
-use Rattle.mj_tree.specs.Trees.{Statement, Method}
+use Rattle.mj_tree.specs.declared.tree.Ty.{Ty}
+use Rattle.mj_tree.specs.declared.tree.Ty.TheVariants.{Int}
+use Rattle.mj_tree.specs.declared.tree.Variable.{Variable}
+use Rattle.mj_tree.specs.Trees.{Statement, Block, done, This, Method}
 use Rattle.tree_bytes.specs.Spelling.{stmt, method}
 use Rattle.tree_bytes.specs.Storable.{TopStmtFits, MethodFits}
+use Rattle.byte_readers.specs.declared.breach.Breach.{Breach}
 use Rattle.byte_readers.specs.declared.breach.Breach.TheVariants.{Short}
 use Rattle.byte_readers.specs.Reading.{Decoder, not_canonical, made_at}
 use Rattle.tree_bytes.specs.Reading.{top_stmt_at, method_at}
@@ -44,3 +48,35 @@ body_at [] = Err Short
 body_at (zero ∷ rest) = made_at OfMain top_stmt_at rest
 body_at (suc zero ∷ rest) = made_at OfMethod method_at rest
 body_at (suc (suc b) ∷ rest) = not_canonical (suc (suc b) ∷ rest)
+
+-- what a reader gave, where it gave something
+abbrev given : Result (BodyValue × List ℕ) Breach → BodyValue
+given (Ok x) = x.0
+given (Err breach) = OfMain (Block 0 done)
+
+-- the body that bytes spell, where they spell one
+unfoldable pub body_spelled : List ℕ → BodyValue
+body_spelled bytes = given (body_at bytes)
+
+-- the statement of a body of `main`, and the method of any other one
+abbrev pub statement_of : BodyValue → Statement
+statement_of (OfMain s) = s
+statement_of (OfMethod m) = Block 0 done
+
+abbrev pub method_of : BodyValue → Method
+method_of (OfMethod m) = m
+method_of (OfMain s) =
+    record {
+      name = [];
+      returns = Int;
+      formals = [];
+      locals = [];
+      body = done;
+      returned = This 0;
+      return_mark = 0;
+    }
+
+-- the types that a method declares: what it returns, and its formals
+abbrev pub types_of : BodyValue → Option (Ty × List Variable)
+types_of (OfMain s) = None
+types_of (OfMethod m) = Some (m.returns, m.formals)

@@ -2,9 +2,11 @@ pub mod Tags
 pub mod Spelling
 pub mod Storable
 pub mod Reading
+pub mod Skipping
 pub mod Codes
 pub mod Bodies
 pub mod BodyViews
+pub mod Stored
 pub mod TagLaws
 pub mod TypeLaws
 pub mod ListLaws

@@ -147,6 +147,11 @@ method_at bytes =
     (pair_at (list_at variable_at any)
     (pair_at top_stmts_at (pair_at top_exp_at four_at)))))) bytes
 
+-- the types in front of a method, behind its name
+abbrev pub types_at : Decoder (Ty × List Variable)
+types_at bytes =
+    made_at (λ x. x.1) (pair_at name_at (pair_at ty_at (list_at variable_at any))) bytes
+
 -- a method of a class: any other tag is refused, that of `main` too
 unfoldable pub tagged_method_at : Decoder Method
 tagged_method_at [] = Err Short

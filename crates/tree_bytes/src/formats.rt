@@ -1,13 +1,13 @@
 //! The formats of trees, of their parts and of bodies.
 ghost use Rattle.std.specs.Prelude.{◌≡◌};
 
+use crate::body::{Body, skip_body};
 use crate::files::{read_class, read_file, read_main};
-use crate::methods::read_method;
-use crate::statements::read_top_stmt;
-use crate::tree::{Body, MainOrMethod, Tree};
-use crate::writing::{put_class, put_file, put_main, put_method, put_top_stmt};
-use byte_readers::{Breach, Format, ReadError, not_canonical};
-use mj_tree::{ClassTree, MainTree, MethodTree};
+use crate::methods::read_stored_method;
+use crate::stored::{StoredClass, StoredMain, StoredMethod};
+use crate::tree::Tree;
+use crate::writing::{put_class, put_file, put_main};
+use byte_readers::{Format, ReadError};
 use std::alloc::{AllocError, Global};
 
 /// Methods of a class, behind the tag that tells them from `main`.
@@ -15,20 +15,19 @@ pub struct MethodFormat;
 
 impl Format for MethodFormat {
     ghost use Rattle.mj_tree.specs.Trees.{Method};
-    ghost use Rattle.mj_tree.specs.Views.{method_view};
-    ghost use Rattle.byte_readers.specs.Views.{seen_by};
+    ghost use Rattle.byte_readers.specs.Views.{plain};
     ghost use Rattle.tree_bytes.specs.Spelling.{tagged_method};
     ghost use Rattle.tree_bytes.specs.Storable.{MethodFits};
     ghost use Rattle.tree_bytes.specs.Reading.{tagged_method_at};
     ghost use Rattle.tree_bytes.specs.FileLaws.{lawful_tagged};
 
-    type Item = MethodTree;
+    type Item = StoredMethod;
 
     ghost Seen = { Method };
 
-    ghost view = { seen_by method_view };
+    ghost view = { plain };
 
-    ghost is_storable = { λ m. MethodFits (method_view m) };
+    ghost is_storable = { λ _. Unit {0} };
 
     ghost has_spelling = { MethodFits };
 
@@ -38,22 +37,16 @@ impl Format for MethodFormat {
 
     ghost lawful = { lawful_tagged };
 
-    fn check(item: &MethodTree) {
-        let _method = item;
+    fn check(item: &StoredMethod) {
+        let _name = item.name();
     }
 
-    fn write(out: &mut Vec<u8>, item: &MethodTree) -> Result<(), AllocError> {
-        out.push(0x01)?;
-        put_method(out, item)
+    fn write(out: &mut Vec<u8>, item: &StoredMethod) -> Result<(), AllocError> {
+        out.extend_from_slice(item.body().bytes())
     }
 
-    #[tactic(auto, unfolding(crate::specs::Reading::tagged_method_at))]
-    fn read(alloc: Global, bytes: &[u8]) -> Result<(MethodTree, &[u8]), ReadError> {
-        match bytes {
-            [] => Err(ReadError::Breach(Breach::Short)),
-            [0x01, rest @ ..] => read_method(alloc, rest),
-            [_, ..] => Err(not_canonical(bytes)),
-        }
+    fn read(alloc: Global, bytes: &[u8]) -> Result<(StoredMethod, &[u8]), ReadError> {
+        read_stored_method(alloc, bytes)
     }
 }
 
@@ -62,20 +55,20 @@ pub struct ClassTreeFormat;
 
 impl Format for ClassTreeFormat {
     ghost use Rattle.mj_tree.specs.Trees.{Class};
-    ghost use Rattle.mj_tree.specs.Views.{class_view};
+    ghost use Rattle.tree_bytes.specs.Stored.{stored_class};
     ghost use Rattle.byte_readers.specs.Views.{seen_by};
     ghost use Rattle.tree_bytes.specs.Spelling.{class};
     ghost use Rattle.tree_bytes.specs.Storable.{ClassFits};
     ghost use Rattle.tree_bytes.specs.Reading.{class_at};
     ghost use Rattle.tree_bytes.specs.FileLaws.{lawful_class};
 
-    type Item = ClassTree;
+    type Item = StoredClass;
 
     ghost Seen = { Class };
 
-    ghost view = { seen_by class_view };
+    ghost view = { seen_by stored_class };
 
-    ghost is_storable = { λ c. ClassFits (class_view c) };
+    ghost is_storable = { λ c. ClassFits (stored_class c) };
 
     ghost has_spelling = { ClassFits };
 
@@ -85,15 +78,15 @@ impl Format for ClassTreeFormat {
 
     ghost lawful = { lawful_class };
 
-    fn check(item: &ClassTree) {
+    fn check(item: &StoredClass) {
         let _class = item;
     }
 
-    fn write(out: &mut Vec<u8>, item: &ClassTree) -> Result<(), AllocError> {
+    fn write(out: &mut Vec<u8>, item: &StoredClass) -> Result<(), AllocError> {
         put_class(out, item)
     }
 
-    fn read(alloc: Global, bytes: &[u8]) -> Result<(ClassTree, &[u8]), ReadError> {
+    fn read(alloc: Global, bytes: &[u8]) -> Result<(StoredClass, &[u8]), ReadError> {
         read_class(alloc, bytes)
     }
 }
@@ -103,20 +96,19 @@ pub struct MainFormat;
 
 impl Format for MainFormat {
     ghost use Rattle.mj_tree.specs.Trees.{Main};
-    ghost use Rattle.mj_tree.specs.Views.{main_view};
-    ghost use Rattle.byte_readers.specs.Views.{seen_by};
+    ghost use Rattle.byte_readers.specs.Views.{plain};
     ghost use Rattle.tree_bytes.specs.Spelling.{main};
     ghost use Rattle.tree_bytes.specs.Storable.{MainFits};
     ghost use Rattle.tree_bytes.specs.Reading.{main_at};
     ghost use Rattle.tree_bytes.specs.FileLaws.{lawful_main};
 
-    type Item = MainTree;
+    type Item = StoredMain;
 
     ghost Seen = { Main };
 
-    ghost view = { seen_by main_view };
+    ghost view = { plain };
 
-    ghost is_storable = { λ m. MainFits (main_view m) };
+    ghost is_storable = { λ _. Unit {0} };
 
     ghost has_spelling = { MainFits };
 
@@ -126,15 +118,15 @@ impl Format for MainFormat {
 
     ghost lawful = { lawful_main };
 
-    fn check(item: &MainTree) {
-        let _main = item;
+    fn check(item: &StoredMain) {
+        let _name = item.name();
     }
 
-    fn write(out: &mut Vec<u8>, item: &MainTree) -> Result<(), AllocError> {
+    fn write(out: &mut Vec<u8>, item: &StoredMain) -> Result<(), AllocError> {
         put_main(out, item)
     }
 
-    fn read(alloc: Global, bytes: &[u8]) -> Result<(MainTree, &[u8]), ReadError> {
+    fn read(alloc: Global, bytes: &[u8]) -> Result<(StoredMain, &[u8]), ReadError> {
         read_main(alloc, bytes)
     }
 }
@@ -176,7 +168,7 @@ impl Format for TreeFormat {
 
     fn read(alloc: Global, bytes: &[u8]) -> Result<(Tree, &[u8]), ReadError> {
         let (root, rest) = read_file(alloc, bytes)?;
-        let tree = Tree::new(alloc, root)?;
+        let tree = Tree::of_stored(alloc, root)?;
         Ok((tree, rest))
     }
 }
@@ -207,36 +199,16 @@ impl Format for BodyFormat {
     ghost lawful = { lawful_body };
 
     fn check(item: &Body) {
-        let _part = item.root();
+        let _bytes = item.bytes();
     }
 
     fn write(out: &mut Vec<u8>, item: &Body) -> Result<(), AllocError> {
-        match item.root() {
-            MainOrMethod::Main(statement) => {
-                out.push(0x00)?;
-                put_top_stmt(out, statement)?;
-            }
-            MainOrMethod::Method(method) => {
-                out.push(0x01)?;
-                put_method(out, method)?;
-            }
-        }
-        Ok(())
+        out.extend_from_slice(item.bytes())
     }
 
-    #[tactic(auto, unfolding(crate::specs::Bodies::body_at))]
     fn read(alloc: Global, bytes: &[u8]) -> Result<(Body, &[u8]), ReadError> {
-        match bytes {
-            [] => Err(ReadError::Breach(Breach::Short)),
-            [0x00, rest @ ..] => {
-                let (statement, rest) = read_top_stmt(alloc, rest)?;
-                Ok((Body::new(MainOrMethod::Main(statement)), rest))
-            }
-            [0x01, rest @ ..] => {
-                let (method, rest) = read_method(alloc, rest)?;
-                Ok((Body::new(MainOrMethod::Method(method)), rest))
-            }
-            [_, ..] => Err(not_canonical(bytes)),
-        }
+        let left = skip_body(bytes)?;
+        let body = Body::front(alloc, bytes, left)?;
+        Ok((body, left))
     }
 }

@@ -3,11 +3,11 @@ ghost use Rattle.std.specs.Prelude.{◌≡◌, map, IfOk, option_and_then, slice
 ghost use Rattle.std.specs.BTreeMap.{get};
 ghost use Rattle.std.specs.Cmp.Lexicographic.{slice_cmp};
 ghost use Rattle.std.specs.Ordering.{nat_cmp};
-ghost use Rattle.mj_tree.specs.Views.{class_view, method_view};
 ghost use Rattle.tree_bytes.specs.Indexes.{FindsClasses, FindsMethods, FindsEach, IsIndexOf};
+ghost use Rattle.tree_bytes.specs.Stored.{stored_class};
 
+use crate::stored::{StoredClass, StoredMethod};
 use mj_lexer::Name;
-use mj_tree::{ClassTree, MethodTree};
 use std::alloc::{AllocError, Global};
 use std::collections::BTreeMap;
 
@@ -22,8 +22,8 @@ pub(crate) struct ClassIndex {
 
 impl ClassIndex {
     /// The index of these classes.
-    pub(crate) fn new(alloc: Global, classes: &[ClassTree]) -> Result<Self, AllocError>
-        ensures { IfOk result (λ index. IsIndexOf index (map class_view classes.now)) }
+    pub(crate) fn new(alloc: Global, classes: &[StoredClass]) -> Result<Self, AllocError>
+        ensures { IfOk result (λ index. IsIndexOf index (map stored_class classes.now)) }
     {
         let methods = index_each(alloc, classes)?;
         let classes = index_classes(alloc, classes)?;
@@ -47,8 +47,11 @@ impl ClassIndex {
 }
 
 /// The place of the first class of each name.
-fn index_classes(alloc: Global, classes: &[ClassTree]) -> Result<BTreeMap<Name, usize>, AllocError>
-    ensures { IfOk result (λ places. FindsClasses places (map class_view classes.now)) }
+fn index_classes(
+    alloc: Global,
+    classes: &[StoredClass],
+) -> Result<BTreeMap<Name, usize>, AllocError>
+    ensures { IfOk result (λ places. FindsClasses places (map stored_class classes.now)) }
 {
     let mut places = BTreeMap::new(alloc);
     for (at, class) in classes.iter().enumerate() {
@@ -60,13 +63,17 @@ fn index_classes(alloc: Global, classes: &[ClassTree]) -> Result<BTreeMap<Name, 
 }
 
 /// The place of the first method of each name.
-fn index_methods(alloc: Global, methods: &[MethodTree]) -> Result<BTreeMap<Name, usize>, AllocError>
-    ensures { IfOk result (λ places. FindsMethods places (map method_view methods.now)) }
+fn index_methods(
+    alloc: Global,
+    methods: &[StoredMethod],
+) -> Result<BTreeMap<Name, usize>, AllocError>
+    ensures { IfOk result (λ places. FindsMethods places methods.now) }
 {
     let mut places = BTreeMap::new(alloc);
     for (at, method) in methods.iter().enumerate() {
-        if !places.contains_key(&method.name) {
-            places.insert(method.name.copy(alloc)?, at)?;
+        let name = method.name();
+        if !places.contains_key(name) {
+            places.insert(name.copy(alloc)?, at)?;
         }
     }
     Ok(places)
@@ -75,9 +82,9 @@ fn index_methods(alloc: Global, methods: &[MethodTree]) -> Result<BTreeMap<Name,
 /// For each class the place of its first method of each name.
 fn index_each(
     alloc: Global,
-    classes: &[ClassTree],
+    classes: &[StoredClass],
 ) -> Result<Vec<BTreeMap<Name, usize>>, AllocError>
-    ensures { IfOk result (λ each. FindsEach each.items (map class_view classes.now)) }
+    ensures { IfOk result (λ each. FindsEach each.items (map stored_class classes.now)) }
 {
     let mut each = Vec::new(alloc);
     for class in classes {

@@ -1,13 +1,11 @@
 //! The bodies that a class and a method name in a file.
 ghost use Rattle.std.specs.Prelude.{◌≡◌, IfOk};
-ghost use Rattle.mj_tree.specs.Views.{main_view, method_view};
-ghost use Rattle.tree_bytes.specs.Storable.{FileFits, MainFits, MethodFits};
-ghost use Rattle.tree_bytes.specs.Bodies.{OfMethod};
 ghost use Rattle.tree_bytes.specs.NamedBodies.{body_named, main_body, class_body};
 
-use crate::tree::{Body, MainOrMethod, Tree};
+use crate::body::Body;
+use crate::stored::StoredMain;
+use crate::tree::Tree;
 use mj_lexer::Name;
-use mj_tree::{MainTree, MethodTree};
 use std::alloc::{AllocError, Global};
 
 impl Tree {
@@ -22,7 +20,7 @@ impl Tree {
         ensures { IfOk result (λ body. body ≡ body_named self.now class.now method.now) }
     {
         match &self.root().main {
-            Some(main) if &main.name == class => main_body(alloc, main, method),
+            Some(main) if main.name() == class => main_body(alloc, main, method),
             _ => self.class_body(alloc, class, method),
         }
     }
@@ -34,34 +32,22 @@ impl Tree {
         class: &Name,
         method: &Name,
     ) -> Result<Option<Body>, AllocError>
-        requires { FileFits self.now }
         ensures { IfOk result (λ body.
             body ≡ class_body class.now method.now self.now.classes) }
     {
         match self.method(class, method) {
-            Some(found) => Ok(Some(body_of(alloc, found)?)),
+            Some(found) => Ok(Some(found.body().copy(alloc)?)),
             None => Ok(None),
         }
     }
 }
 
 /// A copy of what the main class has of this name.
-fn main_body(alloc: Global, main: &MainTree, method: &Name) -> Result<Option<Body>, AllocError>
-    requires { MainFits (main_view main.now) }
-    ensures { IfOk result (λ body. body ≡ main_body method.now (main_view main.now)) }
+fn main_body(alloc: Global, main: &StoredMain, method: &Name) -> Result<Option<Body>, AllocError>
+    ensures { IfOk result (λ body. body ≡ main_body method.now main.now) }
 {
     if method.as_str() != "main" {
         return Ok(None);
     }
-    let statement = main.statement.copy(alloc)?;
-    Ok(Some(Body::new(MainOrMethod::Main(statement))))
-}
-
-/// A copy of a method, as a body.
-fn body_of(alloc: Global, method: &MethodTree) -> Result<Body, AllocError>
-    requires { MethodFits (method_view method.now) }
-    ensures { IfOk result (λ body. body ≡ OfMethod (method_view method.now)) }
-{
-    let copy = method.copy(alloc)?;
-    Ok(Body::new(MainOrMethod::Method(copy)))
+    Ok(Some(main.body().copy(alloc)?))
 }

@@ -1,12 +1,14 @@
 //! Trees that have a spelling.
 ghost use Rattle.std.specs.Prelude.{◌≡◌, IfOk, option_and_then, option_copied, option_map};
-ghost use Rattle.mj_tree.specs.Views.{file_view, class_view, method_view};
+ghost use Rattle.mj_tree.specs.Views.{file_view};
 ghost use Rattle.tree_bytes.specs.NamedBodies.{first_class, first_method};
 ghost use Rattle.tree_bytes.specs.Storable.{FileFits};
+ghost use Rattle.tree_bytes.specs.Stored.{stored_class, stored_file};
 
 use crate::index::ClassIndex;
+use crate::stored::{StoredClass, StoredFile, StoredMethod, store_file};
 use mj_lexer::Name;
-use mj_tree::{ClassTree, FileTree, MethodTree, Stmt};
+use mj_tree::FileTree;
 use std::alloc::{AllocError, Global};
 use std::marker::Model;
 
@@ -14,7 +16,7 @@ use std::marker::Model;
 /// memory.
 #[derive(Debug, Drop)]
 pub struct Tree {
-    root: FileTree,
+    root: StoredFile,
     index: ClassIndex,
 }
 
@@ -26,43 +28,46 @@ impl Model for Tree {
 
     ghost coded = { file_code };
 
-    ghost use Rattle.mj_tree.specs.Views.{file_view};
     ghost use Rattle.tree_bytes.specs.Indexes.{IsIndexOf};
     ghost use Rattle.tree_bytes.specs.Storable.{FileFits};
+    ghost use Rattle.tree_bytes.specs.Stored.{stored_file};
 
-    ghost view = { λ tree. file_view tree.root };
+    ghost view = { λ tree. stored_file tree.root };
 
-    ghost invariant = { λ tree. FileFits (file_view tree.root)
-        × IsIndexOf tree.index (file_view tree.root).classes };
+    ghost invariant = { λ tree. FileFits (stored_file tree.root)
+        × IsIndexOf tree.index (stored_file tree.root).classes };
 }
 
 impl Tree {
-    /// The tree with this root, which a call drops where memory runs out: left to its scope, the drops of all its parts
-    /// would be written out here.
+    /// The tree with this root, whose methods are kept as bytes.
     pub fn new(alloc: Global, root: FileTree) -> Result<Self, AllocError>
         requires { FileFits (file_view root) }
         ensures { IfOk result (λ tree. tree ≡ file_view root) }
     {
-        match ClassIndex::new(alloc, &root.classes) {
-            Ok(index) => Ok(Tree { root, index }),
-            Err(error) => {
-                drop(root);
-                Err(error)
-            }
-        }
+        let root = store_file(alloc, root)?;
+        Tree::of_stored(alloc, root)
+    }
+
+    /// The tree with this root, whose classes are found by their names.
+    pub(crate) fn of_stored(alloc: Global, root: StoredFile) -> Result<Self, AllocError>
+        requires { FileFits (stored_file root) }
+        ensures { IfOk result (λ tree. tree ≡ stored_file root) }
+    {
+        let index = ClassIndex::new(alloc, &root.classes)?;
+        Ok(Tree { root, index })
     }
 
     /// The root.
-    pub fn root(&self) -> &FileTree
-        ensures value { file_view result.now ≡ self.now }
+    pub fn root(&self) -> &StoredFile
+        ensures value { stored_file result.now ≡ self.now }
         ensures fits { FileFits self.now }
     {
         &self.root
     }
 
     /// The first class of this name. The main class is none of these.
-    pub fn class(&self, name: &Name) -> Option<&ClassTree>
-        ensures { option_map class_view (option_copied result)
+    pub fn class(&self, name: &Name) -> Option<&StoredClass>
+        ensures { option_map stored_class (option_copied result)
             ≡ first_class name.now self.now.classes }
     {
         let at = self.index.class(name)?;
@@ -70,81 +75,13 @@ impl Tree {
     }
 
     /// The first method of this name in the first class of this name. The main class is none of these.
-    pub fn method(&self, class: &Name, method: &Name) -> Option<&MethodTree>
-        ensures { option_map method_view (option_copied result)
+    pub fn method(&self, class: &Name, method: &Name) -> Option<&StoredMethod>
+        ensures { option_copied result
             ≡ option_and_then (λ k. first_method method.now k.methods)
             (first_class class.now self.now.classes) }
     {
         let class_at = self.index.class(class)?;
         let method_at = self.index.method(class_at, method)?;
         Some(&self.root.classes[class_at].methods[method_at])
-    }
-}
-
-/// What a body belongs to.
-#[derive(Debug, Drop)]
-pub enum MainOrMethod {
-    /// The statement of `main`.
-    Main(Stmt),
-    /// A method.
-    Method(MethodTree),
-}
-
-/// The statement of `main`, or a method, with tokens in four bytes and at most 500 levels. Contracts see it without
-/// where it lies in memory.
-#[derive(Debug, Drop)]
-pub struct Body {
-    root: MainOrMethod,
-}
-
-impl Model for Body {
-    ghost use Rattle.tree_bytes.specs.Bodies.{BodyValue, body_code};
-
-    ghost Value = { BodyValue };
-
-    ghost coded = { body_code };
-
-    ghost use Rattle.tree_bytes.specs.Bodies.{BodyFits};
-    ghost use Rattle.tree_bytes.specs.BodyViews.{body_view};
-
-    ghost view = { λ body. body_view body.root };
-
-    ghost invariant = { λ body. BodyFits (body_view body.root) };
-}
-
-impl Body {
-    ghost use Rattle.tree_bytes.specs.Bodies.{BodyFits};
-    ghost use Rattle.tree_bytes.specs.BodyViews.{body_view};
-
-    /// The body with this root.
-    pub fn new(root: MainOrMethod) -> Self
-        requires { BodyFits (body_view root) }
-        ensures { result ≡ body_view root }
-    {
-        Body { root }
-    }
-
-    /// The root.
-    pub fn root(&self) -> &MainOrMethod
-        ensures value { body_view result.now ≡ self.now }
-        ensures fits { BodyFits self.now }
-    {
-        &self.root
-    }
-
-    /// An equal body.
-    pub fn copy(&self, alloc: Global) -> Result<Body, AllocError>
-        ensures { IfOk result (λ body. body ≡ self.now) }
-    {
-        match self.root() {
-            MainOrMethod::Main(statement) => {
-                let statement = statement.copy(alloc)?;
-                Ok(Body::new(MainOrMethod::Main(statement)))
-            }
-            MainOrMethod::Method(method) => {
-                let method = method.copy(alloc)?;
-                Ok(Body::new(MainOrMethod::Method(method)))
-            }
-        }
     }
 }

@@ -1,17 +1,19 @@
 //! Writing trees.
 ghost use Rattle.std.specs.Prelude.{◌≡◌, ◌++◌, ◌∷◌, OnOk};
 ghost use Rattle.mj_tree.specs.Trees.{Call, If, While, Assign, Store};
-ghost use Rattle.mj_tree.specs.Views.{exp_view, exps_view, stmt_view, stmts_view, method_view, main_view, class_view, file_view};
+ghost use Rattle.mj_tree.specs.Views.{exp_view, exps_view, stmt_view, stmts_view, method_view};
 ghost use Rattle.byte_readers.specs.Spelling.{name, four, eight};
 ghost use Rattle.tree_bytes.specs.Tags.{operator_byte, boolean_byte};
 ghost use Rattle.tree_bytes.specs.Spelling.{node, exp, exps, stmt, stmts, count_exps, count_stmts, method, main, class, file};
+ghost use Rattle.tree_bytes.specs.Stored.{stored_class, stored_file};
 
 use crate::formats::{ClassTreeFormat, MainFormat, MethodFormat};
+use crate::stored::{StoredClass, StoredFile, StoredMain};
 use crate::types::{FieldFormat, put_ty};
 use crate::variables::VariableFormat;
 use byte_readers::{NameFormat, put_eight, put_four, put_list, put_name, put_option};
 use mj_lexer::Name;
-use mj_tree::{ClassTree, Exp, FileTree, MainTree, MethodTree, Operator, Stmt};
+use mj_tree::{Exp, MethodTree, Operator, Stmt};
 use std::alloc::AllocError;
 
 fn operator_byte(operator: Operator) -> u8
@@ -301,18 +303,18 @@ pub fn put_method(out: &mut Vec<u8>, m: &MethodTree) -> Result<(), AllocError>
     put_four(out, m.return_mark)
 }
 
-/// Writes a main class.
-pub fn put_main(out: &mut Vec<u8>, m: &MainTree) -> Result<(), AllocError>
-    ensures { OnOk result (out.new.items ≡ out.old.items ++ main (main_view m.now)) }
+/// Writes a main class. Its statement stands behind the tag of its body.
+pub fn put_main(out: &mut Vec<u8>, m: &StoredMain) -> Result<(), AllocError>
+    ensures { OnOk result (out.new.items ≡ out.old.items ++ main m.now) }
 {
-    put_name(out, &m.name)?;
-    put_stmt(out, &m.statement)
+    put_name(out, m.name())?;
+    out.extend_from_slice(&m.body().bytes()[1..])
 }
 
 /// Writes a class.
 #[tactic(auto, unfolding(crate::specs::Spelling::class))]
-pub fn put_class(out: &mut Vec<u8>, c: &ClassTree) -> Result<(), AllocError>
-    ensures { OnOk result (out.new.items ≡ out.old.items ++ class (class_view c.now)) }
+pub fn put_class(out: &mut Vec<u8>, c: &StoredClass) -> Result<(), AllocError>
+    ensures { OnOk result (out.new.items ≡ out.old.items ++ class (stored_class c.now)) }
 {
     put_name(out, &c.name)?;
     put_option::<NameFormat>(out, &c.superclass)?;
@@ -322,8 +324,8 @@ pub fn put_class(out: &mut Vec<u8>, c: &ClassTree) -> Result<(), AllocError>
 
 /// Writes a file.
 #[tactic(auto, unfolding(crate::specs::Spelling::file))]
-pub fn put_file(out: &mut Vec<u8>, f: &FileTree) -> Result<(), AllocError>
-    ensures { OnOk result (out.new.items ≡ out.old.items ++ file (file_view f.now)) }
+pub fn put_file(out: &mut Vec<u8>, f: &StoredFile) -> Result<(), AllocError>
+    ensures { OnOk result (out.new.items ≡ out.old.items ++ file (stored_file f.now)) }
 {
     put_option::<MainFormat>(out, &f.main)?;
     put_list::<ClassTreeFormat>(out, &f.classes)

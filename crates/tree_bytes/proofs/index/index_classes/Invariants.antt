@@ -2,9 +2,9 @@ use Rattle.std.proofs.Common.{◌≡◌, ℕ, List, take}
 use Rattle.std.specs.BTreeMap.{get}
 use Rattle.std.specs.Ordering.{nat_cmp}
 use Rattle.std.specs.Cmp.Lexicographic.{slice_cmp}
-use Rattle.mj_tree.specs.Views.{class_view}
+use Rattle.tree_bytes.specs.Stored.{stored_class}
 use Rattle.mj_tree.proofs.NamePlaces.{named_at}
 use Rattle.tree_bytes.proofs.index.index_classes.Given as goal
 
 abbrev pub invariant-loop-at : goal.invariant-loop-at
-invariant-loop-at l = (q : List ℕ) → get (slice_cmp nat_cmp) l.places q ≡ named_at class_view (λ k. k.name) (take l.at l.classes) q
+invariant-loop-at l = (q : List ℕ) → get (slice_cmp nat_cmp) l.places q ≡ named_at stored_class (λ k. k.name) (take l.at l.classes) q

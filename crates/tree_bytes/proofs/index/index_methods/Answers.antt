@@ -1,8 +1,8 @@
 use Rattle.std.proofs.Common.{◌∙◌, ℕ, List, sym, ap, cond, Some}
+use Rattle.std.specs.Prelude.{is_some}
 use Rattle.std.specs.BTreeMap.{get}
 use Rattle.std.specs.Ordering.{nat_cmp, is_eq}
 use Rattle.std.specs.Cmp.Lexicographic.{slice_cmp}
-use Rattle.mj_tree.specs.Views.{method_view}
 use Rattle.mj_tree.proofs.NamePlaces.{index_kept, index_added}
 use Rattle.tree_bytes.proofs.index.index_methods.Goals as goal
 use Rattle.tree_bytes.proofs.index.index_methods.Goals.{then-not-contains_key+in_ok-copy+in_ok-insert, else-not-contains_key}
@@ -11,15 +11,15 @@ pub loop-at-preserved : goal.loop-at-preserved
 loop-at-preserved c =
     elim c.if-not-contains_key.branch [
       | then-not-contains_key+in_ok-copy+in_ok-insert w ↦
-          let new = sym c.contains_key.ensures ∙ w.if-not-contains_key.true in
+          let new = ap (λ (q : List ℕ). is_some (get (slice_cmp nat_cmp) c.loop-at.places q)) (sym c.name-name.ensures.value) ∙ (sym c.contains_key.ensures ∙ w.if-not-contains_key.true) in
           let puts = w.in_ok-insert.ensures.updates.0 in
-          let key = w.in_ok-copy.ensures in
+          let key = w.in_ok-copy.ensures ∙ c.name-name.ensures.value in
           rw w.places-is
-          (index_added method_view (λ m. m.name) c.args.methods.now c.loop-at.at c.index-methods-at.result (get (slice_cmp nat_cmp) c.loop-at.places) (get (slice_cmp nat_cmp) w.insert.new.self)
+          (index_added (λ m. m) (λ m. m.name) c.args.methods.now c.loop-at.at c.index-methods-at.result (get (slice_cmp nat_cmp) c.loop-at.places) (get (slice_cmp nat_cmp) w.insert.new.self)
           c.loop-at-test.true c.index-methods-at.is c.loop-at.invariant new
           (λ q. puts q ∙ ap (λ (n : List ℕ). cond (is_eq (slice_cmp nat_cmp n q)) (Some c.loop-at.at) (get (slice_cmp nat_cmp) c.loop-at.places q)) key))
       | else-not-contains_key w ↦
-          let old = sym c.contains_key.ensures ∙ w.if-not-contains_key.false in
+          let old = ap (λ (q : List ℕ). is_some (get (slice_cmp nat_cmp) c.loop-at.places q)) (sym c.name-name.ensures.value) ∙ (sym c.contains_key.ensures ∙ w.if-not-contains_key.false) in
           rw w.places-is
-          (index_kept method_view (λ m. m.name) c.args.methods.now c.loop-at.at c.index-methods-at.result (get (slice_cmp nat_cmp) c.loop-at.places) c.loop-at-test.true c.index-methods-at.is c.loop-at.invariant old)
+          (index_kept (λ m. m) (λ m. m.name) c.args.methods.now c.loop-at.at c.index-methods-at.result (get (slice_cmp nat_cmp) c.loop-at.places) c.loop-at-test.true c.index-methods-at.is c.loop-at.invariant old)
     ]

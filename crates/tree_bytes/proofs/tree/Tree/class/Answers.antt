@@ -1,6 +1,6 @@
 use Rattle.std.proofs.Common.{◌≡◌, Some, None, sym, subst}
 use Rattle.mj_tree.specs.Trees.{File}
-use Rattle.mj_tree.specs.Views.{class_view}
+use Rattle.tree_bytes.specs.Stored.{stored_class}
 use Rattle.tree_bytes.specs.NamedBodies.{first_class}
 use Rattle.tree_bytes.proofs.Indexes.{class_absent, class_found}
 use Rattle.tree_bytes.proofs.tree.Tree.class.Goals as goal
@@ -13,5 +13,5 @@ returns-in_err-at c =
 
 pub returns : goal.returns
 returns c =
-    subst (λ (f : File). Some (class_view c.index.result.now) ≡ first_class c.args.name.now f.classes) c.self.view_is
+    subst (λ (f : File). Some (stored_class c.index.result.now) ≡ first_class c.args.name.now f.classes) c.self.view_is
     (sym (class_found c.self.inside.root c.self.inside.index c.self.invariant.1 c.args.name.now c.in_ok-at.at (sym c.in_ok-at.ensures) c.index.result.now c.index.ensures))

@@ -1,6 +1,5 @@
 use Rattle.std.proofs.Common.{◌≡◌, Some, None, sym, subst, arith}
 use Rattle.mj_tree.specs.Trees.{File}
-use Rattle.mj_tree.specs.Views.{method_view}
 use Rattle.tree_bytes.proofs.Indexes.{method_of, no_class, no_method, method_below, method_found}
 use Rattle.tree_bytes.proofs.tree.Tree.method.Goals as goal
 
@@ -23,5 +22,5 @@ index-requires-2 c =
 
 pub returns : goal.returns
 returns c =
-    subst (λ (f : File). Some (method_view c.index-2.result.now) ≡ method_of f c.args.class.now c.args.method.now) c.self.view_is
+    subst (λ (f : File). Some c.index-2.result.now ≡ method_of f c.args.class.now c.args.method.now) c.self.view_is
     (sym (method_found c.self.inside.root c.self.inside.index c.self.invariant.1 c.args.class.now c.in_ok-class_at.class_at (sym c.in_ok-class_at.ensures) c.index.result.now c.index.ensures c.args.method.now c.in_ok-method_at.method_at (sym c.in_ok-method_at.ensures) c.index-2.result.now c.index-2.ensures))
