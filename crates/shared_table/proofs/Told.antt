@@ -1,6 +1,6 @@
 -- What was told of keys that are done, while the table goes on.
-use Rattle.std.proofs.Common.{◌≡◌, ℕ, List, [], ◌∷◌, ◌++◌, sym, subst, Contains, refl}
-use Rattle.std.specs.Prelude.{Result, Ok, Err}
+use Rattle.std.proofs.Common.{◌≡◌, ℕ, List, [], ◌∷◌, ◌++◌, sym, subst, Contains, refl, arith}
+use Rattle.std.specs.Prelude.{Result, Ok}
 use Rattle.std.specs.List.{AllByRecursion}
 use Rattle.std.proofs.lemmas.List.Elements.{All-contains, All-from_recursion}
 use Rattle.std.specs.declared.alloc.Global.{Global}
@@ -18,100 +18,39 @@ use Rattle.job_table.specs.Calls.{AskGives, MarkGives, BeginGives, FinishGives, 
 use Rattle.job_table.specs.declared.fault.Asked.{Asked}
 use Rattle.job_table.specs.declared.fault.Asked.TheVariants as asked
 use Rattle.job_table.specs.declared.fault.TableFault.{TableFault}
-use Rattle.job_table.specs.declared.fault.TableFault.TheVariants as table
-use Rattle.mark_green.specs.Leaves.{GoesOn, AreTold}
-use Rattle.mark_green.proofs.GoingOn.{on_none, on_one, held_on, Changes, changes_by}
+use Rattle.mark_green.specs.Leaves.{AreTold}
+use Rattle.mark_green.proofs.GoingOn.{on_one, held_on, Changes, changes_by}
 use Rattle.known_list.proofs.Beginnings.{prefix_contains}
 use Rattle.shared_table.specs.Told.{is_told}
 
--- ---- each call goes on
-
-none_on : (t u : TableValue) → u ≡ t → GoesOn t u
-none_on t u same = subst (λ (x : TableValue). GoesOn t x) (sym same) (on_none t)
-
-one_on : (t u : TableValue) (e : Event) → IsStep t e → u ≡ adds t e → GoesOn t u
-one_on t u e may is = subst (λ (x : TableValue). GoesOn t x) (sym is) (on_one t e may)
-
-ask_on : (w : ℕ) (q : Key) (r : Result Asked TableFault) (t u : TableValue) → AskGives t w q r u → GoesOn t u
-ask_on w q (Ok asked.Yours) t u a = one_on t u (Claim w q) a.0 a.1
-ask_on w q (Ok (asked.Done v)) t u a = none_on t u a.2
-ask_on w q (Ok asked.Busy) t u a = none_on t u a.3
-ask_on w q (Ok asked.Stopped) t u a = none_on t u a.1
-ask_on w q (Err table.OutOfRank) t u a = none_on t u a.2
-ask_on w q (Err table.OutOfMemory) t u a = none_on t u a.2
-ask_on w q (Err table.NotYours) t u a = absurd a
-ask_on w q (Err (table.EdgeOpen i)) t u a = absurd a
-ask_on w q (Err (table.EdgeChanged i)) t u a = absurd a
-ask_on w q (Err table.NotInPast) t u a = absurd a
-ask_on w q (Err table.NothingChanged) t u a = absurd a
-ask_on w q (Err (table.StaleRead i)) t u a = absurd a
-ask_on w q (Err table.Failed) t u a = absurd a
-
-mark_on : (w : ℕ) (q : Key) (r : Result (Arc Value Global) TableFault) (t u : TableValue) → MarkGives t w q r u → GoesOn t u
-mark_on w q (Ok v) t u m = one_on t u (MarkGreen w q) m.0 m.1
-mark_on w q (Err table.Failed) t u m = none_on t u m.1
-mark_on w q (Err table.NotYours) t u m = none_on t u m.2
-mark_on w q (Err table.NotInPast) t u m = none_on t u m.2
-mark_on w q (Err (table.EdgeOpen i)) t u m = none_on t u m.2
-mark_on w q (Err (table.EdgeChanged i)) t u m = none_on t u m.2
-mark_on w q (Err table.OutOfMemory) t u m = none_on t u m.1
-mark_on w q (Err table.OutOfRank) t u m = absurd m
-mark_on w q (Err table.NothingChanged) t u m = absurd m
-mark_on w q (Err (table.StaleRead i)) t u m = absurd m
-
-begin_on : (w : ℕ) (q : Key) (r : Result (Unit {0}) TableFault) (t u : TableValue) → BeginGives t w q r u → GoesOn t u
-begin_on w q (Ok x) t u b = one_on t u (Begin w q) b.0 b.1
-begin_on w q (Err table.Failed) t u b = none_on t u b.1
-begin_on w q (Err table.NotYours) t u b = none_on t u b.2
-begin_on w q (Err (table.EdgeOpen i)) t u b = none_on t u b.2
-begin_on w q (Err table.NothingChanged) t u b = none_on t u b.2
-begin_on w q (Err table.OutOfMemory) t u b = none_on t u b.1
-begin_on w q (Err table.OutOfRank) t u b = absurd b
-begin_on w q (Err (table.EdgeChanged i)) t u b = absurd b
-begin_on w q (Err table.NotInPast) t u b = absurd b
-begin_on w q (Err (table.StaleRead i)) t u b = absurd b
-
-finish_on : (w : ℕ) (o : OutcomeValue) (r : Result (Unit {0}) TableFault) (t u : TableValue) → FinishGives t w o r u → GoesOn t u
-finish_on w o (Ok x) t u f = one_on t u (Finish w o) f.0 f.1
-finish_on w o (Err table.Failed) t u f = none_on t u f.1
-finish_on w o (Err table.NotYours) t u f = none_on t u f.2
-finish_on w o (Err (table.StaleRead i)) t u f = none_on t u f.2
-finish_on w o (Err table.OutOfMemory) t u f = none_on t u f.1
-finish_on w o (Err (table.EdgeOpen i)) t u f = absurd f
-finish_on w o (Err table.NothingChanged) t u f = absurd f
-finish_on w o (Err table.OutOfRank) t u f = absurd f
-finish_on w o (Err (table.EdgeChanged i)) t u f = absurd f
-finish_on w o (Err table.NotInPast) t u f = absurd f
-
-fail_on : (w : ℕ) (r : Result (Unit {0}) TableFault) (t u : TableValue) → FailGives t w r u → GoesOn t u
-fail_on w (Ok x) t u f = one_on t u (Fail w) f.0 f.1
-fail_on w (Err table.Failed) t u f = none_on t u f.1
-fail_on w (Err table.NotYours) t u f = absurd f
-fail_on w (Err table.OutOfRank) t u f = absurd f
-fail_on w (Err (table.EdgeOpen i)) t u f = absurd f
-fail_on w (Err (table.EdgeChanged i)) t u f = absurd f
-fail_on w (Err table.NotInPast) t u f = absurd f
-fail_on w (Err table.NothingChanged) t u f = absurd f
-fail_on w (Err (table.StaleRead i)) t u f = absurd f
-fail_on w (Err table.OutOfMemory) t u f = absurd f
-
--- ---- what was told still stands
+-- ---- what was told still stands after each call
 
 module _ (w : ℕ) (t u : TableValue) (told : List ReadValue) (held : AreHeld (state_of t) told) where
+  none_held : u ≡ t → AreHeld (state_of u) told
+  none_held same = subst (λ (x : TableValue). AreHeld (state_of x) told) (sym same) held
+
+  one_held : (e : Event) → IsStep t e → u ≡ adds t e → AreHeld (state_of u) told
+  one_held e may is = subst (λ (x : TableValue). AreHeld (state_of x) told) (sym is) (held_on t (adds t e) (on_one t e may) told held)
+
   pub ask_held : (q : Key) (r : Result Asked TableFault) → AskGives t w q r u → AreHeld (state_of u) told
-  ask_held q r a = held_on t u (ask_on w q r t u a) told held
+  ask_held q (Ok asked.Yours) a = one_held (Claim w q) a.0 a.1
+  ask_held q r a = none_held (grind arith)
 
   pub mark_held : (q : Key) (r : Result (Arc Value Global) TableFault) → MarkGives t w q r u → AreHeld (state_of u) told
-  mark_held q r m = held_on t u (mark_on w q r t u m) told held
+  mark_held q (Ok v) m = one_held (MarkGreen w q) m.0 m.1
+  mark_held q r m = none_held (grind arith)
 
   pub begin_held : (q : Key) (r : Result (Unit {0}) TableFault) → BeginGives t w q r u → AreHeld (state_of u) told
-  begin_held q r b = held_on t u (begin_on w q r t u b) told held
+  begin_held q (Ok x) b = one_held (Begin w q) b.0 b.1
+  begin_held q r b = none_held (grind arith)
 
   pub finish_held : (o : OutcomeValue) (r : Result (Unit {0}) TableFault) → FinishGives t w o r u → AreHeld (state_of u) told
-  finish_held o r f = held_on t u (finish_on w o r t u f) told held
+  finish_held o (Ok x) f = one_held (Finish w o) f.0 f.1
+  finish_held o r f = none_held (grind arith)
 
   pub fail_held : (r : Result (Unit {0}) TableFault) → FailGives t w r u → AreHeld (state_of u) told
-  fail_held r f = held_on t u (fail_on w r t u f) told held
+  fail_held (Ok x) f = one_held (Fail w) f.0 f.1
+  fail_held r f = none_held (grind arith)
 
 -- ---- a result that is told
 

@@ -4,9 +4,9 @@ ghost use Rattle.std.specs.Arc.{arc_value};
 ghost use mathlib.Core.List.{IsPrefix};
 ghost use Rattle.graph_rules.specs.Steps.{IsDoneWith};
 ghost use Rattle.job_table.specs.Tables.{state_of};
-ghost use Rattle.job_table.specs.Calls.{FinishGives};
+ghost use Rattle.job_table.specs.Calls.{AskGives, BeginGives, FinishGives, FailGives};
 ghost use Rattle.mark_green.specs.Leaves.{ClaimsNoInput, TellsDone, AreTold};
-ghost use Rattle.shared_table.specs.Told.{is_told};
+ghost use Rattle.shared_table.specs.Told.{is_told, MarkTells, FinishTells};
 
 use crate::counted::Counted;
 use crate::kept::Kept;
@@ -69,6 +69,7 @@ impl<J: Naming, R: Runner> Desk<J, R> {
     /// A table that has told nothing yet.
     pub(crate) fn new(counted: Counted<J, R>, head: Head<J, Read>, told: Known<J, Read>) -> Self
         requires { told ≡ [] }
+        ensures { result ≡ counted }
     {
         Desk {
             counted,
@@ -78,7 +79,9 @@ impl<J: Naming, R: Runner> Desk<J, R> {
     }
 
     /// The table.
-    pub(crate) fn into_counted(self) -> Counted<J, R> {
+    pub(crate) fn into_counted(self) -> Counted<J, R>
+        ensures { result ≡ self }
+    {
         let Desk {
             counted,
             head: _,
@@ -95,6 +98,7 @@ impl<J: Naming, R: Runner> Desk<J, R> {
         w: u32,
         key: &Key,
     ) -> Result<Asked, TableFault>
+        ensures gives { AskGives self.old w key.now result self.new }
         ensures claims { ClaimsNoInput key.now result }
         ensures told { TellsDone (is_told kept.new) key.now result }
         ensures stays { IsPrefix kept.old kept.new }
@@ -116,6 +120,7 @@ impl<J: Naming, R: Runner> Desk<J, R> {
         w: u32,
         key: &Key,
     ) -> Result<Arc<Sealed>, TableFault>
+        ensures gives { MarkTells self.old w key.now result self.new }
         ensures told { IfOk result (λ a. is_told kept.new key.now (arc_value a)) }
         ensures stays { IsPrefix kept.old kept.new }
     {
@@ -134,7 +139,9 @@ impl<J: Naming, R: Runner> Desk<J, R> {
         tally: &mut Tally<J>,
         w: u32,
         key: &Key,
-    ) -> Result<(), TableFault> {
+    ) -> Result<(), TableFault>
+        ensures { BeginGives self.old w key.now result self.new }
+    {
         self.counted.begin_run(tally, w, key)
     }
 
@@ -149,6 +156,7 @@ impl<J: Naming, R: Runner> Desk<J, R> {
     ) -> Result<(), TableFault>
         requires same { ended.now ≡ arc_value outcome }
         requires reads { AreTold (is_told kept.old) ended.now.told }
+        ensures gives { FinishTells self.old w ended.now result self.new }
         ensures told { IfOk result (λ _. is_told kept.new ended.now.key ended.now.value) }
         ensures stays { IsPrefix kept.old kept.new }
     {
@@ -181,7 +189,9 @@ impl<J: Naming, R: Runner> Desk<J, R> {
     }
 
     /// Notes that a worker gives up.
-    pub(crate) fn fail(&mut self, tally: &mut Tally<J>, w: u32) -> Result<(), TableFault> {
+    pub(crate) fn fail(&mut self, tally: &mut Tally<J>, w: u32) -> Result<(), TableFault>
+        ensures { FailGives self.old w result self.new }
+    {
         self.counted.fail(tally, w)
     }
 
