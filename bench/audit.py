@@ -9,6 +9,7 @@ from pathlib import Path
 
 sys.dont_write_bytecode = True
 from incremental import check, edit_body, measured, project, session_files, summed  # noqa: E402
+from measuring import program_path  # noqa: E402
 
 TOP = Path(__file__).resolve().parent.parent
 SESSIONS, MANY = 10, 100
@@ -53,7 +54,7 @@ def edited(program, runs):
 
 def main():
     parser = argparse.ArgumentParser(description=__doc__)
-    parser.add_argument("program", nargs="?", default=str(TOP / "mjrg"))
+    parser.add_argument("program", nargs="?", type=program_path, default=str(TOP / "mjrg"))
     parser.add_argument("--runs", type=int, default=3, help="runs of which the shortest counts")
     given = parser.parse_args()
     unchanged(given.program, given.runs)

@@ -11,6 +11,9 @@ import tempfile
 import time
 from pathlib import Path
 
+sys.dont_write_bytecode = True
+from measuring import program_path  # noqa: E402
+
 
 def four(number):
     return number.to_bytes(4, "big")
@@ -70,7 +73,7 @@ def least_time(words, runs):
 
 def main():
     parser = argparse.ArgumentParser(description=__doc__.splitlines()[0])
-    parser.add_argument("program", help="the built program codec_bench")
+    parser.add_argument("program", type=program_path, help="the built program codec_bench")
     parser.add_argument("--size", type=int, default=4_000_000, help="bytes of the tree, about")
     parser.add_argument("--count", type=int, default=10, help="repetitions")
     parser.add_argument("--runs", type=int, default=3, help="runs of which the shortest counts")

@@ -8,10 +8,14 @@ takes on the ordinary file. Nothing is asserted. A file that takes longer than t
 import argparse
 import shutil
 import subprocess
+import sys
 import tempfile
 import threading
 import time
 from pathlib import Path
+
+sys.dont_write_bytecode = True
+from measuring import program_path  # noqa: E402
 
 MOST = 1_048_576
 MAIN = "class M { public static void main(String[] a) { System.out.println(1); } }\n"
@@ -116,7 +120,7 @@ def shown(seconds, ordinary, limit):
 
 def main():
     parser = argparse.ArgumentParser(description=__doc__.splitlines()[0])
-    parser.add_argument("program", nargs="?", default=str(Path(__file__).resolve().parent.parent / "mjrg"))
+    parser.add_argument("program", nargs="?", type=program_path, default=str(Path(__file__).resolve().parent.parent / "mjrg"))
     parser.add_argument("--runs", type=int, default=3, help="runs of which the shortest counts")
     parser.add_argument("--limit", type=int, default=60, help="seconds after which a run is given up")
     given = parser.parse_args()

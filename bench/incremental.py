@@ -16,7 +16,7 @@ import tempfile
 from pathlib import Path
 
 sys.dont_write_bytecode = True
-from measuring import A_LITERAL, measured  # noqa: E402
+from measuring import A_LITERAL, measured, program_path  # noqa: E402
 from projects import write_project  # noqa: E402
 from rechecks import by_shapes  # noqa: E402
 
@@ -99,7 +99,7 @@ def by_workers(program, numbers, runs):
 
 def main():
     parser = argparse.ArgumentParser(description=__doc__, formatter_class=argparse.RawDescriptionHelpFormatter)
-    parser.add_argument("program", nargs="?", default=str(TOP / "mjrg"))
+    parser.add_argument("program", nargs="?", type=program_path, default=str(TOP / "mjrg"))
     parser.add_argument("--only", choices=["shapes", "jobs"], help="one of both parts")
     parser.add_argument("--jobs", type=int, nargs="+", default=[1, 2, 4, 8], help="numbers of workers")
     parser.add_argument("--runs", type=int, default=3, help="runs of which the shortest counts")

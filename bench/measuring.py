@@ -1,12 +1,21 @@
 """Runs a program, and tells how long it took and how much memory it had."""
 import os
 import re
+import shutil
 import subprocess
 import sys
 import time
 
 # A literal that an edit of a body changes.
 A_LITERAL = re.compile(r"\bsum = \d+;")
+
+
+def program_path(word):
+    """The whole path of a program that is given by a path or by its name, since it is run in other folders."""
+    found = shutil.which(word)
+    if found is None:
+        sys.exit(f"{word} is no program")
+    return os.path.abspath(found)
 
 
 def measured(words, folder):

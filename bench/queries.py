@@ -8,12 +8,14 @@ compares instead both programs' standard outputs on the recorded cases there, an
 import argparse
 import base64
 import json
+import os
 import subprocess
 import sys
 import tempfile
 from pathlib import Path
 
 sys.dont_write_bytecode = True
+from measuring import program_path  # noqa: E402
 from projects import write_project  # noqa: E402
 from scratch import least_time  # noqa: E402
 
@@ -93,8 +95,8 @@ def compare(options):
 
 def main():
     parser = argparse.ArgumentParser(description=__doc__, formatter_class=argparse.RawDescriptionHelpFormatter)
-    parser.add_argument("program", nargs="?", default=str(TOP / "mjrg"))
-    parser.add_argument("--bench", default=str(TOP / "crates/codec_bench/out/codec_bench"), help="the bench's program")
+    parser.add_argument("program", nargs="?", type=program_path, default=str(TOP / "mjrg"))
+    parser.add_argument("--bench", type=os.path.abspath, default=str(TOP / "crates/codec_bench/out/codec_bench"), help="the bench's program")
     parser.add_argument("--fields", type=int, default=4, help="fields of a class beside its own (4)")
     parser.add_argument("--methods", type=int, default=4, help="methods of a class beside its first (4)")
     parser.add_argument("--runs", type=int, default=3, help="runs of each program (3)")

@@ -12,6 +12,7 @@ import time
 from pathlib import Path
 
 sys.dont_write_bytecode = True
+from measuring import program_path  # noqa: E402
 from projects import write_project  # noqa: E402
 
 
@@ -40,7 +41,7 @@ def measured(program, classes, fields, methods, runs):
 
 def main():
     parser = argparse.ArgumentParser(description=__doc__, formatter_class=argparse.RawDescriptionHelpFormatter)
-    parser.add_argument("program", nargs="?", default=str(Path(__file__).resolve().parent.parent / "mjrg"))
+    parser.add_argument("program", nargs="?", type=program_path, default=str(Path(__file__).resolve().parent.parent / "mjrg"))
     parser.add_argument("--fields", type=int, default=4, help="fields of a class beside its own (4)")
     parser.add_argument("--methods", type=int, default=0, help="long methods of a class (0: fields alone)")
     parser.add_argument("--runs", type=int, default=3, help="runs of each program (3)")

@@ -19,7 +19,7 @@ from pathlib import Path
 sys.dont_write_bytecode = True
 from codec import items, least_time, name  # noqa: E402
 from incremental import add_field, check, edit_body, project, session_files, summed  # noqa: E402
-from measuring import measured as one_run  # noqa: E402
+from measuring import measured as one_run, program_path  # noqa: E402
 
 TOP = Path(__file__).resolve().parent.parent
 
@@ -108,8 +108,8 @@ def checks(program, runs):
 
 def main():
     parser = argparse.ArgumentParser(description=__doc__, formatter_class=argparse.RawDescriptionHelpFormatter)
-    parser.add_argument("program", nargs="?", default=str(TOP / "mjrg"))
-    parser.add_argument("--bench", metavar="CODEC_BENCH", help="the built program codec_bench")
+    parser.add_argument("program", nargs="?", type=program_path, default=str(TOP / "mjrg"))
+    parser.add_argument("--bench", type=program_path, metavar="CODEC_BENCH", help="the built program codec_bench")
     parser.add_argument("--count", type=int, default=5, help="repetitions of reading and writing")
     parser.add_argument("--runs", type=int, default=3, help="runs of which the shortest counts")
     given = parser.parse_args()

@@ -12,6 +12,7 @@ import time
 from pathlib import Path
 
 sys.dont_write_bytecode = True
+from measuring import program_path  # noqa: E402
 from projects import MAIN, method_lines  # noqa: E402
 
 LIMIT = 1_048_576
@@ -87,7 +88,7 @@ def startup(program, runs):
 
 def main():
     parser = argparse.ArgumentParser(description=__doc__, formatter_class=argparse.RawDescriptionHelpFormatter)
-    parser.add_argument("program", nargs="?", default=str(Path(__file__).resolve().parent.parent / "mjrg"))
+    parser.add_argument("program", nargs="?", type=program_path, default=str(Path(__file__).resolve().parent.parent / "mjrg"))
     parser.add_argument("--runs", type=int, default=5, help="runs of each program, of which the least counts (5)")
     options = parser.parse_args()
     subprocess.run([options.program, "--help"], stdout=subprocess.DEVNULL, check=True)
