@@ -50,5 +50,7 @@ fn has_file(
         return Ok(false);
     }
     let key = Key::Source(name.copy(alloc)?);
-    Ok(same_source(past, &key, bytes.as_slice()).is_some())
+    let same = same_source(past, &key, bytes.as_slice()).is_some();
+    drop(key);
+    Ok(same)
 }

@@ -74,17 +74,19 @@ impl<S: Store<Out = Arc<Outcome<R>>>, R: Runner> Bringer<'_, S, R> {
         requires shows { ShowsOutcomes S.outcome_in }
     {
         self.bring_trees(project, lists)?;
-        let index = self.bring(&Key::Index)?;
+        let index = self.bring(Key::Index)?;
         self.bring_classes(rows_in(index.value()), lists)?;
-        self.bring(&Key::Answer)?;
+        self.bring(Key::Answer)?;
         Ok(())
     }
 
     /// Evaluates a key.
-    fn bring(&mut self, key: &Key) -> Result<Arc<Sealed>, Undone>
+    fn bring(&mut self, key: Key) -> Result<Arc<Sealed>, Undone>
         requires shows { ShowsOutcomes S.outcome_in }
     {
-        Ok(ensure(self.alloc, self.store, self.runner, self.worker, key)?)
+        let ensured = ensure(self.alloc, self.store, self.runner, self.worker, &key);
+        drop(key);
+        Ok(ensured?)
     }
 
     /// Evaluates the trees of the files that the worker takes.
@@ -108,8 +110,7 @@ impl<S: Store<Out = Arc<Outcome<R>>>, R: Runner> Bringer<'_, S, R> {
         requires some { 0 < length file.now }
         requires short { length file.now ≤ most_name_bytes }
     {
-        let key = Key::Tree(Name::new(self.alloc, file)?);
-        self.bring(&key)?;
+        self.bring(Key::Tree(Name::new(self.alloc, file)?))?;
         Ok(())
     }
 
@@ -168,8 +169,7 @@ impl<S: Store<Out = Arc<Outcome<R>>>, R: Runner> Bringer<'_, S, R> {
     fn bring_of(&mut self, class: &Name, of: Of) -> Result<(), Undone>
         requires shows { ShowsOutcomes S.outcome_in }
     {
-        let key = class_key(self.alloc, of, class)?;
-        self.bring(&key)?;
+        self.bring(class_key(self.alloc, of, class)?)?;
         Ok(())
     }
 
@@ -177,8 +177,7 @@ impl<S: Store<Out = Arc<Outcome<R>>>, R: Runner> Bringer<'_, S, R> {
     fn bring_methods(&mut self, class: &Name, part: Part) -> Result<(), Undone>
         requires shows { ShowsOutcomes S.outcome_in }
     {
-        let key = class_key(self.alloc, Of::Header, class)?;
-        let header = self.bring(&key)?;
+        let header = self.bring(class_key(self.alloc, Of::Header, class)?)?;
         if is_main(header.value()) {
             return self.bring_main(class, part);
         }
@@ -192,9 +191,7 @@ impl<S: Store<Out = Arc<Outcome<R>>>, R: Runner> Bringer<'_, S, R> {
     fn bring_main(&mut self, class: &Name, part: Part) -> Result<(), Undone>
         requires shows { ShowsOutcomes S.outcome_in }
     {
-        let main = Name::new(self.alloc, "main")?;
-        let key = part_key(self.alloc, class, &main, part)?;
-        self.bring(&key)?;
+        self.bring(main_key(self.alloc, class, part)?)?;
         Ok(())
     }
 
@@ -202,11 +199,9 @@ impl<S: Store<Out = Arc<Outcome<R>>>, R: Runner> Bringer<'_, S, R> {
     fn bring_part(&mut self, class: &Name, method: &Name, part: Part) -> Result<(), Undone>
         requires shows { ShowsOutcomes S.outcome_in }
     {
-        let key = part_key(self.alloc, class, method, part)?;
-        self.bring(&key)?;
+        self.bring(part_key(self.alloc, class, method, part)?)?;
         if let Part::Types = part {
-            let key = Key::Sig(class.copy(self.alloc)?, method.copy(self.alloc)?);
-            self.bring(&key)?;
+            self.bring(sig_key(self.alloc, class, method)?)?;
         }
         Ok(())
     }
@@ -255,6 +250,19 @@ fn part_key(alloc: Global, class: &Name, method: &Name, part: Part) -> Result<Ke
         Part::Types => Ok(Key::Method(class, method)),
         Part::Faults => Ok(Key::CheckBody(class, method)),
     }
+}
+
+/// The key of this query of `main`.
+fn main_key(alloc: Global, class: &Name, part: Part) -> Result<Key, AllocError> {
+    let main = Name::new(alloc, "main")?;
+    let key = part_key(alloc, class, &main, part);
+    drop(main);
+    key
+}
+
+/// The key of the types of a method.
+fn sig_key(alloc: Global, class: &Name, method: &Name) -> Result<Key, AllocError> {
+    Ok(Key::Sig(class.copy(alloc)?, method.copy(alloc)?))
 }
 
 /// Whether the class of a header has `main`.

@@ -91,7 +91,7 @@ module _ (J R : RattleType) (g : naming.Ghosts J.Denot) (g' : ledger.Ghosts J.De
   desk_send s y = let d = desk.the_row J R l g g' g'' in
       view_send (desk_inside.the_row J R l g g' g'') d.Denot d.coded (desk.the_view J R l g g' g'') (desk.the_invariant J R l g g' g'') (desk_inside_send s y)
 
-  pub shared_sync : IsSend R → IsSync R → IsSync (shared.the_row J R g g' l g'')
-  shared_sync s y = let T = shared.the_type J R g g' l g'' in
-      recorded_sync (shared.the_field J R g g' l g'').row _ _ T.to_one
+  pub shared_sync : IsSend R → IsSync R → IsSync (shared.the_row J R g l g'' g')
+  shared_sync s y = let T = shared.the_type J R g l g'' g' in
+      recorded_sync (shared.the_field J R g l g'' g').row _ _ T.to_one
       (struct_sync (declared.shape T) (mutex.the_sync (desk.the_row J R l g g' g'') (desk_send s y), (condvar.the_field_sync, (search (session_send, session_sync, sealed_results) depth 60 fits 20000, (known_sync J read.the_row l, tt)))))

@@ -26,7 +26,9 @@ pub struct Alone<'a, J: Naming, R: Runner, G: Gate> {
 
 impl<'a, J: Naming, R: Runner, G: Gate> Alone<'a, J, R, G> {
     /// The seat of the worker with this count of events. The gate is called around each run.
-    pub fn new(counted: &'a mut Counted<J, R>, tally: &'a mut Tally<J>, gate: &'a G) -> Self {
+    pub fn new(counted: &'a mut Counted<J, R>, tally: &'a mut Tally<J>, gate: &'a G) -> Self
+        ensures { result.counted.now ≡ counted.old }
+    {
         Alone {
             counted,
             tally,

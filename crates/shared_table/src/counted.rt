@@ -1,9 +1,11 @@
 //! A table with the sum of its workers' events.
-ghost use Rattle.std.specs.Prelude.{◌≡◌, IfOk, length};
+ghost use Rattle.std.specs.Prelude.{◌≡◌, ◌-◌, IfOk, length, option_map, slice_get};
+ghost use Rattle.std.specs.Option.{option_copied};
 ghost use Rattle.std.specs.Arc.{arc_value};
 ghost use Rattle.graph_rules.specs.Steps.{AreHeld};
 ghost use Rattle.sessions.specs.Sessions.{session_in};
 ghost use Rattle.job_table.specs.Tables.{state_of};
+ghost use Rattle.job_table.specs.Kept.{event_of};
 ghost use Rattle.job_table.specs.Calls.{AskGives, MarkGives, BeginGives, FinishGives, FailGives};
 ghost use Rattle.mark_green.specs.Leaves.{ClaimsNoInput};
 
@@ -50,6 +52,7 @@ impl<J: Naming, R: Runner> Counted<J, R> {
         requires past { table.past ≡ J.past }
         requires project { table.project ≡ J.project }
         requires events { length table.history ≡ book.total }
+        ensures { result ≡ table }
     {
         Counted { table, book }
     }
@@ -148,7 +151,10 @@ impl<J: Naming, R: Runner> Counted<J, R> {
     }
 
     /// The last event.
-    pub(crate) fn last(&self) -> Option<&Event<R>> {
+    pub(crate) fn last(&self) -> Option<&Event<R>>
+        ensures { option_map event_of (option_copied result)
+            ≡ slice_get self.now.history (length self.now.history - 1) }
+    {
         self.table.history().last()
     }
 
@@ -162,6 +168,7 @@ impl<J: Naming, R: Runner> Counted<J, R> {
     /// The table, where all shares have come together. Its history has as many events as the workers have counted.
     pub fn end(self, all: &mut Share<J>) -> Table<R>
         requires whole { all.old.parts ≡ J.parts }
+        ensures table { result ≡ self }
         ensures past { result.past ≡ J.past }
         ensures project { result.project ≡ J.project }
         ensures counted { length result.history ≡ all.old.amount }

@@ -1,6 +1,9 @@
 //! A worker's seat at a table that all share.
-ghost use Rattle.std.specs.Prelude.{◌≡◌, IfOk};
+ghost use Rattle.std.specs.Prelude.{◌≡◌, None, IfOk, IfErr};
 ghost use Rattle.std.specs.Arc.{arc_value};
+ghost use Rattle.job_table.specs.declared.fault.TableFault.TheVariants as fault;
+ghost use Rattle.sessions.specs.Sessions.{session_in};
+ghost use Rattle.mark_green.specs.Leaves.{Knows};
 ghost use Rattle.shared_table.specs.Told.{IsFound};
 
 use crate::gate::Gate;
@@ -103,14 +106,18 @@ impl<J: Naming, R: Runner, T: Wait, G: Gate> Store for Seat<'_, J, R, T, G> {
         self.shared.fail(self.rt, self.tally, w)
     }
 
-    fn past(&self) -> Result<Option<Arc<Session>>, AllocError> {
+    fn past(&self) -> Result<Option<Arc<Session>>, AllocError>
+        ensures known { IfOk result (λ past. Knows (λ t. session_in past ≡ t.past) None) }
+        ensures of_name { IfOk result (λ past. session_in past ≡ J.past) }
+    {
         self.shared.past()
     }
 }
 
 /// The result of a key that is done.
 fn again(sealed: &Arc<Sealed>) -> Result<Asked, TableFault>
-    ensures { IfOk result (λ a. IsFound a (arc_value sealed.now)) }
+    ensures ok { IfOk result (λ a. IsFound a (arc_value sealed.now)) }
+    ensures err { IfErr result (λ why. why ≡ fault.OutOfMemory) }
 {
     match Arc::try_clone(sealed) {
         Ok(sealed) => Ok(Asked::Done(sealed)),

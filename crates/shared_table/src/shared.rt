@@ -1,6 +1,7 @@
 //! The table under a lock.
 ghost use Rattle.std.specs.Prelude.{◌≡◌, IfOk};
 ghost use Rattle.std.specs.Arc.{arc_value};
+ghost use Rattle.sessions.specs.Sessions.{session_in};
 ghost use mathlib.Core.List.{IsPrefix};
 ghost use Rattle.mark_green.specs.Leaves.{ClaimsNoInput, TellsDone, AreTold};
 ghost use Rattle.shared_table.specs.Told.{is_told};
@@ -31,6 +32,7 @@ pub struct Shared<J: Naming, R: Runner> {
     changed: Condvar,
     past: Option<Arc<Session>>,
     known: Known<J, Read>,
+    ghost of_name: { session_in past ≡ J.past },
 }
 
 impl<J: Naming, R: Runner> Shared<J, R> {
@@ -157,7 +159,9 @@ impl<J: Naming, R: Runner> Shared<J, R> {
     }
 
     /// The previous session.
-    pub(crate) fn past(&self) -> Result<Option<Arc<Session>>, AllocError> {
+    pub(crate) fn past(&self) -> Result<Option<Arc<Session>>, AllocError>
+        ensures { IfOk result (λ past. session_in past ≡ J.past) }
+    {
         match &self.past {
             Some(past) => Ok(Some(Arc::try_clone(past)?)),
             None => Ok(None),

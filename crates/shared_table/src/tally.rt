@@ -20,6 +20,7 @@ impl<J: Naming> Tally<J> {
     pub fn new(share: Share<J>) -> Self
         requires part { share.parts ≡ 1 }
         requires none { share.amount ≡ 0 }
+        ensures { result.share ≡ share }
     {
         Tally { events: 0, share }
     }
