@@ -135,42 +135,15 @@ fn is_audited_by<T: Threads + Wait + Sync>(
 }
 
 #[test]
-fn many_classes_by_one(rt: HostRuntime) -> Result<(), Fail> {
+fn many_classes_by_any_number_of_bytes(rt: HostRuntime) -> Result<(), Fail> {
     let text = classes(rt.alloc(), 400)?;
-    let files = session_files(&rt, &rt, "by-one", &[text.as_str()])?;
-    assert!(rt; is_audited_by(&rt, rt.alloc(), files.as_slice(), &text, 1)?);
-    Ok(())
-}
-
-#[test]
-fn many_classes_by_two(rt: HostRuntime) -> Result<(), Fail> {
-    let text = classes(rt.alloc(), 400)?;
-    let files = session_files(&rt, &rt, "by-two", &[text.as_str()])?;
-    assert!(rt; is_audited_by(&rt, rt.alloc(), files.as_slice(), &text, 2)?);
-    Ok(())
-}
-
-#[test]
-fn many_classes_by_three(rt: HostRuntime) -> Result<(), Fail> {
-    let text = classes(rt.alloc(), 400)?;
-    let files = session_files(&rt, &rt, "by-three", &[text.as_str()])?;
-    assert!(rt; is_audited_by(&rt, rt.alloc(), files.as_slice(), &text, 3)?);
-    Ok(())
-}
-
-#[test]
-fn many_classes_by_seven(rt: HostRuntime) -> Result<(), Fail> {
-    let text = classes(rt.alloc(), 400)?;
-    let files = session_files(&rt, &rt, "by-seven", &[text.as_str()])?;
-    assert!(rt; is_audited_by(&rt, rt.alloc(), files.as_slice(), &text, 7)?);
-    Ok(())
-}
-
-#[test]
-fn many_classes_by_a_page(rt: HostRuntime) -> Result<(), Fail> {
-    let text = classes(rt.alloc(), 400)?;
-    let files = session_files(&rt, &rt, "by-a_page", &[text.as_str()])?;
-    assert!(rt; is_audited_by(&rt, rt.alloc(), files.as_slice(), &text, 4096)?);
+    let files = session_files(&rt, &rt, "many", &[text.as_str()])?;
+    for most in [1, 2, 3, 7, 4096] {
+        assert!(rt;
+            is_audited_by(&rt, rt.alloc(), files.as_slice(), &text, most)?,
+            "{most}"
+        );
+    }
     Ok(())
 }
 
