@@ -6,6 +6,6 @@ use Rattle.crew_fixtures.proofs.pairs.work_all.Goals as goal
 
 pub for_each_mut-requires-sync-F : goal.for_each_mut-requires-sync-F
 for_each_mut-requires-sync-F g c κs within =
-    let s : IsSync (shared.the_row (param 0 g.row.J) (param 1 g.row.R) g.J.Naming g.J.Ledger g.J.ListNaming g.R.Runner) =
+    let s : IsSync (shared.the_row (param 0 g.row.J) (param 1 g.row.R) g.J.Naming g.J.ListNaming g.R.Runner g.J.Ledger) =
     shared_sync (param 0 g.row.J) (param 1 g.row.R) g.J.Naming g.J.Ledger g.J.ListNaming g.R.Runner c.type_bounds.send-R c.type_bounds.sync-R in
     record { shared = search (c.type_bounds.sync-T.shared, s.shared) depth 30 }
