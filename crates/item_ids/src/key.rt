@@ -153,7 +153,13 @@ impl PartialEq for Key {
     ghost laws = { Prim.search (key_total, comparing, rules) };
 
     fn eq(&self, other: &Key) -> bool {
-        self.cmp(other).is_eq()
+        if self.kind().number() != other.kind().number() {
+            return false;
+        }
+        if text(self.class()) != text(other.class()) {
+            return false;
+        }
+        text(self.member()) == text(other.member())
     }
 }
 

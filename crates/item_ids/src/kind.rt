@@ -36,7 +36,8 @@ pub enum Kind {
 impl Kind {
     /// The kind's number, by which kinds are written in files and keys are ordered.
     pub fn number(self) -> u8
-        ensures { result ≡ number_of self }
+        ensures number { result ≡ number_of self }
+        ensures few { result < 13 }
     {
         match self {
             Kind::Files => 0,

@@ -2,7 +2,6 @@
 ghost use Rattle.std.specs.Prelude.{◌≡◌, ◌==◌, ◌<◌, ◌≤◌, ℕ, List, length, Some, IfOk};
 ghost use Rattle.std.specs.Option.{SomeIff};
 ghost use Rattle.std.specs.Str.{IsUtf8};
-ghost use Rattle.std.specs.String.{string_bytes};
 ghost use Rattle.std.proofs.Common.{rules};
 ghost use Rattle.std.specs.Cmp.Lexicographic.{pointwise, slice_cmp};
 ghost use Rattle.std.specs.Cmp.{partial_order_from_own_ties};
@@ -10,26 +9,57 @@ ghost use Rattle.std.specs.Cmp.Rules.{comparing, hashing};
 ghost use Rattle.std.specs.Hash as writes;
 ghost use Rattle.std.specs.Ordering.{nat_cmp, as_partial_cmp};
 ghost use Rattle.mj_lexer.specs.Bytes.{most_name_bytes};
+ghost use Rattle.mj_lexer.specs.Names.{bytes_of};
+ghost use Rattle.std.specs.Arc.{arc_value};
 
+use arrayvec::ArrayString;
 use std::alloc::{AllocError, Global};
 use std::cmp::Ordering;
 use std::fmt;
 use std::hash::{Hash, Hasher};
 use std::marker::Model;
+use std::sync::Arc;
 
-/// A text of 1 to 255 bytes. Contracts see its bytes; names are ordered by them.
+/// A text of 1 to 255 bytes, which a name shares with its copies. Contracts see its bytes; names are ordered by them.
 #[derive(Debug, Drop)]
 pub struct Name {
-    text: String,
+    text: Arc<Text>,
+}
+
+/// A short text lies beside the count of its owners, so that memory is taken for it once.
+#[derive(Debug, Drop)]
+enum Text {
+    Short(ArrayString<16>),
+    Long(String),
+}
+
+impl Text {
+    fn new(alloc: Global, text: &str) -> Result<Self, AllocError>
+        ensures { IfOk result (λ t. bytes_of t ≡ text.now) }
+    {
+        match ArrayString::from(text) {
+            Ok(short) => Ok(Text::Short(short)),
+            Err(_) => Ok(Text::Long(String::from_str(alloc, text)?)),
+        }
+    }
+
+    fn as_str(&self) -> &str
+        ensures { result.now ≡ bytes_of self.now }
+    {
+        match self {
+            Text::Short(short) => short.as_str(),
+            Text::Long(long) => long.as_str(),
+        }
+    }
 }
 
 impl Model for Name {
     ghost Value = { List ℕ };
 
-    ghost view = { λ n. string_bytes n.text };
+    ghost view = { λ n. bytes_of (arc_value n.text) };
 
     ghost invariant = { λ n.
-        (0 < length (string_bytes n.text)) × (length (string_bytes n.text) ≤ most_name_bytes) };
+        (0 < length (bytes_of (arc_value n.text))) × (length (bytes_of (arc_value n.text)) ≤ most_name_bytes) };
 }
 
 impl Name {
@@ -43,7 +73,7 @@ impl Name {
         ensures { IfOk result (λ n. n ≡ text.now) }
     {
         Ok(Name {
-            text: String::from_str(alloc, text)?,
+            text: Arc::new(alloc, Text::new(alloc, text)?)?,
         })
     }
 
@@ -58,12 +88,12 @@ impl Name {
         Ok(Some(Name::new(alloc, text)?))
     }
 
-    /// An equal name.
-    pub fn copy(&self, alloc: Global) -> Result<Self, AllocError>
+    /// An equal name: one more owner of the text.
+    pub fn copy(&self, _alloc: Global) -> Result<Self, AllocError>
         ensures { IfOk result (λ n. n ≡ self.now) }
     {
         Ok(Name {
-            text: String::from_str(alloc, self.text.as_str())?,
+            text: Arc::try_clone(&self.text)?,
         })
     }
 
