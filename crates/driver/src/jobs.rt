@@ -6,7 +6,7 @@ ghost use Rattle.mark_green.specs.Ensures.{ShowsOutcomes};
 use crate::lists::{Lists, Pass};
 use fingerprint::Sealed;
 use item_ids::Key;
-use mark_green::{Fault, Store, ensure};
+use mark_green::{Fault, Store, Worker};
 use mj_lexer::Name;
 use mj_project::Project;
 use recorder::{Outcome, Runner};
@@ -43,32 +43,21 @@ pub(crate) fn do_jobs<S: Store<Out = Arc<Outcome<R>>>, R: Runner>(
 {
     let mut bringer = Bringer {
         alloc,
-        store,
-        runner,
-        worker,
+        worker: Worker::new(alloc, store, runner, worker),
     };
-    bringer.do_jobs(project, lists)
+    if let Err(Undone) = bringer.bring_all(project, lists) {
+        let _failed = store.fail(worker);
+    }
 }
 
-/// A worker at a store: its allocator, its runner and its number.
+/// A worker at a store, with an allocator for the keys that it evaluates.
 #[derive(Drop)]
 struct Bringer<'a, S: Store, R: Runner> {
     alloc: Global,
-    store: &'a mut S,
-    runner: &'a mut R,
-    worker: u32,
+    worker: Worker<'a, S, R>,
 }
 
 impl<S: Store<Out = Arc<Outcome<R>>>, R: Runner> Bringer<'_, S, R> {
-    /// Does the worker's jobs, or gives up.
-    fn do_jobs(&mut self, project: &Project, lists: &Lists)
-        requires shows { ShowsOutcomes S.outcome_in }
-    {
-        if let Err(Undone) = self.bring_all(project, lists) {
-            let _failed = self.store.fail(self.worker);
-        }
-    }
-
     /// Evaluates the trees of the worker's files, the queries of its classes, and the answer.
     fn bring_all(&mut self, project: &Project, lists: &Lists) -> Result<(), Undone>
         requires shows { ShowsOutcomes S.outcome_in }
@@ -84,7 +73,7 @@ impl<S: Store<Out = Arc<Outcome<R>>>, R: Runner> Bringer<'_, S, R> {
     fn bring(&mut self, key: Key) -> Result<Arc<Sealed>, Undone>
         requires shows { ShowsOutcomes S.outcome_in }
     {
-        let ensured = ensure(self.alloc, self.store, self.runner, self.worker, &key);
+        let ensured = self.worker.ensure(&key);
         drop(key);
         Ok(ensured?)
     }

@@ -1,10 +1,14 @@
 -- Keys that edges lead to.
 use Rattle.std.proofs.Common.{◌≡◌, ◌↔◌, ◌⊎◌, inl, inr, ℕ, zero, suc, ◌+◌, ◌<◌, ◌≤◌, List, [], ◌∷◌, ◌++◌, map, take, length, get_or, refl, sym, ap, ◌∙◌, subst, append-nil, eq-or-lt_of_le, arith}
-use Rattle.std.specs.Prelude.{Contains}
+use Rattle.std.specs.Prelude.{Contains, true, false, if◌then◌else◌}
+use Rattle.std.specs.List.{list_any}
+use Rattle.std.specs.Ordering.{eq_by_cmp}
+use Rattle.indexmap.specs.IndexSet.{insert_key}
 use Rattle.std.proofs.lemmas.List.{take_more, append_assoc, get_or_append_left, get_or_default}
 use Rattle.std.proofs.lemmas.List.Elements.{All-contains, All-from_recursion, Contains-get_or, Contains-push, Contains-push_cases, Contains-append_left, Contains-append_right, Contains-append_cases}
 use Rattle.item_ids.specs.declared.key.Key.{Key}
 use Rattle.item_ids.specs.declared.key.Key.TheVariants.{Files, Source, Answer}
+use Rattle.item_ids.specs.Keys.{key_cmp}
 use Rattle.result_bytes.specs.declared.value.Value.{Value}
 use Rattle.mj_project.specs.Projects.{SourceFile}
 use Rattle.recorder.specs.Projects.{Project}
@@ -13,6 +17,7 @@ use Rattle.graph_rules.specs.Steps.{Status, Done, State, IsDone}
 use Rattle.graph_rules.specs.Sound.{IsDoneInOrder, IsInOrderAt, IsInOrder}
 use Rattle.graph_rules.specs.Graphs.{IsRoot, answer, files, source, IsReached, edge}
 use Rattle.graph_rules.specs.Graphs.IsReached.{root as starts}
+use Rattle.graph_rules.proofs.KeySets.{has_found}
 use Rattle.job_table.specs.Reached.{key_in, AreRoots, AreReached, HasEdges, Spreads, Adds}
 
 -- ---- the roots
@@ -65,7 +70,7 @@ adds_none old = record {
 }
 
 -- a key that was there
-pub adds_old : (found : List Key) (x : Key) → Contains found x → Adds found (x ∷ []) found
+adds_old : (found : List Key) (x : Key) → Contains found x → Adds found (x ∷ []) found
 adds_old found x there = record {
   more = [];
   whole = rw append-nil refl;
@@ -77,13 +82,21 @@ adds_old found x there = record {
 }
 
 -- a key that is added
-pub adds_new : (found : List Key) (x : Key) → Adds found (x ∷ []) (found ++ x ∷ [])
+adds_new : (found : List Key) (x : Key) → Adds found (x ∷ []) (found ++ x ∷ [])
 adds_new found x = record {
   more = x ∷ [];
   whole = refl;
   only = λ q h. h;
   has = λ q h. Contains-append_right found (x ∷ []) q h;
 }
+
+-- a key that is inserted, where it may have been there
+pub adds_inserted : (found : List Key) (x : Key) → Adds found (x ∷ []) (insert_key (eq_by_cmp key_cmp) found x)
+adds_inserted found x =
+    (elim (list_any (eq_by_cmp key_cmp x) found) as (λ b. list_any (eq_by_cmp key_cmp x) found ≡ b → Adds found (x ∷ []) (if b then found else found ++ x ∷ [])) [
+      | true ↦ λ there. adds_old found x (has_found found x there)
+      | false ↦ λ new. adds_new found x
+    ]) refl
 
 -- one more edge
 pub adds_more : (old edges found new : List Key) (i : ℕ) (x : Key) → i < length edges → x ≡ get_or edges i x → Adds old (take i edges) found → Adds found (x ∷ []) new

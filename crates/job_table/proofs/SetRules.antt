@@ -1,20 +1,15 @@
 -- Keys in sets.
-use Rattle.std.proofs.Common.{◌≡◌, ℕ, suc, zero, ◌+◌, ◌<◌, ◌≤◌, Bool, false, List, [], ◌∷◌, ◌++◌, length, slice_get, get_or, refl, sym, ap, ◌∙◌, subst, Some, None, arith, true≢false}
-use Rattle.std.specs.Prelude.{if◌then◌else◌, Contains, IsSorted}
-use Rattle.std.specs.List.{AllByRecursion, IsDistinct, list_any}
+use Rattle.std.proofs.Common.{◌≡◌, ℕ, suc, zero, ◌+◌, ◌<◌, ◌≤◌, false, List, [], ◌∷◌, length, slice_get, get_or, refl, sym, ap, ◌∙◌, subst, Some, None, arith, true≢false}
+use Rattle.std.specs.Prelude.{Contains, IsSorted}
+use Rattle.std.specs.List.{AllByRecursion, IsDistinct}
 use Rattle.std.specs.Ordering.{eq_by_cmp, is_eq, is_lt, ordering_reverse}
 use Rattle.std.specs.declared.cmp.Ordering.{Ordering}
 use Rattle.std.specs.declared.cmp.Ordering.TheVariants.{Less, Equal, Greater}
 use Rattle.std.proofs.lemmas.Option.{none-some, same_Some}
-use Rattle.indexmap.specs.IndexSet.{insert_key}
 use Rattle.item_ids.specs.declared.key.Key.{Key}
 use Rattle.item_ids.specs.Keys.{key_cmp, key_total}
 use Rattle.graph_rules.specs.Graphs.{KeyBefore}
 use Rattle.job_table.specs.Reached.{Ascend, key_in}
-
--- a key that isn't found goes last
-pub insert_new : (ks : List Key) (q : Key) → list_any (eq_by_cmp key_cmp q) ks ≡ false → insert_key (eq_by_cmp key_cmp) ks q ≡ ks ++ q ∷ []
-insert_new ks q h = ap (λ (b : Bool). if b then ks else ks ++ q ∷ []) h
 
 -- ---- sorted keys that are told apart ascend
 

@@ -106,9 +106,6 @@ fn add(alloc: Global, found: &mut IndexSet<Key>, edges: &EdgeKeys) -> Result<(),
 fn add_key(alloc: Global, found: &mut IndexSet<Key>, key: &Key) -> Result<(), AllocError>
     ensures { OnOk result (Adds found.old.keys (key.now ∷ []) found.new.keys) }
 {
-    if found.contains(key) {
-        return Ok(());
-    }
     found.insert(key.copy(alloc)?)?;
     Ok(())
 }

@@ -3,6 +3,7 @@ ghost use Rattle.std.specs.Prelude.{◌≡◌, ◌<◌, [], length, map, IfOk, s
 ghost use Rattle.std.specs.Arc.{arc_value};
 ghost use Rattle.item_ids.specs.declared.key.Key.{Key as KeyValue};
 ghost use Rattle.sessions.specs.Sessions.{AreInside, key_at};
+ghost use Rattle.job_table.specs.KeptKeys.{edges_at, reads_at};
 
 use item_ids::Key;
 use sessions::Session;
@@ -17,11 +18,11 @@ pub struct EdgeKeys {
     kept: KeptKeys,
 }
 
-/// Keys, or the previous session and the indices of its records that have the keys.
+/// Keys, or the previous session and the index of its record whose edges lead to the keys.
 #[derive(Drop)]
 enum KeptKeys {
     Own(Vec<Key>),
-    Past(Arc<Session>, Vec<usize>),
+    Past(Arc<Session>, usize),
 }
 
 impl Model for EdgeKeys {
@@ -53,20 +54,14 @@ impl EdgeKeys {
         }
     }
 
-    /// The keys of the previous session's records at these indices.
-    pub fn of_past(
-        alloc: Global,
-        past: &Arc<Session>,
-        indices: &[usize],
-    ) -> Result<Self, AllocError>
-        requires { AreInside (arc_value past.now).records indices.now }
-        ensures { IfOk result
-            (λ edges. edges ≡ map (key_at (arc_value past.now).records) indices.now) }
+    /// The keys that were read for the previous session's record at an index.
+    pub fn of_past(past: &Arc<Session>, at: usize) -> Result<Self, AllocError>
+        requires { at < length (arc_value past.now).records }
+        ensures { IfOk result (λ edges. edges ≡ reads_at (arc_value past.now).records at) }
     {
-        let copies = Vec::from_slice(alloc, indices)?;
         let shared = Arc::try_clone(past)?;
         Ok(EdgeKeys {
-            kept: KeptKeys::Past(shared, copies),
+            kept: KeptKeys::Past(shared, at),
         })
     }
 
@@ -79,8 +74,8 @@ impl EdgeKeys {
                 let own = keys.as_slice();
                 own.len()
             }
-            KeptKeys::Past(_, indices) => {
-                let edges = indices.as_slice();
+            KeptKeys::Past(past, at) => {
+                let edges = edges_of(past, *at);
                 edges.len()
             }
         }
@@ -96,8 +91,8 @@ impl EdgeKeys {
                 let own = keys.as_slice();
                 own_key(own, place)
             }
-            KeptKeys::Past(past, indices) => {
-                let edges = indices.as_slice();
+            KeptKeys::Past(past, at) => {
+                let edges = edges_of(past, *at);
                 past_key(past, edges, place)
             }
         }
@@ -110,6 +105,15 @@ fn own_key(keys: &[Key], place: usize) -> &Key
     ensures { result.now ≡ slice_index_or keys.now place result.now }
 {
     &keys[place]
+}
+
+/// The edges of the record at an index.
+fn edges_of(past: &Session, at: usize) -> &[usize]
+    requires { at < length past.now.records }
+    ensures edges { result.now ≡ edges_at past.now.records at }
+    ensures inside { AreInside past.now.records result.now }
+{
+    past.records()[at].edges()
 }
 
 /// The key that the edge at a place leads to.

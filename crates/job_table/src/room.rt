@@ -1,10 +1,10 @@
 //! Reserves the memory that a call needs, before the call changes anything.
-ghost use Rattle.std.specs.Prelude.{◌≡◌, ◌+◌, ◌<◌, ◌≤◌, ◌++◌, ◌∷◌, [], IfOk, IfSome, length, map, vec_len, vec_capacity};
+ghost use Rattle.std.specs.Prelude.{◌≡◌, ◌+◌, ◌<◌, ◌≤◌, ◌++◌, ◌∷◌, [], IfOk, IfSome, length, map, slice_index_or, vec_len, vec_capacity};
 ghost use Rattle.std.specs.Arc.{arc_value};
 ghost use Rattle.mj_project.specs.Projects.{IsProject};
 ghost use Rattle.recorder.specs.Backed.{keys};
 ghost use Rattle.recorder.specs.Runs.{IsOutcome};
-ghost use Rattle.sessions.specs.Sessions.{AreInside, key_at, session_in};
+ghost use Rattle.sessions.specs.Sessions.{key_at, session_in};
 ghost use Rattle.job_table.specs.Kept.{event_of};
 
 use crate::edge_keys::EdgeKeys;
@@ -81,15 +81,17 @@ pub struct MarkParts {
     pub answer: Arc<Sealed>,
 }
 
-/// Room for two more events, and what marking a key needs that had this record in the previous session.
+/// Room for two more events, and what marking a key needs that had this record, at this index, in the previous session.
 pub fn room_for_mark<R: Runner>(
     alloc: Global,
     history: &mut Vec<Event<R>>,
     key: &Key,
     past: &Arc<Session>,
+    at: usize,
     had: &Record,
 ) -> Option<MarkParts>
-    requires { AreInside (arc_value past.now).records had.now.edges }
+    requires within { at < length (arc_value past.now).records }
+    requires had { had.now ≡ slice_index_or (arc_value past.now).records at had.now }
     ensures history { (history.new.items ≡ history.old.items)
         × (vec_len history.new ≡ vec_len history.old)
         × (vec_capacity history.old ≤ vec_capacity history.new) }
@@ -101,7 +103,7 @@ pub fn room_for_mark<R: Runner>(
     ensures room { IfSome result (λ _. vec_len history.new + 1 < vec_capacity history.new) }
 {
     history.reserve(2).ok()?;
-    mark_parts(alloc, key, past, had).ok()
+    mark_parts(alloc, key, past, at, had).ok()
 }
 
 /// What marking a key needs that had this record in the previous session.
@@ -109,9 +111,11 @@ fn mark_parts(
     alloc: Global,
     key: &Key,
     past: &Arc<Session>,
+    at: usize,
     had: &Record,
 ) -> Result<MarkParts, AllocError>
-    requires { AreInside (arc_value past.now).records had.now.edges }
+    requires within { at < length (arc_value past.now).records }
+    requires had { had.now ≡ slice_index_or (arc_value past.now).records at had.now }
     ensures key { IfOk result (λ parts. parts.noted ≡ key.now) }
     ensures edges { IfOk result (λ parts. parts.edges
         ≡ map (key_at (arc_value past.now).records) had.now.edges) }
@@ -120,7 +124,7 @@ fn mark_parts(
 {
     let sealed = Arc::try_clone(had.sealed())?;
     let answer = Arc::try_clone(had.sealed())?;
-    let edges = EdgeKeys::of_past(alloc, past, had.edges())?;
+    let edges = EdgeKeys::of_past(past, at)?;
     let noted = key.copy(alloc)?;
     Ok(MarkParts {
         noted,
@@ -171,7 +175,7 @@ fn finish_parts<R: Runner>(alloc: Global, outcome: &Outcome<R>) -> Result<Finish
 fn read_keys(alloc: Global, reads: &[Read]) -> Result<Vec<Key>, AllocError>
     ensures { IfOk result (λ v. v.items ≡ keys reads.now) }
 {
-    let mut copies = Vec::new(alloc);
+    let mut copies = Vec::with_capacity(alloc, reads.len())?;
     for read in reads {
         copies.push(read.key().copy(alloc)?)?;
     }

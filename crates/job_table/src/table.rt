@@ -21,7 +21,7 @@ use item_ids::Key;
 use mj_project::Project;
 use project_inputs::Inputs;
 use recorder::{Outcome, Runner};
-use sessions::{Mark, Session};
+use sessions::{Finder, Mark, Session};
 use std::alloc::{AllocError, Global};
 use std::marker::Model;
 use std::sync::Arc;
@@ -36,6 +36,7 @@ pub struct Table<R: Runner> {
     nodes: NodeMap,
     history: Vec<Event<R>>,
     failed: bool,
+    finder: Finder,
 }
 
 impl<R: Runner> Model for Table<R> {
@@ -97,6 +98,7 @@ impl<R: Runner> Table<R> {
             nodes,
             history,
             failed: false,
+            finder: Finder::new(),
         })
     }
 
@@ -144,7 +146,7 @@ impl<R: Runner> Table<R> {
         let Some(past) = &self.past else {
             return Err(TableFault::NotInPast);
         };
-        let Some(record) = past.find(key) else {
+        let Some((index, record)) = self.finder.find(past, key) else {
             return Err(TableFault::NotInPast);
         };
         match walk_edges(&self.inputs, &self.nodes, past, record.edges()) {
@@ -159,7 +161,7 @@ impl<R: Runner> Table<R> {
                 sealed,
                 answer,
             },
-        ) = room_for_mark(self.alloc, &mut self.history, key, past, record)
+        ) = room_for_mark(self.alloc, &mut self.history, key, past, index, record)
         else {
             return Err(TableFault::OutOfMemory);
         };
@@ -180,7 +182,7 @@ impl<R: Runner> Table<R> {
         let Some(at) = find_claimed(&self.nodes, w, key) else {
             return Err(TableFault::NotYours);
         };
-        if let Some(fault) = why_not(&self.inputs, &self.nodes, &self.past, key) {
+        if let Some(fault) = why_not(&self.inputs, &self.nodes, &self.past, &mut self.finder, key) {
             return Err(fault);
         }
         let Some(noted) = room_for_event(self.alloc, &mut self.history, key) else {

@@ -11,7 +11,7 @@ use crate::node_map::NodeMap;
 use crate::nodes::result_of;
 use item_ids::Key;
 use project_inputs::Inputs;
-use sessions::Session;
+use sessions::{Finder, Session};
 use std::sync::Arc;
 
 /// How a previous edge stands.
@@ -72,6 +72,7 @@ fn walk_past(
     inputs: &Inputs,
     nodes: &NodeMap,
     past: &Option<Arc<Session>>,
+    finder: &mut Finder,
     key: &Key,
 ) -> Option<WalkEnd>
     requires { AreInputs inputs.now nodes.now }
@@ -82,7 +83,7 @@ fn walk_past(
     let Some(past) = past else {
         return None;
     };
-    let Some(record) = past.find(key) else {
+    let Some((_, record)) = finder.find(past, key) else {
         return None;
     };
     Some(walk_edges(inputs, nodes, past, record.edges()))
@@ -93,13 +94,14 @@ pub fn why_not(
     inputs: &Inputs,
     nodes: &NodeMap,
     past: &Option<Arc<Session>>,
+    finder: &mut Finder,
     key: &Key,
 ) -> Option<TableFault>
     requires { AreInputs inputs.now nodes.now }
     ensures { IsWhyNot (past_walk (past_entry (session_in past.now))
         (state_of_nodes inputs.now nodes.now false) key.now) result }
 {
-    match walk_past(inputs, nodes, past, key) {
+    match walk_past(inputs, nodes, past, finder, key) {
         Some(WalkEnd::Open(i)) => Some(TableFault::EdgeOpen(i)),
         Some(WalkEnd::AllUnchanged) => Some(TableFault::NothingChanged),
         Some(WalkEnd::Changed(_)) => None,

@@ -21,7 +21,7 @@ use fingerprint::Sealed;
 use item_ids::Key;
 use job_table::{Asked, TableFault};
 use recorder::{AnswerList, Outcome, Runner};
-use sessions::Session;
+use sessions::{Finder, Session};
 use std::alloc::Global;
 use std::sync::Arc;
 
@@ -42,6 +42,7 @@ pub fn ensure<S: Store<Out = Arc<Outcome<R>>>, R: Runner>(
         store,
         runner,
         id: w,
+        finder: Finder::new(),
     };
     worker.ensure(key)
 }
@@ -49,7 +50,7 @@ pub fn ensure<S: Store<Out = Arc<Outcome<R>>>, R: Runner>(
 impl<S: Store<Out = Arc<Outcome<R>>>, R: Runner> Worker<'_, S, R> {
     /// Evaluates a key in the store, and gives its result.
     #[cycle(ensure)]
-    pub(crate) fn ensure(&mut self, key: &Key) -> Result<Arc<Sealed>, Fault>
+    pub fn ensure(&mut self, key: &Key) -> Result<Arc<Sealed>, Fault>
         requires shows { ShowsOutcomes S.outcome_in }
         ensures store { self.new.store.ghost_name ≡ self.old.store.ghost_name }
         ensures id { self.new.id ≡ self.old.id }
@@ -103,7 +104,7 @@ impl<S: Store<Out = Arc<Outcome<R>>>, R: Runner> Worker<'_, S, R> {
         let Some(past) = past else {
             return self.start(key);
         };
-        let Some(edges) = past_edges(past, key) else {
+        let Some(edges) = past_edges(past, &mut self.finder, key) else {
             return self.start(key);
         };
         if self.walk_edges(key, past, edges)? {

@@ -8,11 +8,15 @@ ghost use Rattle.mark_green.specs.Ensures.{PastHasEdges, IsRecordUnder};
 
 use fingerprint::Sealed;
 use item_ids::Key;
-use sessions::{Record, Session, edges_are_below};
+use sessions::{Finder, Record, Session, edges_are_below};
 use std::sync::Arc;
 
 /// The edges that a key has in the previous session, as indices of records, or `None` where that has no such key.
-pub(crate) fn past_edges<'a>(past: &'a Session, key: &Key) -> Option<&'a [usize]>
+pub(crate) fn past_edges<'a>(
+    past: &'a Session,
+    finder: &mut Finder,
+    key: &Key,
+) -> Option<&'a [usize]>
     ensures found { MatchOption result (entry_at past.now key.now ≡ None)
         (λ edges. PastHasEdges past.now key.now edges.now) }
     ensures under { IfSome result
@@ -21,8 +25,8 @@ pub(crate) fn past_edges<'a>(past: &'a Session, key: &Key) -> Option<&'a [usize]
     // The past is a session, by its type, in which keys that were read are of lower rank.
     edges_are_below();
     let _records = past.records();
-    match past.find(key) {
-        Some(record) => Some(record.edges()),
+    match finder.find(past, key) {
+        Some((_, record)) => Some(record.edges()),
         None => None,
     }
 }

@@ -17,3 +17,4 @@ pub use bringing::ensure;
 pub use fault::Fault;
 pub use solo::{Solo, ask_table};
 pub use store::Store;
+pub use worker::Worker;

@@ -106,7 +106,7 @@ fn keys_of(alloc: Global, sources: &IndexMap<Name, Arc<Sealed>>) -> Result<Vec<K
     ensures { IfOk result (λ v. v.items
         ≡ keys.Files ∷ map (λ f. keys.Source f.name) (map file_of sources.now.entries)) }
 {
-    let mut keys = Vec::new(alloc);
+    let mut keys = Vec::with_capacity(alloc, sources.len().saturating_add(1))?;
     keys.push(Key::Files)?;
     for at in 0..sources.len() {
         let Some((name, _)) = sources.get_index(at) else {

@@ -88,7 +88,7 @@ pub(crate) fn is_told(key: &Key, answer: &Arc<Sealed>)
 pub(crate) fn copy_reads(alloc: Global, reads: &[Read]) -> Result<Vec<Read>, AllocError>
     ensures { IfOk result (λ v. v.items ≡ reads.now) }
 {
-    let mut copies = Vec::new(alloc);
+    let mut copies = Vec::with_capacity(alloc, reads.len())?;
     for read in reads {
         copies.push(read.copy(alloc)?)?;
     }

@@ -3,6 +3,7 @@
 
 mod checks;
 mod fault;
+mod finder;
 mod laws;
 mod mark;
 mod record;
@@ -11,6 +12,7 @@ mod session;
 
 pub use checks::{check_kept, check_key, is_above, is_marked};
 pub use fault::SessionFault;
+pub use finder::Finder;
 pub use laws::edges_are_below;
 pub use mark::Mark;
 pub use record::Record;

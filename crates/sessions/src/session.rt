@@ -1,5 +1,5 @@
 //! Sessions.
-ghost use Rattle.std.specs.Prelude.{◌≡◌, ◌≢◌, ◌≤◌, ◌<◌, Some, None, IfOk, IfErr, IfSome, IfNone, MatchOption, All, HoldsAt, length};
+ghost use Rattle.std.specs.Prelude.{◌≡◌, ◌≢◌, ◌≤◌, ◌<◌, Some, None, IfOk, IfErr, IfSome, IfNone, IsTrue, MatchOption, All, HoldsAt, length};
 ghost use Rattle.sessions.specs.Sessions.{most_number, AreRecords, AreInside, IsSession, entry_at, entry_of};
 ghost use Rattle.sessions.specs.Refusals.{IsRefused};
 ghost use Rattle.sessions.specs.Spelling.{digest_of};
@@ -119,6 +119,19 @@ impl Session {
         self.records.as_slice()
     }
 
+    /// The index of the record of a key, or `None` where there is none. It is looked for at `near` first.
+    pub(crate) fn index_near(&self, near: usize, key: &Key) -> Option<usize>
+        ensures within { IfSome result (λ i. i < length self.now.records) }
+        ensures found { IfSome result (HoldsAt (λ r. r.key ≡ key.now) self.now.records) }
+        ensures none { IfNone result (All (λ r. r.key ≢ key.now) self.now.records) }
+    {
+        let records = self.records();
+        if is_at(records, near, key) {
+            return Some(near);
+        }
+        place_of(records, key)
+    }
+
     /// The record of a key, or `None` where there is none.
     pub fn find(&self, key: &Key) -> Option<&Record>
         ensures found { MatchOption result (entry_at self.now key.now ≡ None)
@@ -130,6 +143,17 @@ impl Session {
             Some(at) => Some(&records[at]),
             None => None,
         }
+    }
+}
+
+/// Whether the record at an index is that of a key.
+fn is_at(records: &[Record], at: usize, key: &Key) -> bool
+    ensures within { IsTrue result → at < length records.now }
+    ensures found { IsTrue result → HoldsAt (λ r. r.key ≡ key.now) records.now at }
+{
+    match records.get(at) {
+        Some(record) => record.key() == key,
+        None => false,
     }
 }
 

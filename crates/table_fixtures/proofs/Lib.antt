@@ -2,3 +2,4 @@ mod Reporting
 mod Turns
 mod Changing
 mod Answering
+mod Answered

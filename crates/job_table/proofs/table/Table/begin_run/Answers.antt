@@ -1,6 +1,9 @@
-use Rattle.std.proofs.Common.{◌≡◌, [], ◌∷◌, ◌++◌, map, arith, sym, ◌∙◌, refl}
+use Rattle.std.proofs.Common.{◌≡◌, [], ◌∷◌, ◌++◌, map, arith, sym, ◌∙◌, refl, subst}
+use Rattle.std.specs.Prelude.{Err}
 use Rattle.graph_rules.specs.Steps.{Claimed, Begin}
 use Rattle.job_table.specs.Kept.{event_of}
+use Rattle.job_table.specs.Tables.{TableValue}
+use Rattle.job_table.specs.Calls.{BeginGives}
 use Rattle.sessions.specs.Sessions.{session_in}
 use Rattle.job_table.proofs.StepRules.{backed_last}
 use Rattle.job_table.proofs.CallRules.{not_standing, begin_at, begin_kept, begin_refused}
@@ -19,7 +22,8 @@ returns-in_default g c =
 
 pub returns-in-Some-why_not : goal.returns-in-Some-why_not
 returns-in-Some-why_not g c =
-    begin_refused (session_in c.self.inside.past) _ _ _ _ c.self.invariant.0 c.args.key.now c.args.w c.in-Some-why_not.fault c.if-self.false c.in-Some.ensures.claimed c.in-Some-why_not.ensures _ c.self.view_is
+    subst (λ (u : TableValue). BeginGives c.args.self.now c.args.w c.args.key.now (Err c.in-Some-why_not.fault) u) (sym c.self.view_is)
+    (begin_refused (session_in c.self.inside.past) _ _ _ _ c.self.invariant.0 c.args.key.now c.args.w c.in-Some-why_not.fault c.if-self.false c.in-Some.ensures.claimed c.in-Some-why_not.ensures _ c.self.view_is)
 
 pub returns-in_default-room_for_event : goal.returns-in_default-room_for_event
 returns-in_default-room_for_event g c = (

@@ -30,7 +30,8 @@ returns-in_default-find g c =
     let kept = rw c.in-Some-past.is at c.self.invariant.0 in
     let te = rw c.in-Some-past.is at c.self.view_is in
     let none = rw c.deref.ensures at c.in_default-find.ensures.found in
-    mark_refused (Some (arc_value c.in-Some-past.past)) _ _ _ _ kept c.args.key.now c.args.w None c.if-self.false c.in-Some.ensures.claimed (walk_none (entry_at (arc_value c.in-Some-past.past)) (state_of_nodes c.self.inside.inputs c.self.inside.nodes false) c.args.key.now none) _ te
+    let refused = mark_refused (Some (arc_value c.in-Some-past.past)) _ _ _ _ kept c.args.key.now c.args.w None c.if-self.false c.in-Some.ensures.claimed (walk_none (entry_at (arc_value c.in-Some-past.past)) (state_of_nodes c.self.inside.inputs c.self.inside.nodes false) c.args.key.now none) _ te in
+    (refused.0, refused.1, c.self.view_is)
 
 pub returns-in-Open : goal.returns-in-Open
 returns-in-Open g c =
@@ -38,7 +39,8 @@ returns-in-Open g c =
     let te = rw c.in-Some-past.is at c.self.view_is in
     let has = rw c.deref.ensures at c.in-Some-find.ensures.found in
     let walked = rw (c.deref-2.ensures, c.edges.ensures) at c.in-Open.ensures in
-    mark_refused (Some (arc_value c.in-Some-past.past)) _ _ _ _ kept c.args.key.now c.args.w _ c.if-self.false c.in-Some.ensures.claimed (walk_some (entry_at (arc_value c.in-Some-past.past)) (state_of_nodes c.self.inside.inputs c.self.inside.nodes false) c.args.key.now _ _ has walked) _ te
+    let refused = mark_refused (Some (arc_value c.in-Some-past.past)) _ _ _ _ kept c.args.key.now c.args.w _ c.if-self.false c.in-Some.ensures.claimed (walk_some (entry_at (arc_value c.in-Some-past.past)) (state_of_nodes c.self.inside.inputs c.self.inside.nodes false) c.args.key.now _ _ has walked) _ te in
+    (refused.0, refused.1, c.self.view_is)
 
 pub returns-in-Changed : goal.returns-in-Changed
 returns-in-Changed g c =
@@ -46,7 +48,8 @@ returns-in-Changed g c =
     let te = rw c.in-Some-past.is at c.self.view_is in
     let has = rw c.deref.ensures at c.in-Some-find.ensures.found in
     let walked = rw (c.deref-2.ensures, c.edges.ensures) at c.in-Changed.ensures in
-    mark_refused (Some (arc_value c.in-Some-past.past)) _ _ _ _ kept c.args.key.now c.args.w _ c.if-self.false c.in-Some.ensures.claimed (walk_some (entry_at (arc_value c.in-Some-past.past)) (state_of_nodes c.self.inside.inputs c.self.inside.nodes false) c.args.key.now _ _ has walked) _ te
+    let refused = mark_refused (Some (arc_value c.in-Some-past.past)) _ _ _ _ kept c.args.key.now c.args.w _ c.if-self.false c.in-Some.ensures.claimed (walk_some (entry_at (arc_value c.in-Some-past.past)) (state_of_nodes c.self.inside.inputs c.self.inside.nodes false) c.args.key.now _ _ has walked) _ te in
+    (refused.0, refused.1, c.self.view_is)
 
 pub returns-in_default-room_for_mark : goal.returns-in_default-room_for_mark
 returns-in_default-room_for_mark g c =
