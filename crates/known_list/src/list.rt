@@ -20,7 +20,10 @@ pub struct Opened<E> {
 }
 
 impl<E> Opened<E> {
-    pub fn new() -> Opened<E> {
+    /// A list without entries.
+    pub fn new() -> Opened<E>
+        ensures { result.seen.log ≡ [] }
+    {
         let (seen, mut first, _second) = Seen::open(Start::alone(), 0, 0);
         Opened {
             head: Word::tracked(0, &mut first),

@@ -57,6 +57,14 @@ impl<J: Naming, R: Runner> Counted<J, R> {
         Counted { table, book }
     }
 
+    /// Whose table it is, by its type.
+    pub(crate) fn check_name(&self)
+        ensures past { self.now.past ≡ J.past }
+        ensures project { self.now.project ≡ J.project }
+    {
+        let _book = &self.book;
+    }
+
     pub(crate) fn ask(
         &mut self,
         tally: &mut Tally<J>,

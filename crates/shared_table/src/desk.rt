@@ -90,6 +90,14 @@ impl<J: Naming, R: Runner> Desk<J, R> {
         counted
     }
 
+    /// Whose table it is, by the type of the table.
+    pub(crate) fn check_name(&self)
+        ensures past { self.now.past ≡ J.past }
+        ensures project { self.now.project ≡ J.project }
+    {
+        self.counted.check_name();
+    }
+
     /// Asks for a key. A result that is there is told.
     pub(crate) fn ask(
         &mut self,

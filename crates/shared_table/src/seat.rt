@@ -1,10 +1,14 @@
 //! A worker's seat at a table that all share.
-ghost use Rattle.std.specs.Prelude.{◌≡◌, None, IfOk, IfErr};
+ghost use Rattle.std.specs.Prelude.{◌≡◌, ◌⊎◌, None, Err, IfOk, IfErr};
 ghost use Rattle.std.specs.Arc.{arc_value};
 ghost use Rattle.job_table.specs.declared.fault.TableFault.TheVariants as fault;
 ghost use Rattle.sessions.specs.Sessions.{session_in};
-ghost use Rattle.mark_green.specs.Leaves.{Knows};
-ghost use Rattle.shared_table.specs.Told.{IsFound};
+ghost use Rattle.graph_rules.specs.Steps.{AreHeld};
+ghost use Rattle.job_table.specs.Tables.{state_of};
+ghost use Rattle.job_table.specs.Calls.{AskGives, MarkGives, BeginGives, FinishGives, FailGives};
+ghost use Rattle.mark_green.specs.Leaves.{Knows, Tells, ClaimsNoInput, StaysTold, TellsDone, AreTold};
+ghost use Rattle.shared_table.specs.Told.{IsFound, is_told, MarkTells, FinishTells};
+ghost use Rattle.shared_table.specs.Given.{IsGiven, IsOwnAnswer};
 
 use crate::gate::Gate;
 use crate::kept::Kept;
@@ -20,10 +24,10 @@ use sessions::Session;
 use std::alloc::AllocError;
 use std::sync::{Arc, Wait};
 
-/// A worker's seat at a shared table: the store that it works with. Contracts say nothing of the table, which others
-/// may change at any time, but for the results that the worker was told, which stay. A worker that asks for a key which
-/// another one has waits. The seat keeps the results of done keys that it was given, and answers for them by itself. No
-/// lock is held while the gate is called.
+/// A worker's seat at a shared table: the store that it works with. Others may change the table at any time: contracts
+/// say that each answer is one of a table of this session, and that the results which the worker was told stay. A worker
+/// that asks for a key which another one has waits. The seat keeps the results of done keys that it was given, and answers
+/// for them by itself. No lock is held while the gate is called.
 #[derive(Drop)]
 pub struct Seat<'a, J: Naming, R: Runner, T: Wait, G: Gate> {
     rt: &'a T,
@@ -53,7 +57,6 @@ impl<'a, J: Naming, R: Runner, T: Wait, G: Gate> Seat<'a, J, R, T, G> {
 
 impl<J: Naming, R: Runner, T: Wait, G: Gate> Store for Seat<'_, J, R, T, G> {
     ghost use Rattle.std.specs.Prelude.{None};
-    ghost use Rattle.shared_table.specs.Told.{is_told};
 
     type Out = Arc<Outcome<R>>;
 
@@ -63,7 +66,14 @@ impl<J: Naming, R: Runner, T: Wait, G: Gate> Store for Seat<'_, J, R, T, G> {
 
     ghost outcome_in = { λ o. arc_value o };
 
-    fn ask(&mut self, w: u32, key: &Key) -> Result<Asked, TableFault> {
+    fn ask(&mut self, w: u32, key: &Key) -> Result<Asked, TableFault>
+        ensures gives { Tells (λ t u. AskGives t w key.now result u) None None }
+        ensures claims { ClaimsNoInput key.now result }
+        ensures told { TellsDone (is_told self.new.kept) key.now result }
+        ensures stays { StaysTold (is_told self.old.kept) (is_told self.new.kept) }
+        ensures given { IsOwnAnswer result
+            ⊎ IsGiven J.past J.project (λ t u. AskGives t w key.now result u) }
+    {
         if let Some(sealed) = self.kept.get(key) {
             return again(sealed);
         }
@@ -76,12 +86,21 @@ impl<J: Naming, R: Runner, T: Wait, G: Gate> Store for Seat<'_, J, R, T, G> {
         answer
     }
 
-    fn mark(&mut self, w: u32, key: &Key) -> Result<Arc<Sealed>, TableFault> {
+    fn mark(&mut self, w: u32, key: &Key) -> Result<Arc<Sealed>, TableFault>
+        ensures gives { Tells (λ t u. MarkGives t w key.now result u) None None }
+        ensures told { IfOk result (λ a. is_told self.new.kept key.now (arc_value a)) }
+        ensures stays { StaysTold (is_told self.old.kept) (is_told self.new.kept) }
+        ensures given { IsGiven J.past J.project (λ t u. MarkTells t w key.now result u) }
+    {
         self.shared
             .mark(self.rt, self.tally, &mut self.kept, w, key)
     }
 
-    fn begin_run(&mut self, w: u32, key: &Key) -> Result<(), TableFault> {
+    fn begin_run(&mut self, w: u32, key: &Key) -> Result<(), TableFault>
+        ensures gives { Tells (λ t u. BeginGives t w key.now result u) None None }
+        ensures stays { StaysTold (is_told self.old.kept) (is_told self.new.kept) }
+        ensures given { IsGiven J.past J.project (λ t u. BeginGives t w key.now result u) }
+    {
         let answer = self.shared.begin_run(self.rt, self.tally, w, key);
         if let Ok(()) = &answer {
             self.gate.before_run(w, key);
@@ -89,7 +108,16 @@ impl<J: Naming, R: Runner, T: Wait, G: Gate> Store for Seat<'_, J, R, T, G> {
         answer
     }
 
-    fn finish(&mut self, w: u32, outcome: Arc<Outcome<R>>) -> Result<(), TableFault> {
+    fn finish(&mut self, w: u32, outcome: Arc<Outcome<R>>) -> Result<(), TableFault>
+        requires held { Knows (λ t. AreHeld (state_of t) (arc_value outcome).told) None }
+        requires told { AreTold (is_told self.old.kept) (arc_value outcome).told }
+        ensures gives { Tells (λ t u. FinishGives t w (arc_value outcome) result u) None None }
+        ensures told { IfOk result (λ _. is_told self.new.kept (arc_value outcome).key
+            (arc_value outcome).value) }
+        ensures stays { StaysTold (is_told self.old.kept) (is_told self.new.kept) }
+        ensures given { (result ≡ Err fault.OutOfMemory)
+            ⊎ IsGiven J.past J.project (λ t u. FinishTells t w (arc_value outcome) result u) }
+    {
         let Ok(ended) = Arc::try_clone(&outcome) else {
             return Err(TableFault::OutOfMemory);
         };
@@ -102,7 +130,11 @@ impl<J: Naming, R: Runner, T: Wait, G: Gate> Store for Seat<'_, J, R, T, G> {
         answer
     }
 
-    fn fail(&mut self, w: u32) -> Result<(), TableFault> {
+    fn fail(&mut self, w: u32) -> Result<(), TableFault>
+        ensures gives { Tells (λ t u. FailGives t w result u) None None }
+        ensures stays { StaysTold (is_told self.old.kept) (is_told self.new.kept) }
+        ensures given { IsGiven J.past J.project (λ t u. FailGives t w result u) }
+    {
         self.shared.fail(self.rt, self.tally, w)
     }
 

@@ -4,7 +4,9 @@ ghost use Rattle.std.specs.Arc.{arc_value};
 ghost use Rattle.sessions.specs.Sessions.{session_in};
 ghost use mathlib.Core.List.{IsPrefix};
 ghost use Rattle.mark_green.specs.Leaves.{ClaimsNoInput, TellsDone, AreTold};
-ghost use Rattle.shared_table.specs.Told.{is_told};
+ghost use Rattle.job_table.specs.Calls.{AskGives, BeginGives, FailGives};
+ghost use Rattle.shared_table.specs.Told.{is_told, MarkTells, FinishTells};
+ghost use Rattle.shared_table.specs.Given.{IsGiven};
 
 use crate::counted::Counted;
 use crate::desk::Desk;
@@ -82,12 +84,14 @@ impl<J: Naming, R: Runner> Shared<J, R> {
         w: u32,
         key: &Key,
     ) -> Result<Asked, TableFault>
+        ensures given { IsGiven J.past J.project (λ t u. AskGives t w key.now result u) }
         ensures claims { ClaimsNoInput key.now result }
         ensures told { TellsDone (is_told kept.new) key.now result }
         ensures stays { IsPrefix kept.old kept.new }
     {
         'asks: for _ in rt.forever() {
             let mut desk = self.desk.lock(rt);
+            desk.check_name();
             match desk.ask(tally, kept, w, key) {
                 Ok(Asked::Busy) => {
                     let _desk = self.changed.wait(rt, desk);
@@ -107,10 +111,14 @@ impl<J: Naming, R: Runner> Shared<J, R> {
         w: u32,
         key: &Key,
     ) -> Result<Arc<Sealed>, TableFault>
+        ensures given { IsGiven J.past J.project (λ t u. MarkTells t w key.now result u) }
         ensures told { IfOk result (λ a. is_told kept.new key.now (arc_value a)) }
         ensures stays { IsPrefix kept.old kept.new }
     {
-        let answer = self.desk.lock(rt).mark(tally, kept, w, key);
+        let mut desk = self.desk.lock(rt);
+        desk.check_name();
+        let answer = desk.mark(tally, kept, w, key);
+        drop(desk);
         self.changed.notify_all();
         answer
     }
@@ -122,8 +130,12 @@ impl<J: Naming, R: Runner> Shared<J, R> {
         tally: &mut Tally<J>,
         w: u32,
         key: &Key,
-    ) -> Result<(), TableFault> {
-        self.desk.lock(rt).begin_run(tally, w, key)
+    ) -> Result<(), TableFault>
+        ensures { IsGiven J.past J.project (λ t u. BeginGives t w key.now result u) }
+    {
+        let mut desk = self.desk.lock(rt);
+        desk.check_name();
+        desk.begin_run(tally, w, key)
     }
 
     /// Ends a run, and wakes the workers that wait.
@@ -138,10 +150,14 @@ impl<J: Naming, R: Runner> Shared<J, R> {
     ) -> Result<(), TableFault>
         requires same { ended.now ≡ arc_value outcome }
         requires reads { AreTold (is_told kept.old) ended.now.told }
+        ensures given { IsGiven J.past J.project (λ t u. FinishTells t w ended.now result u) }
         ensures told { IfOk result (λ _. is_told kept.new ended.now.key ended.now.value) }
         ensures stays { IsPrefix kept.old kept.new }
     {
-        let answer = self.desk.lock(rt).finish(tally, kept, w, outcome, ended);
+        let mut desk = self.desk.lock(rt);
+        desk.check_name();
+        let answer = desk.finish(tally, kept, w, outcome, ended);
+        drop(desk);
         self.changed.notify_all();
         answer
     }
@@ -152,8 +168,13 @@ impl<J: Naming, R: Runner> Shared<J, R> {
         rt: &T,
         tally: &mut Tally<J>,
         w: u32,
-    ) -> Result<(), TableFault> {
-        let answer = self.desk.lock(rt).fail(tally, w);
+    ) -> Result<(), TableFault>
+        ensures { IsGiven J.past J.project (λ t u. FailGives t w result u) }
+    {
+        let mut desk = self.desk.lock(rt);
+        desk.check_name();
+        let answer = desk.fail(tally, w);
+        drop(desk);
         self.changed.notify_all();
         answer
     }
