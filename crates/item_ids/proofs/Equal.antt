@@ -1,5 +1,5 @@
 -- Keys of one kind are told apart by the texts of their names.
-use Rattle.std.proofs.Common.{◌≡◌, ℕ, true, false, refl, sym, ap, ◌∙◌}
+use Rattle.std.proofs.Common.{◌≡◌, true, false, refl, sym, ap, ◌∙◌}
 use Rattle.std.specs.Prelude.{nat_eq}
 use Rattle.std.specs.Ordering.{nat_cmp, ordering_then, is_eq, eq_by_cmp}
 use Rattle.std.specs.declared.cmp.Ordering.{Ordering}
