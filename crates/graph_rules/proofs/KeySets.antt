@@ -5,11 +5,10 @@ use Rattle.std.specs.List.{list_any, position_or_len}
 use Rattle.std.specs.Ordering.{eq_by_cmp}
 use Rattle.std.proofs.lemmas.Bool.{ltb-true}
 use Rattle.std.proofs.lemmas.Option.{none-some, same_Some}
-use Rattle.std.proofs.lemmas.List.Folds.{list_any_at}
 use Rattle.item_ids.specs.declared.key.Key.{Key}
 use Rattle.item_ids.specs.declared.key.Key.TheVariants.{Files}
 use Rattle.item_ids.specs.Keys.{key_cmp}
-use Rattle.item_ids.proofs.Apart.{test_same, test_itself}
+use Rattle.item_ids.proofs.Apart.{test_same}
 
 -- a key that is found is there
 pub has_found : (ks : List Key) (q : Key) → list_any (eq_by_cmp key_cmp q) ks ≡ true → Contains ks q
@@ -19,10 +18,6 @@ has_found (k ∷ ks) q h =
       | true ↦ λ is _. let l : 0 < length (k ∷ ks) = omega arith in (0, l, sym (test_same q k is))
       | false ↦ λ _ rest. let at = has_found ks q rest in let l : suc at.0 < length (k ∷ ks) = let b = at.1 in omega arith in (suc at.0, l, at.2)
     ]) refl h
-
--- a key that is there is found
-pub not_missing : (ks : List Key) (q : Key) → Contains ks q → list_any (eq_by_cmp key_cmp q) ks ≡ false → ⊥
-not_missing ks q has none = true≢false (sym (list_any_at (eq_by_cmp key_cmp q) ks has.0 q has.1 (test_itself q (get_or ks has.0 q) (sym has.2))) ∙ none)
 
 found_within : (ks : List Key) (q : Key) → position_or_len (eq_by_cmp key_cmp q) ks < length ks → get_or ks (position_or_len (eq_by_cmp key_cmp q) ks) Files ≡ q
 found_within [] q lt = absurd (omega (arith, lt))

@@ -9,5 +9,7 @@ pub mod ReplayRules
 pub mod StaleRules
 pub mod ReachRules
 pub mod SetRules
+pub mod FoundRules
+pub mod RowRules
 pub mod RecordRules
 pub mod CloseRules

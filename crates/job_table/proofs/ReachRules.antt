@@ -119,14 +119,20 @@ adds_more old edges found new i x lt is so_far one = subst (λ (es : List Key). 
 
 -- ---- keys that are reached
 
-pub spreads_first : (p : Project) (s : State) (first ks : List Key) → AreRoots p first → Adds [] first ks → Spreads p s ks 0
-spreads_first p s first ks roots a = record {
-  roots = λ q r. a.has q ((roots q).1 r);
-  only = λ q h. starts q ((roots q).0 (a.only q (subst (λ (xs : List Key). Contains xs q) a.whole h)));
+pub roots_added : (p : Project) (first ks : List Key) → AreRoots p first → Adds [] first ks → AreRoots p ks
+roots_added p first ks roots a q = (
+  (λ h. (roots q).0 (a.only q (subst (λ (xs : List Key). Contains xs q) a.whole h))),
+  (λ r. a.has q ((roots q).1 r)),
+)
+
+pub spreads_first : (p : Project) (s : State) (ks : List Key) → AreRoots p ks → Spreads p s ks 0
+spreads_first p s ks roots = record {
+  roots = λ q r. (roots q).1 r;
+  only = λ q h. starts q ((roots q).0 h);
   closed = λ j lt. absurd (omega arith);
 }
 
-key_stays : (ks more : List Key) (j : ℕ) → j < length ks → key_in (ks ++ more) j ≡ key_in ks j
+pub key_stays : (ks more : List Key) (j : ℕ) → j < length ks → key_in (ks ++ more) j ≡ key_in ks j
 key_stays ks more j lt = get_or_append_left ks more Files j lt
 
 has_place : (ks : List Key) (j : ℕ) → j < length ks → Contains ks (key_in ks j)
@@ -181,10 +187,6 @@ reached_done p s order roots q (starts _ r) = roots q r
 reached_done p s order roots _ (edge q v es m e reached is has) =
     let d = edge_done s q (s.at q) v es m is (order q) in
     All-contains (λ k. IsDone (s.at k)) es e (All-from_recursion (λ k. IsDone (s.at k)) es d.done) has
-
--- the list of what is reached has all that its keys were read for
-pub reached_edges : (p : Project) (s : State) (ks : List Key) → AreReached p s ks → (q : Key) → Contains ks q → HasEdges s ks q
-reached_edges p s ks reached q c v es m e is has = (reached e).1 (edge q v es m e ((reached q).0 c) is has)
 
 -- a list with the same keys
 pub reached_too : (p : Project) (s : State) (found ks : List Key) → AreReached p s found → ((q : Key) → Contains ks q ↔ Contains found q) → AreReached p s ks

@@ -8,3 +8,4 @@ pub mod Calls
 pub mod Replays
 pub mod Closes
 pub mod Reached
+pub mod Rows

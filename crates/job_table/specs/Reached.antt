@@ -1,6 +1,7 @@
 -- How a closing table finds the keys that it keeps, and what their records are.
 use Rattle.std.specs.Prelude.{◌≡◌, ◌↔◌, ℕ, ◌<◌, List, ◌++◌, map, length, Contains, slice_index_or}
 use Rattle.std.specs.List.{AllByRecursion}
+use Rattle.std.specs.Arc.{arc_value}
 use Rattle.item_ids.specs.declared.key.Key.{Key}
 use Rattle.item_ids.specs.declared.key.Key.TheVariants.{Files}
 use Rattle.result_bytes.specs.declared.value.Value.{Value}
@@ -12,6 +13,11 @@ use Rattle.graph_rules.specs.Steps.{Done, State}
 use Rattle.graph_rules.specs.Graphs.{IsRoot, IsReached, KeyBefore}
 use Rattle.job_table.specs.Nodes.{Node, status_of}
 use Rattle.job_table.specs.Closes.{IsQuiet}
+use Rattle.job_table.specs.declared.reaching.Found.{Found}
+
+-- each element is so at its place
+abbrev pub EachAt : {A : Type 0} → (ℕ → A → Type 0) → List A → Type 0
+EachAt {A} P xs = (i : ℕ) (d : A) → i < length xs → P i (slice_index_or xs i d)
 
 -- no node is claimed or running
 abbrev pub AllQuiet : List Node → Type 0
@@ -51,6 +57,15 @@ pub record Adds (old edges new : List Key) : Type 0 where
   pub whole : new ≡ old ++ more
   pub only : (q : Key) → Contains more q → Contains edges q
   pub has : (q : Key) → Contains edges q → Contains new q
+
+-- the key is done like this, with places among these keys for edges
+pub record IsFoundAs (s : State) (ks : List Key) (q : Key) (f : Found) : Type 0 where
+  pub done : s.at q ≡ Done (arc_value f.sealed.now) (map (key_in ks) f.edges.items) f.mark
+  pub inside : AllByRecursion (λ e. e < length ks) f.edges.items
+
+-- how the first of these keys are done
+abbrev pub AreFound : State → List Key → List Found → Type 0
+AreFound s ks fs = EachAt (λ i f. IsFoundAs s ks (key_in ks i) f) fs
 
 -- the record says how its key is done, with places among these keys for edges
 pub record IsRecordOf (s : State) (ks : List Key) (r : RecordValue) : Type 0 where

@@ -7,9 +7,12 @@ mod event;
 mod fault;
 mod node_map;
 mod nodes;
+mod reaching;
 mod reads;
+mod records;
 mod replay;
 mod room;
+mod rows;
 mod table;
 mod walks;
 

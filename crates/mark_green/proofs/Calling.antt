@@ -19,7 +19,7 @@ use Rattle.job_table.specs.declared.fault.TableFault.TheVariants as table
 use Rattle.mark_green.specs.declared.fault.Fault.{Fault}
 use Rattle.mark_green.specs.declared.fault.Fault.TheVariants as fault
 use Rattle.mark_green.specs.Leaves.{Stops, Stays, GivesUp, IsOthers, HasStatus}
-use Rattle.mark_green.specs.Ensures.{EnsureGives, IsGivenUp, WorkGives, IsFaultOf}
+use Rattle.mark_green.specs.Ensures.{EnsureGives, IsGivenUp, WorkGives, IsFaultOf, IsOfEdges}
 use Rattle.mark_green.proofs.GoingOn.{on_none, on_one, on_then, stops_then, stays_up, stays_same, Changes, changes_by, changed_work, changed_others, changed_leaves, changed_stays, changed_done, changed_stands, leaves_none}
 
 not_both : (b : Bool) → b ≡ true → b ≡ false → ⊥
@@ -159,6 +159,33 @@ mark_refused w q (table.EdgeChanged i) g is t u v st all m s = absurd (walk_chan
 mark_refused w q table.OutOfRank g is t u v st all m s = absurd m
 mark_refused w q table.NothingChanged g is t u v st all m s = absurd m
 mark_refused w q (table.StaleRead i) g is t u v st all m s = absurd m
+
+-- ---- mark, where a key may have to wait for its edges
+
+pub try_done : (w : ℕ) (q : Key) (v : Arc Value Global) (t u : TableValue) → MarkGives t w q (Ok v) u → HasStatus (Claimed w) w q t → WorkGives t w q (Ok v) u
+try_done w q v t u m st = mark_done w q v t u m
+
+pub try_kept : (w : ℕ) (q : Key) (f : TableFault) → IsOfEdges f → (t u : TableValue) → MarkGives t w q (Err f) u → HasStatus (Claimed w) w q t → u ≡ t
+try_kept w q table.NotInPast of t u m st = m.2
+try_kept w q (table.EdgeOpen i) of t u m st = m.2
+try_kept w q (table.EdgeChanged i) of t u m st = m.2
+try_kept w q table.OutOfMemory of t u m st = absurd of
+try_kept w q table.Failed of t u m st = absurd of
+try_kept w q table.NotYours of t u m st = absurd of
+try_kept w q table.OutOfRank of t u m st = absurd of
+try_kept w q table.NothingChanged of t u m st = absurd of
+try_kept w q (table.StaleRead i) of t u m st = absurd of
+
+pub try_refused : (w : ℕ) (q : Key) (f : TableFault) (g : Fault) → (IsOfEdges f → ⊥) → IsFaultOf f g → (t u v : TableValue) → MarkGives t w q (Err f) u → GivesUp u v → HasStatus (Claimed w) w q t → WorkGives t w q (Err g) v
+try_refused w q table.OutOfMemory g not is t u v m s st = memory_gives t u v w q g is m.1 s
+try_refused w q table.Failed g not is t u v m s st = absurd (not_both (state_of t).failed m.0 st.failed)
+try_refused w q table.NotYours g not is t u v m s st = absurd (m.1 st.at)
+try_refused w q table.NotInPast g not is t u v m s st = absurd (not tt)
+try_refused w q (table.EdgeOpen i) g not is t u v m s st = absurd (not tt)
+try_refused w q (table.EdgeChanged i) g not is t u v m s st = absurd (not tt)
+try_refused w q table.OutOfRank g not is t u v m s st = absurd m
+try_refused w q table.NothingChanged g not is t u v m s st = absurd m
+try_refused w q (table.StaleRead i) g not is t u v m s st = absurd m
 
 -- ---- begin_run
 

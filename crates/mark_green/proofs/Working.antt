@@ -19,7 +19,7 @@ use Rattle.job_table.specs.declared.fault.TableFault.{TableFault}
 use Rattle.mark_green.specs.declared.fault.Fault.{Fault}
 use Rattle.mark_green.specs.declared.fault.Fault.TheVariants as fault
 use Rattle.mark_green.specs.Leaves.{Knows, Tells, GivesUp, HasStatus}
-use Rattle.mark_green.specs.Ensures.{EnsureGives, WorkGives, EdgeGives, WalkGives, PastHasEdges, IsRecordUnder, IsFaultOf}
+use Rattle.mark_green.specs.Ensures.{EnsureGives, WorkGives, EdgeGives, WalkGives, TryGives, PastHasEdges, IsRecordUnder, IsFaultOf}
 use Rattle.mark_green.proofs.GoingOn.{leaves_work, stands_on, tells_map, tells_then, tells_here, tells_with}
 use Rattle.mark_green.proofs.Calling.{work_memory, ask_work, ask_done, ask_stopped, ask_busy, ask_refused}
 use Rattle.mark_green.proofs.Turning.{Works, Starts}
@@ -129,6 +129,25 @@ pub over_up_at : (w : ℕ) (q : Key) (past : Option (Arc SessionValue Global)) (
 over_up_at w q past p is z z_is edges x f x_is a b walks =
     subst (λ (o : Option SessionValue). Overs o w q (Err f) a b) (ap Some z_is ∙ sym (ap session_in is))
     (over_up w q z edges f a b (subst (λ (y : Result Bool Fault). Walks z w q edges y a b) x_is walks))
+
+-- ---- a key that may be marked at once
+
+abbrev pub Tries : ℕ → Key → Result (Option (Arc Value Global)) Fault → Option TableValue → Option TableValue → Type 0
+Tries w q r a b = Tells (λ t u. HasStatus (Claimed w) w q t → TryGives t w q r u) a b
+
+module _ (w : ℕ) (q : Key) (past : Option SessionValue) where
+  pub over_once : (v : Arc Value Global) (a b : Option TableValue) → Tries w q (Ok (Some v)) a b → Overs past w q (Ok v) a b
+  over_once v a b h = tells_map _ _ (λ t u go has st. go st) a b h
+
+  pub over_once_up : (f : Fault) (a b : Option TableValue) → Tries w q (Err f) a b → Overs past w q (Err f) a b
+  over_once_up f a b h = tells_map _ _ (λ t u go has st. go st) a b h
+
+  later : (r : Result (Arc Value Global) Fault) (t u v : TableValue) → u ≡ t → (past ≡ u.past → HasStatus (Claimed w) w q u → WorkGives u w q r v) → past ≡ t.past → HasStatus (Claimed w) w q t → WorkGives t w q r v
+  later r t u v e go has st =
+      subst (λ (y : TableValue). WorkGives y w q r v) e (go (has ∙ sym (ap (λ (y : TableValue). y.past) e)) (subst (λ (y : TableValue). HasStatus (Claimed w) w q y) (sym e) st))
+
+  pub over_later : (r : Result (Arc Value Global) Fault) (a b c : Option TableValue) → Tries w q (Ok None) a b → Overs past w q r b c → Overs past w q r a c
+  over_later r a b c h o = tells_then _ _ _ (λ t u v same go has st. later r t u v (same st) go has st) a b c h o
 
 -- ---- a claimed key
 

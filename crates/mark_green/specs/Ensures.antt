@@ -42,6 +42,21 @@ abbrev pub WorkGives : TableValue → ℕ → Key → Result (Arc Value Global) 
 WorkGives t w q (Ok v) u = LeavesBut q t u × IsDoneWith (arc_value v) ((state_of u).at q)
 WorkGives t w q (Err f) u = IsGivenUp t w f u × StaysBut q t u
 
+-- why a key isn't marked at once: the previous session lacks it, or one of its edges isn't done and
+-- unchanged
+abbrev pub IsOfEdges : TableFault → Type 0
+IsOfEdges table.NotInPast = Unit {0}
+IsOfEdges (table.EdgeOpen i) = Unit {0}
+IsOfEdges (table.EdgeChanged i) = Unit {0}
+IsOfEdges _ = ⊥
+
+-- marking a key that w has claimed, unless it is to wait for its edges: then nothing changes
+abbrev pub TryGives : TableValue → ℕ → Key → Result (Option (Arc Value Global)) Fault → TableValue
+    → Type 0
+TryGives t w q (Ok (Some v)) u = WorkGives t w q (Ok v) u
+TryGives t w q (Ok None) u = u ≡ t
+TryGives t w q (Err f) u = WorkGives t w q (Err f) u
+
 -- evaluating a previous edge e, and whether it is unchanged then
 abbrev pub EdgeGives : TableValue → ℕ → Key → Result Bool Fault → TableValue → Type 0
 EdgeGives t w e (Ok true) u = Leaves t u × (edge_of (past_of u) (state_of u) e ≡ Unchanged)

@@ -87,9 +87,34 @@ impl<S: Store<Out = Arc<Outcome<R>>>, R: Runner> Worker<'_, S, R> {
         }
     }
 
-    /// Evaluates a key that the worker has claimed, over this previous session.
+    /// Evaluates a key that the worker has claimed, over this previous session. Where all previous edges are done and
+    /// unchanged the key is marked at once, and no edge is asked for.
     #[cycle(ensure)]
     fn work_over(&mut self, key: &Key, past: &Option<Arc<Session>>) -> Result<Arc<Sealed>, Fault>
+        requires shows { ShowsOutcomes S.outcome_in }
+        requires rank { 0 < rank_of_key key.now }
+        ensures store { self.new.store.ghost_name ≡ self.old.store.ghost_name }
+        ensures id { self.new.id ≡ self.old.id }
+        ensures stays { StaysTold (S.told self.old.store.now) (S.told self.new.store.now) }
+        ensures told { IfOk result (λ a. S.told self.new.store.now key.now (arc_value a)) }
+        ensures gives { Tells (λ t u. session_in past.now ≡ t.past
+            → HasStatus (Claimed self.old.id) self.old.id key.now t
+            → WorkGives t self.old.id key.now result u)
+            (S.table self.old.store.now) (S.table self.new.store.now) }
+    {
+        match self.mark_at_once(key, past)? {
+            Some(sealed) => Ok(sealed),
+            None => self.work_by_edges(key, past),
+        }
+    }
+
+    /// Evaluates a key that the worker has claimed, over this previous session, by its previous edges.
+    #[cycle(ensure)]
+    fn work_by_edges(
+        &mut self,
+        key: &Key,
+        past: &Option<Arc<Session>>,
+    ) -> Result<Arc<Sealed>, Fault>
         requires shows { ShowsOutcomes S.outcome_in }
         requires rank { 0 < rank_of_key key.now }
         ensures store { self.new.store.ghost_name ≡ self.old.store.ghost_name }

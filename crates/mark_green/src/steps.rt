@@ -1,11 +1,11 @@
 //! How a worker completes a key.
-ghost use Rattle.std.specs.Prelude.{◌≡◌, ◌++◌, [], ◌∷◌, Some, IfOk};
+ghost use Rattle.std.specs.Prelude.{◌≡◌, ◌↔◌, ◌++◌, [], ◌∷◌, Some, IfOk, IfSome, IsTrue};
 ghost use Rattle.std.specs.Arc.{arc_value};
 ghost use Rattle.graph_rules.specs.Steps.{Claimed, Running, AllUnchanged, AreHeld};
 ghost use Rattle.job_table.specs.Tables.{state_of};
 ghost use Rattle.job_table.specs.Calls.{walk_in};
 ghost use Rattle.mark_green.specs.Leaves.{Knows, Tells, StaysTold, AreTold, HasStatus};
-ghost use Rattle.mark_green.specs.Ensures.{WorkGives, ShowsOutcomes};
+ghost use Rattle.mark_green.specs.Ensures.{WorkGives, TryGives, IsOfEdges, ShowsOutcomes};
 
 use crate::fault::Fault;
 use crate::store::Store;
@@ -14,6 +14,7 @@ use fingerprint::Sealed;
 use item_ids::Key;
 use job_table::TableFault;
 use recorder::{AnswerList, Outcome, Runner};
+use sessions::Session;
 use std::alloc::{AllocError, Global};
 use std::sync::Arc;
 
@@ -30,6 +31,32 @@ impl<S: Store<Out = Arc<Outcome<R>>>, R: Runner> Worker<'_, S, R> {
     {
         match self.store.mark(self.id, key) {
             Ok(sealed) => Ok(sealed),
+            Err(fault) => Err(self.give_up(fault)),
+        }
+    }
+
+    /// Marks a key that the worker has claimed, if all its previous edges are done and unchanged already; else nothing
+    /// changes, and there is no result.
+    pub(crate) fn mark_at_once(
+        &mut self,
+        key: &Key,
+        past: &Option<Arc<Session>>,
+    ) -> Result<Option<Arc<Sealed>>, Fault>
+        ensures store { self.new.store.ghost_name ≡ self.old.store.ghost_name }
+        ensures id { self.new.id ≡ self.old.id }
+        ensures stays { StaysTold (S.told self.old.store.now) (S.told self.new.store.now) }
+        ensures told { IfOk result (λ marked. IfSome marked
+            (λ a. S.told self.new.store.now key.now (arc_value a))) }
+        ensures gives { Tells (λ t u. HasStatus (Claimed self.old.id) self.old.id key.now t
+            → TryGives t self.old.id key.now result u)
+            (S.table self.old.store.now) (S.table self.new.store.now) }
+    {
+        let Some(_) = past else {
+            return Ok(None);
+        };
+        match self.store.mark(self.id, key) {
+            Ok(sealed) => Ok(Some(sealed)),
+            Err(fault) if is_of_edges(&fault) => Ok(None),
             Err(fault) => Err(self.give_up(fault)),
         }
     }
@@ -56,6 +83,16 @@ impl<S: Store<Out = Arc<Outcome<R>>>, R: Runner> Worker<'_, S, R> {
             Ok(()) => Ok(sealed),
             Err(fault) => Err(self.give_up(fault)),
         }
+    }
+}
+
+/// Whether a key isn't marked because the previous session lacks it, or one of its edges isn't done and unchanged.
+fn is_of_edges(fault: &TableFault) -> bool
+    ensures { IsTrue result ↔ IsOfEdges fault.now }
+{
+    match fault {
+        TableFault::NotInPast | TableFault::EdgeOpen(_) | TableFault::EdgeChanged(_) => true,
+        _ => false,
     }
 }
 

@@ -20,7 +20,7 @@ use Rattle.job_table.specs.Calls.{walk_in}
 use Rattle.mark_green.specs.Leaves.{Tells, HasStatus}
 use Rattle.mark_green.specs.Ensures.{WorkGives}
 use Rattle.mark_green.proofs.Turning.{Works, Fetches, Turns, Ends, Runs, Begins, Starts, fetch_ok, fetch_lost, fetch_up, turn_stopped, turn_more, turn_up, holds_more, ends_ok, ends_up, ends_lost, run_ended, run_up, start_run}
-use Rattle.mark_green.proofs.Working.{Ensured, Edges, Walks, Overs, Asks, edge_ok, far_more, far_changed, far_up, over_marked_at, over_run_at, over_up_at, ensured_work, ensured_busy}
+use Rattle.mark_green.proofs.Working.{Ensured, Edges, Walks, Overs, Asks, edge_ok, far_more, far_changed, far_up, over_marked_at, over_run_at, over_up_at, over_once, over_once_up, over_later, Tries, ensured_work, ensured_busy}
 use Rattle.mark_green.proofs.worker.Worker.+ensure.Goals as goal
 
 pub ensure-returns-in-Ok-Yours-clause-gives : goal.ensure-returns-in-Ok-Yours-clause-gives
@@ -183,20 +183,41 @@ walk_edges-edges-preserved g t c =
     let e = subst (λ (r : Result Bool Fault). Edges c.args.past.now w (key_at c.args.past.now.records (get_or c.args.edges.now c.edges.at-index 0)) r (g.S.Store.table c.edges.self.store.now) (g.S.Store.table c.is_unchanged.new.self.store.now)) (c.in_ok-is_unchanged.was ∙ ap Ok c.if-not-branch.false) (subst (λ (n : ℕ). Edges c.args.past.now n (key_at c.args.past.now.records (get_or c.args.edges.now c.edges.at-index 0)) c.is_unchanged.result (g.S.Store.table c.edges.self.store.now) (g.S.Store.table c.is_unchanged.new.self.store.now)) c.edges.invariant.1 c.is_unchanged.ensures.gives) in
     (c.is_unchanged.ensures.store ∙ c.edges.invariant.0, c.is_unchanged.ensures.id ∙ c.edges.invariant.1, far_more c.args.past.now w c.args.key.now c.args.edges.now c.edges.at-index _ _ c.edges.invariant.2 lt _ e, λ q v is. c.is_unchanged.ensures.stays q v (c.edges.invariant.3 q v is))
 
-pub work_over-returns-then-branch-clause-gives : goal.work_over-returns-then-branch-clause-gives
-work_over-returns-then-branch-clause-gives g t c =
+pub work_by_edges-returns-then-branch-clause-gives : goal.work_by_edges-returns-then-branch-clause-gives
+work_by_edges-returns-then-branch-clause-gives g t c =
     over_marked_at c.args.self.now.id c.args.key.now c.mark.result c.args.past.now c.in-Some.past c.in-Some.is c.deref.result.now c.deref-2.result.now c.deref.ensures c.deref-2.ensures
     c.in-Some-past_edges.edges.now c.in-Some-past_edges.ensures.found c.walk_edges.result _ _ _ c.walk_edges.ensures.gives (c.in_ok-walk_edges.was ∙ ap Ok c.if-branch.true)
     (subst (λ (n : ℕ). Tells (λ t u. HasStatus (Claimed n) n c.args.key.now t → walk_in t c.args.key.now ≡ Some AllUnchanged → WorkGives t n c.args.key.now c.mark.result u) (g.S.Store.table c.walk_edges.new.self.store.now) (g.S.Store.table c.mark.new.self.store.now)) c.walk_edges.ensures.id c.mark.ensures.gives)
 
-pub work_over-returns-else-branch-clause-gives : goal.work_over-returns-else-branch-clause-gives
-work_over-returns-else-branch-clause-gives g t c =
+pub work_by_edges-returns-else-branch-clause-gives : goal.work_by_edges-returns-else-branch-clause-gives
+work_by_edges-returns-else-branch-clause-gives g t c =
     over_run_at c.args.self.now.id c.args.key.now c.start-else-branch.result c.args.past.now c.in-Some.past c.in-Some.is c.deref.result.now c.deref-2.result.now c.deref.ensures c.deref-2.ensures
     c.in-Some-past_edges.edges.now c.in-Some-past_edges.ensures.found c.walk_edges.result _ _ _ c.walk_edges.ensures.gives (c.in_ok-walk_edges.was ∙ ap Ok c.if-branch.false)
     (subst (λ (n : ℕ). Starts n c.args.key.now c.start-else-branch.result (g.S.Store.table c.walk_edges.new.self.store.now) (g.S.Store.table c.start-else-branch.new.self.store.now)) c.walk_edges.ensures.id c.start-else-branch.ensures.gives)
 
-pub work_over-returns-in_err-walk_edges-clause-gives : goal.work_over-returns-in_err-walk_edges-clause-gives
-work_over-returns-in_err-walk_edges-clause-gives g t c =
+pub work_by_edges-returns-in_err-walk_edges-clause-gives : goal.work_by_edges-returns-in_err-walk_edges-clause-gives
+work_by_edges-returns-in_err-walk_edges-clause-gives g t c =
     let h : Overs (session_in c.args.past.now) c.args.self.now.id c.args.key.now (Err c.in_err-walk_edges.field-0.0) (g.S.Store.table c.args.self.now.store.now) (g.S.Store.table c.walk_edges.new.self.store.now) =
     over_up_at c.args.self.now.id c.args.key.now c.args.past.now c.in-Some.past c.in-Some.is c.deref-2.result.now c.deref-2.ensures c.in-Some-past_edges.edges.now c.walk_edges.result c.in_err-walk_edges.field-0.0 c.in_err-walk_edges.was _ _ c.walk_edges.ensures.gives in
+    search rules
+
+pub work_over-returns-in-Some-clause-gives : goal.work_over-returns-in-Some-clause-gives
+work_over-returns-in-Some-clause-gives g t c =
+    let w = c.args.self.now.id in
+    let h = subst (λ (r : Result (Option (Arc Value Global)) Fault). Tries w c.args.key.now r (g.S.Store.table c.args.self.now.store.now) (g.S.Store.table c.mark_at_once.new.self.store.now)) (c.in_ok-sealed.was ∙ ap Ok c.in-Some.is) c.mark_at_once.ensures.gives in
+    over_once w c.args.key.now (session_in c.args.past.now) c.in-Some.sealed _ _ h
+
+pub work_over-returns-in-None-clause-gives : goal.work_over-returns-in-None-clause-gives
+work_over-returns-in-None-clause-gives g t c =
+    let w = c.args.self.now.id in
+    let h = subst (λ (r : Result (Option (Arc Value Global)) Fault). Tries w c.args.key.now r (g.S.Store.table c.args.self.now.store.now) (g.S.Store.table c.mark_at_once.new.self.store.now)) (c.in_ok-sealed.was ∙ ap Ok c.in-None.is) c.mark_at_once.ensures.gives in
+    let o = subst (λ (n : ℕ). Overs (session_in c.args.past.now) n c.args.key.now c.work_by_edges.result (g.S.Store.table c.mark_at_once.new.self.store.now) (g.S.Store.table c.work_by_edges.new.self.store.now)) c.mark_at_once.ensures.id c.work_by_edges.ensures.gives in
+    over_later w c.args.key.now (session_in c.args.past.now) c.work_by_edges.result _ _ _ h o
+
+pub work_over-returns-in_err-sealed-clause-gives : goal.work_over-returns-in_err-sealed-clause-gives
+work_over-returns-in_err-sealed-clause-gives g t c =
+    let w = c.args.self.now.id in
+    let h = subst (λ (r : Result (Option (Arc Value Global)) Fault). Tries w c.args.key.now r (g.S.Store.table c.args.self.now.store.now) (g.S.Store.table c.mark_at_once.new.self.store.now)) c.in_err-sealed.was c.mark_at_once.ensures.gives in
+    let h : Overs (session_in c.args.past.now) w c.args.key.now (Err c.in_err-sealed.field-0.0) (g.S.Store.table c.args.self.now.store.now) (g.S.Store.table c.mark_at_once.new.self.store.now) =
+    over_once_up w c.args.key.now (session_in c.args.past.now) c.in_err-sealed.field-0.0 _ _ h in
     search rules

@@ -8,34 +8,37 @@ use Rattle.mark_green.proofs.Working.{SoFar}
 use Rattle.mark_green.proofs.worker.Worker.+ensure.Given as goal
 
 abbrev pub decreases-ensure : goal.decreases-ensure
-decreases-ensure g l = 8 * rank l.key.now + 7
+decreases-ensure g l = 9 * rank l.key.now + 8
 
 abbrev pub decreases-work : goal.decreases-work
-decreases-work g l = 8 * rank l.key.now + 6
+decreases-work g l = 9 * rank l.key.now + 7
 
 abbrev pub decreases-work_over : goal.decreases-work_over
-decreases-work_over g l = 8 * rank l.key.now + 5
+decreases-work_over g l = 9 * rank l.key.now + 6
+
+abbrev pub decreases-work_by_edges : goal.decreases-work_by_edges
+decreases-work_by_edges g l = 9 * rank l.key.now + 5
 
 abbrev pub decreases-walk_edges : goal.decreases-walk_edges
-decreases-walk_edges g l = 8 * rank l.key.now + 4
+decreases-walk_edges g l = 9 * rank l.key.now + 4
 
 abbrev pub decreases-is_unchanged : goal.decreases-is_unchanged
-decreases-is_unchanged g l = 8 * rank (key_at l.past.now.records l.at) + 8
+decreases-is_unchanged g l = 9 * rank (key_at l.past.now.records l.at) + 9
 
 abbrev pub decreases-start : goal.decreases-start
-decreases-start g l = 8 * rank l.key.now + 3
+decreases-start g l = 9 * rank l.key.now + 3
 
 abbrev pub decreases-run : goal.decreases-run
-decreases-run g l = 8 * rank l.key.now + 2
+decreases-run g l = 9 * rank l.key.now + 2
 
 abbrev pub decreases-turns : goal.decreases-turns
-decreases-turns g l = 8 * rank l.key.now + 1
+decreases-turns g l = 9 * rank l.key.now + 1
 
 abbrev pub decreases-turn : goal.decreases-turn
-decreases-turn g l = 8 * rank l.key.now
+decreases-turn g l = 9 * rank l.key.now
 
 abbrev pub decreases-fetch : goal.decreases-fetch
-decreases-fetch g l = 8 * rank l.lacked + 7
+decreases-fetch g l = 9 * rank l.lacked + 8
 
 abbrev pub invariant-walk_edges-edges : goal.invariant-walk_edges-edges
 invariant-walk_edges-edges g l =
