@@ -1,11 +1,15 @@
 //! A cache in a folder of files.
 ghost use Rattle.session_cache.specs.Starts.{IsPlace};
 
-use session_cache::{Place, Start, file_bytes, find_start, write_file};
+use answer_fixtures::is_print;
+use fingerprint::Print;
+use session_cache::{Place, Start, find_start, write_file};
+use session_fixtures::{FIRST, is_read_again, session_of};
 use sessions::Session;
 use std::fs;
 use std::rt::Files;
 use std::test::Fail;
+use std::thread::Threads;
 
 /// Where the next session begins, in short.
 #[derive(Clone, Copy, PartialEq, Eq)]
@@ -31,14 +35,50 @@ fn look<R: Files + AllocGlobal>(rt: &R, dir: &str) -> Result<Summary, Fail> {
 }
 
 /// Writes the first session of a chain, which has no records.
-fn keep<R: Files + AllocGlobal>(rt: &R, dir: &str, place: Place, number: u32) -> Result<(), Fail>
+fn keep<R: Files + AllocGlobal + Threads>(
+    rt: &R,
+    dir: &str,
+    place: Place,
+    number: u32,
+) -> Result<(), Fail>
     requires { IsPlace place }
 {
     let session = Session::new(rt.alloc(), number, [0; 32], Vec::new(rt.alloc()))?;
-    let bytes = file_bytes(rt.alloc(), &session)?;
-    write_file(rt, dir, place, bytes.bytes())?;
+    write_file(rt, rt, dir, place, &session, 1)?;
     Ok(())
 }
+
+/// The place of the first session of a cache.
+const FIRST_PLACE: Place = Place {
+    chain: 0,
+    number: 0,
+};
+
+/// Writes a session of twelve records, by so many workers.
+fn keep_first<R: Files + AllocGlobal + Threads>(
+    rt: &R,
+    dir: &str,
+    workers: usize,
+) -> Result<(), Fail> {
+    match session_of(rt.alloc(), 0, [0; 32], FIRST) {
+        Ok(session) => Ok(write_file(rt, rt, dir, FIRST_PLACE, &session, workers)?),
+        Err(_) => Err(Fail::from("a session")),
+    }
+}
+
+/// Whether the first file of the cache is that of these twelve records, by its SHA-256, which is another program's, and is
+/// read as a session's.
+fn is_first<R: Files + AllocGlobal>(rt: &R, dir: &str) -> Result<bool, Fail> {
+    let path = FIRST_PLACE.path(rt.alloc(), dir)?;
+    let bytes = fs::read(rt, path.as_str())?;
+    Ok(
+        bytes.len() == 1192
+            && is_print(rt.alloc(), Print::of(&bytes), FIRST_PRINT)?
+            && is_read_again(rt.alloc(), &bytes),
+    )
+}
+
+const FIRST_PRINT: &str = "ba2ff1af8bdbbf1ac6f8b5bf829e1f2c5ab478fc7aa54abec6bd0d108456058c";
 
 /// Removes what an earlier run left, or this one.
 fn clear<R: Files + AllocGlobal>(rt: &R, dir: &str) {
@@ -102,5 +142,16 @@ fn another_chain_begins(rt: HostRuntime) -> Result<(), Fail> {
             }
     );
     clear(&rt, "next");
+    Ok(())
+}
+
+#[test]
+fn one_and_two_threads_write_the_same(rt: HostRuntime) -> Result<(), Fail> {
+    clear(&rt, "by");
+    for workers in [1, 2, 64] {
+        keep_first(&rt, "by", workers)?;
+        assert!(rt; is_first(&rt, "by")?, "{workers}");
+        clear(&rt, "by");
+    }
     Ok(())
 }

@@ -6,13 +6,12 @@ ghost use Rattle.cached_check.specs.Checks.{BeginsBehind, IsBeginning, IsUnbegun
 
 use crate::fault::CheckFault;
 use crate::words::note_text;
-use session_cache::{
-    CacheFault, Last, Note, Place, Start, file_bytes, find_last, start_behind, write_file,
-};
+use session_cache::{CacheFault, Last, Note, Place, Start, find_last, start_behind, write_file};
 use sessions::Session;
 use std::alloc::{AllocError, Global};
 use std::rt::Files;
 use std::sync::Arc;
+use std::thread::Threads;
 
 /// Where the next session of a cache begins.
 #[derive(Drop)]
@@ -67,19 +66,21 @@ fn notes_of(alloc: Global, cache: &str, note: Option<Note>) -> Result<String, Al
     }
 }
 
-/// Writes the file of a session at its place. Where that fails the fault has the notes.
-pub fn keep<R: Files + AllocGlobal>(
+/// Writes the file of a session at its place, by two threads where there is more than one worker. Where that fails the
+/// fault has the notes.
+pub fn keep<R: Files + AllocGlobal, T: Threads>(
     rt: &R,
+    threads: &T,
     cache: &str,
     place: Place,
     session: &Session,
+    workers: usize,
     notes: String,
 ) -> Result<(), CheckFault>
     requires { IsPlace place }
     ensures { IfErr result (IsUnkept cache.now place notes) }
 {
-    let file = file_bytes(rt.alloc(), session)?;
-    match write_file(rt, cache, place, file.bytes()) {
+    match write_file(rt, threads, cache, place, session, workers) {
         Ok(()) => Ok(()),
         Err(CacheFault::CannotWrite(path)) => Err(CheckFault::CannotWrite(notes, path)),
         Err(CacheFault::OutOfMemory) => Err(CheckFault::OutOfMemory),

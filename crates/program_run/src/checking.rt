@@ -15,7 +15,7 @@ use sessions::Session;
 use std::alloc::{AllocError, Global};
 use std::mem::forget;
 use std::rt::Files;
-use std::sync::Wait;
+use std::sync::{Arc, Wait};
 use std::thread::Threads;
 
 /// The report on a check of these files over the cache, by the session that follows the last one there, whose workers
@@ -35,12 +35,22 @@ pub(crate) fn check<R: Files + AllocGlobal, T: Threads + Wait + Sync>(
     let CheckWords { cache, jobs, files } = asked;
     let project = Project::new(alloc, read_files(rt, files)?)?;
     let Beginning { past, place, notes } = begin(rt, cache.as_str())?;
+    let followed = held_again(&past)?;
     let session = next_session(threads, alloc, past, &project, jobs)?;
     let report = session_report(alloc, &project, notes.as_str(), &session)?;
-    keep(rt, cache.as_str(), place, &session, notes)?;
-    // (the run ends here: the memory of its results is left to the system, which frees all of it at once)
+    keep(rt, threads, cache.as_str(), place, &session, jobs, notes)?;
+    // (the run ends here: the memory of both sessions is left to the system, which frees all of it at once)
     forget(session);
+    forget(followed);
     Ok(report)
+}
+
+// One more owner of a session, where there is one.
+fn held_again(past: &Option<Arc<Session>>) -> Result<Option<Arc<Session>>, AllocError> {
+    match past {
+        Some(past) => Ok(Some(Arc::try_clone(past)?)),
+        None => Ok(None),
+    }
 }
 
 // The report on a session: the notes, the diagnostics of its answer, and how many records were executed and green.

@@ -1,1 +1,2 @@
 pub mod NameRules
+pub mod Appending

@@ -1,19 +1,23 @@
 //! Reading and writing the cache.
 ghost use Rattle.std.specs.Prelude.{◌≡◌, ◌≤◌, [], IfOk, IfErr, IsErrAnd};
-ghost use Rattle.sessions.specs.Spelling.{file_of};
 ghost use Rattle.session_cache.specs.Names.{most};
 ghost use Rattle.session_cache.specs.Starts.{IsLast, IsPlace, IsStart, IsStartOf, IsStartless, IsUnread, IsUnwritten};
 
 use crate::fault::CacheFault;
+use crate::filling::{NewFile, write_to};
 use crate::names::{Named, highest};
 use crate::place::{Place, chain_path};
 use crate::start::{Last, Start, start_behind};
-use session_file::{MemorySink, read, write};
+use session_file::read;
 use sessions::Session;
-use std::alloc::{AllocError, Global};
-use std::io::{ErrorKind, Write};
+use std::alloc::Global;
+use std::io::{BufWriter, ErrorKind, Write};
 use std::rt::Files;
+use std::thread::Threads;
 use std::{fs, io};
+
+/// How many bytes of a session's file are handed to the system at a time.
+const BUFFER: usize = 65536;
 
 /// Where the next session begins in the cache of this folder, by what is read of its last chain.
 pub fn find_start<R: Files + AllocGlobal>(rt: &R, dir: &str) -> Result<Start, CacheFault>
@@ -107,23 +111,15 @@ fn unreadable(alloc: Global, path: &str, error: &io::Error) -> CacheFault
     }
 }
 
-/// The bytes of a session's file.
-pub fn file_bytes(alloc: Global, session: &Session) -> Result<MemorySink, AllocError>
-    ensures { IfOk result (λ sink. sink.bytes.items ≡ file_of session.now) }
-{
-    let mut sink = MemorySink::new(alloc);
-    match write(session, &mut sink) {
-        Ok(()) => Ok(sink),
-        Err(_) => Err(AllocError),
-    }
-}
-
-/// Writes the file at this place, which isn't there yet, and makes the folders that are missing.
-pub fn write_file<R: Files + AllocGlobal>(
+/// Writes the session's file at this place, where there is none yet, and makes the folders that are missing. Where there is
+/// more than one worker another thread computes the digest at its end meanwhile.
+pub fn write_file<R: Files + AllocGlobal, T: Threads>(
     rt: &R,
+    threads: &T,
     dir: &str,
     place: Place,
-    bytes: &[u8],
+    session: &Session,
+    workers: usize,
 ) -> Result<(), CacheFault>
     requires { IsPlace place }
     ensures { IfErr result (IsUnwritten dir.now place) }
@@ -131,17 +127,33 @@ pub fn write_file<R: Files + AllocGlobal>(
     let alloc = rt.alloc();
     let folder = chain_path(alloc, dir, place.chain)?;
     let path = place.path(alloc, dir)?;
-    match write_new(rt, folder.as_str(), path.as_str(), bytes) {
+    match write_new(
+        rt,
+        threads,
+        folder.as_str(),
+        path.as_str(),
+        session,
+        workers,
+    ) {
         Ok(()) => Ok(()),
         Err(error) if error.kind() == ErrorKind::OutOfMemory => Err(CacheFault::OutOfMemory),
         Err(_) => Err(CacheFault::CannotWrite(path)),
     }
 }
 
-/// Makes the folder if it is missing, and a new file in it.
-fn write_new<R: Files>(rt: &R, folder: &str, path: &str, bytes: &[u8]) -> io::Result<()> {
+/// Makes the folder if it is missing, and a new file in it, which has the session.
+fn write_new<R: Files + AllocGlobal, T: Threads>(
+    rt: &R,
+    threads: &T,
+    folder: &str,
+    path: &str,
+    session: &Session,
+    workers: usize,
+) -> io::Result<()> {
+    // (the buffer is there before the file, so that want of memory leaves none)
+    let mut buffer = BufWriter::with_capacity(rt.alloc(), BUFFER, NewFile::new())?;
     fs::create_dir_all(rt, folder)?;
-    let mut file = fs::File::create_new(rt, path)?;
-    file.write_all(bytes)?;
+    buffer.get_mut().set(fs::File::create_new(rt, path)?);
+    let mut file = write_to(threads, buffer, session, workers)?;
     file.flush()
 }

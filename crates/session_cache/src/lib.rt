@@ -2,13 +2,15 @@
 #![tactic(auto)]
 
 mod fault;
+mod filling;
 mod folders;
 mod names;
 mod place;
 mod start;
 
 pub use fault::CacheFault;
-pub use folders::{file_bytes, find_last, find_start, write_file};
+pub use filling::write_to;
+pub use folders::{find_last, find_start, write_file};
 pub use names::{Named, highest};
 pub use place::Place;
 pub use start::{Last, Note, Start, Why, start_behind};

@@ -22,4 +22,4 @@ pub use fault::FileFault;
 pub use files::{read, read_from};
 pub use memory::{MemoryFeed, MemorySink};
 pub use streams::{ReaderFeed, WriterSink};
-pub use writing::{digest, write};
+pub use writing::{digest, write, write_by_two};

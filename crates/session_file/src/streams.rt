@@ -1,14 +1,15 @@
 //! Writers and readers as devices, as files are.
-ghost use Rattle.std.specs.Prelude.{◌≡◌};
+ghost use Rattle.std.specs.Prelude.{◌≡◌, None};
 
 use crate::device::{DeviceFault, Feed, Sink};
-use std::io::{Read, Write};
+use std::io::{ErrorKind, Read, Write};
 
 /// A writer, as a file, as a sink. A write of no bytes where there are some is a failure.
 #[derive(Drop)]
 pub struct WriterSink<W: Write> {
     writer: W,
     failed: u64,
+    failure: Option<ErrorKind>,
 }
 
 impl<W: Write> WriterSink<W> {
@@ -16,8 +17,27 @@ impl<W: Write> WriterSink<W> {
     pub fn new(writer: W) -> Self
         ensures writer { result.writer ≡ writer }
         ensures failed { result.failed ≡ 0 }
+        ensures failure { result.failure ≡ None }
     {
-        WriterSink { writer, failed: 0 }
+        WriterSink {
+            writer,
+            failed: 0,
+            failure: None,
+        }
+    }
+
+    /// The kind of the last failure, where there was one; `WriteZero` of a write that took no bytes.
+    pub fn failure(&self) -> Option<ErrorKind>
+        ensures { result ≡ self.now.failure }
+    {
+        self.failure
+    }
+
+    /// The writer, which has the bytes that the sink took.
+    pub fn into_writer(self) -> W
+        ensures { result ≡ self.writer }
+    {
+        self.writer
     }
 }
 
@@ -32,13 +52,14 @@ impl<W: Write> Sink for WriterSink<W> {
         if bytes.is_empty() {
             return Ok(0);
         }
-        match self.writer.write(bytes) {
-            Ok(count) if count > 0 => Ok(count),
-            _ => {
-                self.failed = self.failed.saturating_add(1);
-                Err(DeviceFault)
-            }
-        }
+        let failure = match self.writer.write(bytes) {
+            Ok(count) if count > 0 => return Ok(count),
+            Ok(_) => ErrorKind::WriteZero,
+            Err(error) => error.kind(),
+        };
+        self.failed = self.failed.saturating_add(1);
+        self.failure = Some(failure);
+        Err(DeviceFault)
     }
 
     fn failures(&self) -> u64 {

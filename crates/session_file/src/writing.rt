@@ -2,6 +2,7 @@
 ghost use Rattle.std.specs.Prelude.{◌≡◌, ◌≤◌, ◌++◌, length, flat_map, IfErr};
 ghost use Rattle.std.specs.Option.{option_copied};
 ghost use Rattle.sha2.specs.Hashers.{Holds256};
+ghost use Rattle.sha2.specs.Sha256.{sha256};
 ghost use Rattle.item_ids.specs.Kinds.{text_of};
 ghost use Rattle.mj_lexer.specs.Bytes.{most_name_bytes};
 ghost use Rattle.byte_readers.specs.Spelling.{eight};
@@ -17,6 +18,7 @@ use byte_readers::{eight_bytes, four_bytes};
 use fingerprint::Sealed;
 use mj_lexer::Name;
 use sessions::{Record, Session};
+use std::thread::{Threads, join};
 
 /// What each session's file begins with: `MJRG`, and version 1.
 const START: [u8; 6] = [0x4d, 0x4a, 0x52, 0x47, 0, 1];
@@ -31,6 +33,62 @@ pub fn write<W: Sink>(session: &Session, sink: &mut W) -> Result<(), FileFault>
     match put_file(sink, session, &end) {
         Ok(()) => Ok(()),
         Err(_) => Err(FileFault::Device),
+    }
+}
+
+/// Appends the session's file as `write` does, while another thread computes the digest at its end. Only the sink and that
+/// thread take memory; where none can be made, this thread computes the digest behind the rest.
+pub fn write_by_two<W: Sink + Drop, T: Threads>(
+    threads: &T,
+    session: &Session,
+    sink: W,
+) -> (W, Result<(), FileFault>)
+    ensures holds { Puts (W.holds sink) (W.holds result.0) (file_of session.now) result.1 }
+    ensures device { IfErr result.1 (λ fault. fault ≡ FileFault.Device) }
+    ensures counted { Counts result.1 (W.failed sink) (W.failed result.0) }
+{
+    let hashing = || -> [u8; 32]
+        ensures { result ≡ sha256 (body_bytes session.entry.now) }
+    { end_of(session) };
+    let writing = move || -> (W, Result<(), DeviceFault>)
+        ensures holds { Puts (W.holds sink) (W.holds result.0) (body_bytes session.entry.now)
+            result.1 }
+        ensures counted { Counts result.1 (W.failed sink) (W.failed result.0) }
+    { with_body(sink, session) };
+    let (end, body) = join(threads, hashing, writing);
+    match body {
+        (sink, Ok(())) => with_end(sink, &end),
+        (sink, Err(_)) => (sink, Err(FileFault::Device)),
+    }
+}
+
+/// The digest at the end of the session's file.
+fn end_of(session: &Session) -> [u8; 32]
+    ensures { result ≡ sha256 (body_bytes session.now) }
+{
+    hashed_body(session).digest()
+}
+
+/// The sink with all but the digest at the end appended.
+fn with_body<W: Sink>(sink: W, session: &Session) -> (W, Result<(), DeviceFault>)
+    ensures holds { Puts (W.holds sink) (W.holds result.0) (body_bytes session.now) result.1 }
+    ensures counted { Counts result.1 (W.failed sink) (W.failed result.0) }
+{
+    let mut sink = sink;
+    let put = put_body(&mut sink, session);
+    (sink, put)
+}
+
+/// The sink with the digest appended.
+fn with_end<W: Sink>(sink: W, end: &[u8; 32]) -> (W, Result<(), FileFault>)
+    ensures holds { Puts (W.holds sink) (W.holds result.0) end.now result.1 }
+    ensures device { IfErr result.1 (λ fault. fault ≡ FileFault.Device) }
+    ensures counted { Counts result.1 (W.failed sink) (W.failed result.0) }
+{
+    let mut sink = sink;
+    match put_all(&mut sink, end.as_slice()) {
+        Ok(()) => (sink, Ok(())),
+        Err(_) => (sink, Err(FileFault::Device)),
     }
 }
 
