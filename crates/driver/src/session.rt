@@ -57,7 +57,7 @@ pub fn drive<
     past_is_session(&prev);
     keeps_laws::<R>();
     sessions_are_next();
-    match Table::open(alloc, prev, project) {
+    match Table::open_by(rt, alloc, prev, project, workers) {
         Ok(table) => {
             let done = drive_table::<Brand, R, F, G, T>(
                 rt,

@@ -1,7 +1,6 @@
 //! Reserves the memory that a call needs, before the call changes anything.
 ghost use Rattle.std.specs.Prelude.{◌≡◌, ◌+◌, ◌<◌, ◌≤◌, ◌++◌, ◌∷◌, [], IfOk, IfSome, length, map, slice_index_or, vec_len, vec_capacity};
 ghost use Rattle.std.specs.Arc.{arc_value};
-ghost use Rattle.mj_project.specs.Projects.{IsProject};
 ghost use Rattle.recorder.specs.Backed.{keys};
 ghost use Rattle.recorder.specs.Runs.{IsOutcome};
 ghost use Rattle.sessions.specs.Sessions.{key_at, session_in};
@@ -11,8 +10,6 @@ use crate::edge_keys::EdgeKeys;
 use crate::event::Event;
 use fingerprint::Sealed;
 use item_ids::Key;
-use mj_project::Project;
-use project_inputs::Inputs;
 use recorder::{Outcome, Read, Runner};
 use sessions::{Record, Session};
 use std::alloc::{AllocError, Global};
@@ -39,21 +36,15 @@ pub fn past_len(past: &Option<Arc<Session>>) -> usize
     }
 }
 
-/// The inputs of a project, and a history with room for two events for each record of the previous session, and for one more.
-pub fn room_for_opening<R: Runner>(
+/// A history with room for two events for each record of the previous session, and for one more.
+pub fn room_for_history<R: Runner>(
     alloc: Global,
     past: &Option<Arc<Session>>,
-    project: &Project,
-) -> Option<(Inputs, Vec<Event<R>>)>
-    ensures inputs { IfSome result (λ r. (r.0 ≡ project.now) × IsProject r.0) }
-    ensures history { IfSome result (λ r. (r.1.items ≡ []) × (vec_len r.1 < vec_capacity r.1)) }
+) -> Result<Vec<Event<R>>, AllocError>
+    ensures { IfOk result (λ v. (v.items ≡ []) × (vec_len v < vec_capacity v)) }
 {
     let events = past_len(past).saturating_mul(2).saturating_add(1);
-    let history = Vec::with_capacity(alloc, events).ok()?;
-    let inputs = Inputs::new(alloc, past, project).ok()?;
-    // Inputs are those of a project, by their type.
-    inputs.project();
-    Some((inputs, history))
+    Vec::with_capacity(alloc, events)
 }
 
 /// Room for two more events, and a copy of the key.

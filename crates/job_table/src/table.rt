@@ -12,8 +12,8 @@ use crate::node_map::NodeMap;
 use crate::nodes::{Standing, find_claimed, find_running, result_of};
 use crate::reads::first_stale;
 use crate::room::{
-    FinishParts, MarkParts, note, past_len, room_for_event, room_for_finish, room_for_mark,
-    room_for_opening,
+    FinishParts, MarkParts, note, past_len, room_for_event, room_for_finish, room_for_history,
+    room_for_mark,
 };
 use crate::walks::{WalkEnd, walk_edges, why_not};
 use fingerprint::Sealed;
@@ -25,6 +25,7 @@ use sessions::{Finder, Mark, Session};
 use std::alloc::{AllocError, Global};
 use std::marker::Model;
 use std::sync::Arc;
+use std::thread::Threads;
 
 /// The table of one session over a previous session and a project, and the events that led to its state. The contract
 /// of each call speaks of the table before and after it; a call that is refused leaves it as it was.
@@ -85,10 +86,46 @@ impl<R: Runner> Table<R> {
         if is_full(&past) {
             return Err(OpenFault::ChainFull);
         }
-        let Some((inputs, history)) = room_for_opening(alloc, &past, project) else {
+        match Inputs::new(alloc, &past, project) {
+            Ok(inputs) => Table::of_inputs(alloc, past, inputs),
+            Err(_) => Err(OpenFault::OutOfMemory),
+        }
+    }
+
+    /// Opens the table as `open` does. So many threads, up to four, seal the project's sources.
+    pub fn open_by<T: Threads + Sync>(
+        rt: &T,
+        alloc: Global,
+        past: Option<Arc<Session>>,
+        project: &Project,
+        workers: usize,
+    ) -> Result<Self, OpenFault>
+        ensures { OpenGives (session_in past) project.now result }
+    {
+        if is_full(&past) {
+            return Err(OpenFault::ChainFull);
+        }
+        match Inputs::by_workers(rt, alloc, &past, project, workers) {
+            Ok(inputs) => Table::of_inputs(alloc, past, inputs),
+            Err(_) => Err(OpenFault::OutOfMemory),
+        }
+    }
+
+    /// The table of a project's inputs, over the previous session.
+    fn of_inputs(
+        alloc: Global,
+        past: Option<Arc<Session>>,
+        inputs: Inputs,
+    ) -> Result<Self, OpenFault>
+        requires { ¬ IsFull (session_in past) }
+        ensures { OpenGives (session_in past) inputs result }
+    {
+        // Inputs are those of a project, by their type.
+        inputs.project();
+        let Ok(nodes) = NodeMap::of_inputs(alloc, &inputs, past_len(&past)) else {
             return Err(OpenFault::OutOfMemory);
         };
-        let Ok(nodes) = NodeMap::of_inputs(alloc, &inputs, past_len(&past)) else {
+        let Ok(history) = room_for_history(alloc, &past) else {
             return Err(OpenFault::OutOfMemory);
         };
         Ok(Table {

@@ -1,2 +1,3 @@
 pub mod InputRules
 pub mod SourceRules
+pub mod SealedRules

@@ -1,12 +1,10 @@
 -- Sources found by the names of their files.
-use Rattle.std.proofs.Common.{◌≡◌, ℕ, zero, suc, take, slice_get, Bool, true, false, cond, List, [], ◌∷◌, ◌++◌, map, find, option_map, Option, Some, None, Contains, inl, inr, refl, sym, ap, ◌∙◌, subst, bytes_eq}
-use Rattle.std.specs.Prelude.{MatchOption, ◌==◌}
+use Rattle.std.proofs.Common.{◌≡◌, ℕ, zero, suc, take, slice_get, Bool, true, false, cond, List, [], ◌∷◌, ◌++◌, map, find, option_map, Option, Some, None, Contains, refl, sym, ap, ◌∙◌, subst, bytes_eq}
 use Rattle.std.specs.List.{AllByRecursion}
 use Rattle.std.specs.Arc.{arc_value}
 use Rattle.std.specs.declared.alloc.Global.{Global}
 use Rattle.std.specs.declared.sync.Arc.{Arc}
 use Rattle.std.specs.Map.{lookup}
-use Rattle.std.specs.Cmp.Lexicographic.{pointwise}
 use Rattle.std.proofs.lemmas.Option.{none-some, same_Some}
 use Rattle.std.proofs.lemmas.Slice.Eq.{bytes_eq-Decides}
 use Rattle.std.proofs.lemmas.List.Elements.{Contains-append_left, Contains-append_right, Contains-push}

@@ -1,11 +1,13 @@
 -- Sealed inputs.
-use Rattle.std.specs.Prelude.{◌≡◌, ℕ, List, [], Some}
+use Rattle.std.specs.Prelude.{◌≡◌, ℕ, List, [], Some, map, string_bytes, String, Vec}
+use Rattle.std.specs.List.{AllByRecursion}
 use Rattle.std.specs.Arc.{arc_value}
 use Rattle.std.specs.declared.alloc.Global.{Global}
 use Rattle.std.specs.declared.sync.Arc.{Arc}
 use Rattle.result_bytes.specs.declared.value.Value.{Value}
 use Rattle.result_bytes.specs.declared.value.Value.TheVariants.{Source}
-use Rattle.mj_project.specs.Projects.{SourceFile}
+use Rattle.mj_project.specs.Projects.{SourceFile, IsFileName}
+use Rattle.recorder.specs.Projects.{Project}
 
 -- the bytes in the value of a file's source
 abbrev pub bytes_in : Value → List ℕ
@@ -23,3 +25,11 @@ file_of s = record { name = s.0; bytes = bytes_in (arc_value s.1) }
 -- the result is that of a source
 abbrev pub IsSource : Sealed → Type 0
 IsSource s = arc_value s.1 ≡ Source (Some (bytes_in (arc_value s.1)))
+
+-- each file has a good name
+abbrev pub AreNamed : List (String Global × Vec ℕ Global) → Type 0
+AreNamed files = AllByRecursion (λ f. IsFileName (string_bytes f.0)) files
+
+-- these are the results of the files' sources, in their order
+abbrev pub AreSourcesOf : Project → List (Arc Value Global) → Type 0
+AreSourcesOf p sealed = map (λ a. arc_value a) sealed ≡ map (λ f. Source (Some f.bytes)) p

@@ -7,18 +7,20 @@ ghost use Rattle.result_bytes.specs.declared.value.Value.TheVariants as values;
 ghost use Rattle.mj_project.specs.Projects.{IsProject, names_of, source_view};
 ghost use Rattle.recorder.specs.Projects.{bytes_at};
 ghost use Rattle.graph_rules.specs.Keys.{input_of};
-ghost use Rattle.project_inputs.specs.Inputs.{file_of, IsSource};
+ghost use Rattle.project_inputs.specs.Inputs.{file_of, bytes_in, IsSource, AreSourcesOf};
 
+use crate::sealing::{sealed_by, sealed_sources};
 use fingerprint::{Sealed, seal};
 use indexmap::IndexMap;
 use item_ids::Key;
 use mj_lexer::Name;
 use mj_project::Project;
-use result_bytes::{FileNames, Text, Value};
+use result_bytes::{FileNames, Value};
 use sessions::Session;
 use std::alloc::{AllocError, Global};
 use std::marker::Model;
 use std::sync::Arc;
+use std::thread::Threads;
 
 /// The sealed results of the inputs of a project, each source found by its file's name. Contracts see the project.
 #[derive(Drop)]
@@ -56,10 +58,33 @@ impl Inputs {
     ) -> Result<Self, AllocError>
         ensures { IfOk result (λ i. i ≡ project.now) }
     {
+        let sealed = sealed_sources(alloc, past, project.files())?;
+        Inputs::of(alloc, project, sealed.as_slice())
+    }
+
+    /// Seals the inputs of a project as `new` does, the sources by as many threads as there are workers, up to four.
+    pub fn by_workers<T: Threads + Sync>(
+        rt: &T,
+        alloc: Global,
+        past: &Option<Arc<Session>>,
+        project: &Project,
+        workers: usize,
+    ) -> Result<Self, AllocError>
+        ensures { IfOk result (λ i. i ≡ project.now) }
+    {
+        let sealed = sealed_by(rt, alloc, past, project.files(), workers)?;
+        Inputs::of(alloc, project, sealed.as_slice())
+    }
+
+    /// The inputs of a project, of which the sources are sealed.
+    fn of(alloc: Global, project: &Project, sealed: &[Arc<Sealed>]) -> Result<Self, AllocError>
+        requires { AreSourcesOf project.now sealed.now }
+        ensures { IfOk result (λ i. i ≡ project.now) }
+    {
         let files = project.files();
         Ok(Inputs {
             files: files_result(alloc, project)?,
-            sources: sources_of(alloc, past, files)?,
+            sources: sources_of(alloc, files, sealed)?,
             missing: seal_to_share(alloc, Value::Source(None))?,
         })
     }
@@ -118,25 +143,26 @@ fn keys_of(alloc: Global, sources: &IndexMap<Name, Arc<Sealed>>) -> Result<Vec<K
 }
 
 /// Seals a value, to be shared.
-fn seal_to_share(alloc: Global, value: Value) -> Result<Arc<Sealed>, AllocError>
+pub(crate) fn seal_to_share(alloc: Global, value: Value) -> Result<Arc<Sealed>, AllocError>
     ensures { IfOk result (λ a. arc_value a ≡ value) }
 {
     Ok(Arc::new(alloc, seal(alloc, value)?)?)
 }
 
-/// The sources of the files.
+/// These sources, found by the names of their files.
 fn sources_of(
     alloc: Global,
-    past: &Option<Arc<Session>>,
     files: &[(String, Vec<u8>)],
+    sealed: &[Arc<Sealed>],
 ) -> Result<IndexMap<Name, Arc<Sealed>>, AllocError>
-    requires { IsProject (map source_view files.now) }
+    requires project { IsProject (map source_view files.now) }
+    requires sealed { AreSourcesOf (map source_view files.now) sealed.now }
     ensures files { IfOk result (λ m. map file_of m.entries ≡ map source_view files.now) }
     ensures sources { IfOk result (λ m. AllByRecursion IsSource m.entries) }
 {
-    let mut sources = IndexMap::new(alloc);
-    for (name, bytes) in files {
-        add_source(alloc, &mut sources, past, name.as_str(), bytes.as_slice())?;
+    let mut sources = IndexMap::with_capacity(alloc, files.len())?;
+    for (at, (name, _)) in files.iter().enumerate() {
+        add_source(alloc, &mut sources, name.as_str(), &sealed[at])?;
     }
     Ok(sources)
 }
@@ -145,56 +171,23 @@ fn sources_of(
 fn add_source(
     alloc: Global,
     sources: &mut IndexMap<Name, Arc<Sealed>>,
-    past: &Option<Arc<Session>>,
     name: &str,
-    bytes: &[u8],
+    sealed: &Arc<Sealed>,
 ) -> Result<(), AllocError>
     requires some { 0 < length name.now }
     requires short { length name.now ≤ 255 }
     requires new { Contains (names_of (map file_of sources.old.entries)) name.now → ⊥ }
     requires sources { AllByRecursion IsSource sources.old.entries }
+    requires source { arc_value sealed.now ≡ values.Source (Some (bytes_in (arc_value sealed.now))) }
     ensures files { OnOk result (map file_of sources.new.entries
         ≡ map file_of sources.old.entries
-        ++ record { name = name.now; bytes = bytes.now } ∷ []) }
+        ++ record { name = name.now; bytes = bytes_in (arc_value sealed.now) } ∷ []) }
     ensures sources { OnOk result (AllByRecursion IsSource sources.new.entries) }
 {
-    let sealed = source_result(alloc, past, name, bytes)?;
+    let shared = Arc::try_clone(sealed)?;
     let own = Name::new(alloc, name)?;
-    sources.insert(own, sealed)?;
+    sources.insert(own, shared)?;
     Ok(())
-}
-
-/// The result of a file's source: that of the previous session where the bytes are the same, else one whose bytes are
-/// copied.
-fn source_result(
-    alloc: Global,
-    past: &Option<Arc<Session>>,
-    name: &str,
-    bytes: &[u8],
-) -> Result<Arc<Sealed>, AllocError>
-    requires some { 0 < length name.now }
-    requires short { length name.now ≤ 255 }
-    ensures { IfOk result (λ a. arc_value a ≡ values.Source (Some bytes.now)) }
-{
-    if let Some(past) = past {
-        let key = Key::Source(Name::new(alloc, name)?);
-        if let Some(sealed) = same_source(past, &key, bytes) {
-            return Ok(Arc::try_clone(sealed)?);
-        }
-    }
-    let text = Text::new(bytes.to_vec(alloc)?);
-    seal_to_share(alloc, Value::Source(Some(text)))
-}
-
-/// The result that a session has for a key, where it is a source with these bytes.
-pub fn same_source<'a>(past: &'a Session, key: &Key, bytes: &[u8]) -> Option<&'a Arc<Sealed>>
-    ensures { IfSome result (λ a. arc_value a.now ≡ values.Source (Some bytes.now)) }
-{
-    let sealed = past.find(key)?.sealed();
-    match sealed.value() {
-        Value::Source(Some(text)) if text.bytes() == bytes => Some(sealed),
-        _ => None,
-    }
 }
 
 /// The names of the files.

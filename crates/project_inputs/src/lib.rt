@@ -2,5 +2,7 @@
 #![tactic(auto)]
 
 mod inputs;
+mod sealing;
 
-pub use inputs::{Inputs, same_source};
+pub use inputs::Inputs;
+pub use sealing::same_source;

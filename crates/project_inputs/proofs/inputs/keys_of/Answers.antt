@@ -1,4 +1,4 @@
-use Rattle.std.proofs.Common.{◌≡◌, List, suc, ◌+◌, ◌∷◌, ◌++◌, [], ◌∙◌, ap, sym, refl, arith}
+use Rattle.std.proofs.Common.{◌≡◌, List, suc, ◌+◌, ◌∷◌, ◌∙◌, ap, sym, arith}
 use Rattle.item_ids.specs.declared.key.Key.{Key}
 use Rattle.item_ids.specs.declared.key.Key.TheVariants as keys
 use Rattle.project_inputs.proofs.SourceRules.{key_more}

@@ -4,5 +4,5 @@ use Rattle.mj_project.specs.Projects.{source_view}
 use Rattle.project_inputs.specs.Inputs.{file_of, IsSource}
 use Rattle.project_inputs.proofs.inputs.sources_of.Given as goal
 
-abbrev pub invariant-loop-name : goal.invariant-loop-name
-invariant-loop-name l = (map file_of l.sources.entries ≡ map source_view (take l.name-index l.files)) × AllByRecursion IsSource l.sources.entries
+abbrev pub invariant-loop-at : goal.invariant-loop-at
+invariant-loop-at l = (map file_of l.sources.entries ≡ map source_view (take l.at l.files)) × AllByRecursion IsSource l.sources.entries
