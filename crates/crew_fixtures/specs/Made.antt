@@ -1,5 +1,6 @@
 -- The sessions that are made from short texts, and what is reported of them.
 use Rattle.std.specs.Prelude.{◌≡◌, ◌==◌, ℕ, Bool, List, [], ◌∷◌, length, map, sum, count_by, Option, Some, None, Ok, Err}
+use Rattle.item_ids.specs.declared.key.Key.{Key}
 use Rattle.mj_project.specs.Projects.{SourceFile}
 use Rattle.recorder.specs.Projects.{Project}
 use Rattle.query_rules.specs.Meaning.{mean}
@@ -9,6 +10,10 @@ use Rattle.sessions.specs.declared.mark.Mark.TheVariants.{Executed, Green}
 use Rattle.sessions.specs.Marks.{mark_number}
 use Rattle.sessions.specs.Sessions.{RecordValue, SessionValue}
 use Rattle.sessions.specs.Spelling.{digest_of}
+use Rattle.job_table.specs.Tables.{TableValue}
+use Rattle.job_table.specs.Calls.{AskGives}
+use Rattle.job_table.specs.declared.fault.Asked.TheVariants.{Stopped}
+use Rattle.shared_table.specs.Given.{IsGiven}
 use Rattle.driver.specs.Sessions.{DriveGives, IsSessionOf}
 use Rattle.driver.specs.declared.fault.DriveFault.{DriveFault}
 use Rattle.driver.specs.declared.reports.Reports.{Reports}
@@ -65,6 +70,12 @@ pub record AreMade (p q : Project) (workers : ℕ) (first second : Made) : Type 
   pub next_session : SessionValue
   pub next_made : IsMadeOf (Some first_session) q workers next_session second
 
+-- there is a first session of the project by so many workers
+pub record IsMadeBy (p : Project) (workers : ℕ) : Type 0 where
+  pub session : SessionValue
+  pub reports : Reports
+  pub of : IsSessionOf mean reads None p workers session reports
+
 -- the SHA-256 of the file of a first session of the project
 pub record IsDigestOf (p : Project) (workers : ℕ) (digest : List ℕ) : Type 0 where
   pub session : SessionValue
@@ -93,3 +104,14 @@ pub record HaveExecuted (p q : Project) (first second : Runs) : Type 0 where
   pub first_executed : HasExecuted None p first_session first
   pub next_session : SessionValue
   pub next_executed : HasExecuted (Some first_session) q next_session second
+
+-- ---- seats
+
+-- the worker of number 1, who asks for the key, is answered that it stops
+abbrev pub Stops : Key → TableValue → TableValue → Type 0
+Stops q t u = AskGives t 1 q (Ok Stopped) u
+
+-- at a table of a first session of the file, a worker who asks for a key is answered that it stops
+pub record FellowsStop (file : File) : Type 0 where
+  pub key : Key
+  pub stops : IsGiven None (file_told file ∷ []) (Stops key)

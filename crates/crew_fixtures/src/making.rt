@@ -6,7 +6,7 @@ ghost use Rattle.query_rules.specs.Reads.{reads};
 ghost use Rattle.sessions.specs.Spelling.{digest_of};
 ghost use Rattle.sessions.specs.Sessions.{session_in};
 ghost use Rattle.driver.specs.Sessions.{IsSessionOf};
-ghost use Rattle.crew_fixtures.specs.Made.{AreMade, IsMadeOf, after, before, many_of};
+ghost use Rattle.crew_fixtures.specs.Made.{AreMade, IsMadeBy, IsMadeOf, after, before, files_told, many_of};
 
 use crate::files::{File, project_of};
 use crate::holding::Holding;
@@ -174,11 +174,13 @@ pub fn workers_meet<T: Threads + Wait + Sync>(
     kind: Kind,
     workers: usize,
     turns: u64,
-) -> Result<bool, Unfit> {
+) -> Result<bool, Unfit>
+    ensures { IfOk result (λ _. IsMadeBy (files_told files.now) workers) }
+{
     let project = project_of(alloc, files)?;
     let gate = Meeting::new(kind, turns);
     match run_session(rt, alloc, None, &project, workers, &gate) {
-        Ok(_) => Ok(gate.has_met()),
+        Ok(_made) => Ok(gate.has_met()),
         Err(_) => Err(Unfit),
     }
 }

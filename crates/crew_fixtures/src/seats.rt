@@ -1,5 +1,7 @@
 //! Two seats at one table.
-ghost use Rattle.std.specs.Prelude.{◌≡◌, []};
+ghost use Rattle.std.specs.Prelude.{◌≡◌, [], IfOk, IsTrue};
+ghost use Rattle.shared_table.specs.Given.{IsGiven};
+ghost use Rattle.crew_fixtures.specs.Made.{FellowsStop, Stops};
 
 use crate::files::{File, project_of};
 use answer_fixtures::{Asked, Unfit, key_of};
@@ -7,10 +9,10 @@ use item_ids::{Key, Kind};
 use job_table::{Asked as Asking, Table};
 use known_list::Opened;
 use mark_green::Store;
-use mini_java::{Open, Shared};
+use mini_java::{Gate, Open, Shared};
 use providers::MiniJava;
-use recorder::Read;
-use shared_table::{Counted, Naming, Tally};
+use recorder::{Read, Runner};
+use shared_table::{Counted, Naming, Seat, Tally};
 use std::alloc::Global;
 use std::marker::Brand;
 use std::sync::Wait;
@@ -32,6 +34,7 @@ fn stops<J: Naming, T: Wait>(
     requires past { table.past ≡ J.past }
     requires project { table.project ≡ J.project }
     requires opened { table.history ≡ [] }
+    ensures { IsTrue result → IsGiven J.past J.project (Stops key.now) }
 {
     let (book, mut one) = blank.open::<J>();
     let mut first = Tally::new(one.split_off(1, 0));
@@ -39,8 +42,10 @@ fn stops<J: Naming, T: Wait>(
     let Ok(shared) = Shared::new(Counted::new(table, book), list) else {
         return false;
     };
-    fails(&mut shared.seat(alloc, rt, &Open, &mut first), 0)
-        && is_stopped(&mut shared.seat(alloc, rt, &Open, &mut second), 1, key)
+    if !fails(&mut shared.seat(alloc, rt, &Open, &mut first), 0) {
+        return false;
+    }
+    is_stopped(&mut shared.seat(alloc, rt, &Open, &mut second), key)
 }
 
 /// Whether the worker may fail.
@@ -48,9 +53,14 @@ fn fails<S: Store>(store: &mut S, worker: u32) -> bool {
     store.fail(worker).is_ok()
 }
 
-/// Whether the worker is answered that it stops.
-fn is_stopped<S: Store>(store: &mut S, worker: u32, key: &Key) -> bool {
-    match store.ask(worker, key) {
+/// Whether the worker of number 1 is answered that it stops.
+fn is_stopped<J: Naming, R: Runner, T: Wait, G: Gate>(
+    seat: &mut Seat<'_, J, R, T, G>,
+    key: &Key,
+) -> bool
+    ensures { IsTrue result → IsGiven J.past J.project (Stops key.now) }
+{
+    match seat.ask(1, key) {
         Ok(Asking::Stopped) => true,
         _ => false,
     }
@@ -58,7 +68,9 @@ fn is_stopped<S: Store>(store: &mut S, worker: u32, key: &Key) -> bool {
 
 /// Whether a worker who asks for the tree of this file, after its fellow at the same table has failed, is answered that it
 /// stops.
-pub fn fellows_stop<T: Wait>(rt: &T, alloc: Global, file: File) -> Result<bool, Unfit> {
+pub fn fellows_stop<T: Wait>(rt: &T, alloc: Global, file: File) -> Result<bool, Unfit>
+    ensures { IfOk result (λ stops. IsTrue stops → FellowsStop file) }
+{
     let project = project_of(alloc, &[file])?;
     let key = key_of(alloc, Asked(Kind::Tree, file.0, ""))?;
     match Table::open(alloc, None, &project) {

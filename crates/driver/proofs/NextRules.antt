@@ -10,7 +10,7 @@ use Rattle.graph_rules.specs.Pasts.{Past}
 use Rattle.graph_rules.specs.Steps.{Event, Legal, state_after}
 use Rattle.graph_rules.specs.Sound.{AreBacked, IsSound}
 use Rattle.graph_rules.proofs.NextRules.{closed_next}
-use Rattle.job_table.specs.Tables.{IsFull}
+use Rattle.key_states.specs.Closing.{IsFull}
 use Rattle.driver.specs.declared.reports.Reports.{Reports}
 use Rattle.next_sessions.specs.Nexts.{DecidesNext, IsNextSession}
 use Rattle.next_sessions.proofs.NextRight.{known, past_graph}

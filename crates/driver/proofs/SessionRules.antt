@@ -7,7 +7,8 @@ use Rattle.sessions.specs.Sessions.{SessionValue}
 use Rattle.graph_rules.specs.Steps.{Legal}
 use Rattle.graph_rules.specs.Sound.{AreBacked}
 use Rattle.job_table.specs.Tables.{TableValue, past_of, state_of}
-use Rattle.job_table.specs.Closes.{MayClose, IsClosing}
+use Rattle.key_states.specs.Closing.{IsClosing}
+use Rattle.job_table.specs.Closes.{MayClose}
 use Rattle.driver.specs.declared.reports.Reports.{Reports}
 use Rattle.driver.specs.Sessions.{IsSessionOf, events_needed}
 use Rattle.driver.proofs.Counts.{closed_suffices}

@@ -8,8 +8,8 @@ use Rattle.sessions.specs.declared.mark.Mark.TheVariants.{Input, Green, Executed
 use Rattle.sessions.specs.Sessions.{RecordValue, SessionValue, past_entry}
 use Rattle.graph_rules.specs.Steps.{Event, Legal, state_after}
 use Rattle.graph_rules.specs.Sound.{AreBacked}
-use Rattle.job_table.specs.Tables.{IsFull}
-use Rattle.job_table.specs.Closes.{MayClose, IsClosing}
+use Rattle.key_states.specs.Closing.{IsFull, IsClosing}
+use Rattle.job_table.specs.Closes.{MayClose}
 use Rattle.driver.specs.declared.reports.Reports.{Reports}
 use Rattle.driver.specs.declared.fault.DriveFault.{DriveFault}
 use Rattle.driver.specs.declared.fault.DriveFault.TheVariants as fault

@@ -6,7 +6,7 @@ ghost use Rattle.recorder.specs.Backed.{Meaning, ReadLists, RunnerLaws};
 ghost use Rattle.sessions.specs.Sessions.{SessionValue, IsSession, most_number};
 ghost use Rattle.sessions.specs.Spelling.{file_of};
 ghost use Rattle.graph_rules.specs.Steps.{Event};
-ghost use Rattle.job_table.specs.Tables.{IsFull};
+ghost use Rattle.key_states.specs.Closing.{IsFull};
 ghost use Rattle.driver.specs.declared.reports.Reports.{Reports};
 ghost use Rattle.next_sessions.specs.Nexts.{DecidesNext, IsNextSession};
 ghost use Rattle.driver.specs.Sessions.{IsCrew, AreEventsOf, IsSessionOf, DriveGives};

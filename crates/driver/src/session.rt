@@ -2,7 +2,8 @@
 ghost use Rattle.std.specs.Prelude.{◌≡◌, ◌↔◌, ◌≤◌, map, IsTrue, IfOk, IfSome, length, []};
 ghost use Rattle.item_ids.specs.declared.key.Key.TheVariants.{Answer};
 ghost use Rattle.job_table.specs.Tables.{state_of};
-ghost use Rattle.job_table.specs.Closes.{MayClose, IsClosing};
+ghost use Rattle.key_states.specs.Closing.{IsClosing};
+ghost use Rattle.job_table.specs.Closes.{MayClose};
 ghost use Rattle.recorder.specs.Backed.{RunnerLaws};
 ghost use Rattle.sessions.specs.Sessions.{IsSession, session_in};
 ghost use Rattle.next_sessions.specs.Nexts.{DecidesNext, IsNextSession};

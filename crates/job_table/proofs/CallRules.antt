@@ -13,7 +13,7 @@ use Rattle.graph_rules.specs.Pasts.{Past}
 use Rattle.graph_rules.specs.Steps.{Walk, Status, Claimed, Running, Done, State, Event, MarkGreen, Begin, Finish, with_status, IsNotDone, IsDoneWith, MayStep, MayRun, AllUnchanged, walk, past_walk, AreHeld, green, state_after}
 use Rattle.job_table.specs.declared.fault.TableFault.{TableFault}
 use Rattle.job_table.specs.declared.fault.TableFault.TheVariants as fault
-use Rattle.job_table.specs.Nodes.{Node, status_in, unless_input, state_of_nodes, KeysStandOnce}
+use Rattle.key_states.specs.Nodes.{Node, status_in, unless_input, state_of_nodes, KeysStandOnce}
 use Rattle.job_table.specs.Kept.{IsKept}
 use Rattle.job_table.specs.Tables.{TableValue, state_of, IsStep, adds}
 use Rattle.job_table.specs.Walks.{IsWhyNot}

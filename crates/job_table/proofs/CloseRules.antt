@@ -12,16 +12,17 @@ use Rattle.graph_rules.specs.Keys.{same_key, input_of}
 use Rattle.graph_rules.specs.Pasts.{Past, IsGraph}
 use Rattle.graph_rules.specs.Steps.{Status, Unknown, Claimed, Running, Done, State, Event, IsDone, IsNotDone, IsDoneWith, state_after}
 use Rattle.graph_rules.specs.Sound.{AreBacked, IsInOrderAt, IsInOrder}
-use Rattle.graph_rules.specs.Graphs.{IsRoot, answer, files, source, IsReached, edge}
+use Rattle.graph_rules.specs.Graphs.{IsReached, edge}
 use Rattle.graph_rules.specs.Graphs.IsReached.{root as starts}
 use Rattle.graph_rules.proofs.KeyRules.{same_is, same_refl}
 use Rattle.graph_rules.proofs.Keeping.{sound_history, in_order}
 use Rattle.job_table.specs.declared.fault.CloseFault.TheVariants as fault
-use Rattle.job_table.specs.Nodes.{Node, IsInputIn, status_of, status_in, status_at, unless_input, state_of_nodes, has_key, KeysStandOnce}
+use Rattle.key_states.specs.Nodes.{Node, IsInputIn, status_of, status_in, status_at, unless_input, state_of_nodes, has_key, KeysStandOnce}
 use Rattle.job_table.specs.Kept.{IsKept}
 use Rattle.job_table.specs.Tables.{TableValue}
-use Rattle.job_table.specs.Closes.{IsQuiet, AreQuiet, IsClosing, CloseGives}
-use Rattle.job_table.specs.Reached.{AllQuiet}
+use Rattle.key_states.specs.Closing.{IsQuiet, IsClosing}
+use Rattle.job_table.specs.Closes.{AreQuiet, CloseGives}
+use Rattle.key_states.specs.Reached.{AllQuiet}
 use Rattle.job_table.proofs.StepRules.{is_not_done}
 
 -- ---- quiet
@@ -95,17 +96,6 @@ order_at s t same q (Done v es m) h = record {
 
 order_same : (s t : State) → ((k : Key) → s.at k ≡ t.at k) → IsInOrder s → IsInOrder t
 order_same s t same order q = subst (IsInOrderAt t q) (same q) (order_at s t same q (s.at q) (order q))
-
--- ---- roots
-
-pub done_input : (p : Project) (ns : List Node) (q : Key) (v : Value) → input_of p q ≡ Some v → IsDone (status_at p ns q)
-done_input p ns q v is = rw is tt
-
-pub roots_done : (p : Project) (ns : List Node) → IsDone (status_at p ns Answer) → (q : Key) → IsRoot p q → IsDone (status_at p ns q)
-unfolding input_of
-roots_done p ns done _ answer = done
-roots_done p ns done _ files = tt
-roots_done p ns done _ (source file has) = tt
 
 pub done_of : (v : Value) (x : Status) → IsDoneWith v x → IsDone x
 done_of v Unknown d = d

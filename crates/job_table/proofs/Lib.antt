@@ -1,15 +1,7 @@
-pub mod NodeRules
-pub mod PendingRules
 pub mod StepRules
 pub mod EventRules
-pub mod KeptRules
 pub mod WalkRules
 pub mod CallRules
 pub mod ReplayRules
 pub mod StaleRules
-pub mod ReachRules
-pub mod SetRules
-pub mod FoundRules
-pub mod RowRules
-pub mod RecordRules
 pub mod CloseRules

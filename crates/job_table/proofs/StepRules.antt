@@ -14,9 +14,9 @@ use Rattle.graph_rules.specs.Steps.{Status, Unknown, Claimed, State, Event, Clai
 use Rattle.graph_rules.specs.Sound.{IsBacked, AreBacked}
 use Rattle.graph_rules.proofs.KeyRules.{same_refl, same_is}
 use Rattle.graph_rules.proofs.Orders.{after_all_append, steps_append}
-use Rattle.job_table.specs.Nodes.{Node, IsInputIn, AreOpened, status_in, status_at, unless_input, state_of_nodes, KeysStandOnce, IsFirst, AllAbove}
+use Rattle.key_states.specs.Nodes.{Node, IsInputIn, AreOpened, status_in, status_at, unless_input, state_of_nodes, KeysStandOnce, AllAbove}
 use Rattle.job_table.specs.Kept.{IsKept}
-use Rattle.job_table.proofs.NodeRules.{above_held, held_above, first_known}
+use Rattle.key_states.proofs.NodeRules.{above_held, held_above}
 
 -- ---- opening
 
@@ -159,9 +159,6 @@ module _ (past : Past) (p : Project) (ns : List Node) (b : Bool) (h : List Event
 
   pub is_unknown : (q : Key) → IsNotDone (status_at p ns q) → status_in ns q ≡ Unknown → (state_after past p h).at q ≡ Unknown
   is_unknown q nd u = sym (kept.status q) ∙ (not_done_at (input_of p q) (status_in ns q) nd ∙ u)
-
-  pub is_known : (q : Key) (i : ℕ) → IsNotDone (status_at p ns q) → IsFirst ns q i → (state_after past p h).at q ≡ Unknown → ⊥
-  is_known q i nd first unknown = first_known ns q i first (sym (not_done_at (input_of p q) (status_in ns q) nd) ∙ (kept.status q ∙ unknown))
 
   -- a claim
   pub may_claim : (w : ℕ) (q : Key) → b ≡ false → IsNotDone (status_at p ns q) → status_in ns q ≡ Unknown → AllAbove w (rank q) ns

@@ -11,7 +11,8 @@ use Rattle.recorder.specs.Backed.{ReadValue}
 use Rattle.recorder.specs.Runs.{OutcomeValue}
 use Rattle.sessions.specs.Sessions.{SessionValue}
 use Rattle.graph_rules.specs.Steps.{Unknown, Claimed, Running, Claim, MarkGreen, Begin, Finish, Fail, State, Walk, AllUnchanged, OpenAt, ChangedAt, IsDoneWith, IsNotDone, IsBelow, past_walk}
-use Rattle.job_table.specs.Tables.{TableValue, past_of, state_of, IsStep, adds, IsFull}
+use Rattle.key_states.specs.Closing.{IsFull}
+use Rattle.job_table.specs.Tables.{TableValue, past_of, state_of, IsStep, adds}
 use Rattle.job_table.specs.declared.fault.Asked.{Asked}
 use Rattle.job_table.specs.declared.fault.Asked.TheVariants as asked
 use Rattle.job_table.specs.declared.fault.TableFault.{TableFault}

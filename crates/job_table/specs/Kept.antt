@@ -6,7 +6,7 @@ use Rattle.mj_project.specs.Projects.{IsProject}
 use Rattle.recorder.specs.Projects.{Project}
 use Rattle.graph_rules.specs.Pasts.{Past}
 use Rattle.graph_rules.specs.Steps.{Event, Claim, MarkGreen, Begin, Finish, Fail, Legal, state_after}
-use Rattle.job_table.specs.Nodes.{Node, status_at, AreInputs, KeysStandOnce}
+use Rattle.key_states.specs.Nodes.{Node, status_at, AreInputs, KeysStandOnce}
 use Rattle.job_table.specs.declared.event.Event.{Event as StoredEvent}
 use Rattle.job_table.specs.declared.event.Event.TheVariants as stored
 

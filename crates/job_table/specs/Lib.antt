@@ -1,11 +1,6 @@
 pub mod Tables
-pub mod KeptKeys
-pub mod Nodes
-pub mod PendingNodes
 pub mod Kept
 pub mod Walks
 pub mod Calls
 pub mod Replays
 pub mod Closes
-pub mod Reached
-pub mod Rows

@@ -7,7 +7,8 @@ use Rattle.recorder.specs.Projects.{Project}
 use Rattle.sessions.specs.Sessions.{SessionValue, past_entry}
 use Rattle.graph_rules.specs.Pasts.{Past}
 use Rattle.graph_rules.specs.Steps.{Event, MayStep, Legal, state_after}
-use Rattle.job_table.specs.Tables.{TableValue, IsStep, adds, IsFull}
+use Rattle.key_states.specs.Closing.{IsFull}
+use Rattle.job_table.specs.Tables.{TableValue, IsStep, adds}
 use Rattle.job_table.specs.declared.fault.Asked.{Asked}
 use Rattle.job_table.specs.declared.fault.Asked.TheVariants as asked
 use Rattle.job_table.specs.declared.fault.TableFault.{TableFault}

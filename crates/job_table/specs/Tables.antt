@@ -1,8 +1,8 @@
 -- What callers see of a table: the previous session and the project that it was opened with, and
 -- its events.
-use Rattle.std.specs.Prelude.{◌≤◌, List, [], ◌∷◌, ◌++◌, Option, Some, None}
+use Rattle.std.specs.Prelude.{List, [], ◌∷◌, ◌++◌, Option}
 use Rattle.recorder.specs.Projects.{Project}
-use Rattle.sessions.specs.Sessions.{SessionValue, most_number, past_entry}
+use Rattle.sessions.specs.Sessions.{SessionValue, past_entry}
 use Rattle.graph_rules.specs.Pasts.{Past}
 use Rattle.graph_rules.specs.Steps.{State, Event, MayStep, state_after}
 
@@ -25,8 +25,3 @@ IsStep t e = MayStep (past_of t) (state_of t) e
 -- the table with one more event
 abbrev pub adds : TableValue → Event → TableValue
 adds t e = record { past = t.past; project = t.project; history = t.history ++ e ∷ [] }
-
--- no session can follow
-abbrev pub IsFull : Option SessionValue → Type 0
-IsFull None = ⊥
-IsFull (Some s) = most_number ≤ s.number

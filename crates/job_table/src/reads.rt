@@ -1,11 +1,10 @@
 //! Reads of an outcome, compared with the table.
 ghost use Rattle.std.specs.Prelude.{◌↔◌, false, IsTrue, MatchOption};
 ghost use Rattle.graph_rules.specs.Steps.{IsDoneWith, AreHeld};
-ghost use Rattle.job_table.specs.Nodes.{status_at, state_of_nodes, AreInputs};
+ghost use Rattle.key_states.specs.Nodes.{status_at, state_of_nodes, AreInputs};
 ghost use Rattle.job_table.specs.Calls.{IsFirstStale};
 
-use crate::node_map::NodeMap;
-use crate::nodes::result_of;
+use key_states::{NodeMap, result_of};
 use project_inputs::Inputs;
 use recorder::Read;
 

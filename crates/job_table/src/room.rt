@@ -6,10 +6,10 @@ ghost use Rattle.recorder.specs.Runs.{IsOutcome};
 ghost use Rattle.sessions.specs.Sessions.{key_at, session_in};
 ghost use Rattle.job_table.specs.Kept.{event_of};
 
-use crate::edge_keys::EdgeKeys;
 use crate::event::Event;
 use fingerprint::Sealed;
 use item_ids::Key;
+use key_states::EdgeKeys;
 use recorder::{Outcome, Read, Runner};
 use sessions::{Record, Session};
 use std::alloc::{AllocError, Global};

@@ -2,14 +2,11 @@
 ghost use Rattle.std.specs.Prelude.{◌≡◌, ◌↔◌, map, IfOk, IsTrue};
 ghost use Rattle.std.specs.Arc.{arc_value};
 ghost use Rattle.sessions.specs.Sessions.{session_in};
-ghost use Rattle.job_table.specs.Tables.{IsFull};
+ghost use Rattle.key_states.specs.Closing.{IsFull};
 ghost use Rattle.job_table.specs.Kept.{event_of};
 
-use crate::closing::{check_past, session_of};
 use crate::event::Event;
 use crate::fault::{Asked, CloseFault, OpenFault, TableFault};
-use crate::node_map::NodeMap;
-use crate::nodes::{Standing, find_claimed, find_running, result_of};
 use crate::reads::first_stale;
 use crate::room::{
     FinishParts, MarkParts, note, past_len, room_for_event, room_for_finish, room_for_history,
@@ -18,6 +15,10 @@ use crate::room::{
 use crate::walks::{WalkEnd, walk_edges, why_not};
 use fingerprint::Sealed;
 use item_ids::Key;
+use key_states::{
+    Known, NodeMap, Standing, check_past, find_claimed, find_running, known_of, result_of,
+    session_of,
+};
 use mj_project::Project;
 use project_inputs::Inputs;
 use recorder::{Outcome, Runner};
@@ -46,7 +47,8 @@ impl<R: Runner> Model for Table<R> {
     ghost use Rattle.result_bytes.specs.contracts.value.Value as value_contracts;
     ghost use Rattle.sessions.specs.Sessions.{past_entry, session_in};
     ghost use Rattle.graph_rules.specs.Sound.{AreBacked};
-    ghost use Rattle.job_table.specs.Tables.{TableValue, IsFull};
+    ghost use Rattle.key_states.specs.Closing.{IsFull};
+    ghost use Rattle.job_table.specs.Tables.{TableValue};
     ghost use Rattle.job_table.specs.Kept.{event_of, IsKept};
 
     ghost Value = { TableValue };
@@ -146,17 +148,19 @@ impl<R: Runner> Table<R> {
         if self.failed {
             return Ok(Asked::Stopped);
         }
-        if let Some(sealed) = result_of(&self.inputs, &self.nodes, key) {
-            return match Arc::try_clone(sealed) {
-                Ok(sealed) => Ok(Asked::Done(sealed)),
-                Err(_) => Err(TableFault::OutOfMemory),
-            };
+        match known_of(&self.inputs, &self.nodes, key) {
+            Known::Done(sealed) => {
+                return match Arc::try_clone(sealed) {
+                    Ok(sealed) => Ok(Asked::Done(sealed)),
+                    Err(_) => Err(TableFault::OutOfMemory),
+                };
+            }
+            Known::Pending if self.nodes.is_below(w, key) => return Ok(Asked::Busy),
+            Known::Pending => return Err(TableFault::OutOfRank),
+            Known::Unknown => {}
         }
         if !self.nodes.is_below(w, key) {
             return Err(TableFault::OutOfRank);
-        }
-        if let Some(_) = self.nodes.find(key) {
-            return Ok(Asked::Busy);
         }
         let Some(noted) = room_for_event(self.alloc, &mut self.history, key) else {
             return Err(TableFault::OutOfMemory);

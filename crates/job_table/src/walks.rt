@@ -3,13 +3,12 @@ ghost use Rattle.std.specs.Prelude.{◌≡◌, ◌<◌, Some, false, map, length
 ghost use Rattle.sessions.specs.Sessions.{AreInside, key_at, past_entry, session_in};
 ghost use Rattle.graph_rules.specs.Pasts.{print_in};
 ghost use Rattle.graph_rules.specs.Steps.{edge_at, walk, past_walk, AllUnchanged};
-ghost use Rattle.job_table.specs.Nodes.{status_at, state_of_nodes, AreInputs};
+ghost use Rattle.key_states.specs.Nodes.{status_at, state_of_nodes, AreInputs};
 ghost use Rattle.job_table.specs.Walks.{edge_state_of, walk_of, IsWhyNot};
 
 use crate::fault::TableFault;
-use crate::node_map::NodeMap;
-use crate::nodes::result_of;
 use item_ids::Key;
+use key_states::{NodeMap, result_of};
 use project_inputs::Inputs;
 use sessions::{Finder, Session};
 use std::sync::Arc;

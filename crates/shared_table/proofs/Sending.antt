@@ -15,8 +15,8 @@ use Rattle.recorder.specs.declared.runner.Runner as runner
 use Rattle.recorder.specs.contracts.told.Read as read
 use Rattle.recorder.specs.contracts.outcome.Outcome as outcome
 use Rattle.project_inputs.specs.contracts.inputs.Inputs as inputs
-use Rattle.job_table.specs.contracts.nodes.Standing as standing
-use Rattle.job_table.specs.contracts.node_map.NodeMap as node_map
+use Rattle.key_states.specs.contracts.nodes.Standing as standing
+use Rattle.key_states.specs.contracts.node_map.NodeMap as node_map
 use Rattle.job_table.specs.contracts.event.Event as event
 use Rattle.job_table.specs.contracts.table.Table as table
 use Rattle.known_list.specs.declared.naming.ListNaming as list_naming

@@ -1,5 +1,5 @@
 use Rattle.std.proofs.Common.{◌<◌, length, arith, false, refl}
-use Rattle.job_table.specs.Nodes.{state_of_nodes}
+use Rattle.key_states.specs.Nodes.{state_of_nodes}
 use Rattle.job_table.proofs.StaleRules.{held_later, stale_here, stale_later}
 use Rattle.job_table.proofs.reads.first_stale.Goals as goal
 

@@ -1,6 +1,6 @@
 use Rattle.std.proofs.Common.{◌+◌, ℕ, drop, false}
 use Rattle.graph_rules.specs.Steps.{AreHeld}
-use Rattle.job_table.specs.Nodes.{state_of_nodes}
+use Rattle.key_states.specs.Nodes.{state_of_nodes}
 use Rattle.job_table.specs.Calls.{IsFirstStale}
 use Rattle.job_table.proofs.reads.first_stale.Given as goal
 

@@ -2,7 +2,7 @@ use Rattle.std.proofs.Common.{◌≡◌, Bool, true, false, sym, ap, ◌∙◌}
 use Rattle.std.specs.Arc.{arc_value}
 use Rattle.fingerprint.specs.Prints.{print_of}
 use Rattle.graph_rules.specs.Steps.{Unchanged, Changed}
-use Rattle.job_table.specs.Nodes.{status_at}
+use Rattle.key_states.specs.Nodes.{status_at}
 use Rattle.job_table.proofs.WalkRules.{edge_with, edge_same, edge_other}
 use Rattle.job_table.proofs.walks.past_edge.Goals as goal
 

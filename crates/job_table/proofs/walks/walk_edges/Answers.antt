@@ -1,7 +1,7 @@
 use Rattle.std.proofs.Common.{◌<◌, length, sym, arith, false}
 use Rattle.std.specs.Prelude.{Some}
 use Rattle.sessions.specs.Sessions.{key_at, past_entry}
-use Rattle.job_table.specs.Nodes.{state_of_nodes}
+use Rattle.key_states.specs.Nodes.{state_of_nodes}
 use Rattle.job_table.proofs.WalkRules.{behind_none, walk_opens, walk_changes, walk_goes_on}
 use Rattle.job_table.proofs.walks.walk_edges.Goals as goal
 

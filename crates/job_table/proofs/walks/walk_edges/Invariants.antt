@@ -2,7 +2,7 @@ use Rattle.std.proofs.Common.{◌≡◌, map, drop, false}
 use Rattle.std.specs.Prelude.{Some}
 use Rattle.sessions.specs.Sessions.{key_at, past_entry}
 use Rattle.graph_rules.specs.Steps.{walk}
-use Rattle.job_table.specs.Nodes.{state_of_nodes}
+use Rattle.key_states.specs.Nodes.{state_of_nodes}
 use Rattle.job_table.proofs.WalkRules.{behind}
 use Rattle.job_table.proofs.walks.walk_edges.Given as goal
 

@@ -2,63 +2,69 @@ use Rattle.std.proofs.Common.{◌≡◌, [], ◌∷◌, ◌++◌, map, false, ar
 use Rattle.std.specs.Prelude.{IsTrue}
 use Rattle.graph_rules.specs.Steps.{Claim}
 use Rattle.job_table.specs.Kept.{event_of}
-use Rattle.job_table.proofs.StepRules.{may_claim, kept_claim, is_not_done, is_below, is_not_below, is_known, backed_last}
+use Rattle.job_table.proofs.StepRules.{may_claim, kept_claim, is_not_done, is_below, is_not_below, backed_last}
 use Rattle.job_table.proofs.table.Table.ask.Given.{Over}
 use Rattle.job_table.proofs.table.Table.ask.Goals as goal
 
 not_true : IsTrue false → ⊥
 not_true e = cc
 
+pub returns-in-Pending : goal.returns-in-Pending
+returns-in-Pending g c =
+    let kept = c.self.invariant.0 in
+    rw (← c.self.view_is) (
+      (sym kept.failed_is ∙ c.if-self.false, is_not_done _ _ _ _ _ kept c.args.key.now c.in-Pending.ensures.0),
+      is_below _ _ _ _ _ kept c.args.w c.args.key.now (c.if-is_below.ensures.0 refl),
+      (λ unknown. c.in-Pending.ensures.1 (kept.status c.args.key.now ∙ unknown)),
+      refl,
+    )
+
+pub returns-in-Pending-2 : goal.returns-in-Pending-2
+returns-in-Pending-2 g c =
+    let kept = c.self.invariant.0 in
+    rw (← c.self.view_is) (
+      (sym kept.failed_is ∙ c.if-self.false, is_not_done _ _ _ _ _ kept c.args.key.now c.in-Pending-2.ensures.0),
+      is_not_below _ _ _ _ _ kept c.args.w c.args.key.now (λ all. let e = c.if-is_below.ensures.1 all in absurd (not_true e)),
+      refl,
+    )
+
 pub returns-then-not-is_below : goal.returns-then-not-is_below
 returns-then-not-is_below g c =
     let kept = c.self.invariant.0 in
     rw (← c.self.view_is) (
-      (sym kept.failed_is ∙ c.if-self.false, is_not_done _ _ _ _ _ kept c.args.key.now c.in_default.ensures.none),
+      (sym kept.failed_is ∙ c.if-self.false, is_not_done _ _ _ _ _ kept c.args.key.now c.in-Unknown.ensures.0),
       is_not_below _ _ _ _ _ kept c.args.w c.args.key.now (λ all. let e = c.if-not-is_below.ensures.1 all in absurd (not_true e)),
       refl,
     )
 
-pub returns-in-Some-find : goal.returns-in-Some-find
-returns-in-Some-find g c =
-    let kept = c.self.invariant.0 in
-    rw (← c.self.view_is) (
-      (sym kept.failed_is ∙ c.if-self.false, is_not_done _ _ _ _ _ kept c.args.key.now c.in_default.ensures.none),
-      is_below _ _ _ _ _ kept c.args.w c.args.key.now (c.if-not-is_below.ensures.0 refl),
-      is_known _ _ _ _ _ kept c.args.key.now _ c.in_default.ensures.none c.in-Some-find.ensures.first,
-      refl,
-    )
-
-pub returns-in_default-room_for_event : goal.returns-in_default-room_for_event
-returns-in_default-room_for_event g c =
-    let may = may_claim _ _ _ _ _ c.self.invariant.0 c.args.w c.args.key.now c.if-self.false c.in_default.ensures.none c.in_default-find.ensures.none (c.if-not-is_below.ensures.0 refl) in
+pub returns-in_default : goal.returns-in_default
+returns-in_default g c =
+    let may = may_claim _ _ _ _ _ c.self.invariant.0 c.args.w c.args.key.now c.if-self.false c.in-Unknown.ensures.0 c.in-Unknown.ensures.1 (c.if-not-is_below.ensures.0 refl) in
     rw (← c.self.view_is) (may.0, (λ _. may), rw c.room_for_event.ensures.history.0 refl)
 
 pub returns-in-Err-add : goal.returns-in-Err-add
 returns-in-Err-add g c =
-    let may = may_claim _ _ _ _ _ c.self.invariant.0 c.args.w c.args.key.now c.if-self.false c.in_default.ensures.none c.in_default-find.ensures.none (c.if-not-is_below.ensures.0 refl) in
+    let may = may_claim _ _ _ _ _ c.self.invariant.0 c.args.w c.args.key.now c.if-self.false c.in-Unknown.ensures.0 c.in-Unknown.ensures.1 (c.if-not-is_below.ensures.0 refl) in
     rw (← c.self.view_is) (may.0, (λ _. may), rw c.room_for_event.ensures.history.0 refl)
 
 -- the history after the claim
 events_after : (g : Over) (c : goal.After-note g) → map event_of c.note.new.history.items ≡ map event_of c.self.inside.history.items ++ Claim c.args.w c.args.key.now ∷ []
-events_after g c = rw (c.note.ensures.events, c.room_for_event.ensures.history.0, c.in-Some-room_for_event.ensures.key) refl
+events_after g c = rw (c.note.ensures.events, c.room_for_event.ensures.history.0, c.in-Some.ensures.key) refl
 
 pub invariant_of-self-2 : goal.invariant_of-self-2
 invariant_of-self-2 g c =
     let i = c.self.inside in
     let kept = c.self.invariant.0 in
-    let nd = c.in_default.ensures.none in
-    let u = c.in_default-find.ensures.none in
+    let nd = c.in-Unknown.ensures.0 in
+    let u = c.in-Unknown.ensures.1 in
     rw (events_after g c) (
       kept_claim _ _ _ _ _ kept _ c.args.w c.args.key.now c.if-self.false nd u (c.if-not-is_below.ensures.0 refl) c.add.ensures.apart c.in-Ok-add.ensures.ok,
       backed_last g.R.Runner.mean g.R.Runner.reads (map event_of i.history.items) (Claim c.args.w c.args.key.now) c.self.invariant.1 tt,
-      (λ _. omega (arith, c.note.ensures.len, c.note.ensures.capacity, c.in-Some-room_for_event.ensures.room, c.room_for_event.ensures.history.1)),
+      (λ _. omega (arith, c.note.ensures.len, c.note.ensures.capacity, c.in-Some.ensures.room, c.room_for_event.ensures.history.1)),
       c.self.invariant.3,
     )
 
 pub returns : goal.returns
 returns g c =
-    let may = may_claim _ _ _ _ _ c.self.invariant.0 c.args.w c.args.key.now c.if-self.false c.in_default.ensures.none c.in_default-find.ensures.none (c.if-not-is_below.ensures.0 refl) in
+    let may = may_claim _ _ _ _ _ c.self.invariant.0 c.args.w c.args.key.now c.if-self.false c.in-Unknown.ensures.0 c.in-Unknown.ensures.1 (c.if-not-is_below.ensures.0 refl) in
     rw (← c.self.view_is) (may, rw (events_after g c) refl)
-
-pub result_of-requires : goal.result_of-requires
-result_of-requires g c = c.self.invariant.0.inner

@@ -7,7 +7,7 @@ use Rattle.job_table.specs.Calls.{BeginGives}
 use Rattle.sessions.specs.Sessions.{session_in}
 use Rattle.job_table.proofs.StepRules.{backed_last}
 use Rattle.job_table.proofs.CallRules.{not_standing, begin_at, begin_kept, begin_refused}
-use Rattle.job_table.proofs.PendingRules.{first_pending}
+use Rattle.key_states.proofs.PendingRules.{first_pending}
 use Rattle.job_table.proofs.table.Table.begin_run.Given.{Over}
 use Rattle.job_table.proofs.table.Table.begin_run.Goals as goal
 

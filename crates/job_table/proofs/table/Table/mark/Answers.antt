@@ -2,7 +2,7 @@ use Rattle.std.proofs.Common.{◌≡◌, [], ◌∷◌, ◌++◌, map, false, ar
 use Rattle.std.specs.Arc.{arc_value}
 use Rattle.sessions.specs.Sessions.{Entry, entry_of, entry_at}
 use Rattle.graph_rules.specs.Steps.{Claimed, MarkGreen, AllUnchanged, walk}
-use Rattle.job_table.specs.Nodes.{state_of_nodes}
+use Rattle.key_states.specs.Nodes.{state_of_nodes}
 use Rattle.job_table.specs.Kept.{event_of}
 use Rattle.job_table.proofs.StepRules.{backed_last}
 use Rattle.job_table.proofs.CallRules.{not_standing, mark_at, mark_refused, walk_none, walk_some, mark_gives, mark_kept}

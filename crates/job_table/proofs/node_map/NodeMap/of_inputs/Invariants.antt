@@ -1,5 +1,0 @@
-use Rattle.job_table.specs.Nodes.{AreOpened}
-use Rattle.job_table.proofs.node_map.NodeMap.of_inputs.Given as goal
-
-abbrev pub invariant-loop-key : goal.invariant-loop-key
-invariant-loop-key l = AreOpened l.inputs l.nodes

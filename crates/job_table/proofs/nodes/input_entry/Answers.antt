@@ -1,5 +1,0 @@
-use Rattle.std.proofs.Common.{refl}
-use Rattle.job_table.proofs.nodes.input_entry.Goals as goal
-
-pub returns : goal.returns
-returns c = rw (c.requires.none, c.in-Some.ensures) refl

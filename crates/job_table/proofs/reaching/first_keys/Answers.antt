@@ -1,5 +1,0 @@
-use Rattle.job_table.proofs.ReachRules.{roots_added}
-use Rattle.job_table.proofs.reaching.first_keys.Goals as goal
-
-pub returns : goal.returns
-returns c = roots_added _ _ _ c.in_ok-roots.ensures (rw (c.in_ok-keys.ensures.empty, c.own-first.ensures) at c.in_ok-add.ensures.adds)
