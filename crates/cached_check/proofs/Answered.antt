@@ -18,7 +18,7 @@ use Rattle.graph_rules.specs.Steps.{State}
 use Rattle.graph_rules.specs.Graphs.{AreClosed, answer}
 use Rattle.graph_rules.specs.Graphs.IsReached.{root as starts}
 use Rattle.graph_rules.proofs.SessionRules.{session_graph}
-use Rattle.job_table.specs.Tables.{IsFull}
+use Rattle.key_states.specs.Closing.{IsFull}
 use Rattle.session_cache.specs.Names.{most}
 use Rattle.next_sessions.specs.Nexts.{DecidesNext, IsNextSession}
 use Rattle.next_sessions.proofs.NextRight.{entry_told}
