@@ -1,6 +1,6 @@
 //! How often one worker runs the keys of a session: each that is executed just once.
 
-use crate::records::{ONE, TWO};
+use crate::texts::{EDITED, ONE, TWO};
 use answer_fixtures::Unfit;
 use crew_fixtures::{File, Runs, chain, one_body, runs_in, runs_of};
 use std::test::*;
@@ -12,9 +12,6 @@ struct Row {
     first: usize,
     second: usize,
 }
-
-const EDITED: &str =
-    "class M { public static void main(String[] a) { System.out.println(new A().f()); } } class A { public int f() { return 3; } public int g() { return 2; } }";
 
 const ROWS: &[Row] = &[
     Row {

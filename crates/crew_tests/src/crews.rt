@@ -1,6 +1,6 @@
 //! Sessions by several workers: that they make the same files, and that their runs go on at the same time.
 
-use crate::records::{ONE, TWO};
+use crate::texts::{EDITED, ONE, TWO};
 use answer_fixtures::Unfit;
 use crew_fixtures::{
     Edit, File, Made, digest_by, fault_of_failing, fellows_stop, made_by, made_of_empty_classes,
@@ -17,7 +17,7 @@ use std::thread::Threads;
 /// A body is edited.
 const EDIT: Edit = Edit {
     file: File("M.java", TWO),
-    edited: "class M { public static void main(String[] a) { System.out.println(new A().f()); } } class A { public int f() { return 3; } public int g() { return 2; } }",
+    edited: EDITED,
 };
 
 /// Whether so many workers make sessions with just the files that one makes, and all events are counted. Of the 21 queries all
