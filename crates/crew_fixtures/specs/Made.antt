@@ -1,6 +1,9 @@
 -- The sessions that are made from short texts, and what is reported of them.
 use Rattle.std.specs.Prelude.{◌≡◌, ◌==◌, ℕ, Bool, List, [], ◌∷◌, length, map, sum, count_by, Option, Some, None, Ok, Err}
+use Rattle.item_ids.specs.declared.kind.Kind.TheVariants as kinds
 use Rattle.item_ids.specs.declared.key.Key.{Key}
+use Rattle.item_ids.specs.Keys.{kind_of, class_of}
+use Rattle.answer_fixtures.specs.Telling.{name_told}
 use Rattle.mj_project.specs.Projects.{SourceFile}
 use Rattle.recorder.specs.Projects.{Project}
 use Rattle.query_rules.specs.Meaning.{mean}
@@ -111,7 +114,10 @@ pub record HaveExecuted (p q : Project) (first second : Runs) : Type 0 where
 abbrev pub Stops : Key → TableValue → TableValue → Type 0
 Stops q t u = AskGives t 1 q (Ok Stopped) u
 
--- at a table of a first session of the file, a worker who asks for a key is answered that it stops
+-- at a table of a first session of the file, a worker who asks for its tree is answered that it
+-- stops
 pub record FellowsStop (file : File) : Type 0 where
   pub key : Key
+  pub kind : kind_of key ≡ kinds.Tree
+  pub of_file : class_of key ≡ name_told file.0.now
   pub stops : IsGiven None (file_told file ∷ []) (Stops key)

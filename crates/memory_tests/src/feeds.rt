@@ -1,7 +1,7 @@
 //! Auditors over feeds that fail.
 
-use crate::audits_again::THERE_AND_BACK;
-use memory_fixtures::fails_at_each_call;
+use crate::chains::THERE_AND_BACK;
+use audit_fixtures::fails_at_each_call;
 use std::test::*;
 
 /// Each call of the feed of each of three files fails, once and from then on.

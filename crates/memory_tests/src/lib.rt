@@ -5,6 +5,8 @@
 #[cfg(test)]
 mod audits_again;
 #[cfg(test)]
+mod chains;
+#[cfg(test)]
 mod containers_again;
 #[cfg(test)]
 mod feeds;

@@ -1,4 +1,5 @@
 //! Session files that checks make in a folder.
+ghost use Rattle.std.specs.Prelude.{◌≡◌, length, IfOk};
 
 use program_run::run;
 use std::alloc::{AllocError, Global};
@@ -42,14 +43,16 @@ fn check<R: Files + AllocGlobal, T: Threads + Wait + Sync>(
     }
 }
 
-/// The session files that checks make of these texts of a file, one over the other, in a folder of this name, which is
-/// created and removed again.
+/// The session files that checks make of these texts of a file, one for each, over the other, in a folder of this name, which
+/// is created and removed again.
 pub fn session_files<R: Files + AllocGlobal, T: Threads + Wait + Sync>(
     rt: &R,
     threads: &T,
     folder: &str,
     texts: &[&str],
-) -> io::Result<Vec<Vec<u8>>> {
+) -> io::Result<Vec<Vec<u8>>>
+    ensures { IfOk result (λ files. length files.items ≡ length texts.now) }
+{
     let alloc = rt.alloc();
     fs::create_dir_all(rt, folder)?;
     let mut files = Vec::new(alloc);

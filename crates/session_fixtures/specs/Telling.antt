@@ -2,8 +2,6 @@
 use Rattle.std.specs.Prelude.{◌≡◌, ℕ, List, replicate}
 use Rattle.std.specs.List.{AllZip}
 use Rattle.answer_fixtures.specs.Telling.{IsKeyOf, IsTold}
-use Rattle.sessions.specs.declared.mark.Mark.{Mark}
-use Rattle.sessions.specs.declared.mark.Mark.TheVariants.{Input, Green, Executed}
 use Rattle.sessions.specs.Sessions.{RecordValue, SessionValue, IsSession}
 use Rattle.sessions.specs.Spelling.{file_of}
 use Rattle.session_fixtures.specs.declared.records.Kept.{Kept}
@@ -19,17 +17,6 @@ pub record IsRecordOf (kept : Kept) (r : RecordValue) : Type 0 where
 -- the records are those that are given, in their order
 abbrev pub AreRecordsOf : List Kept → List RecordValue → Type 0
 AreRecordsOf kept records = AllZip IsRecordOf kept records
-
--- the mark of a record that isn't executed
-abbrev pub green_mark : Mark → Mark
-green_mark Input = Input
-green_mark Green = Green
-green_mark Executed = Green
-
--- the record that is given, green where it is no input
-abbrev pub green_told : Kept → Kept
-green_told kept =
-    record { key = kept.key; mark = green_mark kept.mark; edges = kept.edges; digits = kept.digits }
 
 -- the session of the number, the link and the records that are given
 pub record IsToldSession (number : ℕ) (link : List ℕ) (kept : List Kept) (s : SessionValue) : Type 0 where

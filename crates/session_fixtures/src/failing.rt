@@ -28,7 +28,9 @@ struct Calls {
 }
 
 impl Calls {
-    fn new(manner: Manner) -> Self {
+    fn new(manner: Manner) -> Self
+        ensures { result.failed ≡ 0 }
+    {
         Calls {
             manner,
             made: 0,
@@ -131,7 +133,10 @@ pub struct FailingFeed<'a> {
 
 impl<'a> FailingFeed<'a> {
     /// A feed of these bytes that no call was made of.
-    pub fn new(bytes: &'a [u8], manner: Manner) -> Self {
+    pub fn new(bytes: &'a [u8], manner: Manner) -> Self
+        ensures bytes { result.rest.now ≡ bytes.now }
+        ensures failed { result.calls.failed ≡ 0 }
+    {
         FailingFeed {
             rest: bytes,
             calls: Calls::new(manner),

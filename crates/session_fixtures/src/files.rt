@@ -42,7 +42,8 @@ pub fn file_of(alloc: Global, kept: &[Kept]) -> Result<MemorySink, Unfit>
     file_of_session(alloc, &session)
 }
 
-fn file_of_session(alloc: Global, session: &Session) -> Result<MemorySink, Unfit>
+/// The file of the session.
+pub fn file_of_session(alloc: Global, session: &Session) -> Result<MemorySink, Unfit>
     ensures { IfOk result (λ sink. sink.bytes.items ≡ file_of session.now) }
 {
     let mut sink = MemorySink::new(alloc);

@@ -6,11 +6,14 @@ mod files;
 mod first;
 mod records;
 mod stalling;
+mod tries;
 
 pub use failing::{Failing, FailingFeed, FailingSink, Manner};
 pub use files::{
-    digest_of, digest_of_read, digest_of_taken, file_fault_of, file_of, is_read_again, write_to,
+    digest_of, digest_of_read, digest_of_taken, file_fault_of, file_of, file_of_session,
+    is_read_again, write_to,
 };
 pub use first::FIRST;
-pub use records::{Kept, green_of, session_of};
+pub use records::{Kept, session_of};
 pub use stalling::StallingWriter;
+pub use tries::twice;

@@ -1,8 +1,8 @@
 //! Sessions from short texts.
-ghost use Rattle.std.specs.Prelude.{◌≡◌, List, [], ◌∷◌, ◌++◌, map, IfOk, OnOk};
+ghost use Rattle.std.specs.Prelude.{◌≡◌, List, [], ◌∷◌, ◌++◌, IfOk, OnOk};
 ghost use Rattle.answer_fixtures.specs.Telling.{IsKeyOf};
 ghost use Rattle.session_fixtures.specs.declared.records.Kept.{Kept as SpecKept};
-ghost use Rattle.session_fixtures.specs.Telling.{IsRecordOf, AreRecordsOf, IsToldSession, green_mark, green_told};
+ghost use Rattle.session_fixtures.specs.Telling.{IsRecordOf, AreRecordsOf, IsToldSession};
 
 use answer_fixtures::{Asked, Unfit, key_of, sealed_of};
 use item_ids::Key;
@@ -17,30 +17,6 @@ pub struct Kept {
     pub mark: Mark,
     pub edges: &'static [usize],
     pub digits: &'static str,
-}
-
-/// These records, but for the inputs green.
-pub fn green_of(alloc: Global, kept: &[Kept]) -> Result<Vec<Kept>, AllocError>
-    ensures { IfOk result (λ all. all.items ≡ map green_told kept.now) }
-{
-    let mut all = Vec::new(alloc);
-    for one in kept {
-        all.push(Kept {
-            mark: green_mark(one.mark),
-            ..*one
-        })?;
-    }
-    Ok(all)
-}
-
-/// The mark of a record that isn't executed.
-fn green_mark(mark: Mark) -> Mark
-    ensures { result ≡ green_mark mark }
-{
-    match mark {
-        Mark::Input => Mark::Input,
-        Mark::Green | Mark::Executed => Mark::Green,
-    }
 }
 
 /// The session of this number, link and records.

@@ -1,5 +1,5 @@
 mod Reporting
-mod Turns
+pub mod Turns
 mod Changing
 mod Answering
 mod Answered

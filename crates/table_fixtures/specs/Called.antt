@@ -153,11 +153,23 @@ pub record ClosesAs (chain : List Change) (records : List Kept) (t : TableValue)
   pub told : IsNextOf past records wanted
   pub same : digest_of session ≡ digest_of wanted
 
--- These records and those beside them lead from t to u by this many events, and u closes with just
--- the records.
+-- how many events the replay has over this previous session, or why there is none
+abbrev pub EndsSo : Option SessionValue → Project → List Event → Result ℕ ReplayFault → Type 0
+EndsSo past p events (Ok n) =
+    (t : TableValue) × ReplayGives past p events (Ok t) × (n ≡ length t.history)
+EndsSo past p events (Err fault) = ReplayGives past p events (Err fault)
+
+-- the replay of the table's events, over its previous session in a project of this text, leads to
+-- as many
+abbrev pub IsReplayed : List ℕ → TableValue → Type 0
+IsReplayed text t = EndsSo t.past (one_file text) t.history (Ok (length t.history))
+
+-- These records and those beside them lead from t to u by this many events, which can be replayed,
+-- and u closes with just the records.
 pub record IsLed (history : History) (records : List Kept) (t u : TableValue) : Type 0 where
   pub brought : AreBrought records history.beside.now t u
   pub events : length u.history ≡ history.events
+  pub replayed : IsReplayed history.text.now u
   pub closed : ClosesAs history.chain.now records u
 
 -- the session is made as the history says
@@ -186,14 +198,8 @@ pub record AreEventsOf (replay : Replay) (events : List Event) : Type 0 where
   pub run : IsRunOf replay.records.now kept outcome
   pub are : events ≡ run_events replay.begins key outcome
 
--- how many events the replay has with no previous session, or why there is none
-abbrev pub EndsSo : Project → List Event → Result ℕ ReplayFault → Type 0
-EndsSo p events (Ok n) =
-    (t : TableValue) × ReplayGives None p events (Ok t) × (n ≡ length t.history)
-EndsSo p events (Err fault) = ReplayGives None p events (Err fault)
-
 -- the replay of the events that are given ends like this
 pub record IsReplay (replay : Replay) (ending : Result ℕ ReplayFault) : Type 0 where
   pub events : List Event
   pub of_replay : AreEventsOf replay events
-  pub ends : EndsSo (one_file replay.text.now) events ending
+  pub ends : EndsSo None (one_file replay.text.now) events ending

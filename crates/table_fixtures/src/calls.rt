@@ -5,6 +5,7 @@ ghost use Rattle.session_fixtures.specs.declared.records.Kept.{Kept as SpecKept}
 ghost use Rattle.table_fixtures.specs.Told.{InTurn};
 ghost use Rattle.table_fixtures.specs.Called.{said_of, SaysOfAsk, SaysOfMark, SaysOfBegin, SaysOfFinish, SaysOfFail, SaysOfClose, IsLast, Says, IsSaid, AreSaid};
 
+use crate::again;
 use crate::changes::Change;
 use crate::runs::outcome_of;
 use crate::tables::table_of;
@@ -59,7 +60,7 @@ pub struct Calls {
 pub(crate) fn ask(table: &mut Table<MiniJava>, worker: u32, key: &Key) -> Said
     ensures { SaysOfAsk worker key.now result table.old table.new }
 {
-    match table.ask(worker, key) {
+    match again::ask(table, worker, key) {
         Ok(Told::Yours) => Said::Yours,
         Ok(Told::Done(_)) => Said::Done,
         Ok(Told::Busy) => Said::Busy,
@@ -71,7 +72,7 @@ pub(crate) fn ask(table: &mut Table<MiniJava>, worker: u32, key: &Key) -> Said
 pub(crate) fn mark(table: &mut Table<MiniJava>, worker: u32, key: &Key) -> Said
     ensures { SaysOfMark worker key.now result table.old table.new }
 {
-    match table.mark(worker, key) {
+    match again::mark(table, worker, key) {
         Ok(_) => Said::Done,
         Err(fault) => Said::Refused(fault),
     }
@@ -80,7 +81,7 @@ pub(crate) fn mark(table: &mut Table<MiniJava>, worker: u32, key: &Key) -> Said
 pub(crate) fn begin(table: &mut Table<MiniJava>, worker: u32, key: &Key) -> Said
     ensures { SaysOfBegin worker key.now result table.old table.new }
 {
-    answer_of(table.begin_run(worker, key))
+    answer_of(again::begin(table, worker, key))
 }
 
 /// What is said by a call that gives nothing.
@@ -105,7 +106,7 @@ pub(crate) fn finish(
         SaysOfFinish records.now kept.now worker said table.old table.new) }
 {
     let outcome = outcome_of(alloc, records, kept)?;
-    Ok(answer_of(table.finish(worker, outcome)))
+    Ok(answer_of(again::finish(table, worker, outcome)?))
 }
 
 fn finish_last(
@@ -132,7 +133,7 @@ fn fail(table: &mut Table<MiniJava>, worker: u32) -> Said
 fn close(table: &Table<MiniJava>) -> Said
     ensures { SaysOfClose result table.now }
 {
-    match table.close() {
+    match again::close(table) {
         Ok(_) => Said::Done,
         Err(fault) => Said::NotClosed(fault),
     }

@@ -138,7 +138,7 @@ pub(crate) fn share(alloc: Global, session: Session) -> Result<Arc<Session>, All
 }
 
 /// The session after this one, with these changes.
-fn past_behind(
+pub fn past_behind(
     alloc: Global,
     past: &Option<Arc<Session>>,
     change: &Change,

@@ -4,12 +4,14 @@ ghost use Rattle.sessions.specs.Sessions.{SessionValue, session_in};
 ghost use Rattle.sessions.specs.Spelling.{digest_of, next_link};
 ghost use Rattle.job_table.specs.Closes.{CloseGives};
 ghost use Rattle.table_fixtures.specs.Told.{InTurn, AreChanged};
-ghost use Rattle.table_fixtures.specs.Called.{IsTakenOver, IsBegun, IsBroughtBy, IsDoneAs, IsBrought, AreBrought, ClosesAs, IsLed, IsHistory};
+ghost use Rattle.table_fixtures.specs.Called.{IsTakenOver, IsBegun, IsBroughtBy, IsDoneAs, IsBrought, AreBrought, IsReplayed, ClosesAs, IsLed, IsHistory};
 
+use crate::again;
 use crate::calls::{Said, ask, begin, events, finish, mark};
 use crate::changes::{Change, digest_behind, link_behind, past_of, records_of};
+use crate::replays::replay_in;
 use crate::tables::table_of;
-use answer_fixtures::{Unfit, is_spelled, key_of};
+use answer_fixtures::{Unfit, is_spelled, key_of, project_of};
 use item_ids::Key;
 use job_table::{Asked as Told, Table};
 use providers::MiniJava;
@@ -74,7 +76,7 @@ fn is_done(
     ensures done { IfOk result (λ b. IsTrue b → IsDoneAs key.now digits.now table.old) }
     ensures same { IfOk result (λ b. IsTrue b → table.new ≡ table.old) }
 {
-    match table.ask(0, key) {
+    match again::ask(table, 0, key) {
         Ok(Told::Done(sealed)) => is_spelled(alloc, &sealed, digits),
         _ => Ok(false),
     }
@@ -129,7 +131,7 @@ fn closes_with(table: &Table<MiniJava>, wanted: [u8; 32]) -> bool
     ensures { IsTrue result → (s : SessionValue) × CloseGives table.now (Ok s)
         × (digest_of s ≡ wanted) }
 {
-    match table.close() {
+    match again::close(table) {
         Ok(session) => digest(&session) == wanted,
         Err(_) => false,
     }
@@ -158,6 +160,16 @@ fn closes(
     Ok(is_behind(table, &past)? && closes_with(table, wanted))
 }
 
+/// Whether a replay of the table's events, over its previous session in a project of this text, leads to as many.
+fn is_replayed(alloc: Global, table: &Table<MiniJava>, text: &str) -> Result<bool, Unfit>
+    ensures { IfOk result (λ b. IsTrue b → IsReplayed text.now table.now) }
+{
+    let project = project_of(alloc, text)?;
+    let past = table.past()?;
+    let ending = replay_in(alloc, &past, &project, table.history())?;
+    Ok(ending == Ok(events(table)))
+}
+
 /// Whether the table ends as the history says.
 fn is_led(
     alloc: Global,
@@ -171,6 +183,7 @@ fn is_led(
     Ok(
         are_brought(alloc, table, records, history.beside)?
             && events(table) == history.events
+            && is_replayed(alloc, table, history.text)?
             && closes(alloc, table, history.chain, records)?,
     )
 }
@@ -184,7 +197,8 @@ fn is_of_records(alloc: Global, history: &History, records: &[Kept]) -> Result<b
 }
 
 /// Whether the session is made as the history says: each of its keys is claimed and marked or run as its record says,
-/// and is done with the record's result; this many events lead there; and the table closes with just these records.
+/// and is done with the record's result; this many events lead there, and their replay leads there too; and the table
+/// closes with just these records.
 pub fn is_history(alloc: Global, history: &History) -> Result<bool, Unfit>
     ensures { IfOk result (λ b. IsTrue b → IsHistory history.now) }
 {

@@ -1,6 +1,8 @@
-//! Tables for tests: opened, called and closed as short texts say, and asked whether they answer as they should.
+//! Tables for tests: opened, called and closed as short texts say, and asked whether they answer as they should. A call that
+//! is refused memory is made once more.
 #![tactic(auto)]
 
+mod again;
 mod calls;
 mod changes;
 mod driving;
@@ -10,7 +12,7 @@ mod runs;
 mod tables;
 
 pub use calls::{Call, Calls, Said, Saying, are_said};
-pub use changes::{Change, Other};
+pub use changes::{Change, Other, past_behind};
 pub use driving::{Counts, Unmade, are_reported, drive_fault};
 pub use histories::{History, is_history};
 pub use replays::{Replay, replay_of};

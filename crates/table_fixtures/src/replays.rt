@@ -1,21 +1,24 @@
 //! Replays of events.
-ghost use Rattle.std.specs.Prelude.{◌≡◌, List, [], ◌∷◌, ◌++◌, map, IfOk, OnOk};
+ghost use Rattle.std.specs.Prelude.{◌≡◌, List, [], ◌∷◌, ◌++◌, map, None, IfOk, OnOk};
 ghost use Rattle.std.specs.Arc.{arc_value};
 ghost use Rattle.recorder.specs.Runs.{OutcomeValue};
+ghost use Rattle.sessions.specs.Sessions.{session_in};
 ghost use Rattle.graph_rules.specs.Steps.{Event as SpecEvent, Finish};
 ghost use Rattle.answer_fixtures.specs.Telling.{one_file};
 ghost use Rattle.job_table.specs.Kept.{event_of};
 ghost use Rattle.table_fixtures.specs.Called.{IsLast, run_events, AreEventsOf, EndsSo, IsReplay};
 
+use crate::again::replay;
 use crate::calls::events;
 use crate::runs::outcome_of;
 use answer_fixtures::{Unfit, key_of, project_of};
 use item_ids::Key;
-use job_table::{Event, ReplayFault, Table};
+use job_table::{Event, ReplayFault};
 use mj_project::Project;
 use providers::MiniJava;
 use recorder::Outcome;
 use session_fixtures::Kept;
+use sessions::Session;
 use std::alloc::{AllocError, AllocFailed, Global};
 use std::sync::Arc;
 
@@ -86,17 +89,18 @@ fn events_of(alloc: Global, replay: &Replay) -> Result<Events, Unfit>
     }
 }
 
-/// How many events the replay has in a project with no previous session, or why there is none.
-fn replay_in(
+/// How many events the replay has over the previous session in a project, or why there is none.
+pub(crate) fn replay_in(
     alloc: Global,
+    past: &Option<Arc<Session>>,
     project: &Project,
     list: &[Event<MiniJava>],
-) -> Result<usize, ReplayFault>
-    ensures { EndsSo project.now (map event_of list.now) result }
+) -> Result<Result<usize, ReplayFault>, AllocError>
+    ensures { IfOk result (EndsSo (session_in past.now) project.now (map event_of list.now)) }
 {
-    match Table::replay(alloc, None, project, list) {
-        Ok(table) => Ok(events(&table)),
-        Err(fault) => Err(fault),
+    match replay(alloc, past, project, list)? {
+        Ok(table) => Ok(Ok(events(&table))),
+        Err(fault) => Ok(Err(fault)),
     }
 }
 
@@ -106,10 +110,10 @@ fn replay_over(
     replay: &Replay,
 ) -> Result<Result<usize, ReplayFault>, Unfit>
     ensures { IfOk result (λ ending. (events : List SpecEvent) × AreEventsOf replay.now events
-        × EndsSo project.now events ending) }
+        × EndsSo None project.now events ending) }
 {
     let events = events_of(alloc, replay)?;
-    Ok(replay_in(alloc, project, &events))
+    Ok(replay_in(alloc, &None, project, &events)?)
 }
 
 /// How many events the replay has with no previous session, or why there is none.

@@ -2,7 +2,6 @@
 #![tactic(auto)]
 
 mod seats;
-mod twice;
 mod workers;
 
 pub use seats::all_stop;

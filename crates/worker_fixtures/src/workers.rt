@@ -1,6 +1,8 @@
 //! Sessions by several workers, one of whom is refused memory.
+ghost use Rattle.std.specs.Prelude.{IfOk, IsTrue};
+ghost use Rattle.crew_fixtures.specs.Made.{IsDigestOf};
+ghost use Rattle.worker_fixtures.specs.Workers.{IsFaultOfSome, IsMadeAs};
 
-use crate::twice::twice;
 use answer_fixtures::{Unfit, project_of};
 use driver::{Crew, DriveFault, Open, drive};
 use item_ids::Key;
@@ -10,7 +12,7 @@ use providers::MiniJava;
 use recorder::{Reader, Recorder, RunFault, Runner};
 use result_bytes::Value;
 use session_file::digest;
-use session_fixtures::{Kept, digest_of};
+use session_fixtures::{Kept, digest_of, twice};
 use std::alloc::{AllocError, Global};
 use std::sync::Wait;
 use std::sync::atomic::{AtomicU64, Ordering};
@@ -111,14 +113,16 @@ pub fn fault_of_worker<T: Threads + Wait + Sync>(
     alloc: Global,
     workers: usize,
     failing: u64,
-) -> Result<Option<DriveFault>, Unfit> {
+) -> Result<Option<DriveFault>, Unfit>
+    ensures { IfOk result (IsFaultOfSome workers) }
+{
     let project = twice(&|| project_of_many(alloc, workers))?;
     let hiring = Hiring {
         made: AtomicU64::new(0),
         failing,
         begun: AtomicU64::new(0),
     };
-    Ok(drive(
+    match drive(
         rt,
         alloc,
         &|| Waiting::new(alloc, &hiring),
@@ -126,8 +130,10 @@ pub fn fault_of_worker<T: Threads + Wait + Sync>(
         &project,
         Crew::of(workers),
         &Open,
-    )
-    .err())
+    ) {
+        Ok(_) => Ok(None),
+        Err(fault) => Ok(Some(fault)),
+    }
 }
 
 /// The SHA-256 of the file of a first session by so many workers.
@@ -136,7 +142,9 @@ fn run<T: Threads + Wait + Sync>(
     alloc: Global,
     project: &Project,
     workers: usize,
-) -> Result<[u8; 32], DriveFault> {
+) -> Result<[u8; 32], DriveFault>
+    ensures { IfOk result (IsDigestOf project.now workers) }
+{
     match run_session(rt, alloc, None, project, workers, &Open) {
         Ok((session, _)) => Ok(digest(&session)),
         Err(fault) => Err(fault),
@@ -150,7 +158,9 @@ pub fn run_again<T: Threads + Wait + Sync>(
     text: &str,
     records: &[Kept],
     workers: usize,
-) -> Result<bool, Unfit> {
+) -> Result<bool, Unfit>
+    ensures { IfOk result (λ b. IsTrue b → IsMadeAs text.now records.now workers) }
+{
     let project = twice(&|| project_of(alloc, text))?;
     let wanted = twice(&|| digest_of(alloc, 0, [0; 32], records))?;
     let made = match run(rt, alloc, &project, workers) {

@@ -3,8 +3,9 @@
 use answer_fixtures::Unfit;
 
 /// Makes it, and once more if that is refused. Where each allocation is refused in turn, at most one is.
-pub(crate) fn twice<T, F: Fn() -> Result<T, Unfit>>(make: &F) -> Result<T, Unfit>
+pub fn twice<T, F: Fn() -> Result<T, Unfit>>(make: &F) -> Result<T, Unfit>
     requires { F.IsAlwaysCallable make.now }
+    ensures { F.post make.now result }
 {
     match make() {
         Ok(made) => Ok(made),

@@ -1,7 +1,7 @@
 //! Auditors over feeds that fail.
 
-use crate::audits::{plain, stays};
-use crate::chain::{Links, files_of};
+use crate::auditors::{plain, stays};
+use crate::chain::files_of;
 use answer_fixtures::Unfit;
 use audit_graph::AuditFault;
 use audit_replay::Auditor;
@@ -9,6 +9,7 @@ use providers::MiniJava;
 use session_file::{Feed, FileFault, MemorySink};
 use session_fixtures::{Failing, FailingFeed, Manner};
 use std::alloc::Global;
+use table_fixtures::Change;
 
 /// An auditor that has taken these files.
 fn taken(alloc: Global, runner: &mut MiniJava, files: &[MemorySink]) -> Option<Auditor<MiniJava>> {
@@ -79,10 +80,10 @@ fn fails_behind(
     false
 }
 
-/// Whether an auditor refuses each of the files at each call of its feed that fails, once or from then on, and stays refused.
+/// Whether an auditor refuses each file of the chain's sessions at each call of its feed that fails, once or from then on, and stays refused.
 /// The feed gives so many bytes in a call at most.
-pub fn fails_at_each_call(alloc: Global, links: &Links, piece: usize) -> Result<bool, Unfit> {
-    let files = files_of(alloc, links)?;
+pub fn fails_at_each_call(alloc: Global, chain: &[Change], piece: usize) -> Result<bool, Unfit> {
+    let files = files_of(alloc, chain)?;
     for (at, file) in files.iter().enumerate() {
         let Some(before) = files.get(..at) else {
             return Err(Unfit);

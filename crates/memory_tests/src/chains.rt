@@ -1,0 +1,50 @@
+//! Sessions of one class whose text is edited, by their records.
+
+use session_fixtures::FIRST;
+use table_fixtures::{Change, Other};
+
+/// The text of the file of the first session.
+pub(crate) const ONE: &str =
+    "class M { public static void main(String[] a) { System.out.println(1); } }";
+
+/// All ten queries are executed.
+pub(crate) const EXECUTED: Change = Change {
+    records: FIRST,
+    executed: &[2, 3, 4, 5, 6, 7, 8, 9, 10, 11],
+    others: &[],
+};
+
+/// All ten queries are green.
+pub(crate) const GREEN: Change = Change {
+    records: FIRST,
+    executed: &[],
+    others: &[],
+};
+
+/// What the class prints is edited, and edited back: 22 runs.
+pub(crate) static THERE_AND_BACK: [Change; 3] = [
+    EXECUTED,
+    Change {
+        records: FIRST,
+        executed: &[2, 3, 4, 5, 9, 11],
+        others: &[
+            Other {
+                at: 1,
+                digits: "0101000000000000004a636c617373204d207b207075626c69632073746174696320766f6964206d61696e28537472696e675b5d206129207b2053797374656d2e6f75742e7072696e746c6e2832293b207d207d",
+            },
+            Other {
+                at: 2,
+                digits: "020101014d030000000b0800000011000000020000000000000000",
+            },
+            Other {
+                at: 5,
+                digits: "050100030000000b080000001100000002",
+            },
+        ],
+    },
+    Change {
+        records: FIRST,
+        executed: &[2, 3, 4, 5, 9, 11],
+        others: &[],
+    },
+];
