@@ -1,6 +1,5 @@
 -- What the words of a run on files ask for.
-use Rattle.std.proofs.Common.{◌≡◌, ℕ, List, [], ◌∷◌, Some, IsTrue, refl}
-use Rattle.command_line.specs.CommandLine.{files_for, asks_plainly}
+use Rattle.std.proofs.Common.{ℕ, List, [], ◌∷◌, IsTrue, refl}
 use Rattle.command_line.specs.Subcommands.{name_of, takes}
 use Rattle.command_line.specs.declared.asked.Subcommand.{Subcommand}
 use Rattle.command_line.specs.declared.asked.Subcommand.TheVariants.{Scratch, Audit, Show}

@@ -1,28 +1,63 @@
 //! Files in memory, of which one read may fail, and streams that fail.
-ghost use Rattle.std.specs.Prelude.{IsErr};
+ghost use Rattle.std.specs.Prelude.{◌≡◌, [], None, IsErr};
 
-use std::alloc::Allocator;
+use std::alloc::{Allocator, Global};
 use std::cell::{Cell, RefCell};
 use std::fs::{Metadata, OpenFile, OpenOptions};
 use std::io;
 use std::io::{ErrorKind, Read, Seek, SeekFrom, Write};
 use std::rt::Files;
 
-/// Files that are only read.
+/// Files by their names, how they are read, and how much the two streams take.
 #[derive(Clone, Copy)]
-pub struct Memory<'a> {
+pub struct Devices<'a> {
     pub files: &'a [(&'a str, &'a [u8])],
     /// How many bytes a read gives at most.
     pub most: usize,
-    /// How many reads there were, over all files.
-    pub reads: &'a Cell<usize>,
-    /// The number of the read that fails, counted from 0, and how.
+    /// The number of the read that fails, counted from 0 over all files, and how.
     pub failing: Option<(usize, ErrorKind)>,
+    /// How many bytes standard output takes before it fails.
+    pub out: usize,
+    /// How many bytes standard error takes before it fails.
+    pub err: usize,
+}
+
+impl<'a> Devices<'a> {
+    /// Devices that don't fail, whose files are read whole.
+    pub fn of(files: &'a [(&'a str, &'a [u8])]) -> Self
+        ensures files { result.files.now ≡ files.now }
+        ensures failing { result.failing ≡ None }
+    {
+        Devices {
+            files,
+            most: usize::MAX,
+            failing: None,
+            out: usize::MAX,
+            err: usize::MAX,
+        }
+    }
+}
+
+/// Files that are only read.
+#[derive(Clone, Copy)]
+pub(crate) struct Memory<'a> {
+    devices: Devices<'a>,
+    /// How many reads there were, over all files.
+    reads: &'a Cell<usize>,
+}
+
+impl<'a> Memory<'a> {
+    /// The files of these devices, whose reads are counted here.
+    pub(crate) fn new(devices: Devices<'a>, reads: &'a Cell<usize>) -> Self
+        ensures { result.devices ≡ devices.entry }
+    {
+        Memory { devices, reads }
+    }
 }
 
 /// A file of `Memory`, with the bytes that are left.
 #[derive(Drop)]
-pub struct Opened<'a> {
+pub(crate) struct Opened<'a> {
     memory: Memory<'a>,
     rest: &'a [u8],
 }
@@ -37,10 +72,11 @@ impl Read for Opened<'_> {
     fn read(&mut self, buf: &mut [u8]) -> io::Result<usize> {
         let number = self.memory.reads.get();
         self.memory.reads.set(number.wrapping_add(1));
-        match self.memory.failing {
+        let Devices { failing, most, .. } = self.memory.devices;
+        match failing {
             Some((failing, kind)) if failing == number => Err(io::Error::from(kind)),
             _ => {
-                let most = self.memory.most.min(buf.len());
+                let most = most.min(buf.len());
                 self.rest.read(&mut buf[..most])
             }
         }
@@ -87,7 +123,7 @@ impl<'a> Files for Memory<'a> {
     type Dir = io::Empty;
 
     fn open_file(&self, _how: &OpenOptions, path: &str) -> io::Result<Opened<'a>> {
-        for (name, bytes) in self.files {
+        for (name, bytes) in self.devices.files {
             if *name == path {
                 return Ok(Opened {
                     memory: *self,
@@ -135,42 +171,58 @@ impl<'a> Files for Memory<'a> {
     }
 }
 
-/// A stream that takes so many bytes more, and then fails.
+/// A stream that keeps the bytes that it takes, puts them behind those of all that share its log, and fails once it has taken
+/// so many.
 #[derive(Drop)]
-pub struct Full {
-    pub left: usize,
+pub(crate) struct Stream<'a> {
+    bytes: Vec<u8>,
+    room: usize,
+    log: &'a RefCell<Vec<u8>>,
 }
 
-impl Write for Full {
+impl<'a> Stream<'a> {
+    /// A stream that has taken nothing.
+    pub(crate) fn new(alloc: Global, room: usize, log: &'a RefCell<Vec<u8>>) -> Self
+        ensures bytes { result.bytes.items ≡ [] }
+        ensures room { result.room ≡ room }
+    {
+        Stream {
+            bytes: Vec::new(alloc),
+            room,
+            log,
+        }
+    }
+
+    /// The bytes that it has taken.
+    pub(crate) fn into_bytes(self) -> Vec<u8>
+        ensures { result ≡ self.entry.bytes }
+    {
+        let Stream { bytes, .. } = self;
+        bytes
+    }
+}
+
+fn add_to_log(log: &RefCell<Vec<u8>>, bytes: &[u8]) -> io::Result<()> {
+    match log.try_borrow_mut() {
+        Ok(mut log) => Ok(log.extend_from_slice(bytes)?),
+        Err(_) => Err(io::Error::from(ErrorKind::ResourceBusy)),
+    }
+}
+
+impl Write for Stream<'_> {
+    ghost use Rattle.std.specs.Prelude.{Some};
+
+    ghost contents = { λ s. Some s.bytes.items };
+
     fn write(&mut self, buf: &[u8]) -> io::Result<usize> {
-        if self.left == 0 {
+        if self.room == 0 {
             return Err(io::Error::from(ErrorKind::StorageFull));
         }
-        let count = self.left.min(buf.len());
-        self.left -= count;
+        let count = self.room.min(buf.len());
+        add_to_log(self.log, &buf[..count])?;
+        self.bytes.extend_from_slice(&buf[..count])?;
+        self.room -= count;
         Ok(count)
-    }
-
-    fn flush(&mut self) -> io::Result<()> {
-        Ok(())
-    }
-}
-
-/// A stream that puts its bytes behind those of all that share its log.
-#[derive(Drop)]
-pub struct Logged<'a> {
-    pub log: &'a RefCell<Vec<u8>>,
-}
-
-impl Write for Logged<'_> {
-    fn write(&mut self, buf: &[u8]) -> io::Result<usize> {
-        match self.log.try_borrow_mut() {
-            Ok(mut log) => {
-                log.extend_from_slice(buf)?;
-                Ok(buf.len())
-            }
-            Err(_) => Err(io::Error::from(ErrorKind::ResourceBusy)),
-        }
     }
 
     fn flush(&mut self) -> io::Result<()> {

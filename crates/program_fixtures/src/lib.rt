@@ -1,12 +1,12 @@
 //! The program over files in memory and streams that fail, for tests.
 #![tactic(auto)]
 
-mod checks;
+mod chains;
 mod devices;
 mod runs;
 mod texts;
 
-pub use checks::session_files;
-pub use devices::{Full, Logged, Memory};
-pub use runs::{audit, scratch};
+pub use chains::session_files;
+pub use devices::Devices;
+pub use runs::{Ended, audit, scratch};
 pub use texts::classes;

@@ -1,7 +1,6 @@
 //! Reads and writes that fail.
-use program_fixtures::{Full, Logged, Memory, scratch};
-use std::alloc::Global;
-use std::cell::{Cell, RefCell};
+use program_fixtures::{Devices, scratch};
+use std::alloc::{AllocError, Global};
 use std::io::ErrorKind;
 use std::sync::Wait;
 use std::test::Fail;
@@ -81,22 +80,17 @@ fn ends<T: Threads + Wait + Sync>(
     rt: &T,
     alloc: Global,
     row: &Read,
-) -> Result<(bool, usize), Fail> {
-    let (names, failing, status, wanted_out, wanted_err) = *row;
-    let reads = Cell::new(0);
-    let memory = Memory {
-        files: FILES,
-        most: usize::MAX,
-        reads: &reads,
+) -> Result<(bool, usize), AllocError> {
+    let (names, failing, status, out, err) = *row;
+    let devices = Devices {
         failing,
+        ..Devices::of(FILES)
     };
-    let mut out: Vec<u8> = Vec::new(alloc);
-    let mut err: Vec<u8> = Vec::new(alloc);
-    let ended = scratch(rt, alloc, memory, names, &mut out, &mut err)?;
-    let is_so = ended == status
-        && out.as_slice() == wanted_out.as_bytes()
-        && err.as_slice() == wanted_err.as_bytes();
-    Ok((is_so, reads.get()))
+    let ended = scratch(rt, alloc, devices, names)?;
+    Ok((
+        ended.is(status, out.as_bytes(), err.as_bytes()),
+        ended.reads,
+    ))
 }
 
 #[test]
@@ -121,33 +115,19 @@ const OUT: &str = "E102 project\nclass A\n  E202 class\n";
 
 const ERR: &str = "project: E102\na:1:7: E202\n";
 
-fn faulty(reads: &Cell<usize>) -> Memory<'_> {
-    Memory {
-        files: FAULTY,
-        most: usize::MAX,
-        reads,
-        failing: None,
-    }
-}
-
 /// Whether standard output that is full after so many bytes is noted and refused.
 fn is_refused_after<T: Threads + Wait + Sync>(
     rt: &T,
     alloc: Global,
-    left: usize,
-) -> Result<bool, Fail> {
-    let reads = Cell::new(0);
-    let mut err: Vec<u8> = Vec::new(alloc);
-    let status = scratch(
-        rt,
-        alloc,
-        faulty(&reads),
-        &["a"],
-        &mut Full { left },
-        &mut err,
-    )?;
-    let noted = err.strip_prefix(ERR.as_bytes());
-    Ok(status == 2 && noted == Some(b"cannot write standard output\n".as_slice()))
+    out: usize,
+) -> Result<bool, AllocError> {
+    let devices = Devices {
+        out,
+        ..Devices::of(FAULTY)
+    };
+    let ended = scratch(rt, alloc, devices, &["a"])?;
+    let noted = ended.err.strip_prefix(ERR.as_bytes());
+    Ok(ended.status == 2 && noted == Some(b"cannot write standard output\n".as_slice()))
 }
 
 #[test]
@@ -162,19 +142,14 @@ fn a_failed_write_is_refused(rt: HostRuntime) -> Result<(), Fail> {
 fn is_silent_after<T: Threads + Wait + Sync>(
     rt: &T,
     alloc: Global,
-    left: usize,
-) -> Result<bool, Fail> {
-    let reads = Cell::new(0);
-    let mut out: Vec<u8> = Vec::new(alloc);
-    let status = scratch(
-        rt,
-        alloc,
-        faulty(&reads),
-        &["a"],
-        &mut out,
-        &mut Full { left },
-    )?;
-    Ok(status == 2 && out.is_empty())
+    err: usize,
+) -> Result<bool, AllocError> {
+    let devices = Devices {
+        err,
+        ..Devices::of(FAULTY)
+    };
+    let ended = scratch(rt, alloc, devices, &["a"])?;
+    Ok(ended.status == 2 && ended.out.is_empty())
 }
 
 #[test]
@@ -185,27 +160,12 @@ fn nothing_follows_a_failed_note(rt: HostRuntime) -> Result<(), Fail> {
     Ok(())
 }
 
-/// Whether the log has these bytes.
-fn has(log: &RefCell<Vec<u8>>, bytes: &[u8]) -> bool {
-    match log.try_borrow() {
-        Ok(log) => log.as_slice() == bytes,
-        Err(_) => false,
-    }
-}
+/// What is written of the class at fault, standard error first.
+const BOTH: &str = "project: E102\na:1:7: E202\nE102 project\nclass A\n  E202 class\n";
 
 #[test]
 fn standard_error_comes_first(rt: HostRuntime) -> Result<(), Fail> {
-    let reads = Cell::new(0);
-    let log = RefCell::new(Vec::new(rt.alloc()));
-    let mut out = Logged { log: &log };
-    let mut err = Logged { log: &log };
-    let status = scratch(&rt, rt.alloc(), faulty(&reads), &["a"], &mut out, &mut err)?;
-    assert_eq!(rt; status, 1);
-    assert!(rt;
-        has(
-            &log,
-            b"project: E102\na:1:7: E202\nE102 project\nclass A\n  E202 class\n"
-        )
-    );
+    let ended = scratch(&rt, rt.alloc(), Devices::of(FAULTY), &["a"])?;
+    assert!(rt; ended.status == 1 && ended.both.as_slice() == BOTH.as_bytes());
     Ok(())
 }

@@ -68,6 +68,11 @@ const ANSWER: Given<'static> = Given(
     "0c0000000000000000000000000000000201410000000000000000000000000000000201660141000000000000000000016701410000000000000000000000000000000000014d000000000000000000000000000000000000000000000000",
 );
 
+// What is read of a class that an index leads to, in the project of two classes and in that of one.
+const OF_A_TREE: &[Given<'static>] = &[INDEX, TREE];
+
+const OF_THE_TREE: &[Given<'static>] = &[INDEX_OF_ONE, TREE_OF_ONE];
+
 // Each kind, with the answers that it reads.
 static TABLE: [Row; 33] = [
     Row {
@@ -80,11 +85,11 @@ static TABLE: [Row; 33] = [
     },
     Row {
         query: HEADER_A,
-        reads: &[INDEX, TREE],
+        reads: OF_A_TREE,
     },
     Row {
         query: HEADER_M,
-        reads: &[INDEX, TREE],
+        reads: OF_A_TREE,
     },
     Row {
         query: HEADER_Z,
@@ -92,19 +97,19 @@ static TABLE: [Row; 33] = [
     },
     Row {
         query: METHOD_F,
-        reads: &[INDEX, TREE],
+        reads: OF_A_TREE,
     },
     Row {
         query: METHOD_G,
-        reads: &[INDEX, TREE],
+        reads: OF_A_TREE,
     },
     Row {
         query: METHOD_H,
-        reads: &[INDEX, TREE],
+        reads: OF_A_TREE,
     },
     Row {
         query: METHOD_MAIN,
-        reads: &[INDEX, TREE],
+        reads: OF_A_TREE,
     },
     Row {
         query: METHOD_Z,
@@ -225,15 +230,15 @@ static OF_ONE_LITERAL: [Row; 14] = [
     },
     Row {
         query: HEADER_M,
-        reads: &[INDEX_OF_ONE, TREE_OF_ONE],
+        reads: OF_THE_TREE,
     },
     Row {
         query: MAIN_OF_ONE,
-        reads: &[INDEX_OF_ONE, TREE_OF_ONE],
+        reads: OF_THE_TREE,
     },
     Row {
         query: NO_METHOD,
-        reads: &[INDEX_OF_ONE, TREE_OF_ONE],
+        reads: OF_THE_TREE,
     },
     Row {
         query: SIG_MAIN,

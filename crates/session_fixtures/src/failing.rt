@@ -1,5 +1,5 @@
 //! Devices that move a few bytes a call, and fail at one of their calls.
-ghost use Rattle.std.specs.Prelude.{◌≡◌, ◌<◌, IfOk};
+ghost use Rattle.std.specs.Prelude.{◌≡◌, ◌<◌, [], IfOk};
 ghost use Rattle.session_file.specs.Devices.{Counts, one_more};
 
 use session_file::{DeviceFault, Feed, Sink};
@@ -29,7 +29,9 @@ struct Calls {
 
 impl Calls {
     fn new(manner: Manner) -> Self
-        ensures { result.failed ≡ 0 }
+        ensures manner { result.manner ≡ manner }
+        ensures made { result.made ≡ 0 }
+        ensures failed { result.failed ≡ 0 }
     {
         Calls {
             manner,
@@ -78,7 +80,12 @@ pub struct FailingSink {
 
 impl FailingSink {
     /// A sink that holds nothing and that no call was made of.
-    pub fn new(alloc: Global, manner: Manner) -> Self {
+    pub fn new(alloc: Global, manner: Manner) -> Self
+        ensures bytes { result.bytes.items ≡ [] }
+        ensures manner { result.calls.manner ≡ manner }
+        ensures made { result.calls.made ≡ 0 }
+        ensures failed { result.calls.failed ≡ 0 }
+    {
         FailingSink {
             bytes: Vec::new(alloc),
             calls: Calls::new(manner),
@@ -86,17 +93,24 @@ impl FailingSink {
     }
 
     /// The bytes that it holds.
-    pub fn bytes(&self) -> &[u8] {
+    pub fn bytes(&self) -> &[u8]
+        ensures { result.now ≡ self.now.bytes.items }
+    {
         self.bytes.as_slice()
     }
 
     /// Empties the sink. Its calls are still counted.
-    pub fn empty(&mut self) {
+    pub fn empty(&mut self)
+        ensures bytes { self.new.bytes.items ≡ [] }
+        ensures calls { self.new.calls ≡ self.old.calls }
+    {
         self.bytes.clear();
     }
 
     /// How many calls were made of it.
-    pub fn calls(&self) -> usize {
+    pub fn calls(&self) -> usize
+        ensures { result ≡ self.now.calls.made }
+    {
         self.calls.made
     }
 }
@@ -135,6 +149,8 @@ impl<'a> FailingFeed<'a> {
     /// A feed of these bytes that no call was made of.
     pub fn new(bytes: &'a [u8], manner: Manner) -> Self
         ensures bytes { result.rest.now ≡ bytes.now }
+        ensures manner { result.calls.manner ≡ manner }
+        ensures made { result.calls.made ≡ 0 }
         ensures failed { result.calls.failed ≡ 0 }
     {
         FailingFeed {
@@ -144,17 +160,24 @@ impl<'a> FailingFeed<'a> {
     }
 
     /// The bytes that it still holds.
-    pub fn rest(&self) -> &'a [u8] {
+    pub fn rest(&self) -> &'a [u8]
+        ensures { result.now ≡ self.now.rest.now }
+    {
         self.rest
     }
 
     /// Fills the feed with these bytes. Its calls are still counted.
-    pub fn refill(&mut self, bytes: &'a [u8]) {
+    pub fn refill(&mut self, bytes: &'a [u8])
+        ensures bytes { self.new.rest.now ≡ bytes.now }
+        ensures calls { self.new.calls ≡ self.old.calls }
+    {
         self.rest = bytes;
     }
 
     /// How many calls were made of it.
-    pub fn calls(&self) -> usize {
+    pub fn calls(&self) -> usize
+        ensures { result ≡ self.now.calls.made }
+    {
         self.calls.made
     }
 }

@@ -1,8 +1,8 @@
 //! Audits of files that give a few bytes a read, and of files of which a read fails.
 
-use program_fixtures::{Memory, audit, classes, scratch, session_files};
+use program_fixtures::{Devices, Ended, audit, classes, scratch, session_files};
+use session_file::MemorySink;
 use std::alloc::{AllocError, Global};
-use std::cell::Cell;
 use std::io::ErrorKind;
 use std::sync::Wait;
 use std::test::Fail;
@@ -21,79 +21,46 @@ const THERE: &[&str] = &[
 
 const NAMES: &[&str] = &["s0", "s1", "s2"];
 
-/// What an audit ends with, and how often it has read.
-#[derive(Drop)]
-struct Ended {
-    status: u8,
-    out: Vec<u8>,
-    err: Vec<u8>,
-    reads: usize,
-}
-
-impl Ended {
-    fn is(&self, status: u8, out: &[u8], err: &str) -> bool {
-        self.status == status && self.out.as_slice() == out && self.err.as_slice() == err.as_bytes()
-    }
-}
-
-/// How files are read: how many bytes a read gives at most, and which one fails, and how.
-#[derive(Clone, Copy)]
-struct Reading {
-    most: usize,
-    failing: Option<(usize, ErrorKind)>,
-}
-
-/// So many bytes a read.
-fn by(most: usize) -> Reading {
-    Reading {
-        most,
-        failing: None,
-    }
-}
-
 /// The files of the names `s0`, `s1` and `s2`.
-fn named<'a>(alloc: Global, files: &'a [Vec<u8>]) -> Result<Vec<(&'a str, &'a [u8])>, AllocError> {
+fn named<'a>(
+    alloc: Global,
+    files: &'a [MemorySink],
+) -> Result<Vec<(&'a str, &'a [u8])>, AllocError> {
     let mut list = Vec::new(alloc);
     for (name, file) in NAMES.iter().zip(files) {
-        list.push((*name, file.as_slice()))?;
+        list.push((*name, file.bytes()))?;
     }
     Ok(list)
 }
+
+/// How files are read: how many bytes a read gives at most, and which one fails, and how.
+type Reading = (usize, Option<(usize, ErrorKind)>);
 
 /// Audits the files of these names.
 fn audited<T: Threads + Wait + Sync>(
     rt: &T,
     alloc: Global,
-    files: &[Vec<u8>],
+    files: &[MemorySink],
     names: &[&str],
     reading: Reading,
 ) -> Result<Ended, AllocError> {
-    let reads = Cell::new(0);
     let files = named(alloc, files)?;
-    let memory = Memory {
-        files: files.as_slice(),
-        most: reading.most,
-        reads: &reads,
-        failing: reading.failing,
+    let (most, failing) = reading;
+    let devices = Devices {
+        most,
+        failing,
+        ..Devices::of(files.as_slice())
     };
-    let mut out: Vec<u8> = Vec::new(alloc);
-    let mut err: Vec<u8> = Vec::new(alloc);
-    let status = audit(rt, alloc, memory, names, &mut out, &mut err)?;
-    Ok(Ended {
-        status,
-        out,
-        err,
-        reads: reads.get(),
-    })
+    audit(rt, alloc, devices, names)
 }
 
 #[test]
 fn a_chain_by_any_number_of_bytes(rt: HostRuntime) -> Result<(), Fail> {
-    let files = session_files(&rt, &rt, "chain", THERE_AND_BACK)?;
+    let files = session_files(&rt, rt.alloc(), THERE_AND_BACK)?;
     for most in [1, 2, 3, 7, 4096] {
-        let ended = audited(&rt, rt.alloc(), files.as_slice(), NAMES, by(most))?;
+        let ended = audited(&rt, rt.alloc(), files.as_slice(), NAMES, (most, None))?;
         assert!(rt;
-            ended.is(0, b"class M\n", "accepted: 3 sessions, 22 runs\n"),
+            ended.is(0, b"class M\n", b"accepted: 3 sessions, 22 runs\n"),
             "{most}"
         );
     }
@@ -106,17 +73,8 @@ fn answer_of<T: Threads + Wait + Sync>(
     alloc: Global,
     text: &str,
 ) -> Result<Vec<u8>, AllocError> {
-    let reads = Cell::new(0);
     let files = [("M.java", text.as_bytes())];
-    let memory = Memory {
-        files: &files,
-        most: usize::MAX,
-        reads: &reads,
-        failing: None,
-    };
-    let mut out: Vec<u8> = Vec::new(alloc);
-    let mut err: Vec<u8> = Vec::new(alloc);
-    scratch(rt, alloc, memory, &["M.java"], &mut out, &mut err)?;
+    let Ended { out, .. } = scratch(rt, alloc, Devices::of(&files), &["M.java"])?;
     Ok(out)
 }
 
@@ -125,19 +83,19 @@ fn answer_of<T: Threads + Wait + Sync>(
 fn is_audited_by<T: Threads + Wait + Sync>(
     rt: &T,
     alloc: Global,
-    files: &[Vec<u8>],
+    files: &[MemorySink],
     text: &str,
     most: usize,
 ) -> Result<bool, AllocError> {
     let answer = answer_of(rt, alloc, text)?;
-    let ended = audited(rt, alloc, files, &["s0"], by(most))?;
-    Ok(ended.is(0, answer.as_slice(), "accepted: 1 sessions, 3210 runs\n"))
+    let ended = audited(rt, alloc, files, &["s0"], (most, None))?;
+    Ok(ended.is(0, answer.as_slice(), b"accepted: 1 sessions, 3210 runs\n"))
 }
 
 #[test]
 fn many_classes_by_any_number_of_bytes(rt: HostRuntime) -> Result<(), Fail> {
     let text = classes(rt.alloc(), 400)?;
-    let files = session_files(&rt, &rt, "many", &[text.as_str()])?;
+    let files = session_files(&rt, rt.alloc(), &[text.as_str()])?;
     for most in [1, 2, 3, 7, 4096] {
         assert!(rt;
             is_audited_by(&rt, rt.alloc(), files.as_slice(), &text, most)?,
@@ -191,16 +149,13 @@ const ROWS: &[Row] = &[
 
 #[test]
 fn a_failed_read_ends_the_audit(rt: HostRuntime) -> Result<(), Fail> {
-    let files = session_files(&rt, &rt, "failing", THERE_AND_BACK)?;
+    let files = session_files(&rt, rt.alloc(), THERE_AND_BACK)?;
     for row in ROWS {
         let (names, read, kind, status, err, reads) = *row;
-        let reading = Reading {
-            most: usize::MAX,
-            failing: Some((read, kind)),
-        };
+        let reading = (usize::MAX, Some((read, kind)));
         let ended = audited(&rt, rt.alloc(), files.as_slice(), names, reading)?;
         assert!(rt;
-            ended.is(status, b"", err) && ended.reads == reads,
+            ended.is(status, b"", err.as_bytes()) && ended.reads == reads,
             "{row:?}"
         );
     }
@@ -210,14 +165,11 @@ fn a_failed_read_ends_the_audit(rt: HostRuntime) -> Result<(), Fail> {
 // A read in the middle of a file fails, whichever it is.
 #[test]
 fn a_file_that_fails_midway(rt: HostRuntime) -> Result<(), Fail> {
-    let files = session_files(&rt, &rt, "midway", THERE)?;
+    let files = session_files(&rt, rt.alloc(), THERE)?;
     for read in 0..12 {
-        let reading = Reading {
-            most: 100,
-            failing: Some((read, ErrorKind::Other)),
-        };
+        let reading = (100, Some((read, ErrorKind::Other)));
         let ended = audited(&rt, rt.alloc(), files.as_slice(), &["s0"], reading)?;
-        assert!(rt; ended.is(2, b"", "cannot read s0\n"), "{read}");
+        assert!(rt; ended.is(2, b"", b"cannot read s0\n"), "{read}");
     }
     Ok(())
 }
