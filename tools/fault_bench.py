@@ -18,6 +18,8 @@ SECONDS = 60
 M1 = "class M { public static void main(String[] a) { System.out.println(%s); } }"
 TWO = "class A { public int f() { return %s; } public int g() { return 2; } }"
 CLASSES = 40
+# The classes of a chain, each with a field and a method, in a file of its own session.
+CHAIN = 400
 # How many lines are written on what is wrong with one command at most.
 LINES = 5
 
@@ -40,6 +42,14 @@ def many_classes():
     return [before, project.texts()]
 
 
+def chain_of_classes():
+    """A main class and a chain of classes, each of which extends the one before it."""
+    rows = [(number, f" extends C{number - 1}" if number else "", max(0, number - 1)) for number in range(CHAIN)]
+    classes = [f"class C{number}{extends} {{ int x{number}; public int f{number}() {{ return x{read}; }} }}\n"
+               for number, extends, read in rows]
+    return [[("M.java", M1 % "1" + "\n" + "".join(classes))]]
+
+
 def worked():
     """Two versions of each worked example, by its name."""
     return {
@@ -58,10 +68,11 @@ def longer():
 class Command:
     """Words for the program, with the versions of the project that were checked before and the one that is there.
 
-    With `cut` the last session's file was cut to so many bytes."""
+    With `cut` the last session's file was cut to so many bytes; with `ways` the command is run in these ways alone."""
 
-    def __init__(self, name, project, words, checked=(), version=0, cut=None):
+    def __init__(self, name, project, words, checked=(), version=0, cut=None, ways=None):
         self.name, self.project, self.checked, self.version, self.cut = name, project, checked, version, cut
+        self.ways = ways
         files = [file for file, _ in project[version]]
         self.chain = [f"cache/c0000/s{number:04}.mjrg" for number in range(len(checked))]
         self.words = words + {"audit": self.chain, "show": self.chain[-1:], "help": []}.get(words[0], files)
@@ -85,11 +96,17 @@ def commands(projects):
 def others():
     """Commands that end otherwise: with help, with a refusal, with a note."""
     one, faulty = (worked()[name] for name in ("one class", "a fault"))
+    two_files = [[("A.java", TWO % "1"), ("M.java", M1 % "new A().f()")]]
     check = ["check", "--cache", "cache"]
     return [Command("help", one, ["help"]), Command("help of check", one, ["help", "check"]),
             Command("refused words", one, [*check, "--jobs", "65"]),
             Command("a file that isn't there", one, ["scratch", "nowhere"]),
             Command("a file twice", one, ["scratch", one[0][0][0]]),
+            Command("scratch of two files", two_files, ["scratch"]),
+            Command("check of two files", two_files, check, [0]),
+            Command("audit of sessions in another order", one, ["audit", "cache/c0000/s0001.mjrg"], [0, 1, 0]),
+            Command("audit of a chain that begins again", one, ["audit", "cache/c0000/s0000.mjrg"], [0, 1, 0]),
+            Command("audit of many classes", chain_of_classes(), ["audit"], [0], ways=["by bytes"]),
             Command("no sentence", [[("M.java", M1 % "1" + "class {"), ("N.java", "/* /*")]], ["scratch"]),
             Command("check over a session that is cut", one, check, [0, 0], cut=100),
             Command("check with faults over a session that is cut", faulty, check, [0], cut=0),
@@ -98,7 +115,8 @@ def others():
 
 
 Outcome = collections.namedtuple("Outcome", "status error output files folders")
-Counts = collections.namedtuple("Counts", "allocations refused calls failed first")
+Counts = collections.namedtuple("Counts", "allocations refused calls failed first opened")
+COUNTS = f"={len(Counts._fields)}Q"
 
 
 class Faults:
@@ -106,8 +124,8 @@ class Faults:
 
     def __init__(self, shim, folder):
         self.shim, self.file = str(shim), os.open(Path(folder) / "counts", os.O_RDWR | os.O_CREAT)
-        os.truncate(self.file, struct.calcsize("=5Q"))
-        self.shared = mmap.mmap(self.file, struct.calcsize("=5Q"))
+        os.truncate(self.file, struct.calcsize(COUNTS))
+        self.shared = mmap.mmap(self.file, struct.calcsize(COUNTS))
 
     def begin(self, numbers):
         """Begins to count anew. Returns the environment for a run with these faults, told by the environment's names."""
@@ -116,7 +134,7 @@ class Faults:
         return {"LD_PRELOAD": self.shim, "FAULTS_FD": str(self.file), **numbers}
 
     def counts(self):
-        return Counts(*struct.unpack("=5Q", self.shared))
+        return Counts(*struct.unpack(COUNTS, self.shared))
 
 
 class Bench:
@@ -177,6 +195,8 @@ def tried(ways, program, shim_path, command):
     with tempfile.TemporaryDirectory(prefix="mjrg-faults-") as folder:
         bench = Bench(program, shim_path, command, folder)
         for way, run in ways.items():
+            if command.ways is not None and way not in command.ways:
+                continue
             came[way] = collections.Counter()
             try:
                 for name, outcome, fault in run(bench):

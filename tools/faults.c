@@ -5,7 +5,7 @@
    and with REFUSE_OVER each of more bytes than that; a thread counts as an allocation. With FAIL_FROM and FAIL_TO the
    calls on devices of these numbers, with the error FAIL_WITH, or for 0 the program is killed there; with FAIL_NOTHING
    only writes are counted, and those of these numbers take nothing and tell no error; with FAIL_SHORT each read and write
-   is of one byte.
+   is of so many bytes at most.
    FAULTS_FD is the number of an open file for what is counted, also where the program ends by a signal. What comes
    before the program is loaded whole isn't counted and doesn't fail. */
 #define _GNU_SOURCE
@@ -30,9 +30,10 @@ extern void *__libc_memalign(size_t, size_t);
 
 typedef int creating(pthread_t *, const pthread_attr_t *, void *(*)(void *), void *);
 
-/* The last is the first call that failed: by its letter, or for a write its stream or 3. */
+/* `first` is the first call that failed: by its letter, or for a write its stream or 3; `opened` is how many files were to be
+   opened for reading, up to that call. */
 struct counts {
-    uint64_t allocations, refused, calls, failed, first;
+    uint64_t allocations, refused, calls, failed, first, opened;
 };
 
 static struct counts *counts;
@@ -114,6 +115,8 @@ static int fails(uint64_t call) {
     if (!counts || (fail_nothing != UINT64_MAX && call > 3))
         return 0;
     at = __atomic_add_fetch(&counts->calls, 1, __ATOMIC_SEQ_CST);
+    if (call == 'o' && !__atomic_load_n(&counts->failed, __ATOMIC_SEQ_CST))
+        __atomic_add_fetch(&counts->opened, 1, __ATOMIC_SEQ_CST);
     if (at < fail_from || at > fail_to)
         return 0;
     __atomic_add_fetch(&counts->failed, 1, __ATOMIC_SEQ_CST);
@@ -127,7 +130,7 @@ static int fails(uint64_t call) {
 }
 
 static size_t shortened(size_t bytes) {
-    return fail_short != UINT64_MAX && bytes > 1 ? 1 : bytes;
+    return bytes > fail_short ? fail_short : bytes;
 }
 
 ssize_t read(int file, void *to, size_t bytes) {

@@ -12,7 +12,7 @@ use Rattle.byte_readers.specs.Spelling.{two, list}
 use Rattle.byte_readers.specs.Reading.{Decoder, any, two_at, made_at}
 use Rattle.byte_readers.specs.Lawful.{IsBytes, Takes, Lawful}
 use Rattle.byte_readers.specs.Laws.{IsBytes-rest, bind_ok, ok_is, takes_nothing, takes_behind, found_passes, made_takes, made_again, lawful_two, lawful_four, lawful_name, lawful_pair, lawful_list, lawful_made, lawful_where, any_admits}
-use Rattle.tree_bytes.specs.TypeLaws.{lawful_ty}
+use Rattle.tree_spelling.specs.TypeLaws.{lawful_ty}
 use Rattle.answer_bytes.specs.Canon.{field_row, method_row, table, project_place, class_place, project_fault, class_fault, class_answer, answer}
 use Rattle.answer_bytes.specs.Storable.{FieldRowFits, MethodRowFits, TableFits, IsProjectPlace, IsClassPlace, PlaceNameFits, ProjectFaultFits, ClassFaultFits, ProjectFaultsFit, ClassFaultsFit, ClassAnswerFits, AnswerFits}
 use Rattle.answer_bytes.specs.Reading.{field_row_of, field_row_at, method_row_of, method_row_at, table_of, table_at, class_of, project_place_at, inside_of, class_place_at, known_code, code_at, diagnostic_of, project_fault_at, class_fault_at, project_faults_at, class_faults_at, class_answer_of, class_answer_at, answer_of, answer_at}

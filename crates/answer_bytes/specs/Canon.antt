@@ -7,7 +7,7 @@ use Rattle.mj_answer.specs.declared.table.FieldRow.{FieldRow}
 use Rattle.mj_answer.specs.Codes.{code_number}
 use Rattle.mj_answer.specs.AnswerValues.{MethodRowValue, ClassTableValue, ClassAnswerValue, AnswerValue}
 use Rattle.byte_readers.specs.Spelling.{two, four, name, list}
-use Rattle.tree_bytes.specs.Spelling.{ty}
+use Rattle.tree_spelling.specs.Spelling.{ty}
 
 -- a field: its name, its owner, its type
 abbrev pub field_row : FieldRow → List ℕ

@@ -14,7 +14,7 @@ use Rattle.mj_answer.specs.AnswerValues.{MethodRowValue, ClassTableValue, ClassA
 use Rattle.byte_readers.specs.declared.breach.Breach.TheVariants.{Short}
 use Rattle.byte_readers.specs.Reading.{◌>>=◌, Decoder, not_canonical, any, two_at, four_at, name_at, pair_at, made_at, list_at}
 use Rattle.byte_readers.specs.Orders.{is_after}
-use Rattle.tree_bytes.specs.Reading.{ty_at}
+use Rattle.tree_spelling.specs.Reading.{ty_at}
 
 -- by name
 abbrev pub by_name : {A : Type 0} → (A → List ℕ) → A → A → Bool

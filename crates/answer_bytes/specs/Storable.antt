@@ -9,7 +9,7 @@ use Rattle.mj_answer.specs.declared.table.FieldRow.{FieldRow}
 use Rattle.mj_answer.specs.AnswerValues.{MethodRowValue, ClassTableValue, ClassAnswerValue, AnswerValue}
 use Rattle.mj_answer.specs.Order.{NameBefore, Before, IsAscendingBy, IsClassInOrder}
 use Rattle.byte_readers.specs.Names.{IsName}
-use Rattle.tree_bytes.specs.Storable.{TyFits}
+use Rattle.tree_spelling.specs.Storable.{TyFits}
 
 -- a number of items that can be written
 abbrev pub IsCount : ℕ → Type 0

@@ -6,7 +6,7 @@ use byte_readers::{
 };
 use mj_answer::{FieldRow, MethodRow};
 use std::alloc::{AllocError, Global};
-use tree_bytes::{TypeFormat, check_ty, put_ty, read_ty};
+use tree_spelling::{TypeFormat, check_ty, put_ty, read_ty};
 
 /// Fields with their owners, in the order of their names.
 pub struct FieldRowFormat;

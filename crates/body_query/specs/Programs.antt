@@ -1,12 +1,9 @@
 -- A check that asks, as a query program.
-use Rattle.std.specs.Prelude.{Bool, List, Option}
-use Rattle.item_ids.specs.declared.key.Key.TheVariants as keys
-use Rattle.mj_tree.specs.Trees.{Name}
-use Rattle.mj_tree.specs.declared.tree.Ty.{Ty}
+use Rattle.std.specs.Prelude.{List}
 use Rattle.mj_phrases.specs.declared.verdict.Mistake.{Mistake}
-use Rattle.mj_phrases.specs.Inquiries.{Sig, Concludes, AsksDescent, AsksField, AsksMethod, AsksDeclared}
+use Rattle.mj_phrases.specs.Inquiries.{Concludes, AsksDescent, AsksField, AsksMethod, AsksDeclared}
 use Rattle.mj_phrases.specs.Steps.{Check}
-use Rattle.recorder.specs.Programs.{Prog, Ask}
+use Rattle.recorder.specs.Programs.{Prog}
 use Rattle.body_questions.specs.Questions.{descends_step, field_step, method_step, declared_step}
 
 -- a check, continued with its mistakes

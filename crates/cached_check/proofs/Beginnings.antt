@@ -1,5 +1,5 @@
 -- What begins behind what was read of a cache begins.
-use Rattle.std.proofs.Common.{◌≡◌, ℕ, List}
+use Rattle.std.proofs.Common.{ℕ, List}
 use Rattle.std.specs.Prelude.{Result, Ok, Err, IfOk, IfErr}
 use Rattle.session_cache.specs.Starts.{IsLast}
 use Rattle.session_cache.specs.declared.start.Last.{Last}

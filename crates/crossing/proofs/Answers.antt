@@ -1,7 +1,6 @@
 -- Answers and diagnostics may go from one thread to another, and be shared.
 use denote.Param.Send.{IsSend, IsSync}
 use Rattle.mj_tree.specs.contracts.place.Place as place
-use Rattle.mj_answer.specs.contracts.code.Code as code
 use Rattle.mj_answer.proofs.code.Code.TheSendSync as code_crosses
 use Rattle.mj_answer.specs.contracts.diagnostic.Diagnostic as diagnostic
 use Rattle.mj_answer.specs.contracts.table.FieldRow as field_row

@@ -1,5 +1,5 @@
 -- Keys that are looked up in sets, which tell them apart by their order.
-use Rattle.std.proofs.Common.{◌≡◌, ℕ, suc, zero, ◌+◌, ◌<◌, Bool, true, false, not, cond, ◌||◌, List, [], ◌∷◌, length, position, get_or, refl, sym, ap, ◌∙◌, subst, Some, None, arith, true≢false}
+use Rattle.std.proofs.Common.{◌≡◌, ℕ, suc, ◌+◌, ◌<◌, true, false, not, cond, ◌||◌, List, [], ◌∷◌, length, position, get_or, refl, sym, subst, Some, None, arith, true≢false}
 use Rattle.std.specs.Prelude.{nat_lt, Contains}
 use Rattle.std.specs.List.{list_any, position_or_len}
 use Rattle.std.specs.Ordering.{eq_by_cmp}

@@ -1,5 +1,5 @@
 -- Files that are taken by their names, one after the other.
-use Rattle.std.proofs.Common.{◌≡◌, ◌∷◌, [], ◌++◌, List, ℕ, zero, suc, ◌+◌, length, map, slice_get, Option, Some, refl, sym, ap, subst, ◌∙◌, arith}
+use Rattle.std.proofs.Common.{◌≡◌, ◌∷◌, [], ◌++◌, List, ℕ, suc, ◌+◌, length, map, slice_get, Some, refl, sym, ap, subst, ◌∙◌, arith}
 use Rattle.std.proofs.lemmas.List.{append-nil}
 
 many_map : {A B : Type 0} (f : A → B) (ys : List A) → length (map f ys) ≡ length ys

@@ -1,5 +1,5 @@
 -- What a run says of its case.
-use Rattle.std.proofs.Common.{List, ℕ, Bool, IsTrue, IfOk}
+use Rattle.std.proofs.Common.{List, Bool, IsTrue, IfOk}
 use Rattle.std.specs.Prelude.{Result, Ok, Err, ◌↔◌}
 use Rattle.item_ids.specs.declared.key.Key.{Key}
 use Rattle.result_bytes.specs.declared.value.Value.{Value}

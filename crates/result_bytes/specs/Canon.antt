@@ -1,7 +1,7 @@
 -- The canonical bytes of the items that values are made of. Numbers are big endian.
 use Rattle.std.specs.Prelude.{ℕ, Bool, true, false, List, [], ◌∷◌, ◌++◌, length}
 use Rattle.byte_readers.specs.Spelling.{eight, name, option, list}
-use Rattle.tree_bytes.specs.Spelling.{ty, field}
+use Rattle.tree_spelling.specs.Spelling.{ty, field}
 use Rattle.result_bytes.specs.declared.parts.ChainEnd.{ChainEnd}
 use Rattle.result_bytes.specs.declared.parts.ChainEnd.TheVariants.{Top, Undeclared, Repeated}
 use Rattle.result_bytes.specs.declared.files.IndexRow.{IndexRow}

@@ -10,7 +10,7 @@ use Rattle.byte_readers.specs.Spelling.{eight, name, list}
 use Rattle.byte_readers.specs.Reading.{not_canonical, any, eight_at, name_at, list_from}
 use Rattle.byte_readers.specs.Lawful.{IsBytes, Takes, Lawful}
 use Rattle.byte_readers.specs.Laws.{IsBytes-drop, bind_ok, guard_ok, guard_so, ok_is, Takes-then, made_again, lawful_eight, lawful_name, lawful_pair, lawful_option, lawful_list, list_takes, list_again, whole_list, lawful_made, lawful_where, any_admits}
-use Rattle.tree_bytes.specs.TypeLaws.{lawful_ty, lawful_field}
+use Rattle.tree_spelling.specs.TypeLaws.{lawful_ty, lawful_field}
 use Rattle.result_bytes.specs.declared.parts.ChainEnd.{ChainEnd}
 use Rattle.result_bytes.specs.declared.parts.ChainEnd.TheVariants.{Top, Undeclared, Repeated}
 use Rattle.result_bytes.specs.Canon.{text, index_row, boolean, header, signature, chain_end, chain}

@@ -7,7 +7,7 @@ use Rattle.mj_tree.specs.declared.tree.Field.{Field}
 use Rattle.byte_readers.specs.declared.breach.Breach.TheVariants.{Short}
 use Rattle.byte_readers.specs.Reading.{◌>>=◌, Decoder, not_canonical, any, eight_at, name_at, pair_at, made_at, option_at, list_from, list_at}
 use Rattle.byte_readers.specs.Orders.{is_after}
-use Rattle.tree_bytes.specs.Reading.{ty_at, field_at}
+use Rattle.tree_spelling.specs.Reading.{ty_at, field_at}
 use Rattle.result_bytes.specs.declared.parts.ChainEnd.{ChainEnd}
 use Rattle.result_bytes.specs.declared.parts.ChainEnd.TheVariants.{Top, Undeclared, Repeated}
 use Rattle.result_bytes.specs.declared.files.IndexRow.{IndexRow}

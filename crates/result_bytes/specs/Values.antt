@@ -7,9 +7,9 @@ use Rattle.byte_readers.specs.declared.breach.Breach.{Breach}
 use Rattle.byte_readers.specs.declared.breach.Breach.TheVariants as breaches
 use Rattle.byte_readers.specs.Spelling.{name, option, list}
 use Rattle.byte_readers.specs.Reading.{Decoder, made_at, option_at}
-use Rattle.tree_bytes.specs.Spelling.{file}
-use Rattle.tree_bytes.specs.Storable.{FileFits}
-use Rattle.tree_bytes.specs.Reading.{file_at}
+use Rattle.tree_spelling.specs.Spelling.{file}
+use Rattle.tree_spelling.specs.Storable.{FileFits}
+use Rattle.tree_spelling.specs.Reading.{file_at}
 use Rattle.tree_bytes.specs.Bodies.{body, BodyFits, body_at}
 use Rattle.result_bytes.specs.declared.refusal.Refusal.{Refusal}
 use Rattle.result_bytes.specs.declared.refusal.Refusal.TheVariants.{Short, Trailing, NotCanonical, WrongKind, OutOfMemory}

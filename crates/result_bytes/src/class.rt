@@ -12,7 +12,7 @@ use mj_lexer::Name;
 use mj_tree::{Field, Ty};
 use std::alloc::{AllocError, Global};
 use std::marker::Model;
-use tree_bytes::{FieldFormat, TypeFormat, check_ty, put_ty, read_ty};
+use tree_spelling::{FieldFormat, TypeFormat, check_ty, put_ty, read_ty};
 
 /// A class without its bodies: whether it is the main class, its superclass, its fields with their types and the
 /// names of its methods, repeated ones too. The main class has no fields and no methods.

@@ -1,5 +1,5 @@
 -- Keys that are asked for, and what came of them.
-use Rattle.std.proofs.Common.{◌≡◌, List, [], ◌∷◌, ◌++◌, Result, Ok, Err, IfOk, refl, subst}
+use Rattle.std.proofs.Common.{List, [], ◌∷◌, ◌++◌, Result, Ok, Err, IfOk, refl, subst}
 use Rattle.run_fixtures.specs.declared.counting.Ask.{Ask}
 use Rattle.run_fixtures.specs.Asking.{Counted, Becomes, AllBecome}
 

@@ -6,7 +6,7 @@ use Rattle.mj_expressions.specs.Expressions.{size, sizes, sizes_more, height}
 use Rattle.mj_parser.specs.Statements.{stmt_size, stmts_size, stmt_height}
 use Rattle.mj_parser.specs.Rows.{row_size}
 use Rattle.mj_parser.specs.Declarations.{formals_size, more_formal_size}
-use Rattle.tree_bytes.specs.Spelling.{count_exps, count_stmts}
+use Rattle.tree_spelling.specs.Spelling.{count_exps, count_stmts}
 
 pub some_height : (e : Expression) → 0 < height e
 some_height (Binary o m l r) = omega arith

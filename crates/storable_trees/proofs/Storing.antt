@@ -26,7 +26,7 @@ use Rattle.mj_expressions.proofs.Marks.{name_within, says_name}
 use Rattle.mj_expressions.proofs.Stands.{stands_within}
 use Rattle.mj_parser.proofs.StatementAgain.{print_name}
 use Rattle.byte_readers.specs.Names.{IsName}
-use Rattle.tree_bytes.specs.Storable.{TyFits, FieldFits, VariableFits, ExpFits, ExpsFit, StmtFits, StmtsFit, TopStmtFits, TopStmtsFit, TopExpFits, MethodFits, MainFits, ClassFits, FileFits}
+use Rattle.tree_spelling.specs.Storable.{TyFits, FieldFits, VariableFits, ExpFits, ExpsFit, StmtFits, StmtsFit, TopStmtFits, TopStmtsFit, TopExpFits, MethodFits, MainFits, ClassFits, FileFits}
 use Rattle.storable_trees.proofs.TextTokens.{KindFits, TokenFits, tokens_fit, tokens_few}
 use Rattle.storable_trees.proofs.Counts.{some_height, some_stmt_height, arguments_count, statements_count, row_count, formals_count}
 

@@ -4,7 +4,7 @@ use Rattle.mj_lexer.specs.declared.token.Token.{Token}
 use Rattle.mj_lexer.specs.Lexes.{Lexes}
 use Rattle.mj_tree.specs.Trees.{File}
 use Rattle.mj_parser.specs.Declarations.{Derives}
-use Rattle.tree_bytes.specs.Storable.{FileFits}
+use Rattle.tree_spelling.specs.Storable.{FileFits}
 
 abbrev pub StorableLaw : Type 0
 StorableLaw =

@@ -10,12 +10,13 @@ use Rattle.mj_tree.specs.declared.tree.Ty.{Ty}
 use Rattle.mj_tree.specs.declared.tree.Variable.{Variable}
 use Rattle.mj_tree.specs.Trees.{Statement, Method}
 use Rattle.tree_bytes.specs.Bodies.{BodyValue, OfMain, OfMethod, BodyFits, body, body_at, body_spelled, statement_of, method_of, types_of}
-use Rattle.tree_bytes.specs.FileLaws.{lawful_body, lawful_tagged, lawful_top_stmt}
-use Rattle.tree_bytes.specs.Reading.{top_stmt_at, tagged_method_at, types_at}
-use Rattle.tree_bytes.specs.Skipping.{behind}
-use Rattle.tree_bytes.specs.Spelling.{ty, variable, exp, stmt, stmts, count_stmts, method}
-use Rattle.tree_bytes.specs.TypeLaws.{lawful_ty, lawful_variable}
-use Rattle.tree_bytes.specs.Storable.{MethodFits, TopStmtFits}
+use Rattle.tree_bytes.specs.BodyLaws.{lawful_body}
+use Rattle.tree_spelling.specs.FileLaws.{lawful_tagged, lawful_top_stmt}
+use Rattle.tree_spelling.specs.Reading.{top_stmt_at, tagged_method_at, types_at}
+use Rattle.tree_spelling.specs.Skipping.{behind}
+use Rattle.tree_spelling.specs.Spelling.{ty, variable, exp, stmt, stmts, count_stmts, method}
+use Rattle.tree_spelling.specs.TypeLaws.{lawful_ty, lawful_variable}
+use Rattle.tree_spelling.specs.Storable.{MethodFits, TopStmtFits}
 
 -- what is given once is the same each time
 ok_same : {A : Type 0} {a b : A} (r : Result A Breach) → r ≡ Ok a → r ≡ Ok b → a ≡ b

@@ -6,13 +6,13 @@ use Rattle.mj_tree.specs.declared.tree.Ty.{Ty}
 use Rattle.mj_tree.specs.declared.tree.Ty.TheVariants.{Int}
 use Rattle.mj_tree.specs.declared.tree.Variable.{Variable}
 use Rattle.mj_tree.specs.Trees.{Statement, Block, done, This, Method}
-use Rattle.tree_bytes.specs.Spelling.{stmt, method}
-use Rattle.tree_bytes.specs.Storable.{TopStmtFits, MethodFits}
+use Rattle.tree_spelling.specs.Spelling.{stmt, method}
+use Rattle.tree_spelling.specs.Storable.{TopStmtFits, MethodFits}
 use Rattle.byte_readers.specs.declared.breach.Breach.{Breach}
 use Rattle.byte_readers.specs.declared.breach.Breach.TheVariants.{Short}
 use Rattle.byte_readers.specs.Reading.{Decoder, not_canonical, made_at}
-use Rattle.tree_bytes.specs.Reading.{top_stmt_at, method_at}
-use Rattle.tree_bytes.specs.Codes.{statement_code, method_code}
+use Rattle.tree_spelling.specs.Reading.{top_stmt_at, method_at}
+use Rattle.tree_spelling.specs.Codes.{statement_code, method_code}
 
 pub data BodyValue : Type 0 where
   OfMain : (statement : Statement) → BodyValue

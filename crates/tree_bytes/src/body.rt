@@ -4,20 +4,19 @@ ghost use Rattle.mj_tree.specs.Views.{stmt_view, method_view};
 ghost use Rattle.byte_readers.specs.Reading.{Decodes};
 ghost use Rattle.tree_bytes.specs.Bodies.{OfMain, OfMethod, BodyFits, body, body_at, statement_of, method_of, types_of};
 ghost use Rattle.tree_bytes.specs.BodyViews.{body_view, types_view};
-ghost use Rattle.tree_bytes.specs.Reading.{top_stmt_at, tagged_method_at};
-ghost use Rattle.tree_bytes.specs.Skipping.{Skips, behind};
-ghost use Rattle.tree_bytes.specs.Storable.{TopStmtFits, MethodFits};
+ghost use Rattle.tree_spelling.specs.Reading.{top_stmt_at, tagged_method_at};
+ghost use Rattle.tree_spelling.specs.Skipping.{Skips, behind};
+ghost use Rattle.tree_spelling.specs.Storable.{TopStmtFits, MethodFits};
 
-use crate::methods::{read_method, read_types};
-use crate::skip_methods::skip_method;
-use crate::skip_statements::skip_top_stmt;
-use crate::statements::read_top_stmt;
-use crate::writing::{put_method, put_top_stmt};
+use crate::methods::read_types;
 use byte_readers::{Breach, ReadError, not_canonical, read_name};
 use mj_lexer::Name;
 use mj_tree::{MethodTree, Stmt, Ty, Variable};
 use std::alloc::{AllocError, Global};
 use std::marker::Model;
+use tree_spelling::{
+    put_method, put_top_stmt, read_method, read_top_stmt, skip_method, skip_top_stmt,
+};
 
 /// What a body belongs to.
 #[derive(Debug, Drop)]

@@ -1,19 +1,18 @@
 //! Reading classes and files.
 ghost use Rattle.std.specs.Prelude.{◌≡◌};
 ghost use Rattle.byte_readers.specs.Reading.{Decodes};
-ghost use Rattle.tree_bytes.specs.Reading.{main_at, class_at, file_at};
+ghost use Rattle.tree_spelling.specs.Reading.{main_at, class_at, file_at};
 ghost use Rattle.tree_bytes.specs.Stored.{stored_class, stored_file};
 
 use crate::body::Body;
 use crate::formats::{ClassTreeFormat, MainFormat, MethodFormat};
-use crate::skip_statements::skip_top_stmt;
 use crate::stored::{StoredClass, StoredFile, StoredMain};
-use crate::types::FieldFormat;
 use byte_readers::{NameFormat, ReadError, check_name, read_list, read_name, read_option};
 use std::alloc::Global;
+use tree_spelling::{FieldFormat, skip_top_stmt};
 
 /// Reads a main class.
-#[tactic(auto, unfolding(crate::specs::Reading::main_at))]
+#[tactic(auto, unfolding(tree_spelling::specs::Reading::main_at))]
 pub fn read_main(alloc: Global, bytes: &[u8]) -> Result<(StoredMain, &[u8]), ReadError>
     ensures { Decodes (λ x. x) result (main_at bytes.now) }
 {
@@ -25,7 +24,7 @@ pub fn read_main(alloc: Global, bytes: &[u8]) -> Result<(StoredMain, &[u8]), Rea
 }
 
 /// Reads a class.
-#[tactic(auto, unfolding(crate::specs::Reading::class_at))]
+#[tactic(auto, unfolding(tree_spelling::specs::Reading::class_at))]
 pub fn read_class(alloc: Global, bytes: &[u8]) -> Result<(StoredClass, &[u8]), ReadError>
     ensures { Decodes stored_class result (class_at bytes.now) }
 {
@@ -45,7 +44,7 @@ pub fn read_class(alloc: Global, bytes: &[u8]) -> Result<(StoredClass, &[u8]), R
 }
 
 /// Reads a file.
-#[tactic(auto, unfolding(crate::specs::Reading::file_at))]
+#[tactic(auto, unfolding(tree_spelling::specs::Reading::file_at))]
 pub fn read_file(alloc: Global, bytes: &[u8]) -> Result<(StoredFile, &[u8]), ReadError>
     ensures { Decodes stored_file result (file_at bytes.now) }
 {

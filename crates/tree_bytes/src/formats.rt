@@ -16,10 +16,10 @@ pub struct MethodFormat;
 impl Format for MethodFormat {
     ghost use Rattle.mj_tree.specs.Trees.{Method};
     ghost use Rattle.byte_readers.specs.Views.{plain};
-    ghost use Rattle.tree_bytes.specs.Spelling.{tagged_method};
-    ghost use Rattle.tree_bytes.specs.Storable.{MethodFits};
-    ghost use Rattle.tree_bytes.specs.Reading.{tagged_method_at};
-    ghost use Rattle.tree_bytes.specs.FileLaws.{lawful_tagged};
+    ghost use Rattle.tree_spelling.specs.Spelling.{tagged_method};
+    ghost use Rattle.tree_spelling.specs.Storable.{MethodFits};
+    ghost use Rattle.tree_spelling.specs.Reading.{tagged_method_at};
+    ghost use Rattle.tree_spelling.specs.FileLaws.{lawful_tagged};
 
     type Item = StoredMethod;
 
@@ -57,10 +57,10 @@ impl Format for ClassTreeFormat {
     ghost use Rattle.mj_tree.specs.Trees.{Class};
     ghost use Rattle.tree_bytes.specs.Stored.{stored_class};
     ghost use Rattle.byte_readers.specs.Views.{seen_by};
-    ghost use Rattle.tree_bytes.specs.Spelling.{class};
-    ghost use Rattle.tree_bytes.specs.Storable.{ClassFits};
-    ghost use Rattle.tree_bytes.specs.Reading.{class_at};
-    ghost use Rattle.tree_bytes.specs.FileLaws.{lawful_class};
+    ghost use Rattle.tree_spelling.specs.Spelling.{class};
+    ghost use Rattle.tree_spelling.specs.Storable.{ClassFits};
+    ghost use Rattle.tree_spelling.specs.Reading.{class_at};
+    ghost use Rattle.tree_spelling.specs.FileLaws.{lawful_class};
 
     type Item = StoredClass;
 
@@ -97,10 +97,10 @@ pub struct MainFormat;
 impl Format for MainFormat {
     ghost use Rattle.mj_tree.specs.Trees.{Main};
     ghost use Rattle.byte_readers.specs.Views.{plain};
-    ghost use Rattle.tree_bytes.specs.Spelling.{main};
-    ghost use Rattle.tree_bytes.specs.Storable.{MainFits};
-    ghost use Rattle.tree_bytes.specs.Reading.{main_at};
-    ghost use Rattle.tree_bytes.specs.FileLaws.{lawful_main};
+    ghost use Rattle.tree_spelling.specs.Spelling.{main};
+    ghost use Rattle.tree_spelling.specs.Storable.{MainFits};
+    ghost use Rattle.tree_spelling.specs.Reading.{main_at};
+    ghost use Rattle.tree_spelling.specs.FileLaws.{lawful_main};
 
     type Item = StoredMain;
 
@@ -135,10 +135,10 @@ impl Format for MainFormat {
 pub struct TreeFormat;
 
 impl Format for TreeFormat {
-    ghost use Rattle.tree_bytes.specs.Spelling.{file};
-    ghost use Rattle.tree_bytes.specs.Storable.{FileFits};
-    ghost use Rattle.tree_bytes.specs.Reading.{file_at};
-    ghost use Rattle.tree_bytes.specs.FileLaws.{lawful_file};
+    ghost use Rattle.tree_spelling.specs.Spelling.{file};
+    ghost use Rattle.tree_spelling.specs.Storable.{FileFits};
+    ghost use Rattle.tree_spelling.specs.Reading.{file_at};
+    ghost use Rattle.tree_spelling.specs.FileLaws.{lawful_file};
     ghost use Rattle.mj_tree.specs.Trees.{File};
     ghost use Rattle.byte_readers.specs.Views.{plain};
 
@@ -178,7 +178,7 @@ pub struct BodyFormat;
 
 impl Format for BodyFormat {
     ghost use Rattle.tree_bytes.specs.Bodies.{body, BodyFits, body_at};
-    ghost use Rattle.tree_bytes.specs.FileLaws.{lawful_body};
+    ghost use Rattle.tree_bytes.specs.BodyLaws.{lawful_body};
     ghost use Rattle.tree_bytes.specs.Bodies.{BodyValue};
     ghost use Rattle.byte_readers.specs.Views.{plain};
 

@@ -3,7 +3,7 @@ ghost use Rattle.std.specs.Prelude.{◌≡◌, IfOk, IfSome, map, option_map};
 ghost use Rattle.std.specs.List.{AllByRecursion};
 ghost use Rattle.mj_tree.specs.Views.{main_view, class_view, file_view, method_view};
 ghost use Rattle.tree_bytes.specs.Bodies.{OfMain, OfMethod};
-ghost use Rattle.tree_bytes.specs.Storable.{MainFits, MethodFits, ClassFits, FileFits};
+ghost use Rattle.tree_spelling.specs.Storable.{MainFits, MethodFits, ClassFits, FileFits};
 ghost use Rattle.tree_bytes.specs.Stored.{stored_class, stored_file};
 
 use crate::body::Body;
@@ -23,8 +23,8 @@ impl Model for StoredMethod {
     ghost use Rattle.std.specs.Prelude.{◌≡◌};
     ghost use Rattle.mj_tree.specs.Trees.{Method};
     ghost use Rattle.tree_bytes.specs.Bodies.{OfMethod, method_of};
-    ghost use Rattle.tree_bytes.specs.Codes.{method_code};
-    ghost use Rattle.tree_bytes.specs.Storable.{MethodFits};
+    ghost use Rattle.tree_spelling.specs.Codes.{method_code};
+    ghost use Rattle.tree_spelling.specs.Storable.{MethodFits};
 
     ghost Value = { Method };
 
@@ -65,8 +65,8 @@ impl Model for StoredMain {
     ghost use Rattle.std.specs.Prelude.{◌≡◌};
     ghost use Rattle.mj_tree.specs.Trees.{Main};
     ghost use Rattle.tree_bytes.specs.Bodies.{OfMain, statement_of};
-    ghost use Rattle.tree_bytes.specs.Codes.{main_code};
-    ghost use Rattle.tree_bytes.specs.Storable.{MainFits};
+    ghost use Rattle.tree_spelling.specs.Codes.{main_code};
+    ghost use Rattle.tree_spelling.specs.Storable.{MainFits};
 
     ghost Value = { Main };
 

@@ -2,7 +2,7 @@
 ghost use Rattle.std.specs.Prelude.{◌≡◌, IfOk, option_and_then, option_copied, option_map};
 ghost use Rattle.mj_tree.specs.Views.{file_view};
 ghost use Rattle.tree_bytes.specs.NamedBodies.{first_class, first_method};
-ghost use Rattle.tree_bytes.specs.Storable.{FileFits};
+ghost use Rattle.tree_spelling.specs.Storable.{FileFits};
 ghost use Rattle.tree_bytes.specs.Stored.{stored_class, stored_file};
 
 use crate::index::ClassIndex;
@@ -22,14 +22,14 @@ pub struct Tree {
 
 impl Model for Tree {
     ghost use Rattle.mj_tree.specs.Trees.{File};
-    ghost use Rattle.tree_bytes.specs.Codes.{file_code};
+    ghost use Rattle.tree_spelling.specs.Codes.{file_code};
 
     ghost Value = { File };
 
     ghost coded = { file_code };
 
     ghost use Rattle.tree_bytes.specs.Indexes.{IsIndexOf};
-    ghost use Rattle.tree_bytes.specs.Storable.{FileFits};
+    ghost use Rattle.tree_spelling.specs.Storable.{FileFits};
     ghost use Rattle.tree_bytes.specs.Stored.{stored_file};
 
     ghost view = { λ tree. stored_file tree.root };

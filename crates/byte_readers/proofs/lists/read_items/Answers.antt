@@ -1,4 +1,4 @@
-use Rattle.std.proofs.Common.{refl, map, sym, ◌∙◌}
+use Rattle.std.proofs.Common.{refl, map}
 use Rattle.std.proofs.lemmas.Result.{err_from_is_err_and}
 use Rattle.byte_readers.specs.Reading.{any}
 use Rattle.byte_readers.proofs.Loop.{goes_on, ends, is_done, one_more}

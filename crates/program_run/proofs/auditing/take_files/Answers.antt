@@ -1,6 +1,6 @@
-use Rattle.std.proofs.Common.{◌≡◌, ◌∷◌, [], ◌++◌, List, ℕ, length, map, string_bytes, slice_get, Some, sym, ap, subst, ◌∙◌, arith, append_assoc}
+use Rattle.std.proofs.Common.{◌≡◌, ◌∷◌, [], ◌++◌, length, map, string_bytes, sym, ap, subst, ◌∙◌, arith, append_assoc}
 use Rattle.std.specs.Vec.Iter.{into_iter_items}
-use Rattle.program_run.specs.Audits.{TookAll, StopsAt}
+use Rattle.program_run.specs.Audits.{TookAll}
 use Rattle.program_run.proofs.Taking.{many_more, named_at, nothing_left, all_of}
 use Rattle.program_run.proofs.auditing.take_files.Goals as goal
 

@@ -1,4 +1,4 @@
-use Rattle.std.proofs.Common.{◌≡◌, ◌++◌, ℕ, List, length, map, string_bytes}
+use Rattle.std.proofs.Common.{◌≡◌, ◌++◌, length, map, string_bytes}
 use Rattle.std.specs.Vec.Iter.{into_iter_items, into_iter_len}
 use Rattle.program_run.specs.Audits.{TookAll}
 use Rattle.program_run.proofs.auditing.take_files.Given as goal

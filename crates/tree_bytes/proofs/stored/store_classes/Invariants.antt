@@ -1,7 +1,7 @@
 use Rattle.std.proofs.Common.{◌≡◌, ◌++◌, map}
 use Rattle.std.specs.List.{AllByRecursion}
 use Rattle.mj_tree.specs.Views.{class_view}
-use Rattle.tree_bytes.specs.Storable.{ClassFits}
+use Rattle.tree_spelling.specs.Storable.{ClassFits}
 use Rattle.tree_bytes.specs.Stored.{stored_class}
 use Rattle.tree_bytes.proofs.stored.store_classes.Given as goal
 

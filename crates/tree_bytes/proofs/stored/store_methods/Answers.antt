@@ -1,5 +1,5 @@
 use Rattle.mj_tree.specs.Views.{method_view}
-use Rattle.tree_bytes.specs.Storable.{MethodFits}
+use Rattle.tree_spelling.specs.Storable.{MethodFits}
 use Rattle.tree_bytes.proofs.Storing.{kept_at}
 use Rattle.tree_bytes.proofs.stored.store_methods.Goals as goal
 

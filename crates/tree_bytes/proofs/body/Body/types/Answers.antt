@@ -1,6 +1,6 @@
 use Rattle.std.proofs.Common.{◌∙◌, ◌-◌, Some, ap, drop, length, subst, take}
 use Rattle.byte_readers.specs.Reading.{Fails}
-use Rattle.tree_bytes.specs.Reading.{types_at}
+use Rattle.tree_spelling.specs.Reading.{types_at}
 use Rattle.tree_bytes.proofs.Bodies.{first_is, refused_once, types_read}
 use Rattle.tree_bytes.proofs.body.Body.types.Goals as goal
 

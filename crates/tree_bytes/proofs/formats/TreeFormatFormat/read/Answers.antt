@@ -1,5 +1,5 @@
 use Rattle.std.proofs.Common.{arith}
-use Rattle.tree_bytes.specs.FileLaws.{lawful_file}
+use Rattle.tree_spelling.specs.FileLaws.{lawful_file}
 use Rattle.tree_bytes.proofs.formats.TreeFormatFormat.read.Goals as goal
 
 pub of_stored-requires : goal.of_stored-requires

@@ -1,3 +1,0 @@
-pub mod Printed
-pub mod Words
-pub mod Swapped

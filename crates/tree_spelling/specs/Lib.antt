@@ -1,0 +1,12 @@
+pub mod Tags
+pub mod Spelling
+pub mod Storable
+pub mod Reading
+pub mod Skipping
+pub mod Codes
+pub mod TagLaws
+pub mod TypeLaws
+pub mod ListLaws
+pub mod ExpLaws
+pub mod StmtLaws
+pub mod FileLaws

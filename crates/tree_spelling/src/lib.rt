@@ -1,0 +1,22 @@
+//! How trees are spelled in bytes, with the laws of it; and reading, writing and skipping types, phrases and methods.
+#![tactic(auto)]
+
+mod expressions;
+mod methods;
+mod skip_expressions;
+mod skip_methods;
+mod skip_parts;
+mod skip_statements;
+mod statements;
+mod tag;
+mod types;
+mod variables;
+mod writing;
+
+pub use methods::read_method;
+pub use skip_methods::skip_method;
+pub use skip_statements::skip_top_stmt;
+pub use statements::read_top_stmt;
+pub use types::{FieldFormat, TypeFormat, check_ty, put_ty, read_ty};
+pub use variables::VariableFormat;
+pub use writing::{put_method, put_top_stmt};
