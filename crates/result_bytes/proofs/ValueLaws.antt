@@ -10,7 +10,8 @@ use Rattle.byte_readers.specs.declared.breach.Breach.{Breach}
 use Rattle.byte_readers.specs.Lawful.{IsBytes, Takes, Lawful}
 use Rattle.byte_readers.specs.Reading.{Decoder, made_at}
 use Rattle.byte_readers.specs.Laws.{IsBytes-rest, lawful_option, made_takes, made_again}
-use Rattle.tree_spelling.specs.FileLaws.{lawful_file, lawful_body}
+use Rattle.tree_bytes.specs.BodyLaws.{lawful_body}
+use Rattle.tree_spelling.specs.FileLaws.{lawful_file}
 use Rattle.result_bytes.specs.declared.refusal.Refusal.{Refusal}
 use Rattle.result_bytes.specs.declared.refusal.Refusal.TheVariants.{Trailing, WrongKind}
 use Rattle.result_bytes.specs.declared.value.Value.{Value}
