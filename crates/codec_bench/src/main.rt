@@ -1,18 +1,14 @@
 //! Does one thing again and again, for the scripts of `bench/`: its words are what is done, how often, and a file with the
-//! canonical bytes of a tree or with those of a session's file, or the files of a project. It ends with status 2 where the
-//! words or the bytes are no good.
+//! canonical bytes of a tree or with those of a session's file. It ends with status 2 where the words or the bytes are no good.
 #![tactic(auto)]
-
-mod queries;
 
 use fingerprint::seal;
 use item_ids::Kind;
-use mj_project::Project;
 use result_bytes::{Value, decode, encode};
 use session_file::{MemorySink, write};
 use sessions::Session;
 use std::alloc::Global;
-use std::io::{ErrorKind, Write};
+use std::io::ErrorKind;
 use std::process::ExitCode;
 use std::rt::{Env, Files};
 use std::{env, fs, io};
@@ -33,41 +29,13 @@ fn repeat(rt: &HostRuntime) -> io::Result<()> {
     for word in env::args(rt)? {
         words.push(word)?;
     }
-    let [_, step, count, files @ ..] = words.as_slice() else {
+    let [_, step, count, file] = words.as_slice() else {
         return Err(invalid());
     };
     let Ok(count) = count.parse::<u32>() else {
         return Err(invalid());
     };
-    match (step.as_str(), files) {
-        ("queries", _) => repeat_queries(rt, count, files),
-        (_, [file]) => repeat_step(rt, step.as_str(), count, file.as_str()),
-        _ => Err(invalid()),
-    }
-}
-
-/// Asks for a project's answer by queries, with nothing held from one time to the next, and prints the last one.
-fn repeat_queries(rt: &HostRuntime, count: u32, files: &[String]) -> io::Result<()> {
-    let project = read_project(rt, files)?;
-    for _ in 1..count {
-        queries::answer(rt.alloc(), &project)?;
-    }
-    let answer = queries::answer(rt.alloc(), &project)?;
-    rt.stdout()
-        .write_all(queries::text(rt.alloc(), answer.value())?.as_bytes())
-}
-
-/// The project of these files.
-fn read_project<R: Files + AllocGlobal>(rt: &R, names: &[String]) -> io::Result<Project> {
-    let mut files = Vec::new(rt.alloc());
-    for name in names {
-        let bytes = fs::read(rt, name.as_str())?;
-        files.push((String::from_str(rt.alloc(), name.as_str())?, bytes))?;
-    }
-    match Project::new(rt.alloc(), files) {
-        Ok(project) => Ok(project),
-        Err(_) => Err(invalid()),
-    }
+    repeat_step(rt, step.as_str(), count, file.as_str())
 }
 
 /// Does a step with a file's bytes so many times.

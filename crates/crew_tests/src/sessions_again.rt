@@ -1,11 +1,9 @@
 //! Sessions that are refused memory, and made again.
 
+use crate::texts::ONE;
 use session_fixtures::FIRST;
 use std::test::*;
 use worker_fixtures::run_again;
-
-/// The text of the file of the first session.
-const ONE: &str = "class M { public static void main(String[] a) { System.out.println(1); } }";
 
 #[test]
 fn sessions_are_made_again(rt: HostRuntime) {
