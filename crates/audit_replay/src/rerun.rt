@@ -1,5 +1,5 @@
 //! An executed record is replayed.
-ghost use Rattle.std.specs.Prelude.{◌≡◌, ◌⊎◌, Some, IfOk, OnOk, Err};
+ghost use Rattle.std.specs.Prelude.{◌≡◌, ◌⊎◌, [], Some, None, IfOk, OnOk, Err};
 ghost use Rattle.std.specs.List.{AllByRecursion};
 ghost use Rattle.recorder.specs.Backed.{Asked, keys};
 ghost use Rattle.recorder.specs.Recording.{fault_of};
@@ -37,14 +37,40 @@ pub(crate) fn rerun<R: Runner>(
         Err(_) => return Err(Mismatch::OutOfMemory),
     };
     let mut recorder = Recorder::new(alloc, script);
-    match record(alloc, runner, item.key(), &mut recorder) {
+    let ended = replay(alloc, runner, session, item, &mut recorder);
+    drop(recorder);
+    ended
+}
+
+/// Replays an executed record with a recorder that holds the results of its edges and was asked nothing yet.
+fn replay<R: Runner>(
+    alloc: Global,
+    runner: &mut R,
+    session: &Session,
+    item: &Record,
+    recorder: &mut Recorder<AnswerList>,
+) -> Result<(), Mismatch>
+    requires executed { IsExecutedIn session.now item.now }
+    requires script { AreAllEdges (entry_at session.now) (entry_of session.now.records item.now)
+        recorder.old.inner }
+    requires unread { recorder.old.told ≡ [] }
+    requires unrefused { recorder.old.refused ≡ None }
+    ensures run { RerunGives R.mean R.reads (entry_at session.now)
+        (entry_of session.now.records item.now) result }
+    ensures ok { OnOk result (Logs item.now.key (R.log runner.old) (R.log runner.new)) }
+    ensures log { Logs item.now.key (R.log runner.old) (R.log runner.new)
+        ⊎ (R.log runner.new ≡ R.log runner.old) }
+{
+    // A session keeps in its type what its records are.
+    let _records = session.records();
+    match record(alloc, runner, item.key(), recorder) {
         Ok(outcome) => {
-            let compared = compare(session, item, &recorder, &outcome);
+            let compared = compare(session, item, recorder, &outcome);
             drop(outcome);
             compared
         }
         Err(RunFault::OutOfMemory) => Err(Mismatch::OutOfMemory),
-        Err(RunFault::Read(fault)) => Err(refused_read::<R>(session, item, &recorder, fault)),
+        Err(RunFault::Read(fault)) => Err(refused_read::<R>(session, item, recorder, fault)),
     }
 }
 

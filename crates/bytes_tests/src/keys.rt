@@ -115,19 +115,40 @@ fn put(
     }
 }
 
-/// Whether a map of the keys, in their order, finds each at its place.
-fn are_found(alloc: Global, keys: &[Asked]) -> Result<bool, Unfit> {
+/// A map of the keys, each with its place.
+fn map_of(alloc: Global, keys: &[Asked]) -> Result<IndexMap<Key, usize>, Unfit> {
     let mut map = IndexMap::new(alloc);
     for (i, asked) in keys.iter().enumerate() {
         put(alloc, &mut map, *asked, i)?;
     }
+    Ok(map)
+}
+
+/// Whether the map finds the key at this place.
+fn is_found(
+    alloc: Global,
+    map: &IndexMap<Key, usize>,
+    asked: Asked,
+    at: usize,
+) -> Result<bool, Unfit> {
+    let key = key_of(alloc, asked)?;
+    Ok(map.get_index_of(&key) == Some(at))
+}
+
+/// Whether the map finds each of these keys at its place.
+fn finds_all(alloc: Global, map: &IndexMap<Key, usize>, keys: &[Asked]) -> Result<bool, Unfit> {
     for (i, asked) in keys.iter().enumerate() {
-        let key = key_of(alloc, *asked)?;
-        if map.get_index_of(&key) != Some(i) {
+        if !is_found(alloc, map, *asked, i)? {
             return Ok(false);
         }
     }
     Ok(map.len() == keys.len())
+}
+
+/// Whether a map of the keys, in their order, finds each at its place.
+fn are_found(alloc: Global, keys: &[Asked]) -> Result<bool, Unfit> {
+    let map = map_of(alloc, keys)?;
+    finds_all(alloc, &map, keys)
 }
 
 #[test]

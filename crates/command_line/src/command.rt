@@ -1,9 +1,9 @@
 //! The program and its subcommands, as `clap` reads them.
 ghost use Rattle.std.specs.Prelude.{◌≡◌, IfOk, false};
-ghost use Rattle.clap.specs.Words.{app_of, rule_of};
+ghost use Rattle.clap.specs.Words.{app_of, rule_of, with_subcommand};
 ghost use Rattle.clap.specs.declared.builder.Command.TheViews.{out-Command};
 ghost use Rattle.command_line.specs.Program.{cache_rule, check_app, file_rule, files_rule};
-ghost use Rattle.command_line.specs.Program.{jobs_rule, program_app, rule_of_files, subcommand_app};
+ghost use Rattle.command_line.specs.Program.{jobs_rule, program_app, required_app, rule_of_files, subcommand_app};
 
 use crate::asked::Subcommand;
 use crate::help;
@@ -33,20 +33,45 @@ pub(crate) const MOST_JOBS: u8 = 64;
 pub(crate) fn program<'a>(alloc: Global) -> Result<Command<'a>, AllocError>
     ensures { IfOk result (λ command. app_of command ≡ program_app) }
 {
-    let scratch = command_of(alloc, Subcommand::Scratch)?;
-    let check = check_command(alloc)?;
-    let audit = command_of(alloc, Subcommand::Audit)?;
-    let show = command_of(alloc, Subcommand::Show)?;
+    let program = named(alloc)?;
+    let program = with_files(alloc, program, Subcommand::Scratch)?;
+    let program = with_check(alloc, program)?;
+    let program = with_files(alloc, program, Subcommand::Audit)?;
+    with_files(alloc, program, Subcommand::Show)
+}
+
+// The program before its subcommands.
+fn named<'a>(alloc: Global) -> Result<Command<'a>, AllocError>
+    ensures { IfOk result (λ command. app_of command ≡ required_app) }
+{
     let program = Command::new(alloc, PROGRAM).bin_name(PROGRAM)?;
-    program
-        .about(PURPOSE)
-        .version(VERSION)
-        .after_help(STATUSES)
-        .subcommand_required(true)
-        .subcommand(scratch)?
-        .subcommand(check)?
-        .subcommand(audit)?
-        .subcommand(show)
+    Ok(
+        program
+            .about(PURPOSE)
+            .version(VERSION)
+            .after_help(STATUSES)
+            .subcommand_required(true),
+    )
+}
+
+// The program with a subcommand that has FILEs alone.
+fn with_files<'a>(
+    alloc: Global,
+    program: Command<'a>,
+    which: Subcommand,
+) -> Result<Command<'a>, AllocError>
+    ensures { IfOk result (λ command.
+        app_of command ≡ with_subcommand (app_of program.entry) (subcommand_app which).top) }
+{
+    program.subcommand(command_of(alloc, which)?)
+}
+
+// The program with `check`.
+fn with_check<'a>(alloc: Global, program: Command<'a>) -> Result<Command<'a>, AllocError>
+    ensures { IfOk result (λ command.
+        app_of command ≡ with_subcommand (app_of program.entry) check_app.top) }
+{
+    program.subcommand(check_command(alloc)?)
 }
 
 fn command_of<'a>(alloc: Global, which: Subcommand) -> Result<Command<'a>, AllocError>

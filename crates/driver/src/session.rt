@@ -1,5 +1,5 @@
 //! One session.
-ghost use Rattle.std.specs.Prelude.{◌≡◌, ◌↔◌, ◌≤◌, map, IsTrue, IfOk, IfSome, length, []};
+ghost use Rattle.std.specs.Prelude.{◌≡◌, ◌+◌, ◌↔◌, ◌≤◌, map, IsTrue, IfOk, IfSome, length, vec_len, []};
 ghost use Rattle.item_ids.specs.declared.key.Key.TheVariants.{Answer};
 ghost use Rattle.job_table.specs.Tables.{state_of};
 ghost use Rattle.key_states.specs.Closing.{IsClosing};
@@ -10,7 +10,7 @@ ghost use Rattle.next_sessions.specs.Nexts.{DecidesNext, IsNextSession};
 ghost use Rattle.driver.specs.Sessions.{IsCrew, DriveGives, IsSessionOf};
 
 use crate::changes::has_files;
-use crate::crew::{Crew, hire, pay, work_at};
+use crate::crew::{Crew, Worker, hire, pay, work_at};
 use crate::fault::DriveFault;
 use crate::laws::sessions_are_next;
 use crate::lists::Lists;
@@ -23,7 +23,7 @@ use sessions::Session;
 use shared_table::{Counted, Gate, Naming};
 use std::alloc::{AllocError, Global};
 use std::marker::Brand;
-use std::sync::ledger::Blank;
+use std::sync::ledger::{Blank, Share};
 use std::sync::{Arc, Wait};
 use std::thread::Threads;
 
@@ -60,6 +60,7 @@ pub fn drive<
     sessions_are_next();
     match Table::open_by(rt, alloc, prev, project, workers) {
         Ok(table) => {
+            let alone = workers == 1 || is_unchanged(alloc, &table, project)?;
             let done = drive_table::<Brand, R, F, G, T>(
                 rt,
                 alloc,
@@ -67,6 +68,7 @@ pub fn drive<
                 table,
                 project,
                 workers,
+                alone,
                 gate,
                 &Lists::new(step),
                 Blank::new(workers as u64),
@@ -102,7 +104,7 @@ fn is_crew(workers: usize) -> bool
     1 <= workers && workers <= 64
 }
 
-/// Does all jobs at a table that was just opened, and closes it.
+/// Does all jobs at a table that was just opened, and closes it. One worker alone does them where that is asked for.
 fn drive_table<
     J: Naming + Send + Sync,
     R: Runner + Drop + Send + Sync,
@@ -116,6 +118,7 @@ fn drive_table<
     table: Table<R>,
     project: &Project,
     workers: usize,
+    alone: bool,
     gate: &G,
     lists: &Lists,
     blank: Blank,
@@ -135,9 +138,24 @@ fn drive_table<
 {
     let (book, mut all) = blank.open::<J>();
     let mut team = hire::<J, R, F>(alloc, &mut all, workers, make)?;
-    let alone = workers == 1 || is_unchanged(alloc, &table, project)?;
     let counted = Counted::new(table, book);
     let counted = work_at(rt, counted, list, gate, project, lists, &mut team, alone)?;
+    end(alloc, all, team, counted)
+}
+
+/// Closes the table when all workers have ended, and counts what each of them did.
+fn end<J: Naming, R: Runner + Drop>(
+    alloc: Global,
+    all: Share<J>,
+    team: Vec<Worker<J, R>>,
+    counted: Counted<J, R>,
+) -> Result<(Session, Reports), AllocError>
+    requires parts { all.parts + vec_len team ≡ J.parts }
+    requires none { all.amount ≡ 0 }
+    ensures { IfOk result (λ done.
+        IsSessionOf R.mean R.reads J.past J.project (vec_len team) done.0 done.1) }
+{
+    let mut all = all;
     let events = pay(alloc, &mut all, team)?;
     let table = counted.end(&mut all);
     // A table's history is legal, by its type.

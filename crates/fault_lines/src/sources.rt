@@ -1,5 +1,5 @@
 //! A project whose files are read once.
-ghost use Rattle.std.specs.Prelude.{◌≡◌, IfOk, option_map};
+ghost use Rattle.std.specs.Prelude.{◌≡◌, ◌++◌, ◌∷◌, [], IfOk, OnOk, option_map};
 ghost use Rattle.mj_tree.specs.Views.{file_view};
 ghost use Rattle.mj_classes.specs.Classes.{files_view};
 ghost use Rattle.mj_project.specs.Projects.{source_view, sources_view, IsProject};
@@ -84,6 +84,23 @@ fn read_source<'a>(
     Ok((text, tree))
 }
 
+/// Reads a file, and adds its text and its tree.
+fn add_source<'a>(
+    alloc: Global,
+    file: &'a (String, Vec<u8>),
+    texts: &mut Vec<ReadText<'a>>,
+    trees: &mut Vec<Option<FileTree>>,
+) -> Result<(), AllocError>
+    ensures texts { OnOk result (texts.new.items ≡ texts.old.items ++ source_view file.now ∷ []) }
+    ensures trees { OnOk result (files_view trees.new.items
+        ≡ files_view trees.old.items ++ file_of (source_view file.now).bytes ∷ []) }
+{
+    let (text, tree) = read_source(alloc, file)?;
+    texts.push(text)?;
+    trees.push(tree)?;
+    Ok(())
+}
+
 /// A project with what its files were read as. Contracts see the files.
 #[derive(Drop)]
 pub struct ReadProject<'a> {
@@ -113,9 +130,7 @@ impl<'a> ReadProject<'a> {
         let mut texts = Vec::new(alloc);
         let mut trees = Vec::new(alloc);
         for file in project.files() {
-            let (text, tree) = read_source(alloc, file)?;
-            texts.push(text)?;
-            trees.push(tree)?;
+            add_source(alloc, file, &mut texts, &mut trees)?;
         }
         Ok(ReadProject { texts, trees })
     }

@@ -146,6 +146,10 @@ finding_of mistakes mark verdict = record {
   mistakes = add_own mistakes mark verdict;
 }
 
+-- the types of two parts, and the mistakes so far
+abbrev pub both_types : Option Ty → Option Ty → List Mistake → Finding (List Ty)
+both_types a b mistakes = record { type = and_type a (and_type b (Some [])); mistakes = mistakes }
+
 -- where all parts have types the phrase's demands are asked in their order
 abbrev pub own_step : ℕ → (List Ty → Inquiry Verdict) → Finding (List Ty) → (Finding Ty → Check)
     → Check

@@ -1,5 +1,5 @@
 -- Steps of a check that asks.
-use Rattle.std.specs.Prelude.{List}
+use Rattle.std.specs.Prelude.{◌≡◌, List}
 use Rattle.mj_phrases.specs.declared.verdict.Mistake.{Mistake}
 use Rattle.mj_phrases.specs.Inquiries.{Inquiry}
 
@@ -17,3 +17,7 @@ pub record Aborts {S X E : Type 0} (stands : S → Check → Check → Type 0)
     (halts : S → Check → E → Type 0) (step : (X → Check) → Check) (old : S) (e : E)
     (new : S) : Type 0 where
   pub ends : (start : Check) (k : X → Check) → stands old start (step k) → halts new start e
+
+-- whatever check goes on with the step, the step asks nothing and has this value
+abbrev pub Yields : {X : Type 0} → ((X → Check) → Check) → X → Type 0
+Yields {X} step x = (k : X → Check) → step k ≡ k x

@@ -1,18 +1,18 @@
 //! The walk over expressions.
 ghost use Rattle.std.specs.Prelude.{◌≡◌, IfOk, IfErr};
 ghost use Rattle.mj_tree.specs.Views.{exp_view, exps_view};
-ghost use Rattle.mj_phrases.specs.Phrases.{phrase_step, parts_step, own_step, and_type, finding_of, with_type};
+ghost use Rattle.mj_phrases.specs.Phrases.{phrase_step, parts_step, own_step, and_type, both_types, finding_of, with_type};
 ghost use Rattle.mj_phrases.specs.declared.asking.Stop.TheVariants.{OutOfMemory};
-ghost use Rattle.mj_phrases.specs.Steps.{Proceeds, Aborts};
+ghost use Rattle.mj_phrases.specs.Steps.{Proceeds, Aborts, Yields};
 ghost use Rattle.mj_phrases.specs.Seen.{items_in};
-ghost use Rattle.mj_phrases.specs.Table.{name_phrase, phrase_of, phrases_of, some_parts, call};
+ghost use Rattle.mj_phrases.specs.Table.{name_phrase, phrase_of, phrases_of, two_parts, some_parts, binary, index as index_row, call};
 
 use crate::asking::{Asking, Stop};
 use crate::rows;
 use crate::scope::Scope;
 use crate::verdict::{Mistake, Verdict};
 use mj_lexer::Name;
-use mj_tree::{Exp, Ty};
+use mj_tree::{Exp, Operator, Ty};
 use std::alloc::{AllocError, Global};
 
 /// Adds the mistake of a verdict, if it is one, and gives its type.
@@ -98,22 +98,12 @@ pub fn check<A: Asking>(
         } => {
             let left = check(alloc, asking, scope, left, mistakes)?;
             let right = check(alloc, asking, scope, right, mistakes)?;
-            match (left, right) {
-                (Some(left), Some(right)) => note(
-                    mistakes,
-                    *mark,
-                    rows::binary(*operator, &left, &right),
-                ),
-                _ => Ok(None),
-            }
+            conclude_binary(*mark, *operator, left, right, mistakes)
         }
         Exp::Index { mark, array, index } => {
             let array = check(alloc, asking, scope, array, mistakes)?;
             let index = check(alloc, asking, scope, index, mistakes)?;
-            match (array, index) {
-                (Some(array), Some(index)) => note(mistakes, *mark, rows::index(&array, &index)),
-                _ => Ok(None),
-            }
+            conclude_index(*mark, array, index, mistakes)
         }
         Exp::Length { mark, array } => match check(alloc, asking, scope, array, mistakes)? {
             Some(array) => note(mistakes, *mark, rows::array_length(&array)),
@@ -138,6 +128,43 @@ pub fn check<A: Asking>(
             note(mistakes, *mark, verdict)
         }
     }
+}
+
+/// The verdict on an operator, where both operands have types.
+fn conclude_binary<E>(
+    mark: usize,
+    operator: Operator,
+    left: Option<Ty>,
+    right: Option<Ty>,
+    mistakes: &mut Vec<Mistake>,
+) -> Result<Option<Ty>, Stop<E>>
+    ensures err { IfErr result (λ e. e ≡ OutOfMemory) }
+    ensures ok { IfOk result (λ ty. Yields
+        (own_step mark (two_parts (binary operator)) (both_types left right mistakes.old.items))
+        (record { type = ty; mistakes = mistakes.new.items })) }
+{
+    let (Some(left), Some(right)) = (left, right) else {
+        return Ok(None);
+    };
+    note(mistakes, mark, rows::binary(operator, &left, &right))
+}
+
+/// The verdict on an array's element, where the array and the index have types.
+fn conclude_index<E>(
+    mark: usize,
+    array: Option<Ty>,
+    index: Option<Ty>,
+    mistakes: &mut Vec<Mistake>,
+) -> Result<Option<Ty>, Stop<E>>
+    ensures err { IfErr result (λ e. e ≡ OutOfMemory) }
+    ensures ok { IfOk result (λ ty. Yields
+        (own_step mark (two_parts index_row) (both_types array index mistakes.old.items))
+        (record { type = ty; mistakes = mistakes.new.items })) }
+{
+    let (Some(array), Some(index)) = (array, index) else {
+        return Ok(None);
+    };
+    note(mistakes, mark, rows::index(&array, &index))
 }
 
 /// The verdict on a call, where all its parts have types.

@@ -72,18 +72,7 @@ impl Project {
         ensures refuses { (fault : ProjectFault) → Refuses (sources_view files.items) fault
             → MatchResult result (λ _. ⊥) (λ e. (e ≡ fault) ⊎ (e ≡ OutOfMemory)) }
     {
-        if files.is_empty() {
-            return Err(ProjectFault::NoFiles);
-        }
-        if files.len() > Self::MOST_FILES {
-            return Err(ProjectFault::TooManyFiles);
-        }
-        if let Some(number) = bad_name(&files) {
-            return Err(ProjectFault::BadFileName(number));
-        }
-        if let Some(number) = repeated_name(alloc, &files)? {
-            return Err(ProjectFault::RepeatedFile(number));
-        }
+        check_files(alloc, &files)?;
         Ok(Project { files })
     }
 
@@ -94,6 +83,26 @@ impl Project {
     {
         self.files.as_slice()
     }
+}
+
+/// The first reason why these files are no project, if there is one.
+fn check_files(alloc: Global, files: &[(String, Vec<u8>)]) -> Result<(), ProjectFault>
+    ensures { MatchResult result (λ _. IsProject (sources_view files.now))
+        (λ fault. (fault ≡ OutOfMemory) ⊎ Refuses (sources_view files.now) fault) }
+{
+    if files.is_empty() {
+        return Err(ProjectFault::NoFiles);
+    }
+    if files.len() > Project::MOST_FILES {
+        return Err(ProjectFault::TooManyFiles);
+    }
+    if let Some(number) = bad_name(files) {
+        return Err(ProjectFault::BadFileName(number));
+    }
+    if let Some(number) = repeated_name(alloc, files)? {
+        return Err(ProjectFault::RepeatedFile(number));
+    }
+    Ok(())
 }
 
 /// The number of the first file whose name is empty or too long.

@@ -3,9 +3,10 @@ ghost use Rattle.std.specs.Prelude.{◌≡◌, IsTrue, IfOk, All};
 ghost use Rattle.answer_fixtures.specs.Telling.{one_file};
 ghost use Rattle.query_fixtures.specs.Rows.{Means, IsAnswerTold};
 
+use crate::driver::Driver;
 use crate::rows::Row;
 use answer_fixtures::{Unfit, is_spelled, key_of, project_of};
-use driver_fixtures::Driver;
+use item_ids::Key;
 use project_inputs::Inputs;
 use providers::MiniJava;
 use run_fixtures::Given;
@@ -52,7 +53,7 @@ pub fn is_answer(alloc: Global, text: &str, digits: &str) -> Result<bool, Unfit>
     ensures { IfOk result (λ b. IsTrue b → IsAnswerTold (one_file text.now) digits.now) }
 {
     let mut driver = driver_of(alloc, text)?;
-    match driver.answer() {
+    match driver.result(&Key::Answer) {
         Ok(sealed) => is_spelled(alloc, &sealed, digits),
         Err(_) => Err(Unfit),
     }

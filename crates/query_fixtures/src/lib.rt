@@ -2,8 +2,10 @@
 //! a driver.
 #![tactic(auto)]
 
+mod driver;
 mod driving;
 mod rows;
+mod steps;
 
 pub use driving::{brings_each, is_answer};
 pub use rows::{Row, is_checked, is_lacking, is_right};

@@ -39,10 +39,12 @@ fn is_run(alloc: Global, key: &Key, list: AnswerList, row: Row) -> Result<bool, 
     let mut runner = MiniJava::new(alloc);
     let mut recorder = Recorder::new(alloc, list);
     let result = runner.run(alloc, key, &mut recorder);
-    if !has_logged(&runner, row.query.0) {
-        return Ok(false);
+    let is_right = comes_to(alloc, result, recorder, row.query.1, row.reads);
+    if has_logged(&runner, row.query.0) {
+        is_right
+    } else {
+        Ok(false)
     }
-    comes_to(alloc, result, recorder, row.query.1, row.reads)
 }
 
 /// Whether the runner was asked this query alone.
@@ -76,10 +78,12 @@ fn is_refused(
     let mut runner = MiniJava::new(alloc);
     let mut recorder = Recorder::new(alloc, list);
     let result = runner.run(alloc, key, &mut recorder);
-    if !has_logged(&runner, query) {
-        return Ok(false);
+    let is_kept = wants(alloc, result, recorder, kept);
+    if has_logged(&runner, query) {
+        is_kept
+    } else {
+        Ok(false)
     }
-    wants(alloc, result, recorder, kept)
 }
 
 /// Whether the run of the query over the answers that are kept is refused another one, and is logged.

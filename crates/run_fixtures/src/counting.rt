@@ -180,6 +180,22 @@ fn reader_after(alloc: Global, answers: &[Given], asks: &[Ask]) -> Result<Counti
     }
 }
 
+/// Whether the keys have these outcomes, one after the other, and the recorder then keeps just this.
+fn become_kept(
+    alloc: Global,
+    recorder: &mut Recorder<Counting>,
+    asks: &[Ask],
+    kept: Kept,
+) -> Result<bool, Unfit>
+    ensures { IfOk result (λ b. IsTrue b → AllBecome asks.now recorder.old recorder.new
+        × IsKept kept.entry recorder.new) }
+{
+    match all_become(alloc, recorder, asks) {
+        Ok(true) => keeps(alloc, recorder, kept),
+        other => other,
+    }
+}
+
 /// Whether the keys have these outcomes by a recorder over the list of these answers, which then keeps just this.
 pub fn keeps_after(
     alloc: Global,
@@ -191,10 +207,7 @@ pub fn keeps_after(
         × IsKept kept.entry end) }
 {
     let mut recorder = recorder_of(alloc, answers)?;
-    match all_become(alloc, &mut recorder, asks) {
-        Ok(true) => keeps(alloc, &recorder, kept),
-        other => other,
-    }
+    become_kept(alloc, &mut recorder, asks, kept)
 }
 
 /// How often the reader of such a recorder was asked.

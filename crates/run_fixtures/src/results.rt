@@ -69,6 +69,22 @@ fn is_wanting(end: Result<Value, RunFault>) -> bool
 }
 
 /// Whether the program gave up as an answer isn't held, and the recorder keeps just this.
+fn is_wanted(
+    alloc: Global,
+    end: Result<Value, RunFault>,
+    recorder: &Recorder<AnswerList>,
+    kept: Kept,
+) -> Result<bool, Unfit>
+    ensures { IfOk result (λ b. IsTrue b ↔ Wants kept.entry end recorder.now) }
+{
+    if is_wanting(end) {
+        keeps(alloc, recorder, kept)
+    } else {
+        Ok(false)
+    }
+}
+
+/// Whether the program gave up as an answer isn't held, and the recorder keeps just this.
 pub fn wants(
     alloc: Global,
     end: Result<Value, RunFault>,
@@ -77,9 +93,5 @@ pub fn wants(
 ) -> Result<bool, Unfit>
     ensures { IfOk result (λ b. IsTrue b ↔ Wants kept.entry end recorder) }
 {
-    if is_wanting(end) {
-        keeps(alloc, &recorder, kept)
-    } else {
-        Ok(false)
-    }
+    is_wanted(alloc, end, &recorder, kept)
 }

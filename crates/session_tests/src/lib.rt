@@ -10,6 +10,4 @@ mod first;
 #[cfg(test)]
 mod reading;
 #[cfg(test)]
-mod stalling;
-#[cfg(test)]
 mod writing;

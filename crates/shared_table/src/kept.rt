@@ -82,7 +82,7 @@ impl<J: Naming> Kept<J> {
         if sealed.value().kind() != key.kind() {
             return Ok(());
         }
-        let own = key.copy(self.alloc)?;
-        self.results.add(own, Arc::try_clone(sealed)?)
+        let shared = Arc::try_clone(sealed)?;
+        self.results.add(key.copy(self.alloc)?, shared)
     }
 }

@@ -5,7 +5,7 @@ use Rattle.mj_phrases.specs.Phrases.{phrase_step, parts_step}
 use Rattle.mj_phrases.specs.Steps.{Aborts}
 use Rattle.mj_phrases.specs.Table.{phrase_of, phrases_of, one_part, two_parts, some_parts, negation, binary, index, array_length, new_array, call}
 use Rattle.mj_phrases.proofs.Views.{exp_view-Not, exp_view-Length, exp_view-NewArray, exp_view-Binary, exp_view-Index, exp_view-Call}
-use Rattle.mj_phrases.proofs.Walks.{if_ok, if_err, goes_whole, up_whole, up_others, memory_one, memory_two, parts_start, parts_more, parts_up, parts_memory, parts_done}
+use Rattle.mj_phrases.proofs.Walks.{if_ok, if_err, goes_two, goes_whole, up_whole, up_others, memory_one, memory_two, parts_start, parts_more, parts_up, parts_memory, parts_done}
 use Rattle.mj_phrases.proofs.walk.+expressions.Goals as goal
 
 pub check-returns-in-Some-clause-err : goal.check-returns-in-Some-clause-err
@@ -13,15 +13,25 @@ check-returns-in-Some-clause-err g t c =
     rw (c.in-Not.is, exp_view-Not c.in-Not.mark c.in-Not.operand, ← c.deref-in-Not.ensures)
     (memory_one g.A.Asking.stands g.A.Asking.halts OutOfMemory g.met.A.Asking.wanting c.in-Not.mark (one_part negation) c.args.mistakes.now.items (phrase_of c.args.scope.now (exp_view c.deref-in-Not.result.now)) _ _ _ c.in_ok-operand-in-Not.ensures.ok c.note-in-Some.result c.note-in-Some.ensures.err)
 
-pub check-returns-in-Some-Some-clause-err : goal.check-returns-in-Some-Some-clause-err
-check-returns-in-Some-Some-clause-err g t c =
+pub check-returns-in_ok-right-in-Binary-clause-ok : goal.check-returns-in_ok-right-in-Binary-clause-ok
+check-returns-in_ok-right-in-Binary-clause-ok g t c =
     rw (c.in-Binary.is, exp_view-Binary c.in-Binary.operator c.in-Binary.mark c.in-Binary.left c.in-Binary.right, ← c.deref-in-Binary.ensures, ← c.deref-in-Binary-2.ensures)
-    (memory_two g.A.Asking.stands g.A.Asking.halts OutOfMemory g.met.A.Asking.wanting c.in-Binary.mark (two_parts (binary c.in-Binary.operator)) c.args.mistakes.now.items (phrase_of c.args.scope.now (exp_view c.deref-in-Binary.result.now)) (phrase_of c.args.scope.now (exp_view c.deref-in-Binary-2.result.now)) _ _ _ _ _ c.in_ok-left-in-Binary.ensures.ok c.in_ok-right-in-Binary.ensures.ok c.note-in-Some-Some.result c.note-in-Some-Some.ensures.err)
+    (if_ok c.conclude_binary.result (λ ty yields. goes_two g.A.Asking.stands g.A.Asking.halts c.in-Binary.mark (two_parts (binary c.in-Binary.operator)) (phrase_of c.args.scope.now (exp_view c.deref-in-Binary.result.now)) (phrase_of c.args.scope.now (exp_view c.deref-in-Binary-2.result.now)) c.args.mistakes.now.items _ _ _ _ _ _ c.in_ok-left-in-Binary.ensures.ok c.in_ok-right-in-Binary.ensures.ok yields) c.conclude_binary.ensures.ok)
 
-pub check-returns-in-Some-Some-2-clause-err : goal.check-returns-in-Some-Some-2-clause-err
-check-returns-in-Some-Some-2-clause-err g t c =
+pub check-returns-in_ok-right-in-Binary-clause-err : goal.check-returns-in_ok-right-in-Binary-clause-err
+check-returns-in_ok-right-in-Binary-clause-err g t c =
+    rw (c.in-Binary.is, exp_view-Binary c.in-Binary.operator c.in-Binary.mark c.in-Binary.left c.in-Binary.right, ← c.deref-in-Binary.ensures, ← c.deref-in-Binary-2.ensures)
+    (memory_two g.A.Asking.stands g.A.Asking.halts OutOfMemory g.met.A.Asking.wanting c.in-Binary.mark (two_parts (binary c.in-Binary.operator)) c.args.mistakes.now.items (phrase_of c.args.scope.now (exp_view c.deref-in-Binary.result.now)) (phrase_of c.args.scope.now (exp_view c.deref-in-Binary-2.result.now)) _ _ _ _ _ c.in_ok-left-in-Binary.ensures.ok c.in_ok-right-in-Binary.ensures.ok c.conclude_binary.result c.conclude_binary.ensures.err)
+
+pub check-returns-in_ok-index-in-Index-clause-ok : goal.check-returns-in_ok-index-in-Index-clause-ok
+check-returns-in_ok-index-in-Index-clause-ok g t c =
     rw (c.in-Index.is, exp_view-Index c.in-Index.mark c.in-Index.array c.in-Index.index, ← c.deref-in-Index.ensures, ← c.deref-in-Index-2.ensures)
-    (memory_two g.A.Asking.stands g.A.Asking.halts OutOfMemory g.met.A.Asking.wanting c.in-Index.mark (two_parts index) c.args.mistakes.now.items (phrase_of c.args.scope.now (exp_view c.deref-in-Index.result.now)) (phrase_of c.args.scope.now (exp_view c.deref-in-Index-2.result.now)) _ _ _ _ _ c.in_ok-array-in-Index.ensures.ok c.in_ok-index-in-Index.ensures.ok c.note-in-Some-Some-2.result c.note-in-Some-Some-2.ensures.err)
+    (if_ok c.conclude_index.result (λ ty yields. goes_two g.A.Asking.stands g.A.Asking.halts c.in-Index.mark (two_parts index) (phrase_of c.args.scope.now (exp_view c.deref-in-Index.result.now)) (phrase_of c.args.scope.now (exp_view c.deref-in-Index-2.result.now)) c.args.mistakes.now.items _ _ _ _ _ _ c.in_ok-array-in-Index.ensures.ok c.in_ok-index-in-Index.ensures.ok yields) c.conclude_index.ensures.ok)
+
+pub check-returns-in_ok-index-in-Index-clause-err : goal.check-returns-in_ok-index-in-Index-clause-err
+check-returns-in_ok-index-in-Index-clause-err g t c =
+    rw (c.in-Index.is, exp_view-Index c.in-Index.mark c.in-Index.array c.in-Index.index, ← c.deref-in-Index.ensures, ← c.deref-in-Index-2.ensures)
+    (memory_two g.A.Asking.stands g.A.Asking.halts OutOfMemory g.met.A.Asking.wanting c.in-Index.mark (two_parts index) c.args.mistakes.now.items (phrase_of c.args.scope.now (exp_view c.deref-in-Index.result.now)) (phrase_of c.args.scope.now (exp_view c.deref-in-Index-2.result.now)) _ _ _ _ _ c.in_ok-array-in-Index.ensures.ok c.in_ok-index-in-Index.ensures.ok c.conclude_index.result c.conclude_index.ensures.err)
 
 pub check-returns-in-Some-2-clause-err : goal.check-returns-in-Some-2-clause-err
 check-returns-in-Some-2-clause-err g t c =

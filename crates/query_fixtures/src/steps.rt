@@ -5,7 +5,7 @@ ghost use Rattle.item_ids.specs.declared.key.Key.{Key};
 ghost use Rattle.result_bytes.specs.declared.value.Value.{Value};
 ghost use Rattle.mj_project.specs.Projects.{IsProject};
 ghost use Rattle.recorder.specs.Projects.{Project};
-ghost use Rattle.driver_fixtures.specs.Steps.{IsStepOf};
+ghost use Rattle.query_fixtures.specs.Steps.{IsStepOf};
 
 use fingerprint::Sealed;
 use item_ids::Key;

@@ -6,7 +6,7 @@ use Rattle.recorder.specs.Runs.{Logs}
 use Rattle.recorder.specs.declared.runner.RunFault.TheVariants.{OutOfMemory}
 use Rattle.audit_replay.proofs.LogRules.{logs_either, logs_ok}
 use Rattle.audit_replay.proofs.OrderRules.{rank_above, edges_inside}
-use Rattle.audit_replay.proofs.rerun.rerun.Goals as goal
+use Rattle.audit_replay.proofs.rerun.replay.Goals as goal
 
 on_ok : {A E : Type 0} (P : Type 0) (r : Result A E) → P → OnOk r P
 on_ok P (Ok x) p = p
@@ -15,29 +15,29 @@ on_ok P (Err e) p = tt
 pub record-requires-clause-no_input : goal.record-requires-clause-no_input
 record-requires-clause-no_input g c =
     subst (λ (k : Key). 0 < rank k) (sym c.key.ensures)
-    (rank_above g.R.Runner.mean g.R.Runner.reads c.args.session.now c.records-records.ensures.session c.requires.at c.args.item.now c.requires.here c.requires.mark)
+    (rank_above g.R.Runner.mean g.R.Runner.reads c.args.session.now c.records-records.ensures.session c.requires.executed.at c.args.item.now c.requires.executed.here c.requires.executed.mark)
 
 pub compare-compared-requires-clause-inside : goal.compare-compared-requires-clause-inside
 compare-compared-requires-clause-inside g c =
-    edges_inside g.R.Runner.mean g.R.Runner.reads c.args.session.now c.records-records.ensures.session c.requires.at c.args.item.now c.requires.here
+    edges_inside g.R.Runner.mean g.R.Runner.reads c.args.session.now c.records-records.ensures.session c.requires.executed.at c.args.item.now c.requires.executed.here
 
 pub refused_read-requires-clause-inside : goal.refused_read-requires-clause-inside
 refused_read-requires-clause-inside g c =
-    edges_inside g.R.Runner.mean g.R.Runner.reads c.args.session.now c.records-records.ensures.session c.requires.at c.args.item.now c.requires.here
+    edges_inside g.R.Runner.mean g.R.Runner.reads c.args.session.now c.records-records.ensures.session c.requires.executed.at c.args.item.now c.requires.executed.here
 
-pub returns-in-Ok-record-clause-ok : goal.returns-in-Ok-record-clause-ok
-returns-in-Ok-record-clause-ok g c =
+pub returns-in-Ok-clause-ok : goal.returns-in-Ok-clause-ok
+returns-in-Ok-clause-ok g c =
     on_ok (Logs c.args.item.now.key (g.R.Runner.log c.args.runner.now) (g.R.Runner.log c.record.new.runner)) c.compare-compared.result
-    (logs_ok _ c.in-Ok-record.outcome OutOfMemory c.record.result c.in-Ok-record.is c.args.item.now.key c.key.result.now (g.R.Runner.log c.args.runner.now) (g.R.Runner.log c.record.new.runner) c.key.ensures c.record.ensures.log)
+    (logs_ok _ c.in-Ok.outcome OutOfMemory c.record.result c.in-Ok.is c.args.item.now.key c.key.result.now (g.R.Runner.log c.args.runner.now) (g.R.Runner.log c.record.new.runner) c.key.ensures c.record.ensures.log)
 
-pub returns-in-Ok-record-clause-log : goal.returns-in-Ok-record-clause-log
-returns-in-Ok-record-clause-log g c =
+pub returns-in-Ok-clause-log : goal.returns-in-Ok-clause-log
+returns-in-Ok-clause-log g c =
     logs_either _ _ c.args.item.now.key c.key.result.now (g.R.Runner.log c.args.runner.now) (g.R.Runner.log c.record.new.runner) c.key.ensures c.record.ensures.log
 
 pub returns-in-Err-OutOfMemory-clause-log : goal.returns-in-Err-OutOfMemory-clause-log
 returns-in-Err-OutOfMemory-clause-log g c =
     logs_either _ _ c.args.item.now.key c.key.result.now (g.R.Runner.log c.args.runner.now) (g.R.Runner.log c.record.new.runner) c.key.ensures c.record.ensures.log
 
-pub returns-clause-log : goal.returns-clause-log
-returns-clause-log g c =
+pub returns-in-Err-Read-clause-log : goal.returns-in-Err-Read-clause-log
+returns-in-Err-Read-clause-log g c =
     logs_either _ _ c.args.item.now.key c.key.result.now (g.R.Runner.log c.args.runner.now) (g.R.Runner.log c.record.new.runner) c.key.ensures c.record.ensures.log

@@ -1,5 +1,5 @@
 use Rattle.std.proofs.Common.{◌≡◌}
-use Rattle.driver_fixtures.proofs.driver.Driver.bring_all.Given as goal
+use Rattle.query_fixtures.proofs.driver.Driver.bring_all.Given as goal
 
 abbrev pub invariant-loop : goal.invariant-loop
 invariant-loop g l = l.self ≡ l.initial.self

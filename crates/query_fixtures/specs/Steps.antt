@@ -3,8 +3,8 @@ use Rattle.std.specs.Prelude.{◌≡◌}
 use Rattle.std.specs.Arc.{arc_value}
 use Rattle.item_ids.specs.declared.key.Key.{Key}
 use Rattle.result_bytes.specs.declared.value.Value.{Value}
-use Rattle.driver_fixtures.specs.declared.steps.Step.{Step}
-use Rattle.driver_fixtures.specs.declared.steps.Step.TheVariants.{Done, Wants}
+use Rattle.query_fixtures.specs.declared.steps.Step.{Step}
+use Rattle.query_fixtures.specs.declared.steps.Step.TheVariants.{Done, Wants}
 
 -- a result that is the value of the key, or a key that is wanted first
 abbrev pub IsStepOf : (Key → Value) → Key → Step → Type 0

@@ -1,7 +1,7 @@
 use Rattle.std.proofs.Common.{◌∙◌, sym}
 use Rattle.std.specs.Arc.{arc_value}
 use Rattle.graph_rules.proofs.KeyRules.{above, input_means}
-use Rattle.driver_fixtures.proofs.steps.step_of.Goals as goal
+use Rattle.query_fixtures.proofs.steps.step_of.Goals as goal
 
 pub run_over-requires : goal.run_over-requires
 run_over-requires g c = record { no_input = above c.args.inputs.now c.args.key.now c.in-None.ensures }

@@ -1,15 +1,13 @@
-//! The driver.
+//! A driver of queries: it runs what is asked of a project and keeps each result by its key, with no session and no table
+//! of jobs.
 ghost use Rattle.std.specs.Prelude.{◌≡◌, IfOk};
 ghost use Rattle.std.specs.Arc.{arc_value};
-ghost use Rattle.item_ids.specs.declared.key.Key.TheVariants as keys;
 
 use crate::steps::take_step;
 use fingerprint::Sealed;
 use item_ids::Key;
-use mj_lexer::Name;
 use project_inputs::Inputs;
 use recorder::{AnswerList, ReadFault, RunFault, Runner};
-use result_bytes::{IndexRow, Value};
 use std::alloc::{AllocError, Global};
 use std::marker::Model;
 use std::sync::Arc;
@@ -102,50 +100,6 @@ impl<R: Runner> Driver<R> {
             key,
         )
     }
-
-    /// The result of Answer. What it reads is evaluated before it, so that its run isn't repeated for each of these
-    /// keys.
-    pub fn answer(&mut self) -> Result<Arc<Sealed>, RunFault>
-        ensures result { IfOk result (λ a. arc_value a ≡ R.mean self.old keys.Answer) }
-        ensures same { self.new ≡ self.old }
-    {
-        let files = self.result(&Key::Files)?;
-        self.bring_trees(names_in(files.value()))?;
-        let index = self.result(&Key::Index)?;
-        self.bring_classes(rows_in(index.value()))?;
-        self.result(&Key::Answer)
-    }
-
-    /// Evaluates the tree of each file.
-    fn bring_trees(&mut self, files: &[Name]) -> Result<(), RunFault>
-        ensures same { self.new ≡ self.old }
-    {
-        for file in files {
-            let key = Key::Tree(file.copy(self.alloc)?);
-            self.bring(&key)?;
-        }
-        Ok(())
-    }
-
-    /// Evaluates the members and the diagnostics of each class.
-    fn bring_classes(&mut self, rows: &[IndexRow]) -> Result<(), RunFault>
-        ensures same { self.new ≡ self.old }
-    {
-        for row in rows {
-            self.bring_class(&row.class)?;
-        }
-        Ok(())
-    }
-
-    /// Evaluates the members and the diagnostics of a class.
-    fn bring_class(&mut self, class: &Name) -> Result<(), RunFault>
-        ensures same { self.new ≡ self.old }
-    {
-        let members = Key::Members(class.copy(self.alloc)?);
-        self.bring(&members)?;
-        let faults = Key::Diags(class.copy(self.alloc)?);
-        self.bring(&faults)
-    }
 }
 
 /// This key alone.
@@ -160,20 +114,4 @@ fn open_both(open: &mut Vec<Key>, key: Key, wanted: Key) -> Result<(), AllocErro
     open.push(key)?;
     open.push(wanted)?;
     Ok(())
-}
-
-/// The names of the files in a result.
-fn names_in(value: &Value) -> &[Name] {
-    match value {
-        Value::Files(files) => files.names(),
-        _ => &[],
-    }
-}
-
-/// The rows of the index in a result.
-fn rows_in(value: &Value) -> &[IndexRow] {
-    match value {
-        Value::Index(index) => index.rows(),
-        _ => &[],
-    }
 }
