@@ -19,7 +19,7 @@ use std::alloc::{AllocError, Global};
 use std::marker::Model;
 
 /// The fields and the methods that a class has, each ascending by name.
-#[derive(Debug, Drop)]
+#[derive(Drop)]
 pub struct Members {
     table: ClassTable,
 }
@@ -56,7 +56,7 @@ impl Members {
 }
 
 /// Diagnostics of a class, in ascending order.
-#[derive(Debug, Drop)]
+#[derive(Drop)]
 pub struct Faults {
     list: Vec<Diagnostic>,
 }
@@ -95,7 +95,7 @@ impl Faults {
 }
 
 /// The answer for a whole project: its own diagnostics in ascending order, and its classes ascending by name.
-#[derive(Debug, Drop)]
+#[derive(Drop)]
 pub struct WholeAnswer {
     answer: Answer,
 }

@@ -14,7 +14,7 @@ pub enum Breach {
 }
 
 /// Why nothing was read.
-#[derive(Debug, Drop)]
+#[derive(Drop)]
 pub enum ReadError {
     /// Memory ran out.
     Memory,

@@ -5,7 +5,7 @@ ghost use Rattle.cached_check.specs.declared.fault.CheckFault.TheVariants as fau
 use std::alloc::AllocError;
 
 /// Why no session is kept.
-#[derive(Debug, Drop)]
+#[derive(Drop)]
 pub enum CheckFault {
     /// This folder or file can't be read.
     CannotRead(String),

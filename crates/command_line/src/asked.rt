@@ -45,7 +45,7 @@ impl Subcommand {
 }
 
 /// The values of `check`.
-#[derive(Debug, Drop)]
+#[derive(Drop)]
 pub struct CheckWords {
     /// The folder of the chains of session files.
     pub cache: String,
@@ -56,7 +56,7 @@ pub struct CheckWords {
 }
 
 /// A subcommand with its values.
-#[derive(Debug, Drop)]
+#[derive(Drop)]
 pub enum Words {
     /// Check the project of these files from scratch.
     Scratch(Vec<String>),

@@ -1,7 +1,7 @@
 //! What is reported of a session.
 
 /// How many events each worker made, by its number, and how many there are.
-#[derive(Debug, Drop)]
+#[derive(Drop)]
 pub struct Reports {
     pub events: Vec<usize>,
     pub history: usize,

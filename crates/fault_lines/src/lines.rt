@@ -15,7 +15,7 @@ use mj_tree::Place;
 use std::alloc::{AllocError, Global};
 
 /// A diagnostic as it is shown to a reader.
-#[derive(Debug, Drop)]
+#[derive(Drop)]
 pub struct FaultLine<'a> {
     /// The name of its file; none for a diagnostic of the project.
     pub file: Option<&'a str>,

@@ -10,7 +10,7 @@ use mj_tree::FileTree;
 use std::alloc::{AllocError, Global};
 
 /// What was read of a file's bytes.
-#[derive(Debug, Drop)]
+#[derive(Drop)]
 pub struct ReadFile {
     /// Its tokens; none where the bytes aren't cut into tokens.
     pub tokens: Vec<Token>,

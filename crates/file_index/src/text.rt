@@ -8,7 +8,7 @@ use std::alloc::{AllocError, Global};
 use std::marker::Model;
 
 /// A text with the places of its line feeds, so that lines and columns are looked up. Contracts see the text.
-#[derive(Debug, Drop)]
+#[derive(Drop)]
 pub struct LinedText<'a> {
     text: &'a [u8],
     feeds: Vec<usize>,

@@ -13,7 +13,7 @@ use std::marker::Model;
 use thiserror::Error;
 
 /// A value with its canonical bytes and their fingerprint. Contracts see the value.
-#[derive(Debug, Drop)]
+#[derive(Drop)]
 pub struct Sealed {
     value: Value,
     bytes: Vec<u8>,

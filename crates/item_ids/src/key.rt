@@ -11,7 +11,7 @@ use std::hash::{Hash, Hasher};
 
 /// The key of a query, with the names that its kind has: a file, a class, or a class and one of its methods.
 /// Keys are ordered by the number of their kind, then by file or class, then by method, names by their bytes.
-#[derive(Debug, Drop)]
+#[derive(Drop)]
 pub enum Key {
     Files,
     Source(Name),

@@ -12,7 +12,7 @@ use item_ids::Key;
 use std::alloc::{AllocError, Global};
 
 /// A key, and the place where it was found.
-#[derive(Debug, Drop, PartialEq, Eq, PartialOrd, Ord)]
+#[derive(Drop, PartialEq, Eq, PartialOrd, Ord)]
 pub struct Row {
     pub key: Key,
     pub at: usize,

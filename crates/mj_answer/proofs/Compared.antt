@@ -1,5 +1,5 @@
 -- The derived comparison of diagnostics is their order.
-use Rattle.std.proofs.Common.{◌≡◌, ℕ, ◌<◌, List, [], ◌∷◌, Ordering, refl, sym, ap, ◌∙◌, arith, ◌⊎◌, inl, inr, Bool, true, false, ◌&&◌}
+use Rattle.std.proofs.Common.{◌≡◌, ℕ, ◌<◌, List, [], ◌∷◌, Ordering, refl, sym, ap, ◌∙◌, ◌⊎◌, inl, inr, Bool, true, false, ◌&&◌}
 use Rattle.std.specs.Prelude.{◌==◌}
 use Rattle.std.specs.Cmp.{unsigned_Decides}
 use Rattle.std.proofs.lemmas.Slice.Eq.{slice_eq-Decides}
@@ -16,7 +16,7 @@ use Rattle.mj_answer.specs.declared.diagnostic.Diagnostic.{Diagnostic}
 use Rattle.mj_answer.specs.contracts.diagnostic.DiagnosticOrd.TheImpl.{cmp-value}
 use Rattle.mj_answer.specs.contracts.diagnostic.DiagnosticPartialEq.TheImpl.{eq-value}
 use Rattle.mj_answer.specs.Codes.{code_number}
-use Rattle.mj_answer.specs.Order.{NameBefore, Before, PlaceBefore, IsAscendingBy}
+use Rattle.mj_answer.specs.Order.{NameBefore, Before, PlaceBefore, IsAscendingBy, place_order}
 use Rattle.mj_answer.proofs.Orders.{equal_names, code_injective}
 
 pub ascends : {X : Type 0} (cmp : X → X → Ordering) (B : X → X → Type 0) → ((x y : X) → cmp x y ≡ Less → B x y) → (xs : List X) → IsStrictlySortedBy cmp xs → IsAscendingBy B xs
@@ -33,6 +33,13 @@ number_less m n e = ranked m n Less (sym e)
 
 number_equal : (m n : ℕ) → nat_cmp m n ≡ Equal → m ≡ n
 number_equal m n e = ranked m n Equal (sym e)
+
+-- different outcomes are not the same
+not_less : Greater ≡ Less → ⊥
+not_less e = absurd cc
+
+not_equal : false ≡ true → ⊥
+not_equal e = absurd cc
 
 then_less : (o p : Ordering) → ordering_then o p ≡ Less → (o ≡ Less) ⊎ ((o ≡ Equal) × (p ≡ Less))
 then_less Less p e = inl refl
@@ -69,18 +76,18 @@ less_at (Field i) (Field j) c d e = alike (Field i) (Field j) c d (nat_cmp i j) 
 less_at (Method i) (Method j) c d e = alike (Method i) (Method j) c d (nat_cmp i j) (λ h. inr (refl, inr (refl, number_less i j h))) (λ h. ap (λ (v : ℕ). Method v) (number_equal i j h)) e
 less_at (ClassOf m i) (ClassOf n j) c d e = alike (ClassOf m i) (ClassOf n j) c d (ordering_then (slice_cmp nat_cmp m n) (nat_cmp i j)) (λ h. inr (refl, named_less m n i j h)) (named_equal (λ v k. ClassOf v k) m n i j) e
 less_at (Inside m i) (Inside n j) c d e = alike (Inside m i) (Inside n j) c d (ordering_then (slice_cmp nat_cmp m n) (nat_cmp i j)) (λ h. inr (refl, named_less m n i j h)) (named_equal (λ v k. Inside v k) m n i j) e
-less_at Project q c d e = inl (inl (omega arith))
-less_at p Project c d e = absurd cc
-less_at (File m) q c d e = inl (inl (omega arith))
-less_at p (File n) c d e = absurd cc
-less_at (ClassOf m i) q c d e = inl (inl (omega arith))
-less_at p (ClassOf n j) c d e = absurd cc
-less_at Class q c d e = inl (inl (omega arith))
-less_at p Class c d e = absurd cc
-less_at (Field i) q c d e = inl (inl (omega arith))
-less_at p (Field j) c d e = absurd cc
-less_at (Method i) q c d e = inl (inl (omega arith))
-less_at p (Method j) c d e = absurd cc
+less_at Project q c d e = inl (inl (number_less (place_order Project) (place_order q) refl))
+less_at p Project c d e = absurd (not_less e)
+less_at (File m) q c d e = inl (inl (number_less (place_order (File m)) (place_order q) refl))
+less_at p (File n) c d e = absurd (not_less e)
+less_at (ClassOf m i) q c d e = inl (inl (number_less (place_order (ClassOf m i)) (place_order q) refl))
+less_at p (ClassOf n j) c d e = absurd (not_less e)
+less_at Class q c d e = inl (inl (number_less (place_order Class) (place_order q) refl))
+less_at p Class c d e = absurd (not_less e)
+less_at (Field i) q c d e = inl (inl (number_less (place_order (Field i)) (place_order q) refl))
+less_at p (Field j) c d e = absurd (not_less e)
+less_at (Method i) q c d e = inl (inl (number_less (place_order (Method i)) (place_order q) refl))
+less_at p (Method j) c d e = absurd (not_less e)
 
 pub fault_less : (x y : Diagnostic) → cmp-value.it x y ≡ Less → Before x y
 fault_less x y e = less_at x.place y.place x.code y.code e
@@ -110,7 +117,7 @@ equal_at (Field i) (Field j) c d e = joined (Field i) (Field j) c d (i == j) (λ
 equal_at (Method i) (Method j) c d e = joined (Method i) (Method j) c d (i == j) (λ h. ap (λ (v : ℕ). Method v) ((unsigned_Decides i j).0 h)) e
 equal_at (ClassOf m i) (ClassOf n j) c d e = joined (ClassOf m i) (ClassOf n j) c d (pointwise ◌==◌ m n && (i == j)) (named_joined (λ v k. ClassOf v k) m n i j) e
 equal_at (Inside m i) (Inside n j) c d e = joined (Inside m i) (Inside n j) c d (pointwise ◌==◌ m n && (i == j)) (named_joined (λ v k. Inside v k) m n i j) e
-equal_at p q c d e = absurd cc
+equal_at p q c d e = absurd (not_equal e)
 
 pub fault_equal : (x y : Diagnostic) → eq-value.it x y ≡ true → x ≡ y
 fault_equal x y e = equal_at x.place y.place x.code y.code e

@@ -6,7 +6,7 @@ use mj_tree::Place;
 use std::alloc::{AllocError, Global};
 
 /// A diagnostic with its place. Diagnostics are ordered by place, then by code.
-#[derive(Debug, Drop, PartialEq, Eq, PartialOrd, Ord)]
+#[derive(Drop, PartialEq, Eq, PartialOrd, Ord)]
 pub struct Diagnostic {
     pub place: Place,
     pub code: Code,

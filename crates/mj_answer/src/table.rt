@@ -8,7 +8,7 @@ use std::alloc::{AllocError, Global};
 use std::marker::Model;
 
 /// A field that a class has, with the class that declares it.
-#[derive(Debug, Drop, PartialEq, Eq)]
+#[derive(Drop, PartialEq, Eq)]
 pub struct FieldRow {
     pub name: Name,
     pub owner: Name,
@@ -29,7 +29,7 @@ impl FieldRow {
 }
 
 /// A method that a class has, with the class that declares it.
-#[derive(Debug, Drop)]
+#[derive(Drop)]
 pub struct MethodRow {
     name: Name,
     owner: Name,
@@ -108,7 +108,7 @@ impl MethodRow {
 }
 
 /// The fields and the methods that a class has, each ascending by name.
-#[derive(Debug, Drop)]
+#[derive(Drop)]
 pub struct ClassTable {
     fields: Vec<FieldRow>,
     methods: Vec<MethodRow>,
@@ -177,7 +177,7 @@ fn copy_methods(alloc: Global, rows: &[MethodRow]) -> Result<Vec<MethodRow>, All
 }
 
 /// What is answered for a class: its fields and methods, and its diagnostics in ascending order.
-#[derive(Debug, Drop)]
+#[derive(Drop)]
 pub struct ClassAnswer {
     name: Name,
     table: ClassTable,
@@ -229,7 +229,7 @@ impl ClassAnswer {
 
 /// What is answered for a project: the diagnostics of the project itself in ascending order, and its classes ascending
 /// by name.
-#[derive(Debug, Drop)]
+#[derive(Drop)]
 pub struct Answer {
     faults: Vec<Diagnostic>,
     classes: Vec<ClassAnswer>,

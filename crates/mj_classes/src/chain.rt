@@ -24,7 +24,7 @@ pub enum End<'a> {
 }
 
 /// The chain of a class, with its end.
-#[derive(Debug, Drop)]
+#[derive(Drop)]
 pub struct ClassChain<'a> {
     /// Those that declare a field or a method, the nearest first. The others are passed without being kept.
     pub classes: Vec<ClassRef<'a>>,

@@ -21,7 +21,7 @@ use std::alloc::Global;
 pub const ANY_TIER: usize = 5;
 
 /// An expression, the place after it, and how many levels it has.
-#[derive(Debug, Drop)]
+#[derive(Drop)]
 pub struct ExpPart {
     pub exp: Exp,
     pub after: usize,
@@ -334,7 +334,7 @@ fn index(alloc: Global, tokens: &[Token], left: ExpPart, room: usize) -> Result<
 }
 
 /// Expressions between commas, the place after them, and how many levels they have.
-#[derive(Debug, Drop)]
+#[derive(Drop)]
 struct ArgumentList {
     exps: Vec<Exp>,
     after: usize,

@@ -7,7 +7,7 @@ use crate::fault::ParseFault;
 use mj_lexer::{Kind, Name, Terminal, Token};
 
 /// What was read, and the place after it.
-#[derive(Debug, Drop)]
+#[derive(Drop)]
 pub struct Part<T: Drop> {
     pub tree: T,
     pub after: usize,

@@ -26,7 +26,7 @@ pub enum Problem {
 }
 
 /// What stands at the front of a text, with its number of bytes.
-#[derive(Debug, Drop)]
+#[derive(Drop)]
 pub enum Front {
     /// The text is empty.
     Nothing,

@@ -21,13 +21,13 @@ use std::marker::Model;
 use std::sync::Arc;
 
 /// A text of 1 to 255 bytes, which a name shares with its copies. Contracts see its bytes; names are ordered by them.
-#[derive(Debug, Drop)]
+#[derive(Drop)]
 pub struct Name {
     text: Arc<Text>,
 }
 
 /// A short text lies beside the count of its owners, so that memory is taken for it once.
-#[derive(Debug, Drop)]
+#[derive(Drop)]
 enum Text {
     Short(ArrayString<16>),
     Long(String),

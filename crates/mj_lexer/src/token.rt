@@ -69,7 +69,7 @@ pub enum Terminal {
 }
 
 /// What a token is.
-#[derive(Debug, PartialEq, Eq, Drop)]
+#[derive(PartialEq, Eq, Drop)]
 pub enum Kind {
     /// A name that isn't reserved.
     Identifier(Name),
@@ -80,7 +80,7 @@ pub enum Kind {
 }
 
 /// A token and its place in the text.
-#[derive(Debug, PartialEq, Eq, Drop)]
+#[derive(PartialEq, Eq, Drop)]
 pub struct Token {
     pub kind: Kind,
     /// The number of its first byte, counted from 0.

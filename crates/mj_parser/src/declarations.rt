@@ -194,7 +194,7 @@ fn body(alloc: Global, tokens: &[Token], at: usize) -> Result<Part<Vec<Stmt>>, P
 }
 
 /// What stands before the locals of a method.
-#[derive(Debug, Drop)]
+#[derive(Drop)]
 pub struct Signature {
     pub name: Name,
     pub returns: Ty,

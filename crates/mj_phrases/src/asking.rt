@@ -10,7 +10,7 @@ use mj_tree::Ty;
 use std::alloc::{AllocError, Global};
 
 /// Why a check ended early: an answer was refused, or memory ran out.
-#[derive(Debug, Drop)]
+#[derive(Drop)]
 pub enum Stop<E> {
     OutOfMemory,
     /// An answer was refused.

@@ -3,7 +3,7 @@ use mj_answer::Code;
 use mj_tree::Ty;
 
 /// The verdict on a phrase.
-#[derive(Debug, Drop)]
+#[derive(Drop)]
 pub enum Verdict {
     /// The expression has this type.
     Is(Ty),

@@ -39,7 +39,7 @@ impl From<AllocError> for ProjectFault {
 }
 
 /// Named files in their order: 1 to 4,096, with distinct names of 1 to 255 bytes.
-#[derive(Debug, Drop)]
+#[derive(Drop)]
 pub struct Project {
     files: Vec<(String, Vec<u8>)>,
 }

@@ -6,7 +6,7 @@ use std::alloc::{AllocError, Global};
 
 /// A place that stays the same under edits outside its item. Places are ordered as they are listed here, then by
 /// their contents, names by their bytes.
-#[derive(Debug, Drop, PartialEq, Eq, PartialOrd, Ord)]
+#[derive(Drop, PartialEq, Eq, PartialOrd, Ord)]
 pub enum Place {
     /// The whole project.
     Project,

@@ -10,7 +10,7 @@ use std::alloc::{AllocError, Global};
 pub const MOST_LEVELS: usize = 500;
 
 /// A declared type.
-#[derive(Debug, Drop, PartialEq, Eq)]
+#[derive(Drop, PartialEq, Eq)]
 pub enum Ty {
     Int,
     Boolean,
@@ -60,7 +60,7 @@ pub enum Operator {
 }
 
 /// An expression with its marking token.
-#[derive(Debug, Drop)]
+#[derive(Drop)]
 pub enum Exp {
     /// `left && right` and the other operators; the mark is the operator.
     Binary {
@@ -129,7 +129,7 @@ pub enum Exp {
 }
 
 /// A statement with its marking token.
-#[derive(Debug, Drop)]
+#[derive(Drop)]
 pub enum Stmt {
     /// `{ body }`; the mark is `{`.
     Block {
@@ -172,7 +172,7 @@ pub enum Stmt {
 }
 
 /// A field.
-#[derive(Debug, Drop)]
+#[derive(Drop)]
 pub struct Field {
     pub name: Name,
     pub ty: Ty,
@@ -191,7 +191,7 @@ impl Field {
 }
 
 /// A formal parameter or a local variable; the mark is the first token of its type.
-#[derive(Debug, Drop)]
+#[derive(Drop)]
 pub struct Variable {
     pub name: Name,
     pub ty: Ty,
@@ -212,7 +212,7 @@ impl Variable {
 }
 
 /// A method.
-#[derive(Debug, Drop)]
+#[derive(Drop)]
 pub struct MethodTree {
     pub name: Name,
     pub returns: Ty,
@@ -226,14 +226,14 @@ pub struct MethodTree {
 }
 
 /// The main class, which has `main` alone.
-#[derive(Debug, Drop)]
+#[derive(Drop)]
 pub struct MainTree {
     pub name: Name,
     pub statement: Stmt,
 }
 
 /// A class that isn't the main class.
-#[derive(Debug, Drop)]
+#[derive(Drop)]
 pub struct ClassTree {
     pub name: Name,
     pub superclass: Option<Name>,
@@ -242,7 +242,7 @@ pub struct ClassTree {
 }
 
 /// A file: the main class, if it has one, and then its classes.
-#[derive(Debug, Drop)]
+#[derive(Drop)]
 pub struct FileTree {
     pub main: Option<MainTree>,
     pub classes: Vec<ClassTree>,

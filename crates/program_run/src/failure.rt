@@ -10,7 +10,7 @@ use session_file::FileFault;
 use std::alloc::{AllocError, AllocFailed};
 
 /// The first failure of a run.
-#[derive(Debug, Drop)]
+#[derive(Drop)]
 pub enum Failure {
     /// The command line is refused, or asks for help.
     Words(WordsFault),

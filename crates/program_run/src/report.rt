@@ -48,7 +48,7 @@ impl Status {
 }
 
 /// The texts of a run and its end.
-#[derive(Debug, Drop)]
+#[derive(Drop)]
 pub struct Report {
     /// What goes to standard error.
     pub notes: String,

@@ -16,7 +16,7 @@ use tree_spelling::{FieldFormat, TypeFormat, check_ty, put_ty, read_ty};
 
 /// A class without its bodies: whether it is the main class, its superclass, its fields with their types and the
 /// names of its methods, repeated ones too. The main class has no fields and no methods.
-#[derive(Debug, Drop)]
+#[derive(Drop)]
 pub struct Header {
     is_main: bool,
     superclass: Option<Name>,
@@ -110,7 +110,7 @@ impl Header {
 }
 
 /// The types of a method's formals, and its return type.
-#[derive(Debug, Drop)]
+#[derive(Drop)]
 pub struct Signature {
     formals: Vec<Ty>,
     returns: Ty,
@@ -159,7 +159,7 @@ impl Signature {
 }
 
 /// The chain of classes that begins with a class, and its end.
-#[derive(Debug, Drop)]
+#[derive(Drop)]
 pub struct Supers {
     classes: Vec<Name>,
     end: ChainEnd,

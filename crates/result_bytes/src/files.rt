@@ -18,7 +18,7 @@ use std::collections::BTreeSet;
 use std::marker::Model;
 
 /// The names of a project's files in their order: 1 to 4,096 names that differ.
-#[derive(Debug, Drop)]
+#[derive(Drop)]
 pub struct FileNames {
     names: Vec<Name>,
 }
@@ -104,7 +104,7 @@ fn read_new_names(alloc: Global, count: u64, bytes: &[u8]) -> Result<(Vec<Name>,
 }
 
 /// The bytes of a source file.
-#[derive(Debug, Drop)]
+#[derive(Drop)]
 pub struct Text {
     bytes: Vec<u8>,
 }
@@ -188,7 +188,7 @@ impl Format for TextFormat {
 }
 
 /// A class and the file that declares it.
-#[derive(Debug, Drop)]
+#[derive(Drop)]
 pub struct IndexRow {
     pub class: Name,
     pub file: Name,
@@ -255,7 +255,7 @@ impl Ordered for IndexRowFormat {
 }
 
 /// Each class with the file that declares it, ascending by class.
-#[derive(Debug, Drop)]
+#[derive(Drop)]
 pub struct Index {
     rows: Vec<IndexRow>,
 }

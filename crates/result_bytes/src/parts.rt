@@ -11,7 +11,7 @@ use mj_lexer::Name;
 use std::alloc::{AllocError, Global};
 
 /// How a chain of classes ends.
-#[derive(Debug, Drop)]
+#[derive(Drop)]
 pub enum ChainEnd {
     /// The last class extends nothing.
     Top,

@@ -8,7 +8,7 @@ use item_ids::Kind;
 use tree_bytes::{Body, Tree};
 
 /// The result of a query, one arm for each kind. `None` is the result for a key that names nothing.
-#[derive(Debug, Drop)]
+#[derive(Drop)]
 pub enum Value {
     /// The names of the files.
     Files(FileNames),

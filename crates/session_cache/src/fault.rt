@@ -5,7 +5,7 @@ ghost use Rattle.session_cache.specs.declared.fault.CacheFault.TheVariants as fa
 use std::alloc::AllocError;
 
 /// Why a cache can't be used.
-#[derive(Debug, Drop)]
+#[derive(Drop)]
 pub enum CacheFault {
     /// This folder or file can't be read.
     CannotRead(String),

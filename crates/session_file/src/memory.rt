@@ -5,7 +5,7 @@ use crate::device::{DeviceFault, Feed, Sink};
 use std::alloc::Global;
 
 /// A sink that keeps its bytes in memory. It fails where memory runs out.
-#[derive(Debug, Drop)]
+#[derive(Drop)]
 pub struct MemorySink {
     bytes: Vec<u8>,
     failed: u64,

@@ -19,7 +19,7 @@ use tree_spelling::{
 };
 
 /// What a body belongs to.
-#[derive(Debug, Drop)]
+#[derive(Drop)]
 pub enum MainOrMethod {
     /// The statement of `main`.
     Main(Stmt),
@@ -28,7 +28,7 @@ pub enum MainOrMethod {
 }
 
 /// The types that a method declares.
-#[derive(Debug, Drop)]
+#[derive(Drop)]
 pub struct MethodTypes {
     pub returns: Ty,
     pub formals: Vec<Variable>,
@@ -37,7 +37,7 @@ pub struct MethodTypes {
 /// The statement of `main`, or a method, with tokens in four bytes and at most 500 levels. It is kept as its canonical
 /// bytes, which take a tenth of the room of the tree, and is opened where its parts are needed. Contracts see what the bytes
 /// spell.
-#[derive(Debug, Drop)]
+#[derive(Drop)]
 pub struct Body {
     bytes: Vec<u8>,
 }

@@ -12,7 +12,7 @@ use std::alloc::{AllocError, Global};
 use std::collections::BTreeMap;
 
 /// The places of classes and of their methods, found by their names.
-#[derive(Debug, Drop)]
+#[derive(Drop)]
 pub(crate) struct ClassIndex {
     /// The place of the first class of each name.
     classes: BTreeMap<Name, usize>,

@@ -13,7 +13,7 @@ use std::alloc::{AllocError, Global};
 use std::marker::Model;
 
 /// A method: its name beside its body. Contracts see the method.
-#[derive(Debug, Drop)]
+#[derive(Drop)]
 pub struct StoredMethod {
     pub(crate) name: Name,
     pub(crate) body: Body,
@@ -55,7 +55,7 @@ impl StoredMethod {
 }
 
 /// A main class: its name beside its body. Contracts see the main class.
-#[derive(Debug, Drop)]
+#[derive(Drop)]
 pub struct StoredMain {
     pub(crate) name: Name,
     pub(crate) body: Body,
@@ -96,7 +96,7 @@ impl StoredMain {
 }
 
 /// A class that isn't the main class.
-#[derive(Debug, Drop)]
+#[derive(Drop)]
 pub struct StoredClass {
     pub name: Name,
     pub superclass: Option<Name>,
@@ -105,7 +105,7 @@ pub struct StoredClass {
 }
 
 /// A file: the main class, if it has one, and then its classes.
-#[derive(Debug, Drop)]
+#[derive(Drop)]
 pub struct StoredFile {
     pub main: Option<StoredMain>,
     pub classes: Vec<StoredClass>,

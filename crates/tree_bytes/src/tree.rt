@@ -14,7 +14,7 @@ use std::marker::Model;
 
 /// The tree of a file, with tokens in four bytes and at most 500 levels. Contracts see it without where it lies in
 /// memory.
-#[derive(Debug, Drop)]
+#[derive(Drop)]
 pub struct Tree {
     root: StoredFile,
     index: ClassIndex,
