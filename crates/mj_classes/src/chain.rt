@@ -13,7 +13,7 @@ use mj_members::ClassRef;
 use std::alloc::{AllocError, Global};
 
 /// How a chain ends.
-#[derive(Clone, Copy, Debug)]
+#[derive(Clone, Copy)]
 pub enum End<'a> {
     /// The last class extends nothing.
     Top,

@@ -8,14 +8,14 @@ use mj_lexer::Name;
 use mj_tree::{ClassTree, Field, MainTree, MethodTree};
 
 /// The tree of a main class or of another class.
-#[derive(Clone, Copy, Debug)]
+#[derive(Clone, Copy)]
 pub enum Tree<'a> {
     Main(&'a MainTree),
     Plain(&'a ClassTree),
 }
 
 /// A class and where it is declared.
-#[derive(Clone, Copy, Debug)]
+#[derive(Clone, Copy)]
 pub struct ClassRef<'a> {
     /// The number of its file, counted from 0.
     pub file: usize,

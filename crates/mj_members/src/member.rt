@@ -14,14 +14,14 @@ use std::alloc::{AllocError, Global};
 use std::collections::BTreeMap;
 
 /// A field and the class that declares it.
-#[derive(Clone, Copy, Debug)]
+#[derive(Clone, Copy)]
 pub struct FieldMember<'a> {
     pub owner: &'a Name,
     pub field: &'a Field,
 }
 
 /// A method and the class that declares it.
-#[derive(Clone, Copy, Debug)]
+#[derive(Clone, Copy)]
 pub struct MethodMember<'a> {
     pub owner: &'a Name,
     pub method: &'a MethodTree,

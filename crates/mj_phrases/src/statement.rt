@@ -16,7 +16,7 @@ use mj_tree::Exp;
 use std::alloc::Global;
 
 /// The name that is assigned to, with its token and that of `=`.
-#[derive(Clone, Copy, Debug)]
+#[derive(Clone, Copy)]
 pub struct Target<'a> {
     /// The token of `=`.
     pub mark: usize,
