@@ -71,7 +71,7 @@ module _ (mean : Meaning) (reads : ReadLists) where
   last_known past [] known right = known
   last_known past (s ∷ ss) known right = last_known (Some s) ss (right.0.project, right.0.of_project) right.1
 
-  last_session : (past : Option SessionValue) (ss : List SessionValue) → IfSome past IsSession → AllByRecursion IsSession ss → IfSome (last_of past ss) IsSession
+  pub last_session : (past : Option SessionValue) (ss : List SessionValue) → IfSome past IsSession → AllByRecursion IsSession ss → IfSome (last_of past ss) IsSession
   last_session past [] session each = session
   last_session past (s ∷ ss) session each = last_session (Some s) ss each.0 each.1
 
@@ -86,8 +86,8 @@ module _ (mean : Meaning) (reads : ReadLists) where
         (record { session = t; there = there; key = k; entry = r; has = has; value = refl })
         (record { session = next; there = at_last sessions next; key = q; entry = x.0; has = x.1; value = x.2 }) same
 
-    decides : DecidesNext mean reads (last_of None sessions) p
-    decides = record { past_is = last_known None sessions tt chain.right; apart = no_clash (last_of None sessions) refl }
+    pub next_decided : DecidesNext mean reads (last_of None sessions) p
+    next_decided = record { past_is = last_known None sessions tt chain.right; apart = no_clash (last_of None sessions) refl }
 
     pub goes_on : IsRightChain mean reads (sessions ++ next ∷ [])
     goes_on = record {
@@ -98,7 +98,7 @@ module _ (mean : Meaning) (reads : ReadLists) where
             link = is.link;
           });
       right = right_more None sessions next chain.right
-          (next_right mean reads laws (last_of None sessions) p next project (last_session None sessions tt chain.each) decides own is);
+          (next_right mean reads laws (last_of None sessions) p next project (last_session None sessions tt chain.each) next_decided own is);
       answered = λ none.
           let x = told mean reads laws (last_of None sessions) p next project own is Answer (root Answer answer_root) in
           none-some x.0 (sym none ∙ (ap (λ (o : Option SessionValue). past_entry o Answer) (last_more None sessions next) ∙ x.1));
@@ -116,13 +116,6 @@ module _ (mean : Meaning) (reads : ReadLists) where
       → (accepted : IsAccepted mean reads files old new project answer count runs) → (next : SessionValue) → AreApart (accepted.sessions ++ next ∷ []) → IsRightChain mean reads accepted.sessions
   accepted_chain files old new project answer count runs accepted next apart = accepted_right mean reads files old new project answer count runs accepted (fewer_apart accepted.sessions next apart)
 
-  pub accepted_last : (sessions : List SessionValue) → IsRightChain mean reads sessions → IfSome (last_of None sessions) IsSession
-  accepted_last sessions chain = last_session mean reads None sessions tt chain.each
-
-  pub next_decided : RunnerLaws mean reads → (sessions : List SessionValue) → IsRightChain mean reads sessions → (p : Project) (next : SessionValue)
-      → IsProject p → ReadsOwnFiles reads p → IsNextSession mean reads (last_of None sessions) p next → AreApart (sessions ++ next ∷ []) → DecidesNext mean reads (last_of None sessions) p
-  next_decided laws sessions chain p next project own is apart = decides mean reads laws sessions chain p next project own is apart
-
 pub next_accepted : (mean : Meaning) (reads : ReadLists) → RunnerLaws mean reads
     → (files : List (List ℕ)) (old new : List Key) (project : Project) (answer : Value) (count runs : ℕ)
     → (accepted : IsAccepted mean reads files old new project answer count runs)
@@ -133,7 +126,7 @@ pub next_accepted : (mean : Meaning) (reads : ReadLists) → RunnerLaws mean rea
     → AuditRefuses mean reads (files ++ file_of next ∷ []) before after fault
     → fault ≡ OutOfMemory
 next_accepted mean reads laws files old new project answer count runs accepted p next is_project own is apart before after fault r =
-    let chain = accepted_right mean reads files old new project answer count runs accepted (fewer_apart accepted.sessions next apart) in
+    let chain = accepted_chain mean reads files old new project answer count runs accepted next apart in
     let on = goes_on mean reads laws accepted.sessions chain p next is_project own is apart in
     let spelled : map file_of (accepted.sessions ++ next ∷ []) ≡ files ++ file_of next ∷ [] = map-append file_of accepted.sessions (next ∷ []) ∙ ap (λ (fs : List (List ℕ)). fs ++ file_of next ∷ []) accepted.passed.spelled in
     refused mean reads (accepted.sessions ++ next ∷ []) on (files ++ file_of next ∷ []) spelled before after fault r

@@ -1,6 +1,11 @@
-//! What holds of a chain that was accepted and the next session over its last one.
+//! Laws of chains of sessions: what holds of a chain that was accepted and the next session over its last one, whatever the
+//! queries, and for those of MiniJava.
 #![tactic(auto)]
 
 mod laws;
+mod mini_java;
 
 pub use laws::{next_goes_on, next_is_accepted, next_is_decided};
+pub use mini_java::{
+    checked_is_by_the_rules, made_is_accepted, next_of_mini_java_is_accepted, reads_own_files,
+};

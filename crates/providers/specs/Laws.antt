@@ -18,8 +18,8 @@ use Rattle.member_queries.proofs.SupersTie.{supers_ties}
 use Rattle.member_queries.proofs.MembersTie.{members_ties}
 use Rattle.member_queries.proofs.DiagsTie.{diags_ties}
 use Rattle.body_query.proofs.Ties.{body_ties}
-use Rattle.class_query.proofs.CheckClassTie.{check_class_ties}
-use Rattle.answer_query.proofs.AnswerTie.{answer_ties}
+use Rattle.answer_queries.proofs.CheckClassTie.{check_class_ties}
+use Rattle.answer_queries.proofs.AnswerTie.{answer_ties}
 use Rattle.providers.specs.Programs.{prog_of, steps_of}
 
 tie_of : (q : Key) → 0 < rank q → Ties q (prog_of q)

@@ -14,8 +14,8 @@ use Rattle.member_queries.specs.Supers.{supers_steps}
 use Rattle.member_queries.specs.Members.{members_steps}
 use Rattle.member_queries.specs.Diags.{diags_steps}
 use Rattle.body_query.specs.Body.{body_steps}
-use Rattle.class_query.specs.CheckClass.{check_class_steps}
-use Rattle.answer_query.specs.Answer.{answer_steps}
+use Rattle.answer_queries.specs.CheckClass.{check_class_steps}
+use Rattle.answer_queries.specs.Answer.{answer_steps}
 
 unfoldable pub steps_of : Key → (Value → Prog) → Prog
 steps_of (keys.Tree f) k = tree_steps f k

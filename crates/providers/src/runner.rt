@@ -9,9 +9,8 @@ ghost use Rattle.query_rules.specs.Meaning.{mean};
 ghost use Rattle.query_rules.specs.Reads.{reads};
 ghost use Rattle.providers.specs.Programs.{steps_of};
 
-use answer_query::run_answer;
+use answer_queries::{run_answer, run_check_class};
 use body_query::check_body;
-use class_query::run_check_class;
 use item_ids::{Key, Kind};
 use member_queries::{run_diags, run_members, run_supers};
 use recorder::{Reader, Recorder, RunFault, Runner};

@@ -1,0 +1,16 @@
+pub mod Rests
+pub mod Overriding
+pub mod Counts
+pub mod ClassBounds
+pub mod CheckClassTie
+pub mod ClassPlaces
+pub mod Added
+pub mod FileTrees
+pub mod Numbers
+pub mod ProjectFaults
+pub mod FirstClasses
+pub mod AnswerTie
+pub mod Steps
+pub mod ProjectPlaces
+pub mod ProjectBounds
+pub mod Kept

@@ -1,0 +1,31 @@
+use Rattle.std.proofs.Common.{◌<◌, get_or, false, ◌∙◌, length, arith}
+use Rattle.std.proofs.lemmas.List.{length-map}
+use Rattle.mj_project.specs.Repeats.{repeats}
+use Rattle.mj_project.proofs.Listed.{map_at}
+use Rattle.mj_rules.proofs.Steps.{each_step, flag_read, flag_within, item_at}
+use Rattle.answer_queries.specs.Trees.{named_trees}
+use Rattle.answer_queries.specs.ProjectFaults.{NamedClass, class_names, name_view, names_view, repeat_faults}
+use Rattle.answer_queries.proofs.project_faults.add_repeated_classes.Goals as goal
+
+pub bounds-flags-number : goal.bounds-flags-number
+bounds-flags-number c =
+    let views = length-map c.args.classes.now name_view in
+    let same = length-map (names_view c.args.classes.now) (λ (k : NamedClass). k.name) in
+    let within : c.loop-number.number < length (class_names (names_view c.args.classes.now)) = omega arith in
+    flag_within (class_names (names_view c.args.classes.now)) c.as_slice-flags.result.now c.loop-number.number (c.as_slice-flags.ensures.value ∙ c.in_ok-repeated.ensures) within
+
+pub loop-number-preserved : goal.loop-number-preserved
+loop-number-preserved c =
+    let within : c.loop-number.number < length c.args.classes.now = omega arith in
+    let views = length-map c.args.classes.now name_view in
+    let same = length-map (names_view c.args.classes.now) (λ (k : NamedClass). k.name) in
+    let named : c.loop-number.number < length (class_names (names_view c.args.classes.now)) = omega arith in
+    let flags = c.as_slice-flags.ensures.value ∙ c.in_ok-repeated.ensures in
+    let class = c.index-classes-number.result in
+    each_step (repeat_faults (named_trees c.args.files.now)) (names_view c.args.classes.now) (repeats (class_names (names_view c.args.classes.now))) c.loop-number.number (name_view class) (get_or c.as_slice-flags.result.now c.loop-number.number false)
+    c.loop-number.faults.items c.add_repeated_class.new.faults.items
+    (map_at name_view c.args.classes.now c.loop-number.number class (item_at c.args.classes.now c.loop-number.number class within c.index-classes-number.is))
+    (flag_read (repeats (class_names (names_view c.args.classes.now))) c.as_slice-flags.result.now c.loop-number.number false flags
+    (flag_within (class_names (names_view c.args.classes.now)) c.as_slice-flags.result.now c.loop-number.number flags named))
+    c.in_ok-add_repeated_class.ensures
+    ∙ c.loop-number.invariant

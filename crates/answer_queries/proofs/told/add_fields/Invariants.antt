@@ -1,0 +1,9 @@
+use Rattle.std.proofs.Common.{◌≡◌, ◌++◌, drop}
+use Rattle.mj_rules.specs.FaultLists.{each_numbered}
+use Rattle.answer_queries.specs.Told.{field_told}
+use Rattle.answer_queries.proofs.told.add_fields.Given as goal
+
+abbrev pub invariant-loop-number : goal.invariant-loop-number
+invariant-loop-number l =
+    l.faults.items ++ each_numbered field_told l.number (drop l.number l.undeclared) (drop l.number l.repeated)
+    ≡ l.initial.faults.items ++ each_numbered field_told 0 l.undeclared l.repeated

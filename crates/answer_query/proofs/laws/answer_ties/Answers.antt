@@ -1,5 +1,0 @@
-use Rattle.answer_query.proofs.AnswerTie as tie
-use Rattle.answer_query.proofs.laws.answer_ties.Goals as goal
-
-pub returns : goal.returns
-returns c = tie.answer_ties

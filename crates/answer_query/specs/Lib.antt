@@ -1,4 +1,0 @@
-pub mod Trees
-pub mod ProjectFaults
-pub mod Answer
-pub mod Laws

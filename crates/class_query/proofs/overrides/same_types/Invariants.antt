@@ -1,6 +1,0 @@
-use Rattle.std.proofs.Common.{◌≡◌, drop}
-use Rattle.class_query.specs.Signatures.{same_types}
-use Rattle.class_query.proofs.overrides.same_types.Given as goal
-
-abbrev pub invariant-loop-number : goal.invariant-loop-number
-invariant-loop-number l = same_types (drop l.number l.types) (drop l.number l.others) ≡ same_types l.types l.others

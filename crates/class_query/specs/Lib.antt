@@ -1,4 +1,0 @@
-pub mod Signatures
-pub mod Told
-pub mod CheckClass
-pub mod Laws
