@@ -45,9 +45,12 @@ jobs_rule = record (new_rule (codes "jobs")) {
   parser = Some (parser.Signed (pos 1) (pos most_jobs));
 }
 
+-- `check`, before its FILEs
+abbrev pub options_app : App
+options_app = with_rule (with_rule (new_app (codes "check")) cache_rule) jobs_rule
+
 abbrev pub check_app : App
-check_app =
-    with_rule (with_rule (with_rule (new_app (codes "check")) cache_rule) jobs_rule) files_rule
+check_app = with_rule options_app files_rule
 
 -- the program, before its subcommands
 abbrev pub required_app : App
@@ -56,8 +59,10 @@ required_app = on_top (λ s. record s {
   subcommand_required = true;
 }) (new_app (codes "mjrg"))
 
+-- the program with `scratch` and `check`
+abbrev pub checker_app : App
+checker_app = with_subcommand (with_subcommand required_app (subcommand_app Scratch).top) check_app.top
+
 abbrev pub program_app : App
 program_app = with_subcommand
-    (with_subcommand
-    (with_subcommand (with_subcommand required_app (subcommand_app Scratch).top) check_app.top)
-    (subcommand_app Audit).top) (subcommand_app Show).top
+    (with_subcommand checker_app (subcommand_app Audit).top) (subcommand_app Show).top

@@ -2,8 +2,8 @@
 ghost use Rattle.std.specs.Prelude.{◌≡◌, IfOk, false};
 ghost use Rattle.clap.specs.Words.{app_of, rule_of, with_subcommand};
 ghost use Rattle.clap.specs.declared.builder.Command.TheViews.{out-Command};
-ghost use Rattle.command_line.specs.Program.{cache_rule, check_app, file_rule, files_rule};
-ghost use Rattle.command_line.specs.Program.{jobs_rule, program_app, required_app, rule_of_files, subcommand_app};
+ghost use Rattle.command_line.specs.Program.{cache_rule, check_app, checker_app, file_rule, files_rule};
+ghost use Rattle.command_line.specs.Program.{jobs_rule, options_app, program_app, required_app, rule_of_files, subcommand_app};
 
 use crate::asked::Subcommand;
 use crate::help;
@@ -33,11 +33,18 @@ pub(crate) const MOST_JOBS: u8 = 64;
 pub(crate) fn program<'a>(alloc: Global) -> Result<Command<'a>, AllocError>
     ensures { IfOk result (λ command. app_of command ≡ program_app) }
 {
-    let program = named(alloc)?;
-    let program = with_files(alloc, program, Subcommand::Scratch)?;
-    let program = with_check(alloc, program)?;
+    let program = checker(alloc)?;
     let program = with_files(alloc, program, Subcommand::Audit)?;
     with_files(alloc, program, Subcommand::Show)
+}
+
+// The program with `scratch` and `check`.
+fn checker<'a>(alloc: Global) -> Result<Command<'a>, AllocError>
+    ensures { IfOk result (λ command. app_of command ≡ checker_app) }
+{
+    let program = named(alloc)?;
+    let program = with_files(alloc, program, Subcommand::Scratch)?;
+    with_check(alloc, program)
 }
 
 // The program before its subcommands.
@@ -88,12 +95,19 @@ fn check_command<'a>(alloc: Global) -> Result<Command<'a>, AllocError>
     ensures app { IfOk result (λ command. app_of command ≡ check_app) }
     ensures local { IfOk result (λ command. (out-Command command).has_globals ≡ false) }
 {
+    check_options(alloc)?.arg(files_of(alloc, Subcommand::Scratch))
+}
+
+// `check` with its options, before its FILEs.
+fn check_options<'a>(alloc: Global) -> Result<Command<'a>, AllocError>
+    ensures app { IfOk result (λ command. app_of command ≡ options_app) }
+    ensures local { IfOk result (λ command. (out-Command command).has_globals ≡ false) }
+{
     Command::new(alloc, CHECK)
         .about(help::CHECK_PURPOSE)
         .after_help(help::CHECK)
         .arg(cache(alloc))?
-        .arg(jobs(alloc))?
-        .arg(files_of(alloc, Subcommand::Scratch))
+        .arg(jobs(alloc))
 }
 
 fn cache<'a>(alloc: Global) -> Arg<'a>
