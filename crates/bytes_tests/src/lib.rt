@@ -1,12 +1,10 @@
-//! Tests of the crates of keys and of bytes: their expected values are from the formats and the worked examples.
+//! Tests of the crates of bytes: their expected values are from the formats and the worked examples.
 #![tactic(auto)]
 
 #[cfg(test)]
 mod copies;
 #[cfg(test)]
 mod items;
-#[cfg(test)]
-mod keys;
 #[cfg(test)]
 mod sealing;
 #[cfg(test)]

@@ -3,7 +3,7 @@ ghost use Rattle.session_cache.specs.Starts.{IsPlace};
 
 use answer_fixtures::is_print;
 use fingerprint::Print;
-use session_cache::{Place, Start, find_start, write_file};
+use session_cache::{CacheFault, Place, Start, find_start, write_file};
 use session_fixtures::{FIRST, is_read_again, session_of};
 use sessions::Session;
 use std::fs;
@@ -30,7 +30,7 @@ fn summary_of(start: &Start) -> Summary {
 fn look<R: Files + AllocGlobal>(rt: &R, dir: &str) -> Result<Summary, Fail> {
     match find_start(rt, dir) {
         Ok(start) => Ok(summary_of(&start)),
-        Err(fault) => Err(Fail::from(fault)),
+        Err(_) => Err(Fail::from("a start")),
     }
 }
 
@@ -44,8 +44,15 @@ fn keep<R: Files + AllocGlobal + Threads>(
     requires { IsPlace place }
 {
     let session = Session::new(rt.alloc(), number, [0; 32], Vec::new(rt.alloc()))?;
-    write_file(rt, rt, dir, place, &session, 1)?;
-    Ok(())
+    written(write_file(rt, rt, dir, place, &session, 1))
+}
+
+/// Fails where a file wasn't written.
+fn written(ending: Result<(), CacheFault>) -> Result<(), Fail> {
+    match ending {
+        Ok(()) => Ok(()),
+        Err(_) => Err(Fail::from("a file")),
+    }
 }
 
 /// The place of the first session of a cache.
@@ -61,7 +68,7 @@ fn keep_first<R: Files + AllocGlobal + Threads>(
     workers: usize,
 ) -> Result<(), Fail> {
     match session_of(rt.alloc(), 0, [0; 32], FIRST) {
-        Ok(session) => Ok(write_file(rt, rt, dir, FIRST_PLACE, &session, workers)?),
+        Ok(session) => written(write_file(rt, rt, dir, FIRST_PLACE, &session, workers)),
         Err(_) => Err(Fail::from("a session")),
     }
 }

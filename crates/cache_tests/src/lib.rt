@@ -1,8 +1,10 @@
-//! Tests of a cache by itself: where the next session stands in it, the files that are kept there, and writers of them that
-//! stall.
+//! Tests of a cache by itself: where the next session stands in it, the files that are kept there, and devices for them that
+//! stall or fail.
 #![tactic(auto)]
 
 #[cfg(test)]
 mod caches;
+#[cfg(test)]
+mod devices;
 #[cfg(test)]
 mod stalling;
