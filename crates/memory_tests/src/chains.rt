@@ -7,23 +7,14 @@ use table_fixtures::{Change, Other};
 pub(crate) const ONE: &str =
     "class M { public static void main(String[] a) { System.out.println(1); } }";
 
-/// All ten queries are executed.
-pub(crate) const EXECUTED: Change = Change {
-    records: FIRST,
-    executed: &[2, 3, 4, 5, 6, 7, 8, 9, 10, 11],
-    others: &[],
-};
-
-/// All ten queries are green.
-pub(crate) const GREEN: Change = Change {
-    records: FIRST,
-    executed: &[],
-    others: &[],
-};
-
-/// What the class prints is edited, and edited back: 22 runs.
+/// What the class prints is edited, and edited back: 22 runs. It is a static, since a function that names a long constant
+/// writes it out in its frame, which is expensive to prove.
 pub(crate) static THERE_AND_BACK: [Change; 3] = [
-    EXECUTED,
+    Change {
+        records: FIRST,
+        executed: &[2, 3, 4, 5, 6, 7, 8, 9, 10, 11],
+        others: &[],
+    },
     Change {
         records: FIRST,
         executed: &[2, 3, 4, 5, 9, 11],
@@ -48,3 +39,21 @@ pub(crate) static THERE_AND_BACK: [Change; 3] = [
         others: &[],
     },
 ];
+
+/// The first of these sessions: all ten queries are executed.
+pub(crate) fn executed() -> Change {
+    THERE_AND_BACK[0]
+}
+
+/// One of the same text behind it: all ten queries are green.
+pub(crate) fn green() -> Change {
+    Change {
+        executed: &[],
+        ..executed()
+    }
+}
+
+/// The chain of the first session alone.
+pub(crate) fn one_session() -> &'static [Change] {
+    &THERE_AND_BACK[..1]
+}

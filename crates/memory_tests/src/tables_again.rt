@@ -1,20 +1,20 @@
 //! The calls of tables, each made again where it is refused memory.
 
-use crate::chains::{EXECUTED, GREEN, ONE};
+use crate::chains::{ONE, executed, green, one_session};
 use answer_fixtures::Asked;
 use item_ids::Kind;
 use job_table::{CloseFault, TableFault};
 use session_fixtures::twice;
 use std::alloc::Global;
 use std::test::*;
-use table_fixtures::{Call, Calls, History, Said, Saying, are_said, is_history};
+use table_fixtures::{Call, Calls, Change, History, Said, Saying, are_said, is_history};
 
 const FILES: Asked<'static> = Asked(Kind::Files, "", "");
 
 const ANSWER: Asked<'static> = Asked(Kind::Answer, "", "");
 
 /// A table that was just opened has no event, and answers for the names of the files.
-const OPENED: &[Saying] = &[Saying {
+static OPENED: [Saying; 1] = [Saying {
     call: Call::Ask,
     worker: 0,
     key: FILES,
@@ -23,7 +23,7 @@ const OPENED: &[Saying] = &[Saying {
 }];
 
 /// From the failure of a worker on, which needs no memory, each call is refused.
-const FAILED: &[Saying] = &[
+static FAILED: [Saying; 7] = [
     Saying {
         call: Call::Ask,
         worker: 0,
@@ -75,65 +75,46 @@ const FAILED: &[Saying] = &[
     },
 ];
 
-static CALLS: [Calls; 3] = [
-    Calls {
-        chain: &[],
+/// Whether each call of a table behind the chain says what it should, in a second try where what the test makes was refused
+/// memory.
+fn are_answered(alloc: Global, chain: &'static [Change], sayings: &'static [Saying]) -> bool {
+    let calls = Calls {
+        chain,
         text: ONE,
-        sayings: OPENED,
-    },
-    Calls {
-        chain: &[EXECUTED],
-        text: ONE,
-        sayings: OPENED,
-    },
-    Calls {
-        chain: &[],
-        text: ONE,
-        sayings: FAILED,
-    },
-];
-
-/// Whether each call says what it should, in a second try where what the test makes was refused memory.
-fn are_answered(alloc: Global, calls: &Calls) -> bool {
-    twice(&|| are_said(alloc, calls)) == Ok(true)
+        sayings,
+    };
+    twice(&|| are_said(alloc, &calls)) == Ok(true)
 }
 
 #[test]
 fn calls_are_made_again(rt: HostRuntime) {
-    for calls in &CALLS {
-        assert!(rt; are_answered(rt.alloc(), calls));
-    }
+    let alloc = rt.alloc();
+    assert!(rt; are_answered(alloc, &[], &OPENED));
+    assert!(rt; are_answered(alloc, one_session(), &OPENED));
+    assert!(rt; are_answered(alloc, &[], &FAILED));
 }
 
-/// Whether the session is made as the history says, in a second try where what the test makes was refused memory.
-fn is_made(alloc: Global, history: &History) -> bool {
-    twice(&|| is_history(alloc, history)) == Ok(true)
+/// Whether the session behind the chain is made by so many events, in a second try where what the test makes was refused
+/// memory.
+fn is_made(alloc: Global, chain: &'static [Change], change: Change, events: usize) -> bool {
+    let history = History {
+        chain,
+        text: ONE,
+        change,
+        beside: &[],
+        events,
+    };
+    twice(&|| is_history(alloc, &history)) == Ok(true)
 }
 
 /// A first session: all queries are asked for, begun and finished.
-static RUN: History = History {
-    chain: &[],
-    text: ONE,
-    change: EXECUTED,
-    beside: &[],
-    events: 30,
-};
-
-/// One of the same text behind it: all queries are asked for and marked.
-static MARKED: History = History {
-    chain: &[EXECUTED],
-    text: ONE,
-    change: GREEN,
-    beside: &[],
-    events: 20,
-};
-
 #[test]
 fn runs_are_made_again(rt: HostRuntime) {
-    assert!(rt; is_made(rt.alloc(), &RUN));
+    assert!(rt; is_made(rt.alloc(), &[], executed(), 30));
 }
 
+/// One of the same text behind it: all queries are asked for and marked.
 #[test]
 fn marks_are_made_again(rt: HostRuntime) {
-    assert!(rt; is_made(rt.alloc(), &MARKED));
+    assert!(rt; is_made(rt.alloc(), one_session(), green(), 20));
 }
