@@ -2,7 +2,7 @@
 //! stop being one, and the levels are shown by golden tests.
 use mj_lexer::{LexFault, Name, Token, lex};
 use mj_parser::{locate, parse};
-use mj_tree::{ClassTree, Exp, MainTree, MethodTree, Place, Stmt, Ty, Variable};
+use mj_tree::{ClassTree, Exp, FileTree, MainTree, MethodTree, Place, Stmt, Ty, Variable};
 use std::alloc::{AllocError, Global};
 use std::test::Fail;
 
@@ -57,16 +57,25 @@ fn is_class(class: &ClassTree) -> bool {
     class.methods.first().is_some_and(is_method)
 }
 
-/// Whether each part of the text has the number of its token.
-fn is_marked(alloc: Global, text: &str) -> Result<bool, Fail> {
-    let tokens = lex(alloc, text.as_bytes())?;
-    let tree = parse(alloc, &tokens)?;
-    Ok(tree.main.as_ref().is_some_and(is_main) && tree.classes.first().is_some_and(is_class))
+fn is_marked(tree: &FileTree) -> bool {
+    tree.main.as_ref().is_some_and(is_main) && tree.classes.first().is_some_and(is_class)
 }
 
+/// Whether it was made and is like this. It is made of any type, so that how a tree is dropped isn't written out here.
+fn is_made<T: Drop, E: Drop, F: Fn(&T) -> bool>(made: Result<T, E>, is: &F) -> bool
+    requires { F.IsAlwaysCallable is.now }
+{
+    match made {
+        Ok(made) => is(&made),
+        Err(_) => false,
+    }
+}
+
+/// Whether each part of the text has the number of its token.
 #[test]
 fn marks(rt: HostRuntime) -> Result<(), Fail> {
-    assert!(rt; is_marked(rt.alloc(), MARKED)?);
+    let tokens = lex(rt.alloc(), MARKED.as_bytes())?;
+    assert!(rt; is_made(parse(rt.alloc(), &tokens), &|tree| is_marked(tree)));
     Ok(())
 }
 
@@ -95,7 +104,7 @@ fn with_repeats(
 /// Whether the text is a file.
 fn is_file(alloc: Global, text: &str) -> Result<bool, LexFault> {
     let tokens = lex(alloc, text.as_bytes())?;
-    Ok(parse(alloc, &tokens).is_ok())
+    Ok(is_made(parse(alloc, &tokens), &|_| true))
 }
 
 fn is_long_file(alloc: Global, row: &(&str, &str, &str)) -> Result<bool, LexFault> {
@@ -119,8 +128,17 @@ fn start_of(tokens: &[Token], place: Option<usize>) -> Option<usize> {
 const PLACED: &str =
     "class /* c */ M { public static void main(String[] a) { System.out.println(1); } } class A extends M { int[] x; A y; public /* d */ int[] f(int z) { return x; } public A g() { return y; } public A f() { return y; } }";
 
-/// Whether the token of the place starts at this byte.
-fn is_at(alloc: Global, class: u32, place: &Place, want: Option<usize>) -> Result<bool, LexFault> {
+/// Whether the token of the place starts at this byte. The place is dropped here and not where it is made.
+fn is_at(alloc: Global, class: u32, place: Place, want: Option<usize>) -> Result<bool, LexFault> {
+    starts_at(alloc, class, &place, want)
+}
+
+fn starts_at(
+    alloc: Global,
+    class: u32,
+    place: &Place,
+    want: Option<usize>,
+) -> Result<bool, LexFault> {
     let tokens = lex(alloc, PLACED.as_bytes())?;
     Ok(start_of(&tokens, locate(&tokens, class, place)) == want)
 }
@@ -132,11 +150,11 @@ const CLASSES: &[(u32, Option<usize>)] = &[(0, Some(14)), (1, Some(89)), (2, Non
 fn places_of_classes(rt: HostRuntime) -> Result<(), Fail> {
     for (class, want) in CLASSES {
         assert!(rt;
-            is_at(rt.alloc(), *class, &Place::Class, *want)?,
+            is_at(rt.alloc(), *class, Place::Class, *want)?,
             "at {class}"
         );
     }
-    assert!(rt; is_at(rt.alloc(), 0, &Place::Project, None)?);
+    assert!(rt; is_at(rt.alloc(), 0, Place::Project, None)?);
     Ok(())
 }
 
@@ -155,13 +173,13 @@ const METHODS: &[(usize, Option<usize>)] = &[
 fn places_of_members(rt: HostRuntime) -> Result<(), Fail> {
     for (field, want) in FIELDS {
         assert!(rt;
-            is_at(rt.alloc(), 1, &Place::Field(*field), *want)?,
+            is_at(rt.alloc(), 1, Place::Field(*field), *want)?,
             "at {field}"
         );
     }
     for (method, want) in METHODS {
         assert!(rt;
-            is_at(rt.alloc(), 1, &Place::Method(*method), *want)?,
+            is_at(rt.alloc(), 1, Place::Method(*method), *want)?,
             "at {method}"
         );
     }
@@ -170,10 +188,10 @@ fn places_of_members(rt: HostRuntime) -> Result<(), Fail> {
 
 #[test]
 fn places_of_files(rt: HostRuntime) -> Result<(), Fail> {
-    let file = Place::File(Name::new(rt.alloc(), "M.java")?);
-    assert!(rt; is_at(rt.alloc(), 0, &file, None)?);
-    let class = Place::ClassOf(Name::new(rt.alloc(), "M.java")?, 1);
-    assert!(rt; is_at(rt.alloc(), 0, &class, Some(89))?);
+    let file = Name::new(rt.alloc(), "M.java")?;
+    assert!(rt; is_at(rt.alloc(), 0, Place::File(file), None)?);
+    let file = Name::new(rt.alloc(), "M.java")?;
+    assert!(rt; is_at(rt.alloc(), 0, Place::ClassOf(file, 1), Some(89))?);
     Ok(())
 }
 
@@ -197,7 +215,7 @@ fn inside(alloc: Global, method: &str, mark: usize) -> Result<Place, Fail> {
 fn is_inside(alloc: Global, phrase: &Phrase) -> Result<bool, Fail> {
     let (class, method, mark, want) = phrase;
     let place = inside(alloc, method, *mark)?;
-    Ok(is_at(alloc, *class, &place, *want)?)
+    Ok(is_at(alloc, *class, place, *want)?)
 }
 
 #[test]
