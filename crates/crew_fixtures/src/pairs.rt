@@ -5,7 +5,7 @@ use crate::files::{File, project_of};
 use crate::meeting::Meeting;
 use crate::waiting::Waiting;
 use answer_fixtures::{Asked, Unfit, key_of};
-use item_ids::Kind;
+use item_ids::{Key, Kind};
 use job_table::Table;
 use known_list::Opened;
 use mark_green::ensure;
@@ -57,11 +57,31 @@ fn both_bring<J: Naming + Send + Sync, R: Runner + Drop + Send + Sync, T: Thread
     let first = worker_of(alloc, 0, first, Tally::new(one.split_off(1, 0)));
     let second = worker_of(alloc, 1, second, Tally::new(one));
     let shared = Shared::new(Counted::new(table, book), list)?;
+    bring(rt, alloc, &shared, first, second)
+}
+
+/// Whether both workers evaluate their trees, each in a thread of its own.
+fn bring<J: Naming + Send + Sync, R: Runner + Drop + Send + Sync, T: Threads + Wait + Sync>(
+    rt: &T,
+    alloc: Global,
+    shared: &Shared<J, R>,
+    first: Worker<J, R>,
+    second: Worker<J, R>,
+) -> Result<bool, AllocError> {
+    let mut team = team_of(alloc, first, second)?;
+    work_all(rt, shared, &mut team);
+    Ok(team.iter().all(|worker| worker.has_brought))
+}
+
+fn team_of<J: Naming, R: Runner + Drop>(
+    alloc: Global,
+    first: Worker<J, R>,
+    second: Worker<J, R>,
+) -> Result<Vec<Worker<J, R>>, AllocError> {
     let mut team = Vec::new(alloc);
     team.push(first)?;
     team.push(second)?;
-    work_all(rt, &shared, &mut team);
-    Ok(team.iter().all(|worker| worker.has_brought))
+    Ok(team)
 }
 
 fn worker_of<J: Naming, R: Runner>(
@@ -97,19 +117,28 @@ fn work_all<J: Naming + Send + Sync, R: Runner + Drop + Send + Sync, T: Threads 
 
 /// A worker evaluates the tree of its file at its seat.
 fn work<J: Naming, R: Runner, T: Wait>(rt: &T, shared: &Shared<J, R>, worker: &mut Worker<J, R>) {
+    if let Ok(key) = key_of(worker.alloc, Asked(Kind::Tree, worker.file, "")) {
+        work_for(rt, shared, worker, &key);
+    }
+}
+
+/// A worker evaluates the key at its seat.
+fn work_for<J: Naming, R: Runner, T: Wait>(
+    rt: &T,
+    shared: &Shared<J, R>,
+    worker: &mut Worker<J, R>,
+    key: &Key,
+) {
     let Worker {
         number,
         alloc,
         runner,
         tally,
-        file,
         has_brought,
+        ..
     } = worker;
-    let Ok(key) = key_of(*alloc, Asked(Kind::Tree, *file, "")) else {
-        return;
-    };
     let mut seat = shared.seat(*alloc, rt, &Open, tally);
-    *has_brought = ensure(*alloc, &mut seat, runner, *number, &key).is_ok();
+    *has_brought = ensure(*alloc, &mut seat, runner, *number, key).is_ok();
 }
 
 /// Whether both of two workers evaluate the trees of two files at seats of one table, and the first run that begins,

@@ -88,12 +88,24 @@ pub fn runs_of<T: Threads + Wait + Sync>(
     ensures { IfOk result (λ both.
         HaveExecuted (files_told files.now) (files_told edited.now) both.0 both.1) }
 {
-    let project = project_of(alloc, files)?;
-    let (past, first) = counted_over(rt, alloc, None, &project)?;
+    let (past, first) = counted_of(rt, alloc, None, files)?;
     let past = share(alloc, past)?;
-    let project = project_of(alloc, edited)?;
-    let (_session, second) = counted_over(rt, alloc, Some(past), &project)?;
+    let (_session, second) = counted_of(rt, alloc, Some(past), edited)?;
     Ok((first, second))
+}
+
+/// The session of these files over the previous one by one worker, and its runs.
+fn counted_of<T: Threads + Wait + Sync>(
+    rt: &T,
+    alloc: Global,
+    past: Option<Arc<Session>>,
+    files: &[File],
+) -> Result<(Session, Runs), Unfit>
+    ensures { IfOk result (λ both.
+        HasExecuted (session_in past) (files_told files.now) both.0 both.1) }
+{
+    let project = project_of(alloc, files)?;
+    counted_over(rt, alloc, past, &project)
 }
 
 /// The runs of a first session of a project by one worker.

@@ -39,13 +39,25 @@ fn stops<J: Naming, T: Wait>(
     let (book, mut one) = blank.open::<J>();
     let mut first = Tally::new(one.split_off(1, 0));
     let mut second = Tally::new(one);
-    let Ok(shared) = Shared::new(Counted::new(table, book), list) else {
-        return false;
-    };
-    if !fails(&mut shared.seat(alloc, rt, &Open, &mut first), 0) {
-        return false;
+    match Shared::new(Counted::new(table, book), list) {
+        Ok(shared) => stops_after(rt, alloc, &shared, &mut first, &mut second, key),
+        Err(_) => false,
     }
-    is_stopped(&mut shared.seat(alloc, rt, &Open, &mut second), key)
+}
+
+/// Whether a worker is answered that it stops after its fellow has failed.
+fn stops_after<J: Naming, R: Runner, T: Wait>(
+    rt: &T,
+    alloc: Global,
+    shared: &Shared<J, R>,
+    first: &mut Tally<J>,
+    second: &mut Tally<J>,
+    key: &Key,
+) -> bool
+    ensures { IsTrue result → IsGiven J.past J.project (Stops key.now) }
+{
+    fails(&mut shared.seat(alloc, rt, &Open, first), 0)
+        && is_stopped(&mut shared.seat(alloc, rt, &Open, second), key)
 }
 
 /// Whether the worker may fail.
