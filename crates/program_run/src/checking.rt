@@ -1,5 +1,6 @@
 //! The check of a project over a cache.
 ghost use Rattle.std.specs.Prelude.{◌≡◌, ◌≤◌, IfOk, IfErr, map, string_bytes};
+ghost use Rattle.mj_project.specs.Projects.{names_of};
 ghost use Rattle.cached_check.specs.Checks.{IsAnswered};
 ghost use Rattle.program_run.specs.Checks.{ChecksTo, TellsSession};
 ghost use Rattle.program_run.specs.Endings.{IsPlainFailure};
@@ -31,14 +32,30 @@ pub(crate) fn check<R: Files + AllocGlobal, T: Threads + Wait + Sync>(
         (ChecksTo (string_bytes asked.cache) (map string_bytes asked.files.items)) }
     ensures failed { IfErr result IsPlainFailure }
 {
-    let alloc = rt.alloc();
     let CheckWords { cache, jobs, files } = asked;
-    let project = Project::new(alloc, read_files(rt, files)?)?;
-    let Beginning { past, place, notes } = begin(rt, cache.as_str())?;
+    let project = Project::new(rt.alloc(), read_files(rt, files)?)?;
+    check_project(rt, threads, &project, cache.as_str(), jobs)
+}
+
+// The report on a check of the project over the cache of this folder.
+fn check_project<R: Files + AllocGlobal, T: Threads + Wait + Sync>(
+    rt: &R,
+    threads: &T,
+    project: &Project,
+    cache: &str,
+    jobs: usize,
+) -> Result<Report, Failure>
+    requires some { 1 ≤ jobs }
+    requires most { jobs ≤ 64 }
+    ensures reports { IfOk result (ChecksTo cache.now (names_of project.now)) }
+    ensures failed { IfErr result IsPlainFailure }
+{
+    let alloc = rt.alloc();
+    let Beginning { past, place, notes } = begin(rt, cache)?;
     let followed = held_again(&past)?;
-    let session = next_session(threads, alloc, past, &project, jobs)?;
-    let report = session_report(alloc, &project, notes.as_str(), &session)?;
-    keep(rt, threads, cache.as_str(), place, &session, jobs, notes)?;
+    let session = next_session(threads, alloc, past, project, jobs)?;
+    let report = session_report(alloc, project, notes.as_str(), &session)?;
+    keep(rt, threads, cache, place, &session, jobs, notes)?;
     // (the run ends here: the memory of both sessions is left to the system, which frees all of it at once)
     forget(session);
     forget(followed);
