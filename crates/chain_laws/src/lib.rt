@@ -3,9 +3,9 @@
 #![tactic(auto)]
 
 mod laws;
-mod mini_java;
+mod of_mini_java;
 
 pub use laws::{next_goes_on, next_is_accepted, next_is_decided};
-pub use mini_java::{
+pub use of_mini_java::{
     checked_is_by_the_rules, made_is_accepted, next_of_mini_java_is_accepted, reads_own_files,
 };

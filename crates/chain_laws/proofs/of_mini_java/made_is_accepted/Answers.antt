@@ -8,7 +8,7 @@ use Rattle.audit_replay.specs.Audits.{AuditRefuses, last_of}
 use Rattle.chain_laws.proofs.GoingOn.{next_accepted, next_decided, accepted_chain, last_session}
 use Rattle.next_sessions.proofs.OneSession.{one_next}
 use Rattle.chain_laws.proofs.OwnFiles.{own_files}
-use Rattle.chain_laws.proofs.mini_java.made_is_accepted.Goals as goal
+use Rattle.chain_laws.proofs.of_mini_java.made_is_accepted.Goals as goal
 
 pub returns : goal.returns
 returns c files old new project answer count runs accepted p next is_project is apart workers made reports session gives before after fault r =
