@@ -1,20 +1,20 @@
 //! Audits that are refused memory, and made again.
 
-use crate::chains::THERE_AND_BACK;
+use crate::chains::there_and_back;
 use audit_fixtures::{audit_again, auditor_again, auditor_stays};
 use std::test::*;
 
 #[test]
 fn audits_are_made_again(rt: HostRuntime) {
-    assert!(rt; audit_again(rt.alloc(), &THERE_AND_BACK) == Ok(true));
+    assert!(rt; audit_again(rt.alloc(), there_and_back()) == Ok(true));
 }
 
 #[test]
 fn auditors_that_were_refused_memory_stay_so(rt: HostRuntime) {
-    assert!(rt; auditor_stays(rt.alloc(), &THERE_AND_BACK) == Ok(true));
+    assert!(rt; auditor_stays(rt.alloc(), there_and_back()) == Ok(true));
 }
 
 #[test]
 fn another_auditor_begins_anew(rt: HostRuntime) {
-    assert!(rt; auditor_again(rt.alloc(), &THERE_AND_BACK) == Ok(true));
+    assert!(rt; auditor_again(rt.alloc(), there_and_back()) == Ok(true));
 }
