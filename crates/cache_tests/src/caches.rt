@@ -1,10 +1,11 @@
 //! A cache in a folder of files.
 ghost use Rattle.session_cache.specs.Starts.{IsPlace};
 
+use crate::first::first;
 use answer_fixtures::is_print;
 use fingerprint::Print;
 use session_cache::{CacheFault, Place, Start, find_start, write_file};
-use session_fixtures::{FIRST, is_read_again, session_of};
+use session_fixtures::{is_read_again, session_of};
 use sessions::Session;
 use std::fs;
 use std::rt::Files;
@@ -67,7 +68,7 @@ fn keep_first<R: Files + AllocGlobal + Threads>(
     dir: &str,
     workers: usize,
 ) -> Result<(), Fail> {
-    match session_of(rt.alloc(), 0, [0; 32], FIRST) {
+    match session_of(rt.alloc(), 0, [0; 32], first()) {
         Ok(session) => written(write_file(rt, rt, dir, FIRST_PLACE, &session, workers)),
         Err(_) => Err(Fail::from("a session")),
     }

@@ -2,8 +2,9 @@
 ghost use Rattle.std.specs.Prelude.{◌≡◌};
 ghost use Rattle.session_file.specs.Devices.{one_more};
 
+use crate::first::first;
 use session_file::{DeviceFault, Feed, FileFault, MemoryFeed, ReaderFeed, Sink, WriterSink};
-use session_fixtures::{FIRST, file_of, write_to};
+use session_fixtures::{file_of, write_to};
 use std::alloc::Global;
 use std::test::*;
 
@@ -103,7 +104,7 @@ const TAKEN: &[Taken] = &[
 
 /// Whether the write ends as the case says.
 fn has_ended(alloc: Global, sink: &mut Slow, row: &Taken) -> bool {
-    match write_to(alloc, FIRST, sink) {
+    match write_to(alloc, first(), sink) {
         Ok(Ok(())) => row.whole && sink.failures() == 0,
         Ok(Err(fault)) => !row.whole && fault == FileFault::Device && sink.failures() == 1,
         Err(_) => false,
@@ -112,7 +113,7 @@ fn has_ended(alloc: Global, sink: &mut Slow, row: &Taken) -> bool {
 
 /// Whether the sink has so many bytes, which the file begins with.
 fn has_beginning(alloc: Global, sink: &Slow, bytes: usize) -> bool {
-    match file_of(alloc, FIRST) {
+    match file_of(alloc, first()) {
         Ok(file) => file.bytes().get(..bytes) == Some(sink.bytes.as_slice()),
         Err(_) => false,
     }
@@ -150,7 +151,7 @@ fn memory_is_a_feed(rt: HostRuntime) {
 
 fn is_handed_on(alloc: Global, bytes: &mut Vec<u8>) -> bool {
     let mut sink = WriterSink::new(bytes);
-    write_to(alloc, FIRST, &mut sink) == Ok(Ok(())) && sink.failures() == 0
+    write_to(alloc, first(), &mut sink) == Ok(Ok(())) && sink.failures() == 0
 }
 
 fn is_fed(bytes: &[u8]) -> bool {

@@ -7,4 +7,6 @@ mod caches;
 #[cfg(test)]
 mod devices;
 #[cfg(test)]
+mod first;
+#[cfg(test)]
 mod stalling;

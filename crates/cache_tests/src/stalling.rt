@@ -1,7 +1,8 @@
 //! Files over writers that take a few bytes a call, and then none, without an error.
 
+use crate::first::first;
 use session_file::{FileFault, Sink, WriterSink};
-use session_fixtures::{FIRST, StallingWriter, file_of, write_to};
+use session_fixtures::{StallingWriter, file_of, write_to};
 use std::alloc::Global;
 use std::test::*;
 
@@ -11,7 +12,7 @@ const MOST: [usize; 3] = [1, 7, 5000];
 /// Whether the file is written to the writer, or the sink fails once where there is no room for all of it.
 fn ends(alloc: Global, writer: &mut StallingWriter, is_whole: bool) -> bool {
     let mut sink = WriterSink::new(writer);
-    match write_to(alloc, FIRST, &mut sink) {
+    match write_to(alloc, first(), &mut sink) {
         Ok(Ok(())) => is_whole && sink.failures() == 0,
         Ok(Err(fault)) => !is_whole && fault == FileFault::Device && sink.failures() == 1,
         Err(_) => false,
@@ -32,7 +33,7 @@ fn are_filled(alloc: Global, file: &[u8], most: usize) -> bool {
 
 #[test]
 fn a_writer_stalls_after_each_byte(rt: HostRuntime) -> Result<(), Fail> {
-    let file = file_of(rt.alloc(), FIRST).ok().ok_or("a file")?;
+    let file = file_of(rt.alloc(), first()).ok().ok_or("a file")?;
     assert!(rt; file.bytes().len() == 1192);
     for most in MOST {
         assert!(rt; are_filled(rt.alloc(), file.bytes(), most), "{most}");

@@ -1,10 +1,10 @@
 //! Files over sinks and feeds that fail at each of their calls.
 
-use crate::first::file_of_first;
+use crate::first::{file_of_first, first};
 use session_file::{Feed, FileFault, Sink};
 use session_fixtures::{
-    FIRST, Failing, FailingFeed, FailingSink, Manner, digest_of, digest_of_taken, file_fault_of,
-    file_of, write_to,
+    Failing, FailingFeed, FailingSink, Manner, digest_of, digest_of_taken, file_fault_of, file_of,
+    write_to,
 };
 use std::alloc::Global;
 use std::test::*;
@@ -32,7 +32,7 @@ fn unfailing(piece: usize) -> Manner {
 /// How many calls of a sink the file is written by.
 fn calls_to_write(alloc: Global, piece: usize) -> usize {
     let mut sink = FailingSink::new(alloc, unfailing(piece));
-    match write_to(alloc, FIRST, &mut sink) {
+    match write_to(alloc, first(), &mut sink) {
         Ok(Ok(())) => sink.calls(),
         _ => 0,
     }
@@ -40,7 +40,7 @@ fn calls_to_write(alloc: Global, piece: usize) -> usize {
 
 /// Whether a write that fails answers so, has counted it, and leaves a beginning of the file that isn't all of it.
 fn fails_to_write(alloc: Global, sink: &mut FailingSink, file: &[u8]) -> bool {
-    write_to(alloc, FIRST, sink) == Ok(Err(FileFault::Device))
+    write_to(alloc, first(), sink) == Ok(Err(FileFault::Device))
         && sink.failures() == 1
         && sink.bytes().len() < file.len()
         && file.get(..sink.bytes().len()) == Some(sink.bytes())
@@ -59,7 +59,7 @@ fn is_no_file(alloc: Global, bytes: &[u8]) -> bool {
 /// Whether the file is written whole to the sink that is emptied before, where it doesn't go on to fail.
 fn is_written_again(alloc: Global, sink: &mut FailingSink, file: &[u8], goes_on: bool) -> bool {
     sink.empty();
-    let written = write_to(alloc, FIRST, sink);
+    let written = write_to(alloc, first(), sink);
     if goes_on {
         written == Ok(Err(FileFault::Device)) && sink.failures() == 2 && sink.bytes().is_empty()
     } else {
@@ -83,7 +83,7 @@ fn are_writes_failed(alloc: Global, file: &[u8], piece: usize, goes_on: bool) ->
 
 #[test]
 fn a_write_fails_at_each_call(rt: HostRuntime) -> Result<(), Fail> {
-    let file = file_of(rt.alloc(), FIRST).ok().ok_or("a file")?;
+    let file = file_of(rt.alloc(), first()).ok().ok_or("a file")?;
     for goes_on in GOES_ON {
         assert!(rt; are_writes_failed(rt.alloc(), file.bytes(), WHOLE, goes_on));
     }
@@ -145,8 +145,8 @@ fn are_readings_failed(
 
 #[test]
 fn a_reading_fails_at_each_call(rt: HostRuntime) -> Result<(), Fail> {
-    let file = file_of(rt.alloc(), FIRST).ok().ok_or("a file")?;
-    let digest = digest_of(rt.alloc(), 0, [0; 32], FIRST)
+    let file = file_of(rt.alloc(), first()).ok().ok_or("a file")?;
+    let digest = digest_of(rt.alloc(), 0, [0; 32], first())
         .ok()
         .ok_or("a digest")?;
     for piece in [7, WHOLE] {

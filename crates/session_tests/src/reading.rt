@@ -1,8 +1,8 @@
 //! Sessions from files, and what is no file.
 
-use crate::first::file_of_first;
+use crate::first::{file_of_first, first};
 use session_file::FileFault;
-use session_fixtures::{FIRST, file_fault_of, file_of, is_read_again};
+use session_fixtures::{file_fault_of, file_of, is_read_again};
 use std::alloc::Global;
 use std::test::*;
 
@@ -38,7 +38,7 @@ fn is_cut_refused(alloc: Global, file: &[u8], count: usize) -> bool {
 
 #[test]
 fn cut_files_are_refused(rt: HostRuntime) -> Result<(), Fail> {
-    let file = file_of(rt.alloc(), FIRST).ok().ok_or("a file")?;
+    let file = file_of(rt.alloc(), first()).ok().ok_or("a file")?;
     for count in 0..1192 {
         assert!(rt; is_cut_refused(rt.alloc(), file.bytes(), count));
     }
@@ -184,7 +184,7 @@ fn is_refused(alloc: Global, file: &[u8], row: &Changed) -> bool {
 
 #[test]
 fn changed_files_are_refused(rt: HostRuntime) -> Result<(), Fail> {
-    let file = file_of(rt.alloc(), FIRST).ok().ok_or("a file")?;
+    let file = file_of(rt.alloc(), first()).ok().ok_or("a file")?;
     for row in CHANGED {
         assert!(rt; is_refused(rt.alloc(), file.bytes(), row));
     }
@@ -202,7 +202,7 @@ fn is_trailing_refused(alloc: Global, file: &[u8]) -> bool {
 
 #[test]
 fn bytes_behind_a_file_are_refused(rt: HostRuntime) -> Result<(), Fail> {
-    let file = file_of(rt.alloc(), FIRST).ok().ok_or("a file")?;
+    let file = file_of(rt.alloc(), first()).ok().ok_or("a file")?;
     assert!(rt; is_trailing_refused(rt.alloc(), file.bytes()));
     Ok(())
 }

@@ -1,10 +1,10 @@
 //! Files of sessions, and faults as texts.
 
-use crate::first::file_of_first;
+use crate::first::{file_of_first, first};
 use answer_fixtures::is_print;
 use fingerprint::Print;
 use session_file::FileFault;
-use session_fixtures::{FIRST, digest_of, digest_of_read};
+use session_fixtures::{digest_of, digest_of_read};
 use std::alloc::Global;
 use std::test::*;
 
@@ -49,7 +49,7 @@ fn sessions_are_written(rt: HostRuntime) {
 }
 
 fn has_digest(alloc: Global, row: &Written) -> bool {
-    match FIRST.get(..row.records) {
+    match first().get(..row.records) {
         Some(front) => match digest_of(alloc, 0, [0; 32], front) {
             Ok(digest) => has_print(alloc, Print(digest), row),
             Err(_) => false,
