@@ -1,6 +1,6 @@
 //! The calls of tables in turn, and what each says.
 
-use crate::records::{COMMENTED, ONE, PLAIN, SESSIONS_OF_ONE, TRUE};
+use crate::records::{COMMENTED, ONE, PLAIN, TRUE, sessions_of_one};
 use answer_fixtures::{Asked, Unfit};
 use item_ids::Kind;
 use job_table::{CloseFault, ReplayFault, TableFault};
@@ -263,7 +263,7 @@ static TABLES: [Row; 4] = [
 
 /// Whether each call says what it should.
 fn is_answered(alloc: Global, row: &Row) -> Result<bool, Unfit> {
-    match SESSIONS_OF_ONE.get(..row.behind) {
+    match sessions_of_one().get(..row.behind) {
         Some(chain) => {
             let calls = Calls {
                 chain,

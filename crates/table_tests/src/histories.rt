@@ -1,6 +1,6 @@
 //! Whole sessions: which keys are executed, how many events lead there, and what the table closes with.
 
-use crate::records::{MISSING, ONE, SESSIONS_OF_ONE, SESSIONS_OF_TWO, TWO};
+use crate::records::{MISSING, ONE, SESSIONS_OF_TWO, TWO, sessions_of_one};
 use answer_fixtures::Unfit;
 use session_fixtures::Kept;
 use std::alloc::Global;
@@ -117,7 +117,7 @@ static ROWS_OF_ONE: [Row; 6] = [
 #[test]
 fn sessions_of_one_class(rt: HostRuntime) {
     for row in &ROWS_OF_ONE {
-        assert!(rt; is_led(rt.alloc(), &SESSIONS_OF_ONE, row) == Ok(true));
+        assert!(rt; is_led(rt.alloc(), sessions_of_one(), row) == Ok(true));
     }
 }
 

@@ -15,9 +15,8 @@ pub(crate) const TWO: &str =
     "class M { public static void main(String[] a) { System.out.println(new A().f()); } } class A { public int f() { return 1; } public int g() { return 2; } }";
 
 /// A chain of sessions of the class that prints 1: all ten queries are executed; and then, where it prints 2, the tree,
-/// the index, the header, the method, the check of its body and the answer. It is a static, since a function that names
-/// a long constant writes it out in its frame, which is expensive to prove.
-pub(crate) static SESSIONS_OF_ONE: [Change; 2] = [
+/// the index, the header, the method, the check of its body and the answer.
+static SESSIONS_OF_ONE: [Change; 2] = [
     Change {
         records: FIRST,
         executed: &[2, 3, 4, 5, 6, 7, 8, 9, 10, 11],
@@ -42,6 +41,12 @@ pub(crate) static SESSIONS_OF_ONE: [Change; 2] = [
         ],
     },
 ];
+
+/// The sessions of the class that prints 1. One function names them for all others, since each that names such a list
+/// writes it out, which is expensive to prove.
+pub(crate) fn sessions_of_one() -> &'static [Change; 2] {
+    &SESSIONS_OF_ONE
+}
 
 /// The first session of the two classes.
 const FIRST_OF_TWO: &[Kept] = &[
