@@ -1,13 +1,14 @@
 //! Lists of answers.
 ghost use Rattle.std.specs.Prelude.{◌≡◌, ◌↔◌, List, [], ◌∷◌, ◌++◌, IsTrue, IfOk, OnOk};
 ghost use Rattle.fingerprint.specs.Prints.{print_of};
-ghost use Rattle.answer_fixtures.specs.Telling.{IsTold};
+ghost use Rattle.answer_fixtures.specs.Telling.{IsKeyOf, IsTold};
 ghost use Rattle.run_fixtures.specs.declared.reads.Given.{Given as SpecGiven};
 ghost use Rattle.recorder.specs.Backed.{ReadValue};
 ghost use Rattle.run_fixtures.specs.Reading.{AreReadsOf, Holds, AreSame, AreApart};
 
 use crate::reads::{Given, is_read};
 use answer_fixtures::{Unfit, key_of, sealed_of};
+use item_ids::Key;
 use recorder::AnswerList;
 use std::alloc::Global;
 
@@ -17,11 +18,9 @@ fn add(alloc: Global, list: &mut AnswerList, given: Given) -> Result<(), Unfit>
         → OnOk result (AreReadsOf (before ++ given.entry ∷ []) list.new) }
 {
     let Given(asked, digits) = given;
+    let answer = sealed_of(alloc, asked.0, digits)?;
     let key = key_of(alloc, asked)?;
-    match sealed_of(alloc, asked.0, digits) {
-        Ok(answer) => Ok(list.add(key, answer)?),
-        Err(fault) => Err(fault),
-    }
+    Ok(list.add(key, answer)?)
 }
 
 /// Adds these answers to an empty list.
@@ -46,15 +45,25 @@ pub fn list_of(alloc: Global, given: &[Given]) -> Result<AnswerList, Unfit>
     }
 }
 
+/// Whether the list has this answer for the key.
+fn has_for(alloc: Global, list: &AnswerList, key: &Key, given: Given) -> Result<bool, Unfit>
+    requires { IsKeyOf given.0 key.now }
+    ensures { IfOk result (Holds given.entry list.now) }
+{
+    match list.find(key) {
+        Some(read) => is_read(alloc, read, given),
+        None => Ok(false),
+    }
+}
+
 /// Whether the list has this answer for its key.
 fn has(alloc: Global, list: &AnswerList, given: Given) -> Result<bool, Unfit>
     ensures { IfOk result (Holds given.entry list.now) }
 {
     let key = key_of(alloc, given.0)?;
-    match list.find(&key) {
-        Some(read) => is_read(alloc, read, given),
-        None => Ok(false),
-    }
+    let told = has_for(alloc, list, &key, given);
+    drop(key);
+    told
 }
 
 /// Whether the list of these answers has this answer for its key.
@@ -63,7 +72,9 @@ pub fn holds(alloc: Global, answers: &[Given], given: Given) -> Result<bool, Unf
         × Holds given.entry list b) }
 {
     let list = list_of(alloc, answers)?;
-    has(alloc, &list, given)
+    let told = has(alloc, &list, given);
+    drop(list);
+    told
 }
 
 /// Whether two answers are one result with one fingerprint.

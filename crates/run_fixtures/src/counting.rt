@@ -142,7 +142,9 @@ fn becomes(alloc: Global, recorder: &mut Recorder<Counting>, ask: Ask) -> Result
     ensures { IfOk result (λ b. IsTrue b → Becomes ask.entry recorder.old recorder.new) }
 {
     let key = key_of(alloc, asked_by(ask))?;
-    Ok(becomes_of(recorder, &key, ask))
+    let told = becomes_of(recorder, &key, ask);
+    drop(key);
+    Ok(told)
 }
 
 /// Whether the keys have these outcomes, one after the other.
@@ -207,7 +209,9 @@ pub fn keeps_after(
         × IsKept kept.entry end) }
 {
     let mut recorder = recorder_of(alloc, answers)?;
-    become_kept(alloc, &mut recorder, asks, kept)
+    let told = become_kept(alloc, &mut recorder, asks, kept);
+    drop(recorder);
+    told
 }
 
 /// How often the reader of such a recorder was asked.
@@ -229,7 +233,9 @@ pub fn answers_after(
         × HasAnswer end.inner.list asked.entry) }
 {
     let mut reader = reader_after(alloc, answers, asks)?;
-    is_answered(alloc, &mut reader, asked)
+    let told = is_answered(alloc, &mut reader, asked);
+    drop(reader);
+    told
 }
 
 /// Whether the reader has an answer for the key.
@@ -237,8 +243,7 @@ fn is_answered(alloc: Global, reader: &mut Counting, asked: Asked) -> Result<boo
     ensures { IfOk result (λ b. IsTrue b → HasAnswer reader.old.list asked.entry) }
 {
     let key = key_of(alloc, asked)?;
-    match reader.read(&key) {
-        Ok(_) => Ok(true),
-        Err(_) => Ok(false),
-    }
+    let told = reader.read(&key).is_ok();
+    drop(key);
+    Ok(told)
 }

@@ -40,11 +40,8 @@ fn read_of(alloc: Global, given: Given) -> Result<Read, Unfit>
     ensures { IfOk result (IsReadOf given.entry) }
 {
     let Given(asked, digits) = given;
-    let key = key_of(alloc, asked)?;
-    match sealed_of(alloc, asked.0, digits) {
-        Ok(answer) => Ok(Read::new(key, answer)),
-        Err(fault) => Err(fault),
-    }
+    let answer = sealed_of(alloc, asked.0, digits)?;
+    Ok(Read::new(key_of(alloc, asked)?, answer))
 }
 
 /// A copy of the read of the key.
@@ -52,7 +49,9 @@ fn copy_of(alloc: Global, given: Given) -> Result<Read, Unfit>
     ensures { IfOk result (IsReadOf given.entry) }
 {
     let read = read_of(alloc, given)?;
-    Ok(read.copy(alloc)?)
+    let copy = read.copy(alloc);
+    drop(read);
+    Ok(copy?)
 }
 
 /// Whether the read is of the key.
@@ -62,7 +61,9 @@ fn is_of(alloc: Global, read: &Read, asked: Asked) -> Result<bool, Unfit>
     // Keys are equal where their kinds, classes and members are.
     keys_in_order();
     let key = key_of(alloc, asked)?;
-    Ok(read.is_of(&key))
+    let told = read.is_of(&key);
+    drop(key);
+    Ok(told)
 }
 
 /// Whether a copy of the read is of this key.
@@ -70,7 +71,9 @@ pub fn is_copy_of(alloc: Global, given: Given, asked: Asked) -> Result<bool, Unf
     ensures { IfOk result (λ b. IsTrue b ↔ AreAlike given.entry.0 asked.entry) }
 {
     let copy = copy_of(alloc, given)?;
-    is_of(alloc, &copy, asked)
+    let told = is_of(alloc, &copy, asked);
+    drop(copy);
+    told
 }
 
 /// Whether a copy of the read has its key and its answer.
@@ -78,5 +81,7 @@ pub fn has_read_copy(alloc: Global, given: Given) -> Result<bool, Unfit>
     ensures { IfOk result (λ b. IsTrue b) }
 {
     let copy = copy_of(alloc, given)?;
-    is_read(alloc, &copy, given)
+    let told = is_read(alloc, &copy, given);
+    drop(copy);
+    told
 }

@@ -74,7 +74,32 @@ fn is_ended<D: Reader>(
 {
     let mut runner = SampleRunner::new(alloc);
     let end = record(alloc, &mut runner, key, recorder).err();
-    end == Some(RunFault::Read(fault)) && is_logged(runner.log(), asked)
+    let is_right = end == Some(RunFault::Read(fault)) && is_logged(runner.log(), asked);
+    drop(runner);
+    is_right
+}
+
+/// Whether the recorded run ends with the refused read and is logged, and the recorder keeps just this.
+fn is_left<D: Reader>(
+    alloc: Global,
+    key: &Key,
+    recorder: &mut Recorder<D>,
+    asked: Asked,
+    fault: ReadFault,
+    kept: Kept,
+) -> Result<bool, Unfit>
+    requires no_input { 0 < rank_of key.now }
+    requires unread { recorder.old.told ≡ [] }
+    requires unrefused { recorder.old.refused ≡ None }
+    requires told { IsKeyOf asked key.now }
+    ensures left { IfOk result (λ b. IsTrue b → IsLeft asked.entry fault kept.entry recorder.new) }
+    ensures follows { D.follows recorder.old.inner recorder.new.inner }
+{
+    if is_ended(alloc, key, recorder, asked, fault) {
+        keeps(alloc, recorder, kept)
+    } else {
+        Ok(false)
+    }
 }
 
 /// Whether the key's run over the reader ends with the refused read and is logged, and the recorder keeps just this.
@@ -92,11 +117,22 @@ fn leaves_over<D: Reader + Drop>(
         × IsLeft asked.entry fault kept.entry r) }
 {
     let mut recorder = Recorder::new(alloc, reader);
-    if is_ended(alloc, key, &mut recorder, asked, fault) {
-        keeps(alloc, &recorder, kept)
-    } else {
-        Ok(false)
-    }
+    let is_right = is_left(alloc, key, &mut recorder, asked, fault, kept);
+    drop(recorder);
+    is_right
+}
+
+/// Whether the key's run over the answers that are kept wants an answer that isn't held and is logged, and the recorder
+/// keeps just this.
+fn leaves_by(alloc: Global, key: &Key, asked: Asked, kept: Kept) -> Result<bool, Unfit>
+    requires no_input { 0 < rank_of key.now }
+    requires told { IsKeyOf asked key.now }
+    ensures { IfOk result (λ b. IsTrue b → (r : Recording (List ReadValue))
+        × AreReadsOf kept.entry.reads.now r.inner
+        × IsLeft asked.entry NotHeld kept.entry r) }
+{
+    let list = list_of(alloc, kept.reads)?;
+    leaves_over(alloc, key, list, asked, ReadFault::NotHeld, kept)
 }
 
 /// Whether a run over the answers that are kept wants an answer that isn't held and is logged, and the recorder keeps
@@ -107,10 +143,9 @@ pub fn leaves(alloc: Global, asked: Asked, kept: Kept) -> Result<bool, Unfit>
         × IsLeft asked.entry NotHeld kept.entry r) }
 {
     let key = query_of(alloc, asked)?;
-    match list_of(alloc, kept.reads) {
-        Ok(list) => leaves_over(alloc, &key, list, asked, ReadFault::NotHeld, kept),
-        Err(fault) => Err(fault),
-    }
+    let is_right = leaves_by(alloc, &key, asked, kept);
+    drop(key);
+    is_right
 }
 
 /// Whether a run whose reads are refused with this fault ends so and is logged, and the recorder keeps no read, this
@@ -131,5 +166,7 @@ pub fn leaves_refused(
         fault: Some(fault),
         refused,
     };
-    leaves_over(alloc, &key, Refusing(fault), asked, fault, kept)
+    let is_right = leaves_over(alloc, &key, Refusing(fault), asked, fault, kept);
+    drop(key);
+    is_right
 }
