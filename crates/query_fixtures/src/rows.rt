@@ -1,5 +1,7 @@
 //! Cases of runs: what the runner of MiniJava makes of a query and of the answers at hand.
 ghost use Rattle.std.specs.Prelude.{◌≡◌, ◌<◌, IsTrue, IfOk};
+ghost use Rattle.item_ids.specs.Keys.{kind_of};
+ghost use Rattle.item_ids.specs.declared.kind.Kind.TheVariants.{CheckBody};
 ghost use Rattle.recorder.specs.Backed.{rank as rank_of};
 ghost use Rattle.answer_fixtures.specs.Telling.{IsKeyOf};
 ghost use Rattle.query_fixtures.specs.Rows.{IsRunOf, IsLackingRun};
@@ -30,26 +32,45 @@ fn query_of(alloc: Global, asked: Asked) -> Result<Key, Unfit>
     key_of(alloc, asked)
 }
 
-/// Whether the run over the list reads just the case's answers, in their order, comes to the value, and is logged.
-fn is_run(alloc: Global, key: &Key, list: AnswerList, row: Row) -> Result<bool, Unfit>
+/// Whether the runner was asked this query alone.
+fn has_logged(runner: &MiniJava, asked: Asked) -> bool {
+    matches!(runner.log(), [one] if is_key(one, asked))
+}
+
+/// Whether the runner's run over the list reads just the case's answers, in their order, comes to the value, and is
+/// logged.
+fn is_run(
+    alloc: Global,
+    runner: &mut MiniJava,
+    key: &Key,
+    list: AnswerList,
+    row: Row,
+) -> Result<bool, Unfit>
     requires no_input { 0 < rank_of key.now }
     requires told { IsKeyOf row.query.0 key.now }
     ensures { IfOk result (λ b. IsTrue b → IsRunOf row.entry.query row.entry.reads.now) }
 {
-    let mut runner = MiniJava::new(alloc);
     let mut recorder = Recorder::new(alloc, list);
     let result = runner.run(alloc, key, &mut recorder);
     let is_right = comes_to(alloc, result, recorder, row.query.1, row.reads);
-    if has_logged(&runner, row.query.0) {
+    if has_logged(runner, row.query.0) {
         is_right
     } else {
         Ok(false)
     }
 }
 
-/// Whether the runner was asked this query alone.
-fn has_logged(runner: &MiniJava, asked: Asked) -> bool {
-    matches!(runner.log(), [one] if is_key(one, asked))
+/// Whether the key's run over the case's answers reads just them, in their order, comes to the value, and is logged.
+fn is_right_of(alloc: Global, key: &Key, row: Row) -> Result<bool, Unfit>
+    requires no_input { 0 < rank_of key.now }
+    requires told { IsKeyOf row.query.0 key.now }
+    ensures { IfOk result (λ b. IsTrue b → IsRunOf row.entry.query row.entry.reads.now) }
+{
+    let list = list_of(alloc, row.reads)?;
+    let mut runner = MiniJava::new(alloc);
+    let told = is_run(alloc, &mut runner, key, list, row);
+    drop(runner);
+    told
 }
 
 /// Whether the case's query, run over its answers, reads just them, in their order, comes to its value, and is logged.
@@ -57,15 +78,16 @@ pub fn is_right(alloc: Global, row: Row) -> Result<bool, Unfit>
     ensures { IfOk result (λ b. IsTrue b → IsRunOf row.entry.query row.entry.reads.now) }
 {
     let key = query_of(alloc, row.query.0)?;
-    match list_of(alloc, row.reads) {
-        Ok(list) => is_run(alloc, &key, list, row),
-        Err(unfit) => Err(unfit),
-    }
+    let told = is_right_of(alloc, &key, row);
+    drop(key);
+    told
 }
 
-/// Whether the run over the list is refused an answer that isn't there and is logged, and its recorder keeps this.
+/// Whether the runner's run over the list is refused an answer that isn't there and is logged, and its recorder keeps
+/// this.
 fn is_refused(
     alloc: Global,
+    runner: &mut MiniJava,
     key: &Key,
     list: AnswerList,
     query: Asked,
@@ -75,15 +97,27 @@ fn is_refused(
     requires told { IsKeyOf query key.now }
     ensures { IfOk result (λ b. IsTrue b → IsLackingRun query.entry kept.entry) }
 {
-    let mut runner = MiniJava::new(alloc);
     let mut recorder = Recorder::new(alloc, list);
     let result = runner.run(alloc, key, &mut recorder);
     let is_kept = wants(alloc, result, recorder, kept);
-    if has_logged(&runner, query) {
+    if has_logged(runner, query) {
         is_kept
     } else {
         Ok(false)
     }
+}
+
+/// Whether the key's run over the answers that are kept is refused another one, and is logged.
+fn is_lacking_of(alloc: Global, key: &Key, query: Asked, kept: Kept) -> Result<bool, Unfit>
+    requires no_input { 0 < rank_of key.now }
+    requires told { IsKeyOf query key.now }
+    ensures { IfOk result (λ b. IsTrue b → IsLackingRun query.entry kept.entry) }
+{
+    let list = list_of(alloc, kept.reads)?;
+    let mut runner = MiniJava::new(alloc);
+    let told = is_refused(alloc, &mut runner, key, list, query, kept);
+    drop(runner);
+    told
 }
 
 /// Whether the run of the query over the answers that are kept is refused another one, and is logged.
@@ -91,23 +125,33 @@ pub fn is_lacking(alloc: Global, query: Asked, kept: Kept) -> Result<bool, Unfit
     ensures { IfOk result (λ b. IsTrue b → IsLackingRun query.entry kept.entry) }
 {
     let key = query_of(alloc, query)?;
-    match list_of(alloc, kept.reads) {
-        Ok(list) => is_refused(alloc, &key, list, query, kept),
-        Err(unfit) => Err(unfit),
-    }
+    let told = is_lacking_of(alloc, &key, query, kept);
+    drop(key);
+    told
 }
 
 /// Whether the check of the body over the list reads just the case's answers, in their order, and comes to the value.
 fn is_body_check(alloc: Global, key: &Key, list: AnswerList, row: Row) -> Result<bool, Unfit>
+    requires body { kind_of key.now ≡ CheckBody }
     requires told { IsKeyOf row.query.0 key.now }
+    ensures { IfOk result (λ b. IsTrue b → IsRunOf row.entry.query row.entry.reads.now) }
+{
+    let mut recorder = Recorder::new(alloc, list);
+    let result = check_body(alloc, key, &mut recorder);
+    comes_to(alloc, result, recorder, row.query.1, row.reads)
+}
+
+/// Whether the key is one of a body, and its check over the case's answers reads just them, in their order, and comes to
+/// the value.
+fn is_checked_of(alloc: Global, key: &Key, row: Row) -> Result<bool, Unfit>
+    requires { IsKeyOf row.query.0 key.now }
     ensures { IfOk result (λ b. IsTrue b → IsRunOf row.entry.query row.entry.reads.now) }
 {
     if key.kind() != Kind::CheckBody {
         return Err(Unfit);
     }
-    let mut recorder = Recorder::new(alloc, list);
-    let result = check_body(alloc, key, &mut recorder);
-    comes_to(alloc, result, recorder, row.query.1, row.reads)
+    let list = list_of(alloc, row.reads)?;
+    is_body_check(alloc, key, list, row)
 }
 
 /// Whether the case's query is one of a body, and its check without a runner, over the case's answers, reads just them,
@@ -116,8 +160,7 @@ pub fn is_checked(alloc: Global, row: Row) -> Result<bool, Unfit>
     ensures { IfOk result (λ b. IsTrue b → IsRunOf row.entry.query row.entry.reads.now) }
 {
     let key = query_of(alloc, row.query.0)?;
-    match list_of(alloc, row.reads) {
-        Ok(list) => is_body_check(alloc, &key, list, row),
-        Err(unfit) => Err(unfit),
-    }
+    let told = is_checked_of(alloc, &key, row);
+    drop(key);
+    told
 }

@@ -1,9 +1,8 @@
 use Rattle.std.proofs.Common.{◌∙◌, ◌+◌, ◌<◌, ◌≤◌, All, length, take, sym, subst, arith}
 use Rattle.std.proofs.lemmas.List.{take_all}
 use Rattle.std.proofs.lemmas.List.Elements.{All-more}
-use Rattle.answer_fixtures.specs.Telling.{one_file}
 use Rattle.query_fixtures.specs.Rows.{Means}
-use Rattle.query_fixtures.proofs.driving.brings_each.Goals as goal
+use Rattle.query_fixtures.proofs.driving.brings_all.Goals as goal
 
 pub loop-row-preserved : goal.loop-row-preserved
 loop-row-preserved c =
@@ -20,5 +19,4 @@ returns c = λ t.
     let rows = c.args.rows.now in
     let at = c.loop-row.row-index in
     let l : length rows ≤ at = omega arith in
-    let p = one_file c.args.text.now in
-    subst (All (λ row. Means p row.query)) (take_all at rows l) c.loop-row.invariant.1
+    subst (All (λ row. Means c.args.driver.now row.query)) (take_all at rows l) c.loop-row.invariant.1
