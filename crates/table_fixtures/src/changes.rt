@@ -127,7 +127,9 @@ pub(crate) fn digest_behind(
         × IsNextOf (session_in past.now) records.now s × (digest ≡ digest_of s)) }
 {
     let session = session_behind(alloc, past, records)?;
-    Ok(digest(&session))
+    let told = digest(&session);
+    drop(session);
+    Ok(told)
 }
 
 /// The session, to be shared.

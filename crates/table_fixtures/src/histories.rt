@@ -1,10 +1,11 @@
 //! Whole histories: each key of a session is claimed, and marked or run, in the order of keys.
-ghost use Rattle.std.specs.Prelude.{◌≡◌, IfOk, IsTrue, Ok};
+ghost use Rattle.std.specs.Prelude.{◌≡◌, length, IfOk, IsTrue, Ok};
 ghost use Rattle.sessions.specs.Sessions.{SessionValue, session_in};
 ghost use Rattle.sessions.specs.Spelling.{digest_of, next_link};
+ghost use Rattle.answer_fixtures.specs.Telling.{IsKeyOf};
 ghost use Rattle.job_table.specs.Closes.{CloseGives};
 ghost use Rattle.table_fixtures.specs.Told.{InTurn, AreChanged};
-ghost use Rattle.table_fixtures.specs.Called.{IsTakenOver, IsBegun, IsBroughtBy, IsDoneAs, IsBrought, AreBrought, IsReplayed, ClosesAs, IsLed, IsHistory};
+ghost use Rattle.table_fixtures.specs.Called.{IsTakenOver, IsBegun, IsBroughtBy, IsDoneAs, IsBrought, AreBrought, EndsSo, IsReplayed, ClosesAs, IsLed, IsHistory};
 
 use crate::again;
 use crate::calls::{Said, ask, begin, events, finish, mark};
@@ -14,6 +15,7 @@ use crate::tables::table_of;
 use answer_fixtures::{Unfit, is_spelled, key_of, project_of};
 use item_ids::Key;
 use job_table::{Asked as Told, Table};
+use mj_project::Project;
 use providers::MiniJava;
 use session_file::digest;
 use session_fixtures::Kept;
@@ -82,6 +84,20 @@ fn is_done(
     }
 }
 
+/// Evaluates the key, which is the record's, and tells whether it is done then with the record's result.
+fn comes_done_by(
+    alloc: Global,
+    table: &mut Table<MiniJava>,
+    records: &[Kept],
+    kept: &Kept,
+    key: &Key,
+) -> Result<bool, Unfit>
+    requires { IsKeyOf kept.now.key key.now }
+    ensures { IfOk result (λ b. IsTrue b → IsBrought records.now kept.now table.old table.new) }
+{
+    Ok(is_brought(alloc, table, records, kept, key)? && is_done(alloc, table, key, kept.digits)?)
+}
+
 /// Evaluates the record's key, and tells whether it is done then with the record's result.
 fn comes_done(
     alloc: Global,
@@ -92,7 +108,9 @@ fn comes_done(
     ensures { IfOk result (λ b. IsTrue b → IsBrought records.now kept.now table.old table.new) }
 {
     let key = key_of(alloc, kept.key)?;
-    Ok(is_brought(alloc, table, records, kept, &key)? && is_done(alloc, table, &key, kept.digits)?)
+    let told = comes_done_by(alloc, table, records, kept, &key);
+    drop(key);
+    told
 }
 
 /// Evaluates these keys, and tells whether each is done then with its result. The edges are indices of `records`.
@@ -160,14 +178,24 @@ fn closes(
     Ok(is_behind(table, &past)? && closes_with(table, wanted))
 }
 
+/// Whether a replay of the table's events, over its previous session in the project, leads to as many.
+fn is_replayed_in(alloc: Global, table: &Table<MiniJava>, project: &Project) -> Result<bool, Unfit>
+    ensures { IfOk result (λ b. IsTrue b → EndsSo table.now.past project.now table.now.history
+        (Ok (length table.now.history))) }
+{
+    let past = table.past()?;
+    let ending = replay_in(alloc, &past, project, table.history())?;
+    Ok(ending == Ok(events(table)))
+}
+
 /// Whether a replay of the table's events, over its previous session in a project of this text, leads to as many.
 fn is_replayed(alloc: Global, table: &Table<MiniJava>, text: &str) -> Result<bool, Unfit>
     ensures { IfOk result (λ b. IsTrue b → IsReplayed text.now table.now) }
 {
     let project = project_of(alloc, text)?;
-    let past = table.past()?;
-    let ending = replay_in(alloc, &past, &project, table.history())?;
-    Ok(ending == Ok(events(table)))
+    let told = is_replayed_in(alloc, table, &project);
+    drop(project);
+    told
 }
 
 /// Whether the table ends as the history says.
@@ -193,7 +221,9 @@ fn is_of_records(alloc: Global, history: &History, records: &[Kept]) -> Result<b
     ensures { IfOk result (λ b. IsTrue b → IsHistory history.now) }
 {
     let mut table = table_of(alloc, history.chain, history.text)?;
-    is_led(alloc, &mut table, history, records)
+    let told = is_led(alloc, &mut table, history, records);
+    drop(table);
+    told
 }
 
 /// Whether the session is made as the history says: each of its keys is claimed and marked or run as its record says,

@@ -4,7 +4,7 @@ ghost use Rattle.std.specs.Arc.{arc_value};
 ghost use Rattle.recorder.specs.Runs.{OutcomeValue};
 ghost use Rattle.sessions.specs.Sessions.{session_in};
 ghost use Rattle.graph_rules.specs.Steps.{Event as SpecEvent, Finish};
-ghost use Rattle.answer_fixtures.specs.Telling.{one_file};
+ghost use Rattle.answer_fixtures.specs.Telling.{IsKeyOf, one_file};
 ghost use Rattle.job_table.specs.Kept.{event_of};
 ghost use Rattle.table_fixtures.specs.Called.{IsLast, run_events, AreEventsOf, EndsSo, IsReplay};
 
@@ -68,16 +68,27 @@ fn run_of(
     Ok(events)
 }
 
+/// The events of the run of the key, which is the record's.
+fn events_with(alloc: Global, key: &Key, replay: &Replay, kept: &Kept) -> Result<Events, Unfit>
+    requires last { IsLast replay.now.records.now kept.now }
+    requires told { IsKeyOf kept.now.key key.now }
+    ensures { IfOk result (λ events. AreEventsOf replay.now (map event_of events.items)) }
+{
+    match outcome_of(alloc, replay.records, kept) {
+        Ok(outcome) => Ok(run_of(alloc, key, replay.begins, outcome)?),
+        Err(fault) => Err(fault),
+    }
+}
+
 /// The events of the run of a record's key.
 fn events_by(alloc: Global, replay: &Replay, kept: &Kept) -> Result<Events, Unfit>
     requires { IsLast replay.now.records.now kept.now }
     ensures { IfOk result (λ events. AreEventsOf replay.now (map event_of events.items)) }
 {
     let key = key_of(alloc, kept.key)?;
-    match outcome_of(alloc, replay.records, kept) {
-        Ok(outcome) => Ok(run_of(alloc, &key, replay.begins, outcome)?),
-        Err(fault) => Err(fault),
-    }
+    let events = events_with(alloc, &key, replay, kept);
+    drop(key);
+    events
 }
 
 fn events_of(alloc: Global, replay: &Replay) -> Result<Events, Unfit>
@@ -121,5 +132,7 @@ pub fn replay_of(alloc: Global, replay: &Replay) -> Result<Result<usize, ReplayF
     ensures { IfOk result (IsReplay replay.now) }
 {
     let project = project_of(alloc, replay.text)?;
-    replay_over(alloc, &project, replay)
+    let ending = replay_over(alloc, &project, replay);
+    drop(project);
+    ending
 }

@@ -85,6 +85,31 @@ fn share(alloc: Global, outcome: Outcome<MiniJava>) -> Result<Arc<Outcome<MiniJa
     Ok(Arc::new(alloc, outcome)?)
 }
 
+/// The outcome of the key's run, to be shared.
+fn outcome_by(
+    alloc: Global,
+    runner: &mut MiniJava,
+    key: &Key,
+    recorder: &mut Recorder<AnswerList>,
+) -> Result<Arc<Outcome<MiniJava>>, Unfit>
+    requires no_input { 0 < rank_of key.now }
+    requires unread { recorder.old.told ≡ [] }
+    requires unrefused { recorder.old.refused ≡ None }
+    ensures key { IfOk result (λ o. (arc_value o).key ≡ key.now) }
+    ensures read { IfOk result (λ o.
+        AllByRecursion (λ t. Contains recorder.old.inner t) (arc_value o).told) }
+    ensures outcome { IfOk result (λ o. IsOutcome mean reads (arc_value o)) }
+{
+    match record(alloc, runner, key, recorder) {
+        Ok(outcome) => {
+            // What was read is answered by the list, by the recorder's type.
+            let _reads = recorder.reads();
+            Ok(share(alloc, outcome)?)
+        }
+        Err(_) => Err(Unfit),
+    }
+}
+
 /// The outcome of the key's run over the list.
 fn outcome_over(alloc: Global, key: &Key, list: AnswerList) -> Result<Arc<Outcome<MiniJava>>, Unfit>
     requires { 0 < rank_of key.now }
@@ -94,14 +119,25 @@ fn outcome_over(alloc: Global, key: &Key, list: AnswerList) -> Result<Arc<Outcom
 {
     let mut runner = MiniJava::new(alloc);
     let mut recorder = Recorder::new(alloc, list);
-    match record(alloc, &mut runner, key, &mut recorder) {
-        Ok(outcome) => {
-            // What was read is answered by the list, by the recorder's type.
-            let _reads = recorder.reads();
-            Ok(share(alloc, outcome)?)
-        }
-        Err(_) => Err(Unfit),
-    }
+    let outcome = outcome_by(alloc, &mut runner, key, &mut recorder);
+    drop(recorder);
+    drop(runner);
+    outcome
+}
+
+/// The outcome of the key's run over the answers of the record's edges, which are indices of these records.
+fn outcome_with(
+    alloc: Global,
+    key: &Key,
+    records: &[Kept],
+    kept: &Kept,
+) -> Result<Arc<Outcome<MiniJava>>, Unfit>
+    requires no_input { 0 < rank_of key.now }
+    requires told { IsKeyOf kept.now.key key.now }
+    ensures { IfOk result (λ o. IsRunOf records.now kept.now (arc_value o)) }
+{
+    let list = answers_of(alloc, records, kept.edges)?;
+    outcome_over(alloc, key, list)
 }
 
 /// The outcome of a run of the record's key over the answers of its edges, which are indices of these records.
@@ -113,8 +149,7 @@ pub(crate) fn outcome_of(
     ensures { IfOk result (λ o. IsRunOf records.now kept.now (arc_value o)) }
 {
     let key = query_of(alloc, kept.key)?;
-    match answers_of(alloc, records, kept.edges) {
-        Ok(list) => outcome_over(alloc, &key, list),
-        Err(fault) => Err(fault),
-    }
+    let outcome = outcome_with(alloc, &key, records, kept);
+    drop(key);
+    outcome
 }

@@ -21,7 +21,9 @@ pub(crate) fn table_of(
     ensures { IfOk result (IsTableOf chain.now text.now) }
 {
     let project = project_of(alloc, text)?;
-    table_over(alloc, chain, &project)
+    let table = table_over(alloc, chain, &project);
+    drop(project);
+    table
 }
 
 fn table_over(alloc: Global, chain: &[Change], project: &Project) -> Result<Table<MiniJava>, Unfit>
