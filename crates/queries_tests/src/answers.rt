@@ -102,7 +102,7 @@ pub const ANSWER_OF_ONE: Given<'static> = Given(
 );
 
 /// Whether each of the cases is right.
-pub fn are_right(alloc: Global, rows: &[Row]) -> Result<bool, Unfit> {
+pub(crate) fn are_right(alloc: Global, rows: &[Row]) -> Result<bool, Unfit> {
     for row in rows {
         if !is_right(alloc, *row)? {
             return Ok(false);
