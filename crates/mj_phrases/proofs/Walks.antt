@@ -6,7 +6,7 @@ use Rattle.mj_tree.specs.declared.tree.Ty.{Ty}
 use Rattle.mj_phrases.specs.declared.verdict.Mistake.{Mistake}
 use Rattle.mj_phrases.specs.declared.verdict.Verdict.{Verdict}
 use Rattle.mj_phrases.specs.Inquiries.{Inquiry}
-use Rattle.mj_phrases.specs.Phrases.{Phrase, Phrases, phrase, nothing, part, Finding, both_types, own_step, phrase_step, parts_step, and_type, with_type, mistakes_step}
+use Rattle.mj_phrases.specs.Phrases.{Phrase, Phrases, phrase, nothing, part, Finding, one_type, both_types, own_step, phrase_step, parts_step, and_type, with_type, mistakes_step}
 use Rattle.mj_phrases.specs.Steps.{Check, Proceeds, Aborts, Yields}
 use Rattle.mj_phrases.specs.Table.{Scope, phrase_of, phrases_of}
 use Rattle.mj_phrases.proofs.Asked.{Comes, memory_inside, front_at, at_end}
@@ -52,6 +52,15 @@ module _ {S E : Type 0} (stands : S → Check → Check → Type 0) (halts : S �
           b.ends start (λ others. own_step mark row (found (and_type first.type others.type) others.mistakes) k)
           (a.goes start (λ first. parts_step ps first.mistakes (λ others. own_step mark row (found (and_type first.type others.type) others.mistakes) k)) h);
     }
+
+  -- the part, then the phrase itself, which asks nothing
+  pub goes_one : (mark : ℕ) (row : List Ty → Inquiry Verdict) (p : Phrase) (before : List Mistake) (first x : Finding Ty) (old new : S) → Proceeds stands (phrase_step p before) old first new → Yields (own_step mark row (one_type first.type first.mistakes)) x → Proceeds stands (phrase_step (phrase mark row (part p nothing)) before) old x new
+  unfolding phrase_step parts_step
+  goes_one mark row p before first x old new a yields = record {
+    goes = λ start k h.
+        subst (λ now. stands new start now) (yields k)
+        (a.goes start (λ first. own_step mark row (one_type first.type first.mistakes) k) h);
+  }
 
   -- both parts, then the phrase itself, which asks nothing
   pub goes_two : (mark : ℕ) (row : List Ty → Inquiry Verdict) (p q : Phrase) (before : List Mistake) (first second x : Finding Ty) (old mid new : S) → Proceeds stands (phrase_step p before) old first mid → Proceeds stands (phrase_step q first.mistakes) mid second new → Yields (own_step mark row (both_types first.type second.type second.mistakes)) x → Proceeds stands (phrase_step (phrase mark row (part p (part q nothing))) before) old x new

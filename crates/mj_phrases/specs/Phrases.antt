@@ -146,6 +146,10 @@ finding_of mistakes mark verdict = record {
   mistakes = add_own mistakes mark verdict;
 }
 
+-- the type of a part, and the mistakes so far
+abbrev pub one_type : Option Ty → List Mistake → Finding (List Ty)
+one_type a mistakes = record { type = and_type a (Some []); mistakes = mistakes }
+
 -- the types of two parts, and the mistakes so far
 abbrev pub both_types : Option Ty → Option Ty → List Mistake → Finding (List Ty)
 both_types a b mistakes = record { type = and_type a (and_type b (Some [])); mistakes = mistakes }

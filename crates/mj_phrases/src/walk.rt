@@ -1,11 +1,11 @@
 //! The walk over expressions.
 ghost use Rattle.std.specs.Prelude.{◌≡◌, IfOk, IfErr};
 ghost use Rattle.mj_tree.specs.Views.{exp_view, exps_view};
-ghost use Rattle.mj_phrases.specs.Phrases.{phrase_step, parts_step, own_step, and_type, both_types, finding_of, with_type};
+ghost use Rattle.mj_phrases.specs.Phrases.{phrase_step, parts_step, own_step, and_type, one_type, both_types, finding_of, with_type};
 ghost use Rattle.mj_phrases.specs.declared.asking.Stop.TheVariants.{OutOfMemory};
 ghost use Rattle.mj_phrases.specs.Steps.{Proceeds, Aborts, Yields};
 ghost use Rattle.mj_phrases.specs.Seen.{items_in};
-ghost use Rattle.mj_phrases.specs.Table.{name_phrase, phrase_of, phrases_of, two_parts, some_parts, binary, index as index_row, call};
+ghost use Rattle.mj_phrases.specs.Table.{name_phrase, phrase_of, phrases_of, one_part, two_parts, some_parts, negation, binary, index as index_row, array_length, new_array, call};
 
 use crate::asking::{Asking, Stop};
 use crate::rows;
@@ -86,10 +86,10 @@ pub fn check<A: Asking>(
         Exp::Variable { mark, name } => name_type(alloc, asking, scope, *mark, name, mistakes),
         Exp::This { mark } => note(mistakes, *mark, rows::this(alloc, scope)?),
         Exp::Parenthesized { inner, .. } => check(alloc, asking, scope, inner, mistakes),
-        Exp::Not { mark, operand } => match check(alloc, asking, scope, operand, mistakes)? {
-            Some(operand) => note(mistakes, *mark, rows::negation(&operand)),
-            None => Ok(None),
-        },
+        Exp::Not { mark, operand } => {
+            let operand = check(alloc, asking, scope, operand, mistakes)?;
+            conclude_negation(*mark, operand, mistakes)
+        }
         Exp::Binary {
             operator,
             mark,
@@ -105,10 +105,10 @@ pub fn check<A: Asking>(
             let index = check(alloc, asking, scope, index, mistakes)?;
             conclude_index(*mark, array, index, mistakes)
         }
-        Exp::Length { mark, array } => match check(alloc, asking, scope, array, mistakes)? {
-            Some(array) => note(mistakes, *mark, rows::array_length(&array)),
-            None => Ok(None),
-        },
+        Exp::Length { mark, array } => {
+            let array = check(alloc, asking, scope, array, mistakes)?;
+            conclude_length(*mark, array, mistakes)
+        }
         Exp::Call {
             mark,
             receiver,
@@ -119,15 +119,66 @@ pub fn check<A: Asking>(
             let types = check_all(alloc, asking, scope, arguments, mistakes)?;
             conclude_call(alloc, asking, *mark, method, receiver, types, mistakes)
         }
-        Exp::NewArray { mark, length } => match check(alloc, asking, scope, length, mistakes)? {
-            Some(length) => note(mistakes, *mark, rows::new_array(&length)),
-            None => Ok(None),
-        },
+        Exp::NewArray { mark, length } => {
+            let length = check(alloc, asking, scope, length, mistakes)?;
+            conclude_new_array(*mark, length, mistakes)
+        }
         Exp::NewObject { mark, class } => {
             let verdict = rows::new_object(alloc, asking, class)?;
             note(mistakes, *mark, verdict)
         }
     }
+}
+
+/// The verdict on a negation, where its operand has a type.
+fn conclude_negation<E>(
+    mark: usize,
+    operand: Option<Ty>,
+    mistakes: &mut Vec<Mistake>,
+) -> Result<Option<Ty>, Stop<E>>
+    ensures err { IfErr result (λ e. e ≡ OutOfMemory) }
+    ensures ok { IfOk result (λ ty. Yields
+        (own_step mark (one_part negation) (one_type operand mistakes.old.items))
+        (record { type = ty; mistakes = mistakes.new.items })) }
+{
+    let Some(operand) = operand else {
+        return Ok(None);
+    };
+    note(mistakes, mark, rows::negation(&operand))
+}
+
+/// The verdict on an array's length, where the array has a type.
+fn conclude_length<E>(
+    mark: usize,
+    array: Option<Ty>,
+    mistakes: &mut Vec<Mistake>,
+) -> Result<Option<Ty>, Stop<E>>
+    ensures err { IfErr result (λ e. e ≡ OutOfMemory) }
+    ensures ok { IfOk result (λ ty. Yields
+        (own_step mark (one_part array_length) (one_type array mistakes.old.items))
+        (record { type = ty; mistakes = mistakes.new.items })) }
+{
+    let Some(array) = array else {
+        return Ok(None);
+    };
+    note(mistakes, mark, rows::array_length(&array))
+}
+
+/// The verdict on a new array, where its length has a type.
+fn conclude_new_array<E>(
+    mark: usize,
+    length: Option<Ty>,
+    mistakes: &mut Vec<Mistake>,
+) -> Result<Option<Ty>, Stop<E>>
+    ensures err { IfErr result (λ e. e ≡ OutOfMemory) }
+    ensures ok { IfOk result (λ ty. Yields
+        (own_step mark (one_part new_array) (one_type length mistakes.old.items))
+        (record { type = ty; mistakes = mistakes.new.items })) }
+{
+    let Some(length) = length else {
+        return Ok(None);
+    };
+    note(mistakes, mark, rows::new_array(&length))
 }
 
 /// The verdict on an operator, where both operands have types.

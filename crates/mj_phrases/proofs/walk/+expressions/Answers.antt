@@ -5,13 +5,18 @@ use Rattle.mj_phrases.specs.Phrases.{phrase_step, parts_step}
 use Rattle.mj_phrases.specs.Steps.{Aborts}
 use Rattle.mj_phrases.specs.Table.{phrase_of, phrases_of, one_part, two_parts, some_parts, negation, binary, index, array_length, new_array, call}
 use Rattle.mj_phrases.proofs.Views.{exp_view-Not, exp_view-Length, exp_view-NewArray, exp_view-Binary, exp_view-Index, exp_view-Call}
-use Rattle.mj_phrases.proofs.Walks.{if_ok, if_err, goes_two, goes_whole, up_whole, up_others, memory_one, memory_two, parts_start, parts_more, parts_up, parts_memory, parts_done}
+use Rattle.mj_phrases.proofs.Walks.{if_ok, if_err, goes_one, goes_two, goes_whole, up_whole, up_others, memory_one, memory_two, parts_start, parts_more, parts_up, parts_memory, parts_done}
 use Rattle.mj_phrases.proofs.walk.+expressions.Goals as goal
 
-pub check-returns-in-Some-clause-err : goal.check-returns-in-Some-clause-err
-check-returns-in-Some-clause-err g t c =
+pub check-returns-in_ok-operand-in-Not-clause-ok : goal.check-returns-in_ok-operand-in-Not-clause-ok
+check-returns-in_ok-operand-in-Not-clause-ok g t c =
     rw (c.in-Not.is, exp_view-Not c.in-Not.mark c.in-Not.operand, ← c.deref-in-Not.ensures)
-    (memory_one g.A.Asking.stands g.A.Asking.halts OutOfMemory g.met.A.Asking.wanting c.in-Not.mark (one_part negation) c.args.mistakes.now.items (phrase_of c.args.scope.now (exp_view c.deref-in-Not.result.now)) _ _ _ c.in_ok-operand-in-Not.ensures.ok c.note-in-Some.result c.note-in-Some.ensures.err)
+    (if_ok c.conclude_negation.result (λ ty yields. goes_one g.A.Asking.stands g.A.Asking.halts c.in-Not.mark (one_part negation) (phrase_of c.args.scope.now (exp_view c.deref-in-Not.result.now)) c.args.mistakes.now.items _ _ _ _ c.in_ok-operand-in-Not.ensures.ok yields) c.conclude_negation.ensures.ok)
+
+pub check-returns-in_ok-operand-in-Not-clause-err : goal.check-returns-in_ok-operand-in-Not-clause-err
+check-returns-in_ok-operand-in-Not-clause-err g t c =
+    rw (c.in-Not.is, exp_view-Not c.in-Not.mark c.in-Not.operand, ← c.deref-in-Not.ensures)
+    (memory_one g.A.Asking.stands g.A.Asking.halts OutOfMemory g.met.A.Asking.wanting c.in-Not.mark (one_part negation) c.args.mistakes.now.items (phrase_of c.args.scope.now (exp_view c.deref-in-Not.result.now)) _ _ _ c.in_ok-operand-in-Not.ensures.ok c.conclude_negation.result c.conclude_negation.ensures.err)
 
 pub check-returns-in_ok-right-in-Binary-clause-ok : goal.check-returns-in_ok-right-in-Binary-clause-ok
 check-returns-in_ok-right-in-Binary-clause-ok g t c =
@@ -33,15 +38,25 @@ check-returns-in_ok-index-in-Index-clause-err g t c =
     rw (c.in-Index.is, exp_view-Index c.in-Index.mark c.in-Index.array c.in-Index.index, ← c.deref-in-Index.ensures, ← c.deref-in-Index-2.ensures)
     (memory_two g.A.Asking.stands g.A.Asking.halts OutOfMemory g.met.A.Asking.wanting c.in-Index.mark (two_parts index) c.args.mistakes.now.items (phrase_of c.args.scope.now (exp_view c.deref-in-Index.result.now)) (phrase_of c.args.scope.now (exp_view c.deref-in-Index-2.result.now)) _ _ _ _ _ c.in_ok-array-in-Index.ensures.ok c.in_ok-index-in-Index.ensures.ok c.conclude_index.result c.conclude_index.ensures.err)
 
-pub check-returns-in-Some-2-clause-err : goal.check-returns-in-Some-2-clause-err
-check-returns-in-Some-2-clause-err g t c =
+pub check-returns-in_ok-array-in-Length-clause-ok : goal.check-returns-in_ok-array-in-Length-clause-ok
+check-returns-in_ok-array-in-Length-clause-ok g t c =
     rw (c.in-Length.is, exp_view-Length c.in-Length.mark c.in-Length.array, ← c.deref-in-Length.ensures)
-    (memory_one g.A.Asking.stands g.A.Asking.halts OutOfMemory g.met.A.Asking.wanting c.in-Length.mark (one_part array_length) c.args.mistakes.now.items (phrase_of c.args.scope.now (exp_view c.deref-in-Length.result.now)) _ _ _ c.in_ok-array-in-Length.ensures.ok c.note-in-Some-2.result c.note-in-Some-2.ensures.err)
+    (if_ok c.conclude_length.result (λ ty yields. goes_one g.A.Asking.stands g.A.Asking.halts c.in-Length.mark (one_part array_length) (phrase_of c.args.scope.now (exp_view c.deref-in-Length.result.now)) c.args.mistakes.now.items _ _ _ _ c.in_ok-array-in-Length.ensures.ok yields) c.conclude_length.ensures.ok)
 
-pub check-returns-in-Some-3-clause-err : goal.check-returns-in-Some-3-clause-err
-check-returns-in-Some-3-clause-err g t c =
+pub check-returns-in_ok-array-in-Length-clause-err : goal.check-returns-in_ok-array-in-Length-clause-err
+check-returns-in_ok-array-in-Length-clause-err g t c =
+    rw (c.in-Length.is, exp_view-Length c.in-Length.mark c.in-Length.array, ← c.deref-in-Length.ensures)
+    (memory_one g.A.Asking.stands g.A.Asking.halts OutOfMemory g.met.A.Asking.wanting c.in-Length.mark (one_part array_length) c.args.mistakes.now.items (phrase_of c.args.scope.now (exp_view c.deref-in-Length.result.now)) _ _ _ c.in_ok-array-in-Length.ensures.ok c.conclude_length.result c.conclude_length.ensures.err)
+
+pub check-returns-in_ok-length-in-NewArray-clause-ok : goal.check-returns-in_ok-length-in-NewArray-clause-ok
+check-returns-in_ok-length-in-NewArray-clause-ok g t c =
     rw (c.in-NewArray.is, exp_view-NewArray c.in-NewArray.mark c.in-NewArray.length, ← c.deref-in-NewArray.ensures)
-    (memory_one g.A.Asking.stands g.A.Asking.halts OutOfMemory g.met.A.Asking.wanting c.in-NewArray.mark (one_part new_array) c.args.mistakes.now.items (phrase_of c.args.scope.now (exp_view c.deref-in-NewArray.result.now)) _ _ _ c.in_ok-length-in-NewArray.ensures.ok c.note-in-Some-3.result c.note-in-Some-3.ensures.err)
+    (if_ok c.conclude_new_array.result (λ ty yields. goes_one g.A.Asking.stands g.A.Asking.halts c.in-NewArray.mark (one_part new_array) (phrase_of c.args.scope.now (exp_view c.deref-in-NewArray.result.now)) c.args.mistakes.now.items _ _ _ _ c.in_ok-length-in-NewArray.ensures.ok yields) c.conclude_new_array.ensures.ok)
+
+pub check-returns-in_ok-length-in-NewArray-clause-err : goal.check-returns-in_ok-length-in-NewArray-clause-err
+check-returns-in_ok-length-in-NewArray-clause-err g t c =
+    rw (c.in-NewArray.is, exp_view-NewArray c.in-NewArray.mark c.in-NewArray.length, ← c.deref-in-NewArray.ensures)
+    (memory_one g.A.Asking.stands g.A.Asking.halts OutOfMemory g.met.A.Asking.wanting c.in-NewArray.mark (one_part new_array) c.args.mistakes.now.items (phrase_of c.args.scope.now (exp_view c.deref-in-NewArray.result.now)) _ _ _ c.in_ok-length-in-NewArray.ensures.ok c.conclude_new_array.result c.conclude_new_array.ensures.err)
 
 pub check-returns-in_err-types-in-Call-clause-err : goal.check-returns-in_err-types-in-Call-clause-err
 check-returns-in_err-types-in-Call-clause-err g t c =
