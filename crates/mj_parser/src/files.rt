@@ -287,9 +287,14 @@ pub fn file(alloc: Global, tokens: &[Token]) -> Result<FileTree, ParseFault>
     ensures { Finds file_view result (tree_of tokens.now) }
 {
     let main = main_part(alloc, tokens)?;
-    let classes = classes(alloc, tokens, main.after)?;
-    Ok(FileTree {
-        main: main.tree,
-        classes: classes.tree,
-    })
+    match classes(alloc, tokens, main.after) {
+        Ok(classes) => Ok(FileTree {
+            main: main.tree,
+            classes: classes.tree,
+        }),
+        Err(fault) => {
+            drop(main);
+            Err(fault)
+        }
+    }
 }
