@@ -25,7 +25,7 @@ use Rattle.sessions.specs.Spelling.{key_bytes, result_bytes, record_bytes}
 use Rattle.sessions.proofs.RecordLaws.{above_last, last_below, less_of_test, test_of_less}
 use Rattle.session_file.specs.declared.fault.FileFault.TheVariants.{BadKey, KeyOrder, Result as BadResult}
 use Rattle.session_file.specs.Keys.{same, key_with, mark_with}
-use Rattle.session_file.specs.Reading.{whole, bytes_at, text_at, there, demand, ItemValue, item_with, item_at, is_behind, check_place, edges_from, edges_at, value_with_print, result_at, RestValue, rest_at, record_at}
+use Rattle.session_file.specs.Reading.{whole, bytes_at, text_at, there, demand, ItemValue, item_with, item_at, is_behind, check_place, edges_from, edges_at, value_with_print, result_at, RestValue, rest_at, behind_item, record_at}
 use Rattle.session_file.proofs.ReadLaws.{ok_is, bind_ok, bind_is, tested_ok, tested_is, there_ok, number_takes, number_again, byte_takes, bytes_takes, bytes_again, text_takes, text_again}
 use Rattle.session_file.proofs.KeyLaws.{mark_again}
 use Rattle.session_file.proofs.NamedLaws.{key_takes, mark_takes, key_again}
@@ -243,14 +243,14 @@ unfolding record_bytes
 record_parts key mark edges v = append_assoc (key_bytes key) (mark_number mark ∷ []) (rest_bytes edges v)
 
 pub record_takes : (front : List RecordValue) (bytes : List ℕ) (r : RecordValue) (rest : List ℕ) → AreRecords front → IsBytes bytes → record_at front bytes ≡ Ok (r, rest) → Takes bytes (record_bytes r) rest × FitsBehind front r
-unfolding record_at
+unfolding record_at behind_item
 record_takes front bytes r rest are fits e =
     let a = bind_ok (item_at (length front) bytes) _ (r, rest) e in
-    let p = bind_ok (check_place front a.0.0) _ (r, rest) a.2 in
-    let b = bind_ok (rest_at front a.0.0.key a.0.1) _ (r, rest) p.2 in
+    let b = bind_ok (behind_item front a.0.0 a.0.1) _ (r, rest) a.2 in
+    let p = bind_ok (check_place front a.0.0) _ b.0 b.1 in
     let ta = item_takes (length front) bytes a.0.0 a.0.1 fits a.1 in
     let tp = placed_ok front a.0.0 p.0 are p.1 in
-    let tb = rest_takes front a.0.0.key a.0.1 b.0.0 b.0.1 ta.0.rest_fits b.1 in
+    let tb = rest_takes front a.0.0.key a.0.1 b.0.0 b.0.1 ta.0.rest_fits p.2 in
     let all = Takes-then bytes (item_bytes a.0.0) a.0.1 (rest_bytes b.0.0.edges b.0.0.value) b.0.1 ta.0 tb.0 in
     subst (λ (x : RecordValue × List ℕ). Takes bytes (record_bytes x.0) x.1 × FitsBehind front x.0) (ok_is (record { key = a.0.0.key; mark = a.0.0.mark; edges = b.0.0.edges; value = b.0.0.value }, b.0.1) (r, rest) b.2) (
       subst (λ (xs : List ℕ). Takes bytes xs b.0.1) (record_parts a.0.0.key a.0.0.mark b.0.0.edges b.0.0.value) all,
@@ -265,12 +265,14 @@ record_takes front bytes r rest are fits e =
     )
 
 pub record_again : (front : List RecordValue) (r : RecordValue) (rest : List ℕ) → length front < 2 ^ 64 → AreRecords front → FitsBehind front r → record_at front (record_bytes r ++ rest) ≡ Ok (r, rest)
-unfolding record_at
+unfolding record_at behind_item
 record_again front r rest few are h =
     let item : ItemValue = record { key = r.key; mark = r.mark } in
     let tail : RestValue = record { edges = r.edges; value = r.value } in
     let regrouped : record_bytes r ++ rest ≡ item_bytes item ++ (rest_bytes r.edges r.value ++ rest) = ap (λ (xs : List ℕ). xs ++ rest) (sym (record_parts r.key r.mark r.edges r.value)) ∙ append_assoc (item_bytes item) (rest_bytes r.edges r.value) rest in
     ap (record_at front) regrouped
     ∙ bind_is (item_at (length front) (item_bytes item ++ (rest_bytes r.edges r.value ++ rest))) _ (item, rest_bytes r.edges r.value ++ rest) (item_again (length front) item (rest_bytes r.edges r.value ++ rest) h.kept.names)
-    ∙ bind_is (check_place front item) _ tt (placed_is front item are (record { above = h.above; marked = h.marked }))
-    ∙ bind_is (rest_at front r.key (rest_bytes r.edges r.value ++ rest)) _ (tail, rest) (rest_again front r.key tail rest few (record { edges = (h.edges, h.once); few = h.kept.few; result = record { value = h.kept.value; kind = h.kind; size = h.kept.size } }))
+    ∙ bind_is (behind_item front item (rest_bytes r.edges r.value ++ rest)) _ (tail, rest) (
+    bind_is (check_place front item) _ tt (placed_is front item are (record { above = h.above; marked = h.marked }))
+    ∙ rest_again front r.key tail rest few (record { edges = (h.edges, h.once); few = h.kept.few; result = record { value = h.kept.value; kind = h.kind; size = h.kept.size } })
+    )

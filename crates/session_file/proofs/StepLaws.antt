@@ -19,7 +19,7 @@ use Rattle.session_file.specs.declared.fault.FileFault.TheVariants.{BadMagic, Ve
 use Rattle.session_file.specs.declared.hashing.HashingSink.{HashingSink}
 use Rattle.session_file.specs.declared.stop.Stop.{Stop}
 use Rattle.session_file.specs.Keys.{key_with, mark_with}
-use Rattle.session_file.specs.Reading.{◌>>=◌, magic, Parser, whole, bytes_at, text_at, ItemValue, item_with, item_at, check_place, edges_at, edges_from, value_with_print, result_at, RestValue, rest_at, record_at, records_from, HeadValue, start_at, magic_at, head_at, end_at, front_at, session_at, file_at, IsUnlessMemory, IsUnlessStopped}
+use Rattle.session_file.specs.Reading.{◌>>=◌, magic, Parser, whole, bytes_at, text_at, ItemValue, item_with, item_at, check_place, edges_at, edges_from, value_with_print, result_at, RestValue, rest_at, behind_item, record_at, records_from, HeadValue, start_at, magic_at, head_at, end_at, front_at, session_at, file_at, IsUnlessMemory, IsUnlessStopped}
 use Rattle.session_file.specs.Feeding.{Given, IsShort, Moved, Took, Breaks, Halts, TookFront, Feeds, CountsIf, is_device}
 use Rattle.session_file.proofs.ReadLaws.{done, ok_is}
 use Rattle.session_file.proofs.FeedLaws.{At, moved_then, took_at, stops_by}
@@ -182,28 +182,29 @@ pub record_halts_item : (a : List ℕ → Type 0) (front : List RecordValue) (st
 unfolding record_at
 record_halts_item a front stop f = stops_by stop f (λ fault s. record { breach = λ bytes has. rw (s.breach bytes has) refl })
 
-pub record_breaks : {a b : List ℕ → Type 0} {g h : HashingSink} (front : List RecordValue) (item : ItemValue) (fault : FileFault) → Took a b g h (item_at (length front)) item → check_place front item ≡ Err fault → Breaks a (record_at front) fault
-unfolding record_at
-record_breaks front item fault p f = record {
-  breach = λ bytes has.
-      let x = took_at p bytes has in
-      rw (x.is, f) refl;
-}
+pub behind_breaks : (a : List ℕ → Type 0) (front : List RecordValue) (item : ItemValue) (fault : FileFault) → check_place front item ≡ Err fault → Breaks a (behind_item front item) fault
+unfolding behind_item
+behind_breaks a front item fault f = record { breach = λ bytes has. rw f refl }
 
-pub record_halts : {a b : List ℕ → Type 0} {g h : HashingSink} (front : List RecordValue) (item : ItemValue) (stop : Stop) → Took a b g h (item_at (length front)) item → check_place front item ≡ Ok tt → Halts b stop (rest_at front item.key) → Halts a stop (record_at front)
+pub behind_feeds : {X : Type 0} (a b : List ℕ → Type 0) (g h : HashingSink) (front : List RecordValue) (item : ItemValue) (view : X → RestValue) (r : Result X Stop) → check_place front item ≡ Ok tt → Feeds a b g h view r (rest_at front item.key) → Feeds a b g h view r (behind_item front item)
+unfolding behind_item
+behind_feeds a b g h front item view (Ok x) placed q = record { part = q.part; moved = q.moved; reads = λ rest. rw placed (q.reads rest) }
+behind_feeds a b g h front item view (Err stop) placed f = stops_by stop f (λ fault s. record { breach = λ bytes has. rw placed (s.breach bytes has) })
+
+pub record_halts : {a b : List ℕ → Type 0} {g h : HashingSink} (front : List RecordValue) (item : ItemValue) (stop : Stop) → Took a b g h (item_at (length front)) item → Halts b stop (behind_item front item) → Halts a stop (record_at front)
 unfolding record_at
-record_halts front item stop p placed f = stops_by stop f (λ fault s. record {
+record_halts front item stop p f = stops_by stop f (λ fault s. record {
   breach = λ bytes has.
       let x = took_at p bytes has in
-      rw (x.is, placed, s.breach x.rest x.holds) refl;
+      rw (x.is, s.breach x.rest x.holds) refl;
 })
 
-pub record_took : {a b c : List ℕ → Type 0} {g h k : HashingSink} (front : List RecordValue) (item : ItemValue) (r : RestValue) → Took a b g h (item_at (length front)) item → check_place front item ≡ Ok tt → Took b c h k (rest_at front item.key) r → Took a c g k (record_at front) (record { key = item.key; mark = item.mark; edges = r.edges; value = r.value })
+pub record_took : {a b c : List ℕ → Type 0} {g h k : HashingSink} (front : List RecordValue) (item : ItemValue) (r : RestValue) → Took a b g h (item_at (length front)) item → Took b c h k (behind_item front item) r → Took a c g k (record_at front) (record { key = item.key; mark = item.mark; edges = r.edges; value = r.value })
 unfolding record_at
-record_took front item r p placed q = record {
+record_took front item r p q = record {
   part = p.part ++ q.part;
   moved = moved_then p.moved q.moved;
-  reads = λ rest. rw (append_assoc p.part q.part rest, p.reads (q.part ++ rest), placed, q.reads rest) refl;
+  reads = λ rest. rw (append_assoc p.part q.part rest, p.reads (q.part ++ rest), q.reads rest) refl;
 }
 
 -- ---- what stands before the records

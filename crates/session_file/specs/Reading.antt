@@ -142,11 +142,16 @@ rest_at front key bytes = do
   value ← result_at (length front) (kind_of key) edges.1
   Ok (record { edges = edges.0; value = value.0 }, value.1)
 
+-- what follows a key and its mark, where these may follow the records in front
+unfoldable pub behind_item : List RecordValue → ItemValue → Parser RestValue
+behind_item front item bytes = do
+  place ← check_place front item
+  rest_at front item.key bytes
+
 unfoldable pub record_at : List RecordValue → Parser RecordValue
 record_at front bytes = do
   item ← item_at (length front) bytes
-  place ← check_place front item.0
-  rest ← rest_at front item.0.key item.1
+  rest ← behind_item front item.0 item.1
   Ok (
     record { key = item.0.key; mark = item.0.mark; edges = rest.0.edges; value = rest.0.value },
     rest.1,

@@ -3,7 +3,7 @@ ghost use Rattle.std.specs.Prelude.{◌≡◌, false, [], length, IfErr, OnOk};
 ghost use Rattle.std.specs.Arc.{arc_value};
 ghost use Rattle.std.specs.List.{AllByRecursion};
 ghost use Rattle.std.specs.Option.{option_copied};
-ghost use Rattle.session_file.specs.Reading.{is_behind, check_place, record_at, records_from, rest_at};
+ghost use Rattle.session_file.specs.Reading.{behind_item, is_behind, check_place, record_at, records_from, rest_at};
 ghost use Rattle.session_file.specs.Feeding.{CountsStop, Feeds, is_device};
 ghost use Rattle.session_file.specs.Records.{AppendsRecord};
 
@@ -90,17 +90,38 @@ fn read_record<F: Feed>(
     ensures counted { CountsStop result (F.failed feed.old) (F.failed feed.new) }
     ensures length { length seen.new ≡ length seen.old }
 {
-    let item = match read_item(alloc, feed, hash, front.len()) {
-        Ok(item) => item,
-        Err(stop) => return Err(stop),
-    };
-    match check_place(front, &item) {
-        Ok(()) => {}
-        Err(fault) => return Err(Stop::Breach(fault)),
-    }
-    match read_rest(alloc, feed, hash, seen, front, &item.key) {
-        Ok(rest) => Ok(Record::new(item.key, item.mark, rest.edges, rest.sealed)),
+    match read_item(alloc, feed, hash, front.len()) {
+        Ok(item) => match read_behind(alloc, feed, hash, seen, front, &item) {
+            Ok(rest) => Ok(Record::new(item.key, item.mark, rest.edges, rest.sealed)),
+            Err(stop) => {
+                drop(item);
+                Err(stop)
+            }
+        },
         Err(stop) => Err(stop),
+    }
+}
+
+/// Reads what follows a key and its mark, where these may follow the records in front.
+fn read_behind<F: Feed>(
+    alloc: Global,
+    feed: &mut F,
+    hash: &mut HashingSink,
+    seen: &mut SeenEdges,
+    front: &[Record],
+    item: &Item,
+) -> Result<Rest, Stop>
+    requires length { length seen.old ≡ length front.now }
+    requires unseen { AllByRecursion (λ b. b ≡ false) seen.old }
+    ensures value { Feeds (F.holds feed.old) (F.holds feed.new) hash.old hash.new
+        (λ x. record { edges = x.edges.items; value = arc_value x.sealed }) result
+        (behind_item front.now item.now) }
+    ensures counted { CountsStop result (F.failed feed.old) (F.failed feed.new) }
+    ensures length { length seen.new ≡ length seen.old }
+{
+    match check_place(front, item) {
+        Ok(()) => read_rest(alloc, feed, hash, seen, front, &item.key),
+        Err(fault) => Err(Stop::Breach(fault)),
     }
 }
 
