@@ -94,15 +94,34 @@ pub fn record<R: Runner, D: Reader>(
     // A key keeps in its type that its names are names.
     is_key(key);
     let value = runner.run(alloc, key, recorder)?;
-    let reads = copy_reads(alloc, recorder.reads())?;
     let sealed = share(alloc, value)?;
-    let key = key.copy(alloc)?;
-    Ok(Outcome {
-        key,
-        reads,
-        sealed,
-        runner: PhantomData,
-    })
+    match copy_of(alloc, key, recorder.reads()) {
+        Ok((key, reads)) => Ok(Outcome {
+            key,
+            reads,
+            sealed,
+            runner: PhantomData,
+        }),
+        Err(_) => {
+            drop(sealed);
+            Err(RunFault::OutOfMemory)
+        }
+    }
+}
+
+/// The key and the reads again.
+fn copy_of(alloc: Global, key: &Key, reads: &[Read]) -> Result<(Key, Vec<Read>), AllocError>
+    ensures key { IfOk result (λ x. x.0 ≡ key.now) }
+    ensures reads { IfOk result (λ x. x.1.items ≡ reads.now) }
+{
+    let reads = copy_reads(alloc, reads)?;
+    match key.copy(alloc) {
+        Ok(key) => Ok((key, reads)),
+        Err(error) => {
+            drop(reads);
+            Err(error)
+        }
+    }
 }
 
 /// The sealed value, to be shared.
