@@ -1,5 +1,5 @@
 //! Reads in their order, found by their keys.
-ghost use Rattle.std.specs.Prelude.{◌≡◌, [], ◌∷◌, ◌++◌, Contains, OnOk, OnErr, MatchOption, None, option_copied, is_some, true};
+ghost use Rattle.std.specs.Prelude.{◌≡◌, ◌<◌, [], ◌∷◌, ◌++◌, Contains, OnOk, OnErr, MatchOption, None, length, option_copied, is_some, true, vec_len, vec_capacity};
 ghost use Rattle.std.specs.Ordering.{eq_by_cmp};
 ghost use Rattle.item_ids.specs.declared.key.Key.{Key as SpecKey};
 ghost use Rattle.item_ids.specs.Keys.{key_cmp};
@@ -126,9 +126,37 @@ fn push_first(
     ensures ok { OnOk result (list.new.items ≡ list.old.items ++ read ∷ []) }
     ensures err { OnErr result (list.new.items ≡ list.old.items) }
 {
+    match make_place(alloc, list, places, &read) {
+        Ok(()) => {
+            list.push_reserved(read);
+            Ok(())
+        }
+        Err(error) => {
+            drop(read);
+            Err(error)
+        }
+    }
+}
+
+/// Makes room for the first read of a key, and notes its place.
+fn make_place(
+    alloc: Global,
+    list: &mut Vec<Read>,
+    places: &mut IndexMap<Key, usize>,
+    read: &Read,
+) -> Result<(), AllocError>
+    requires places { (q : SpecKey)
+        → get (eq_by_cmp key_cmp) places.old q ≡ first_place list.old.items q }
+    requires unread { first_place list.old.items read.now.key ≡ None }
+    ensures items { list.new.items ≡ list.old.items }
+    ensures room { OnOk result (vec_len list.new < vec_capacity list.new) }
+    ensures ok { OnOk result ((q : SpecKey) → get (eq_by_cmp key_cmp) places.new q
+        ≡ with_place (get (eq_by_cmp key_cmp) places.old) read.now.key (length list.old.items) q) }
+    ensures err { OnErr result ((q : SpecKey) → get (eq_by_cmp key_cmp) places.new q
+        ≡ get (eq_by_cmp key_cmp) places.old q) }
+{
     list.reserve(1)?;
     note_place(alloc, places, read.key(), list.len())?;
-    list.push_reserved(read);
     Ok(())
 }
 
