@@ -110,13 +110,32 @@ fn source_result(
     ensures { IfOk result (λ a. arc_value a ≡ values.Source (Some bytes.now)) }
 {
     if let Some(past) = past {
-        let key = Key::Source(Name::new(alloc, name)?);
-        if let Some(sealed) = same_source(past, &key, bytes) {
-            return Ok(Arc::try_clone(sealed)?);
+        if let Some(sealed) = past_source(alloc, past, name, bytes)? {
+            return Ok(sealed);
         }
     }
     let text = Text::new(bytes.to_vec(alloc)?);
     seal_to_share(alloc, Value::Source(Some(text)))
+}
+
+/// One more owner of the result that a session has for a file's source, where the bytes are the same.
+fn past_source(
+    alloc: Global,
+    past: &Session,
+    name: &str,
+    bytes: &[u8],
+) -> Result<Option<Arc<Sealed>>, AllocError>
+    requires some { 0 < length name.now }
+    requires short { length name.now ≤ 255 }
+    ensures { IfOk result (λ o. IfSome o (λ a. arc_value a ≡ values.Source (Some bytes.now))) }
+{
+    let key = Key::Source(Name::new(alloc, name)?);
+    let same = same_source(past, &key, bytes);
+    drop(key);
+    match same {
+        Some(sealed) => Ok(Some(Arc::try_clone(sealed)?)),
+        None => Ok(None),
+    }
 }
 
 /// The result that a session has for a key, where it is a source with these bytes.
