@@ -4,12 +4,12 @@ ghost use Rattle.std.specs.Ordering.{eq_by_cmp};
 ghost use Rattle.item_ids.specs.declared.key.Key.{Key as SpecKey};
 ghost use Rattle.item_ids.specs.Keys.{key_cmp};
 ghost use Rattle.item_ids.specs.Places.{with_place};
-ghost use Rattle.indexmap.specs.IndexMap.{get};
+ghost use Rattle.std.specs.HashMap.{get};
 ghost use Rattle.recorder.specs.Places.{first_place};
 ghost use Rattle.recorder.specs.Recording.{IsUnread, first_read};
 
 use crate::told::Read;
-use indexmap::IndexMap;
+use std::collections::HashMap;
 use item_ids::Key;
 use std::alloc::{AllocError, AllocFailed, Global};
 use std::marker::Model;
@@ -18,7 +18,7 @@ use std::marker::Model;
 #[derive(Drop)]
 pub(crate) struct Reads {
     list: Vec<Read>,
-    places: IndexMap<Key, usize>,
+    places: HashMap<Key, usize>,
 }
 
 impl Model for Reads {
@@ -26,7 +26,7 @@ impl Model for Reads {
     ghost use Rattle.std.specs.Ordering.{eq_by_cmp};
     ghost use Rattle.item_ids.specs.declared.key.Key.{Key as SpecKey};
     ghost use Rattle.item_ids.specs.Keys.{key_cmp};
-    ghost use Rattle.indexmap.specs.IndexMap.{get};
+    ghost use Rattle.std.specs.HashMap.{get};
     ghost use Rattle.recorder.specs.Backed.{ReadValue};
     ghost use Rattle.recorder.specs.Codes.{coded_reads};
     ghost use Rattle.recorder.specs.Places.{first_place};
@@ -48,7 +48,7 @@ impl Reads {
     {
         Reads {
             list: Vec::new(alloc),
-            places: IndexMap::new(alloc),
+            places: HashMap::new(alloc),
         }
     }
 
@@ -96,7 +96,7 @@ impl Reads {
 /// Adds a read of a key that has a place.
 fn push_again(
     list: &mut Vec<Read>,
-    places: &IndexMap<Key, usize>,
+    places: &HashMap<Key, usize>,
     read: Read,
 ) -> Result<(), AllocError>
     requires places { (q : SpecKey)
@@ -115,7 +115,7 @@ fn push_again(
 fn push_first(
     alloc: Global,
     list: &mut Vec<Read>,
-    places: &mut IndexMap<Key, usize>,
+    places: &mut HashMap<Key, usize>,
     read: Read,
 ) -> Result<(), AllocError>
     requires places { (q : SpecKey)
@@ -142,7 +142,7 @@ fn push_first(
 fn make_place(
     alloc: Global,
     list: &mut Vec<Read>,
-    places: &mut IndexMap<Key, usize>,
+    places: &mut HashMap<Key, usize>,
     read: &Read,
 ) -> Result<(), AllocError>
     requires places { (q : SpecKey)
@@ -163,7 +163,7 @@ fn make_place(
 /// Notes the place of a key that has none.
 fn note_place(
     alloc: Global,
-    places: &mut IndexMap<Key, usize>,
+    places: &mut HashMap<Key, usize>,
     key: &Key,
     at: usize,
 ) -> Result<(), AllocError>

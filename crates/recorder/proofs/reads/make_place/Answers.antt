@@ -1,6 +1,6 @@
 use Rattle.std.proofs.Common.{◌≡◌, ◌∙◌, ℕ, length, ap, arith}
 use Rattle.std.specs.Ordering.{eq_by_cmp}
-use Rattle.indexmap.specs.IndexMap.{get}
+use Rattle.std.specs.HashMap.{get}
 use Rattle.item_ids.specs.declared.key.Key.{Key as SpecKey}
 use Rattle.item_ids.specs.Keys.{key_cmp}
 use Rattle.item_ids.specs.Places.{with_place}

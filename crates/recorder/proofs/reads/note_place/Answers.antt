@@ -1,6 +1,6 @@
 use Rattle.std.proofs.Common.{ap, ◌∙◌, if◌then◌else◌, Some, is_some}
 use Rattle.std.specs.Ordering.{is_eq, eq_by_cmp}
-use Rattle.indexmap.specs.IndexMap.{get}
+use Rattle.std.specs.HashMap.{get}
 use Rattle.item_ids.specs.declared.key.Key.{Key as SpecKey}
 use Rattle.item_ids.specs.Keys.{key_cmp}
 use Rattle.item_ids.proofs.Places.{place_added}
