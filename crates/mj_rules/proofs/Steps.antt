@@ -1,6 +1,8 @@
 -- Steps of the loops that collect diagnostics.
-use Rattle.std.proofs.Common.{◌≡◌, ℕ, zero, suc, ◌+◌, ◌<◌, ◌≤◌, Bool, true, false, not, ◌&&◌, ◌||◌, List, [], ◌∷◌, ◌++◌, length, get_or, drop, slice_get, Option, Some, None, option_map, refl, sym, ap, ap₂, ◌∙◌, arith, append_assoc, append-nil, ◌⊎◌, inl, inr, if◌then◌else◌}
+use Rattle.std.proofs.Common.{◌≡◌, ℕ, zero, suc, ◌+◌, ◌<◌, ◌≤◌, Bool, true, false, not, ◌&&◌, ◌||◌, List, [], ◌∷◌, ◌++◌, length, get_or, drop, slice_get, Option, Some, None, option_map, refl, sym, ap, ap₂, ◌∙◌, arith, append_assoc, append-nil, ◌⊎◌, inl, inr, if◌then◌else◌, String, Vec}
 use Rattle.std.proofs.Math.Bool.{or_assoc}
+use Rattle.std.specs.declared.alloc.Global.{Global}
+use Rattle.std.proofs.lemmas.List.{length-map}
 use Rattle.std.proofs.lemmas.Option.{none-some, same_Some, slice_get-get_or, slice_get_read, get_or_from_slice_get}
 use Rattle.mj_tree.specs.declared.tree.FileTree.{FileTree}
 use Rattle.mj_tree.specs.declared.tree.Ty.{Ty}
@@ -14,7 +16,7 @@ use Rattle.mj_members.specs.declared.class.ClassRef.{ClassRef}
 use Rattle.mj_tree.specs.declared.place.Place.TheVariants.{Project, ClassOf}
 use Rattle.mj_answer.specs.declared.code.Code.TheVariants.{E102, E104}
 use Rattle.mj_answer.specs.declared.diagnostic.Diagnostic.{Diagnostic}
-use Rattle.mj_project.specs.Projects.{SourceFile}
+use Rattle.mj_project.specs.Projects.{SourceFile, source_view, sources_view}
 use Rattle.mj_project.specs.Repeats.{repeats}
 use Rattle.mj_rules.specs.Sentences.{file_of, trees_of}
 use Rattle.mj_rules.specs.FaultLists.{fault, when_fault, repeated_class, each_numbered, has_main, any_main, file_faults, files_faults, same_type, same_types}
@@ -78,9 +80,25 @@ tree_at files trees n f t same ef is =
     let p = at_map (λ (u : Option FileTree). option_map file_view u) trees n (file_of f.bytes) (ap (λ ts. slice_get ts n) same ∙ map_at (λ (g : SourceFile). file_of g.bytes) files n f ef) in
     ap (λ (u : Option FileTree). option_map file_view u) (is ∙ get_or_from_slice_get trees n p.0 t p.1) ∙ p.2
 
+-- there is a tree for each file
+pub tree_within : (files : List (String Global × Vec ℕ Global)) (trees : List (Option FileTree)) (n : ℕ) → files_view trees ≡ trees_of (sources_view files) → n < length files → n < length trees
+tree_within files trees n same within =
+    let views = length-map trees (λ (u : Option FileTree). option_map file_view u) in
+    let sources = length-map files source_view in
+    let found = length-map (sources_view files) (λ (g : SourceFile). file_of g.bytes) in
+    let as_many = ap length same in
+    omega (arith, views, sources, found, as_many)
+
 -- one more file may have a main class
 pub any_step : (files : List SourceFile) (before : Bool) (n : ℕ) (f : SourceFile) → slice_get files n ≡ Some f → (before || has_main (file_of f.bytes) || any_main (drop (n + 1) files)) ≡ (before || any_main (drop n files))
 any_step files before n f ef = or_assoc before (has_main (file_of f.bytes)) (any_main (drop (n + 1) files)) ∙ ap (λ fs. before || any_main fs) (sym (drop_at files n f ef))
+
+or_false : (b : Bool) → (b || false) ≡ b
+or_false true = refl
+or_false false = refl
+
+pub any_end : (files : List SourceFile) (before : Bool) (n : ℕ) → length files ≤ n → (before || any_main (drop n files)) ≡ before
+any_end files before n h = ap (λ fs. before || any_main fs) (drop_end files n h) ∙ or_false before
 
 -- the number and the file of a class are those of its reference
 number_in : (file number : ℕ) (t : Tree) → (tree_view file number t).number ≡ number

@@ -1,10 +1,11 @@
-use Rattle.std.proofs.Common.{◌≡◌, ◌||◌, ◌<◌, ◌∙◌, length, option_map, ap, sym, arith}
+use Rattle.std.proofs.Common.{◌≡◌, ◌||◌, ◌<◌, ◌≤◌, ◌∙◌, length, option_map, ap, sym, arith}
+use Rattle.std.proofs.lemmas.List.{length-map}
 use Rattle.mj_tree.specs.Views.{file_view}
 use Rattle.mj_project.specs.Projects.{source_view, sources_view}
 use Rattle.mj_rules.specs.FaultLists.{has_main}
 use Rattle.mj_rules.specs.Sentences.{file_of}
 use Rattle.mj_project.proofs.ProjectLemmas.{file_at, good_at}
-use Rattle.mj_rules.proofs.Steps.{files_step, tree_at, any_step}
+use Rattle.mj_rules.proofs.Steps.{files_step, files_end, tree_at, tree_within, any_step, any_end}
 use Rattle.mj_rules.proofs.project_faults.add_file_faults.Goals as goal
 use Rattle.mj_rules.proofs.project_faults.add_file_faults.Goals.{then-main_before, else-main_before}
 
@@ -35,3 +36,18 @@ loop-number-preserved c =
       faults = rw after (files_step (sources_view c.args.files.now) c.loop-number.main_before c.loop-number.number (source_view c.index-files-number.result) c.loop-number.faults.items c.add_file_fault.new.faults.items here
           (rw (c.as_str.ensures.value, tree) at c.in_ok-add_file_fault.ensures) ∙ c.loop-number.invariant.faults);
     }
+
+pub bounds-trees-number : goal.bounds-trees-number
+bounds-trees-number c =
+    let within : c.loop-number.number < length c.args.files.now = omega arith in
+    tree_within c.args.files.now c.args.trees.now c.loop-number.number c.requires.trees within
+
+pub returns-clause-any : goal.returns-clause-any
+returns-clause-any c =
+    let past : length (sources_view c.args.files.now) ≤ c.loop-number.number = rw (length-map c.args.files.now source_view) (omega arith) in
+    sym (any_end (sources_view c.args.files.now) c.loop-number.main_before c.loop-number.number past) ∙ c.loop-number.invariant.any
+
+pub returns-clause-faults : goal.returns-clause-faults
+returns-clause-faults c =
+    let past : length (sources_view c.args.files.now) ≤ c.loop-number.number = rw (length-map c.args.files.now source_view) (omega arith) in
+    sym (files_end (sources_view c.args.files.now) c.loop-number.main_before c.loop-number.number c.loop-number.faults.items past) ∙ c.loop-number.invariant.faults
