@@ -56,10 +56,14 @@ most_value = 2147483647
 unfoldable pub literal : ℕ → Inquiry Verdict
 literal value = demand (nat_le value most_value) E315 (is ty.Int)
 
+-- the type of a field, if there is one
+abbrev pub field_row : Option Ty → Inquiry Verdict
+field_row field = demand_some field E303 is
+
 abbrev pub local_or_field : Option Ty → Option Name → Name → Inquiry Verdict
 local_or_field (Some t) class x = is t
 local_or_field None class x =
-    demand_some class E303 (λ c. AsksField c x (λ field. demand_some field E303 is))
+    demand_some class E303 (λ c. AsksField c x (λ field. field_row field))
 
 unfoldable pub variable : Scope → Name → Inquiry Verdict
 variable scope x = local_or_field (local_of scope.variables x) scope.class x

@@ -2,7 +2,7 @@
 ghost use Rattle.std.specs.Prelude.{◌≡◌, length, IfOk, IfErr};
 ghost use Rattle.mj_phrases.specs.Inquiries.{Concludes, and_then};
 ghost use Rattle.mj_phrases.specs.Steps.{Proceeds, Aborts};
-ghost use Rattle.mj_phrases.specs.Table.{is_accepted, are_accepted, literal, variable, this, negation, binary, index, array_length, arguments, call, new_array, new_object, condition, print, assign, store, return_value};
+ghost use Rattle.mj_phrases.specs.Table.{is_accepted, are_accepted, literal, field_row, variable, this, negation, binary, index, array_length, arguments, call, new_array, new_object, condition, print, assign, store, return_value};
 
 use crate::asking::{Asking, Signature, Stop};
 use crate::scope::Scope;
@@ -240,6 +240,16 @@ pub fn call<A: Asking>(
     arguments(alloc, asking, &found, types)
 }
 
+/// The type of a field, if there is one.
+fn field_type(found: Option<Ty>) -> Verdict
+    ensures { field_row found ≡ Concludes result }
+{
+    match found {
+        Some(ty) => Verdict::Is(ty),
+        None => Verdict::Wrong(Code::E303),
+    }
+}
+
 #[tactic(auto, unfolding(crate::specs::Table::variable))]
 pub fn variable<A: Asking>(
     alloc: Global,
@@ -259,10 +269,8 @@ pub fn variable<A: Asking>(
     let Some(class) = scope.class() else {
         return Ok(Verdict::Wrong(Code::E303));
     };
-    match asking.field(alloc, class, name)? {
-        Some(ty) => Ok(Verdict::Is(ty)),
-        None => Ok(Verdict::Wrong(Code::E303)),
-    }
+    let found = asking.field(alloc, class, name)?;
+    Ok(field_type(found))
 }
 
 #[tactic(auto, unfolding(crate::specs::Table::this))]
