@@ -2,13 +2,14 @@
 ghost use Rattle.std.specs.Prelude.{◌≡◌, ◌↔◌, IsSome, IsTrue, IfOk, IfSome};
 ghost use Rattle.std.specs.Option.{option_copied};
 ghost use Rattle.std.specs.declared.cmp.Ordering.TheVariants.{Less};
+ghost use Rattle.item_ids.specs.declared.key.Key.{Key as KeyValue};
 ghost use Rattle.item_ids.specs.Keys.{kind_of, key_cmp};
 ghost use Rattle.answer_fixtures.specs.Telling.{name_told, IsKeyOf, FitTold, AreAlike, IsOrderOf};
 
 use crate::unfit::Unfit;
 use item_ids::{Key, Kind, keys_in_order};
 use mj_lexer::Name;
-use std::alloc::{AllocError, Global};
+use std::alloc::Global;
 
 /// The kind of a key, its class or file, and its method, each empty where there is none.
 #[derive(Clone, Copy, Debug)]
@@ -54,7 +55,10 @@ pub fn key_of(alloc: Global, asked: Asked) -> Result<Key, Unfit>
 pub fn is_made(alloc: Global, asked: Asked) -> Result<bool, Unfit>
     ensures { IfOk result (λ b. IsTrue b ↔ FitTold asked.entry) }
 {
-    Ok(perhaps_key(alloc, asked)?.is_some())
+    let key = perhaps_key(alloc, asked)?;
+    let told = key.is_some();
+    drop(key);
+    Ok(told)
 }
 
 /// Whether the name has this text, or is missing where the text is empty.
@@ -79,7 +83,9 @@ pub fn is_named(alloc: Global, asked: Asked, other: Asked) -> Result<bool, Unfit
     ensures { IfOk result (λ b. IsTrue b ↔ AreAlike asked.entry other.entry) }
 {
     let key = key_of(alloc, asked)?;
-    Ok(is_key(&key, other))
+    let told = is_key(&key, other);
+    drop(key);
+    Ok(told)
 }
 
 /// Whether the first key is less than the second, and differs from it.
@@ -87,8 +93,20 @@ pub fn is_less(alloc: Global, lesser: Asked, greater: Asked) -> Result<bool, Unf
     ensures { IfOk result (IsOrderOf lesser.entry greater.entry) }
 {
     let key = key_of(alloc, lesser)?;
+    let told = is_less_than(alloc, &key, greater);
+    drop(key);
+    told
+}
+
+/// Whether the key is less than the one of this kind with these names, and differs from it.
+fn is_less_than(alloc: Global, key: &Key, greater: Asked) -> Result<bool, Unfit>
+    ensures { IfOk result (λ b. (other : KeyValue) × IsKeyOf greater.entry other
+        × (IsTrue b ↔ (key_cmp key.now other ≡ Less))) }
+{
     let other = key_of(alloc, greater)?;
-    Ok(is_below(&key, &other))
+    let told = is_below(key, &other);
+    drop(other);
+    Ok(told)
 }
 
 /// Whether the first key is less than the second, and differs from it.
@@ -102,19 +120,32 @@ fn is_below(key: &Key, other: &Key) -> bool
 pub fn is_copy(alloc: Global, asked: Asked, other: Asked) -> Result<bool, Unfit>
     ensures { IfOk result (λ b. IsTrue b ↔ AreAlike asked.entry other.entry) }
 {
+    let key = key_of(alloc, asked)?;
+    let told = equals_named(alloc, &key, other);
+    drop(key);
+    told
+}
+
+/// Whether a copy of the key equals the one of this kind with these names.
+fn equals_named(alloc: Global, key: &Key, asked: Asked) -> Result<bool, Unfit>
+    ensures { IfOk result (λ b. IsTrue b ↔ IsKeyOf asked.entry key.now) }
+{
     // Keys are equal where their kinds, classes and members are.
     keys_in_order();
-    let key = key_of(alloc, asked)?;
-    let other = key_of(alloc, other)?;
-    Ok(equals_copy(alloc, &key, &other)?)
+    let other = key_of(alloc, asked)?;
+    let told = equals_copy(alloc, key, &other);
+    drop(other);
+    told
 }
 
 /// Whether a copy of the key equals the other one.
-fn equals_copy(alloc: Global, key: &Key, other: &Key) -> Result<bool, AllocError>
+fn equals_copy(alloc: Global, key: &Key, other: &Key) -> Result<bool, Unfit>
     ensures { IfOk result (λ b. IsTrue b ↔ (key.now ≡ other.now)) }
 {
     // `==` on keys is equality.
     keys_in_order();
     let copy = key.copy(alloc)?;
-    Ok(copy == *other)
+    let told = copy == *other;
+    drop(copy);
+    Ok(told)
 }
