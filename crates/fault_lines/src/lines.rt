@@ -156,6 +156,24 @@ fn add_class_lines<'a>(
     Ok(())
 }
 
+/// The lines of the project's own diagnostics, then those of each class.
+fn lines_of<'a>(
+    alloc: Global,
+    texts: &Texts<'a, '_>,
+    declarations: &Declarations,
+    answer: &Answer,
+) -> Result<Vec<FaultLine<'a>>, AllocError>
+    requires { declared_in declarations.now ≡ classes_in texts.now }
+    ensures { IfOk result (λ lines. AreLinesOf texts.now answer.now lines.items) }
+{
+    let mut lines = Vec::new(alloc);
+    add_project_lines(&mut lines, texts, answer.faults())?;
+    for class in answer.classes() {
+        add_class_lines(&mut lines, texts, declarations, class)?;
+    }
+    Ok(lines)
+}
+
 /// The diagnostics of an answer, in its order, with their places in the files of the project.
 pub fn fault_lines<'a>(
     alloc: Global,
@@ -166,10 +184,8 @@ pub fn fault_lines<'a>(
 {
     let texts = Texts::new(alloc, project.texts())?;
     let declarations = Declarations::new(alloc, project.trees())?;
-    let mut lines = Vec::new(alloc);
-    add_project_lines(&mut lines, &texts, answer.faults())?;
-    for class in answer.classes() {
-        add_class_lines(&mut lines, &texts, &declarations, class)?;
-    }
-    Ok(lines)
+    let lines = lines_of(alloc, &texts, &declarations, answer);
+    drop(declarations);
+    drop(texts);
+    lines
 }

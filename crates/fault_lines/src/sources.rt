@@ -95,9 +95,11 @@ fn add_source<'a>(
     ensures trees { OnOk result (files_view trees.new.items
         ≡ files_view trees.old.items ++ file_of (source_view file.now).bytes ∷ []) }
 {
+    texts.reserve(1)?;
+    trees.reserve(1)?;
     let (text, tree) = read_source(alloc, file)?;
-    texts.push(text)?;
-    trees.push(tree)?;
+    texts.push_reserved(text);
+    trees.push_reserved(tree);
     Ok(())
 }
 
