@@ -56,13 +56,19 @@ class_steps k =
     Ask keys.Files (λ v. each main_step (names_in v) false
     (λ found. k (CheckClass (faults_if found))))
 
+-- two names: Sig of both
+abbrev pub signed_step : List ℕ → List ℕ → (Option (List ℕ) → Prog) → Prog
+signed_step s t k = Ask (keys.Sig s t) (λ v. k (if is_some (signature_in v) then Some t else None))
+
+-- nothing where they are the same
+abbrev pub names_step : List ℕ → List ℕ → (Option (List ℕ) → Prog) → Prog
+names_step s t k = if bytes_eq s t then k (Some s) else signed_step s t k
+
 -- two parts: Sig of their types, where both have one and these differ
 abbrev pub meet_step : Option (List ℕ) → Option (List ℕ) → (Option (List ℕ) → Prog) → Prog
 meet_step None t k = k None
 meet_step (Some s) None k = k None
-meet_step (Some s) (Some t) k =
-    if bytes_eq s t then k (Some s)
-    else Ask (keys.Sig s t) (λ v. k (if is_some (signature_in v) then Some t else None))
+meet_step (Some s) (Some t) k = names_step s t k
 
 abbrev pub name_step : List ℕ → (Option (List ℕ) → Prog) → Prog
 name_step n k = Ask (keys.Header n) (λ v. k (if is_some (header_in v) then Some n else None))

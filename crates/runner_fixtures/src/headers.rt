@@ -15,6 +15,17 @@ use result_bytes::{Header, Signature, Text, Value};
 use std::alloc::{AllocError, Global};
 use std::sync::Arc;
 
+/// Asks a key, which is let go here.
+fn ask<D: Reader>(recorder: &mut Recorder<D>, key: Key) -> Result<Arc<Sealed>, RunFault>
+    ensures ok { IfOk result (λ a. Goes (Ask key) recorder.old (arc_value a) recorder.new) }
+    ensures err { IfErr result (λ e. GivesUp (Ask key) recorder.old e recorder.new) }
+    ensures follows { D.follows recorder.old.inner recorder.new.inner }
+{
+    let told = ask_key(recorder, &key);
+    drop(key);
+    told
+}
+
 /// Asks the header of a file.
 pub fn ask_header<D: Reader>(
     alloc: Global,
@@ -27,8 +38,23 @@ pub fn ask_header<D: Reader>(
         recorder.new) }
     ensures follows { D.follows recorder.old.inner recorder.new.inner }
 {
-    let key = Key::Header(file.copy(alloc)?);
-    ask_key(recorder, &key)
+    ask(recorder, Key::Header(file.copy(alloc)?))
+}
+
+/// Asks the signature of a file and another one.
+pub fn ask_signature<D: Reader>(
+    alloc: Global,
+    recorder: &mut Recorder<D>,
+    file: &Name,
+    other: &Name,
+) -> Result<Arc<Sealed>, RunFault>
+    ensures ok { IfOk result (λ a. Goes (Ask (keys.Sig file.now other.now)) recorder.old
+        (arc_value a) recorder.new) }
+    ensures err { IfErr result (λ e. GivesUp (Ask (keys.Sig file.now other.now)) recorder.old e
+        recorder.new) }
+    ensures follows { D.follows recorder.old.inner recorder.new.inner }
+{
+    ask(recorder, Key::Sig(file.copy(alloc)?, other.copy(alloc)?))
 }
 
 /// The header in an answer.
@@ -84,8 +110,7 @@ pub fn run_header<D: Reader>(
     ensures err { IfErr result (λ e. GivesUp (header_steps file.now) recorder.old e recorder.new) }
     ensures follows { D.follows recorder.old.inner recorder.new.inner }
 {
-    let key = Key::Source(file.copy(alloc)?);
-    let sealed = ask_key(recorder, &key)?;
+    let sealed = ask(recorder, Key::Source(file.copy(alloc)?))?;
     Ok(Value::Header(header_for(alloc, bytes_in(sealed.value()))))
 }
 

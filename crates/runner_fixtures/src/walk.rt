@@ -1,14 +1,13 @@
 //! A walk over a phrase, whose reads follow from what was found before.
-ghost use Rattle.std.specs.Prelude.{◌≡◌, List, ℕ, IfOk, IfErr};
+ghost use Rattle.std.specs.Prelude.{◌≡◌, List, ℕ, IfOk, IfErr, option_copied};
 ghost use Rattle.recorder.specs.Programs.{Goes, GivesUp, each};
-ghost use Rattle.runner_fixtures.specs.Programs.{name_step, meet_step, phrase_step, part_step};
+ghost use Rattle.runner_fixtures.specs.Programs.{name_step, signed_step, names_step, meet_step, phrase_step, part_step};
 ghost use Rattle.runner_fixtures.specs.View.{view_of};
 
-use crate::headers::{ask_header, header_in, signature_in};
+use crate::headers::{ask_header, ask_signature, header_in, signature_in};
 use crate::phrase::Phrase;
-use item_ids::Key;
 use mj_lexer::Name;
-use recorder::{Reader, Recorder, RunFault, ask_key};
+use recorder::{Reader, Recorder, RunFault};
 use std::alloc::Global;
 
 /// The type of a name: the name itself, if there is a file of this name.
@@ -30,6 +29,73 @@ fn walk_name<D: Reader>(
     }
 }
 
+/// The second of two names, if the first has a signature with it.
+fn meet_signed<D: Reader>(
+    alloc: Global,
+    recorder: &mut Recorder<D>,
+    first: &Name,
+    second: &Name,
+) -> Result<Option<Name>, RunFault>
+    ensures ok { IfOk result (λ t. Goes (signed_step first.now second.now) recorder.old t
+        recorder.new) }
+    ensures err { IfErr result (λ e. GivesUp (signed_step first.now second.now) recorder.old e
+        recorder.new) }
+    ensures follows { D.follows recorder.old.inner recorder.new.inner }
+{
+    let sealed = ask_signature(alloc, recorder, first, second)?;
+    if signature_in(sealed.value()).is_some() {
+        let found = second.copy(alloc)?;
+        Ok(Some(found))
+    } else {
+        Ok(None)
+    }
+}
+
+/// The type that two names have together.
+fn meet_names<D: Reader>(
+    alloc: Global,
+    recorder: &mut Recorder<D>,
+    first: &Name,
+    second: &Name,
+) -> Result<Option<Name>, RunFault>
+    ensures ok { IfOk result (λ t. Goes (names_step first.now second.now) recorder.old t
+        recorder.new) }
+    ensures err { IfErr result (λ e. GivesUp (names_step first.now second.now) recorder.old e
+        recorder.new) }
+    ensures follows { D.follows recorder.old.inner recorder.new.inner }
+{
+    if first.bytes() == second.bytes() {
+        let found = first.copy(alloc)?;
+        Ok(Some(found))
+    } else {
+        meet_signed(alloc, recorder, first, second)
+    }
+}
+
+/// The type that two parts have together, by their own types.
+fn meet_types<D: Reader>(
+    alloc: Global,
+    recorder: &mut Recorder<D>,
+    first: Option<&Name>,
+    second: Option<&Name>,
+) -> Result<Option<Name>, RunFault>
+    ensures ok { IfOk result (λ t. Goes
+        (meet_step (option_copied first.entry) (option_copied second.entry)) recorder.old t
+        recorder.new) }
+    ensures err { IfErr result (λ e. GivesUp
+        (meet_step (option_copied first.entry) (option_copied second.entry)) recorder.old e
+        recorder.new) }
+    ensures follows { D.follows recorder.old.inner recorder.new.inner }
+{
+    match first {
+        None => Ok(None),
+        Some(first) => match second {
+            None => Ok(None),
+            Some(second) => meet_names(alloc, recorder, first, second),
+        },
+    }
+}
+
 /// The type that two parts have together.
 fn meet<D: Reader>(
     alloc: Global,
@@ -41,25 +107,10 @@ fn meet<D: Reader>(
     ensures err { IfErr result (λ e. GivesUp (meet_step first second) recorder.old e recorder.new) }
     ensures follows { D.follows recorder.old.inner recorder.new.inner }
 {
-    match first {
-        None => Ok(None),
-        Some(s) => match second {
-            None => Ok(None),
-            Some(t) => {
-                if s.bytes() == t.bytes() {
-                    Ok(Some(s))
-                } else {
-                    let key = Key::Sig(s, t.copy(alloc)?);
-                    let sealed = ask_key(recorder, &key)?;
-                    if signature_in(sealed.value()).is_some() {
-                        Ok(Some(t))
-                    } else {
-                        Ok(None)
-                    }
-                }
-            }
-        },
-    }
+    let met = meet_types(alloc, recorder, first.as_ref(), second.as_ref());
+    drop(first);
+    drop(second);
+    met
 }
 
 /// The type of a phrase.
