@@ -62,8 +62,9 @@ fn rows_found<'a>(
         (state_of_nodes inputs.now nodes.now false) (keys_of both.0.items)) }
 {
     let (keys, found) = reach(alloc, inputs, nodes, none)?;
-    let rows = rows_of(alloc, &keys)?;
-    Ok((rows, found))
+    let rows = rows_of(alloc, &keys);
+    drop(keys);
+    Ok((rows?, found))
 }
 
 /// The number of the session after the previous one.

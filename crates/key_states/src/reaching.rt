@@ -44,13 +44,41 @@ pub fn reach<'a>(
     ensures count { IfOk result (λ both. length both.1.items ≡ length both.0.keys) }
 {
     let mut keys = first_keys(alloc, inputs, nodes.len())?;
+    match spread(alloc, inputs, nodes, none, &mut keys) {
+        Ok(found) => Ok((keys, found)),
+        Err(refused) => {
+            drop(keys);
+            Err(refused)
+        }
+    }
+}
+
+/// Adds all that the keys of the inputs, and Answer, lead to, and tells how each key is done, in the set's order.
+fn spread<'a>(
+    alloc: Global,
+    inputs: &'a Inputs,
+    nodes: &'a NodeMap,
+    none: &'a EdgeKeys,
+    keys: &mut IndexSet<Key>,
+) -> Result<Vec<Found<'a>>, AllocError>
+    requires none { none.now ≡ [] }
+    requires inputs { AreInputs inputs.now nodes.now }
+    requires order { IsInOrder (state_of_nodes inputs.now nodes.now false) }
+    requires answer { IsDone (status_at inputs.now nodes.now Answer) }
+    requires roots { AreRoots inputs.now keys.old.keys }
+    ensures reached { OnOk result (AreReached inputs.now
+        (state_of_nodes inputs.now nodes.now false) keys.new.keys) }
+    ensures found { IfOk result (λ found. AreFound (state_of_nodes inputs.now nodes.now false)
+        keys.new.keys found.items) }
+    ensures count { IfOk result (λ found. length found.items ≡ length keys.new.keys) }
+{
     let mut found = Vec::with_capacity(alloc, nodes.len())?;
     for i in 0..usize::MAX {
         let Some(key) = keys.get_index(i) else {
-            return Ok((keys, found));
+            return Ok(found);
         };
         let entry = entry_of(inputs, nodes, none, key);
-        let edges = add(alloc, &mut keys, entry.edges)?;
+        let edges = add(alloc, keys, entry.edges)?;
         found.push(Found {
             sealed: entry.sealed,
             mark: entry.mark,
@@ -59,16 +87,25 @@ pub fn reach<'a>(
     }
     // No set is longer than that.
     let _len = keys.len();
-    Ok((keys, found))
+    Ok(found)
 }
 
 /// The keys of the inputs, and Answer, in a set that has room for so many keys.
 fn first_keys(alloc: Global, inputs: &Inputs, room: usize) -> Result<IndexSet<Key>, AllocError>
     ensures { IfOk result (λ set. AreRoots inputs.now set.keys) }
 {
-    let mut keys = IndexSet::with_capacity(alloc, room)?;
     let first = EdgeKeys::own(roots(alloc, inputs)?);
-    add(alloc, &mut keys, &first)?;
+    let keys = set_of(alloc, &first, room);
+    drop(first);
+    keys
+}
+
+/// These keys, in a set that has room for so many.
+fn set_of(alloc: Global, first: &EdgeKeys, room: usize) -> Result<IndexSet<Key>, AllocError>
+    ensures { IfOk result (λ set. Adds [] first.now set.keys) }
+{
+    let mut keys = IndexSet::with_capacity(alloc, room)?;
+    add(alloc, &mut keys, first)?;
     Ok(keys)
 }
 

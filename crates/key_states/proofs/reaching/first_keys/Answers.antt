@@ -1,5 +1,6 @@
+use Rattle.std.proofs.lemmas.Result.{IfOk-weaker}
 use Rattle.key_states.proofs.ReachRules.{roots_added}
 use Rattle.key_states.proofs.reaching.first_keys.Goals as goal
 
 pub returns : goal.returns
-returns c = roots_added _ _ _ c.in_ok-roots.ensures (rw (c.in_ok-keys.ensures.empty, c.own-first.ensures) at c.in_ok-add.ensures.adds)
+returns c = IfOk-weaker c.set_of-keys.result _ _ (λ set adds. roots_added _ _ _ c.in_ok-roots.ensures (rw c.own-first.ensures at adds)) c.set_of-keys.ensures

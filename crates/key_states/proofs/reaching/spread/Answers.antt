@@ -9,10 +9,10 @@ use Rattle.key_states.proofs.ReachRules.{spreads_first, spreads_more, spreads_la
 use Rattle.key_states.proofs.SetRules.{key_at, at_has, at_within, at_end}
 use Rattle.key_states.proofs.ReachRules.{roots_done}
 use Rattle.key_states.proofs.FoundRules.{founds_more, longer}
-use Rattle.key_states.proofs.reaching.reach.Goals as goal
+use Rattle.key_states.proofs.reaching.spread.Goals as goal
 
 pub loop-i-init : goal.loop-i-init
-loop-i-init c = rw c.in_ok-found.ensures.items (spreads_first _ _ _ c.in_ok-keys.ensures, (λ i d lt. absurd (omega arith)), refl, omega arith)
+loop-i-init c = rw c.in_ok-found.ensures.items (spreads_first _ _ _ c.requires.roots, (λ i d lt. absurd (omega arith)), refl, omega arith)
 
 pub entry_of-entry-requires-clause-done : goal.entry_of-entry-requires-clause-done
 entry_of-entry-requires-clause-done c =
