@@ -1,5 +1,5 @@
 -- A loop up a chain.
-use Rattle.std.proofs.Common.{◌≡◌, ℕ, suc, ◌+◌, ◌-◌, ◌<◌, ◌≤◌, List, [], length, ap, subst, arith}
+use Rattle.std.proofs.Common.{◌≡◌, ℕ, suc, ◌+◌, ◌-◌, ◌<◌, ◌≤◌, List, [], length, sym, ap, subst, arith}
 use Rattle.mj_tree.specs.Trees.{Name}
 use Rattle.result_bytes.specs.declared.files.IndexRow.{IndexRow}
 use Rattle.result_bytes.specs.declared.parts.ChainEnd.{ChainEnd}
@@ -21,6 +21,9 @@ more_left n i h = omega (arith, h)
 none_left : (n i : ℕ) → n ≤ i → n - i ≡ 0
 none_left n i h = omega (arith, h)
 
+all_left : (n : ℕ) → n ≡ n - 0
+all_left n = omega arith
+
 module _ {D : Type 0} (rows : List IndexRow) (first : Name) (old : Recording D) where
   round : (names : List Name) (c : Name) (i : ℕ) → i < length rows → (k : ChainValue → Prog)
       → chain_steps (length rows - i) rows names c k ≡ climb_step rows names c (λ at. climb_on (chain_steps (length rows - (i + 1)) rows) at k)
@@ -30,6 +33,12 @@ module _ {D : Type 0} (rows : List IndexRow) (first : Name) (old : Recording D) 
   last : (names : List Name) (c : Name) (i : ℕ) → length rows ≤ i → (k : ChainValue → Prog) → chain_steps (length rows - i) rows names c k ≡ k (chain names Top)
   unfolding chain_steps
   last names c i h k = ap (λ n. chain_steps n rows names c k) (none_left (length rows) i h)
+
+  pub climb_start : (names : List Name) → names ≡ [] → ClimbAt rows first old 0 names first old
+  climb_start names none = record {
+    goes = λ prog k w. subst (λ (ns : List Name). IsAt prog old (chain_steps (length rows - 0) rows ns first k)) (sym none)
+        (subst (λ (n : ℕ). IsAt prog old (chain_steps n rows [] first k)) (all_left (length rows)) w);
+  }
 
   pub climb_more : (i : ℕ) (names more : List Name) (c next : Name) (mid new : Recording D) → ClimbAt rows first old i names c mid → Goes (climb_step rows names c) mid (more, At next) new → i < length rows
       → ClimbAt rows first old (i + 1) more next new

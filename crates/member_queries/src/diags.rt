@@ -105,7 +105,6 @@ fn ask_body<D: Reader>(
 }
 
 /// These diagnostics and those in bodies of a class.
-#[tactic(auto, using(recorder::proofs::Rules::loop_more, recorder::proofs::Rules::loop_up, recorder::proofs::Rules::loop_end))]
 fn ask_bodies<D: Reader>(
     alloc: Global,
     recorder: &mut Recorder<D>,

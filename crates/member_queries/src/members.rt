@@ -115,7 +115,6 @@ fn ask_link<'c, D: Reader>(
 }
 
 /// Asks the headers of the classes of a chain, in their order.
-#[tactic(auto, using(recorder::proofs::Rules::loop_more, recorder::proofs::Rules::loop_up, recorder::proofs::Rules::loop_end))]
 fn ask_links<'c, D: Reader>(
     alloc: Global,
     recorder: &mut Recorder<D>,

@@ -137,7 +137,6 @@ fn ask_next<D: Reader>(
 }
 
 /// The chain that begins with a class. No chain has more classes than the index.
-#[tactic(auto, using(crate::proofs::Climbs::climb_more, crate::proofs::Climbs::climb_over, crate::proofs::Climbs::climb_up, crate::proofs::Climbs::climb_end))]
 fn ask_chain<D: Reader>(
     alloc: Global,
     recorder: &mut Recorder<D>,
