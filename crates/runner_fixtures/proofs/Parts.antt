@@ -29,3 +29,13 @@ module _ {D : Type 0} (e : SpecPhrase) (parts : List Phrase) (s : Option (List �
   unfolding phrase_step phrases_step
   called_err (Ok t) g h = tt
   called_err (Err f) g h = record { halts = λ prog k w. h.halts prog k (subst (IsAt prog mid) (each_part parts s k) (g.goes prog (λ u. phrases_step (phrases_of (map view_of parts)) u k) w)) }
+
+-- what was found, and one part after it
+module _ {D : Type 0} (e : SpecPhrase) (s t : Option (List ℕ)) (old mid new : Recording D) where
+  pub part_ok : (r : Result (Option (List ℕ)) RunFault) → Goes (phrase_step e) old t mid → IfOk r (λ u. Goes (meet_step s t) mid u new) → IfOk r (λ u. Goes (part_step e s) old u new)
+  part_ok (Ok u) g h = record { goes = λ prog k w. h.goes prog k (g.goes prog (λ x. meet_step s x k) w) }
+  part_ok (Err f) g h = tt
+
+  pub part_err : (r : Result (Option (List ℕ)) RunFault) → Goes (phrase_step e) old t mid → IfErr r (λ f. GivesUp (meet_step s t) mid f new) → IfErr r (λ f. GivesUp (part_step e s) old f new)
+  part_err (Ok u) g h = tt
+  part_err (Err f) g h = record { halts = λ prog k w. h.halts prog k (g.goes prog (λ x. meet_step s x k) w) }

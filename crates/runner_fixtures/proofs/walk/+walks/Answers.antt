@@ -5,7 +5,7 @@ use Rattle.runner_fixtures.specs.Phrases.{Phrase as SpecPhrase, Called, phrases_
 use Rattle.runner_fixtures.specs.Programs.{phrase_step, part_step}
 use Rattle.runner_fixtures.specs.View.{view_of}
 use Rattle.runner_fixtures.specs.declared.phrase.Phrase.{Phrase}
-use Rattle.runner_fixtures.proofs.Parts.{view_call, called_ok, called_err}
+use Rattle.runner_fixtures.proofs.Parts.{view_call, called_ok, called_err, part_ok, part_err}
 use Rattle.runner_fixtures.proofs.walk.+walks.Goals as goal
 
 pub walk_parts-loop-phrase-preserved : goal.walk_parts-loop-phrase-preserved
@@ -38,3 +38,20 @@ walk-returns-in_ok-found-in-Call-clause-err g t c =
     c.walk_parts.ensures.err in
     let e : view_of c.args.phrase.now ≡ Called (view_of c.in-Call.front.value) (phrases_of (map view_of c.in-Call.parts.items)) = ap view_of c.in-Call.is ∙ view_call c.in-Call.front c.in-Call.parts in
     subst (λ (x : SpecPhrase). IfErr c.walk_parts.result (λ r. GivesUp (phrase_step x) c.args.recorder.now r c.walk_parts.new.recorder)) (sym e) h
+
+pub walk-returns-in_ok-found-in-Call-clause-follows : goal.walk-returns-in_ok-found-in-Call-clause-follows
+walk-returns-in_ok-found-in-Call-clause-follows g t c = g.met.D.Reader.transitive _ _ _ c.in_ok-found-in-Call.ensures.follows c.walk_parts.ensures.follows
+
+pub walk_part-returns-clause-ok : goal.walk_part-returns-clause-ok
+walk_part-returns-clause-ok g t c =
+    part_ok (view_of c.args.phrase.now) c.args.found c.in_ok-next.next c.args.recorder.now c.walk.new.recorder c.meet.new.recorder c.meet.result c.in_ok-next.ensures.ok c.meet.ensures.ok
+
+pub walk_part-returns-clause-err : goal.walk_part-returns-clause-err
+walk_part-returns-clause-err g t c =
+    part_err (view_of c.args.phrase.now) c.args.found c.in_ok-next.next c.args.recorder.now c.walk.new.recorder c.meet.new.recorder c.meet.result c.in_ok-next.ensures.ok c.meet.ensures.err
+
+pub walk_part-returns-clause-follows : goal.walk_part-returns-clause-follows
+walk_part-returns-clause-follows g t c = g.met.D.Reader.transitive _ _ _ c.in_ok-next.ensures.follows c.meet.ensures.follows
+
+pub walk_parts-returns-in_err-found-clause-follows : goal.walk_parts-returns-in_err-found-clause-follows
+walk_parts-returns-in_err-found-clause-follows g t c = g.met.D.Reader.transitive _ _ _ c.loop-phrase.invariant.follows c.in_err-found.ensures.follows
