@@ -170,13 +170,18 @@ const METHODS: &[(usize, Option<usize>)] = &[
 ];
 
 #[test]
-fn places_of_members(rt: HostRuntime) -> Result<(), Fail> {
+fn places_of_fields(rt: HostRuntime) -> Result<(), Fail> {
     for (field, want) in FIELDS {
         assert!(rt;
             is_at(rt.alloc(), 1, Place::Field(*field), *want)?,
             "at {field}"
         );
     }
+    Ok(())
+}
+
+#[test]
+fn places_of_methods(rt: HostRuntime) -> Result<(), Fail> {
     for (method, want) in METHODS {
         assert!(rt;
             is_at(rt.alloc(), 1, Place::Method(*method), *want)?,
@@ -186,12 +191,19 @@ fn places_of_members(rt: HostRuntime) -> Result<(), Fail> {
     Ok(())
 }
 
+/// The place of a file, or of a class in it.
+fn in_file(alloc: Global, class: Option<usize>) -> Result<Place, AllocError> {
+    let file = Name::new(alloc, "M.java")?;
+    Ok(match class {
+        Some(class) => Place::ClassOf(file, class),
+        None => Place::File(file),
+    })
+}
+
 #[test]
 fn places_of_files(rt: HostRuntime) -> Result<(), Fail> {
-    let file = Name::new(rt.alloc(), "M.java")?;
-    assert!(rt; is_at(rt.alloc(), 0, Place::File(file), None)?);
-    let file = Name::new(rt.alloc(), "M.java")?;
-    assert!(rt; is_at(rt.alloc(), 0, Place::ClassOf(file, 1), Some(89))?);
+    assert!(rt; is_at(rt.alloc(), 0, in_file(rt.alloc(), None)?, None)?);
+    assert!(rt; is_at(rt.alloc(), 0, in_file(rt.alloc(), Some(1))?, Some(89))?);
     Ok(())
 }
 
