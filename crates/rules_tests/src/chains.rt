@@ -2,6 +2,8 @@
 //! accepted by which, and which class of a name counts are shown by golden tests.
 use crate::made::{name, trees_of};
 use mj_classes::{ClassChain, ClassRef, Declarations, End};
+use mj_lexer::Name;
+use mj_tree::FileTree;
 use std::alloc::{AllocError, Global};
 use std::test::*;
 
@@ -170,33 +172,66 @@ fn is_chain(class: &ClassRef, chain: &ClassChain, row: &Chain) -> bool {
         && is_end(&chain.end, row.end)
 }
 
-/// Whether the class of the case has this chain, or none.
-fn has_chain(alloc: Global, declarations: &Declarations, row: &Chain) -> Result<bool, AllocError> {
-    let class = name(alloc, row.class)?;
-    match (
-        declarations.find(&class),
-        declarations.chain(alloc, &class)?,
-    ) {
-        (Some(found), Some(chain)) => Ok(is_chain(&found, &chain, row)),
-        (None, None) => Ok(matches!(row.end, Ending::NoChain)),
-        _ => Ok(false),
+/// Whether this is the class of the case with its chain, or there is neither.
+fn is_told(class: Option<ClassRef>, chain: &Option<ClassChain>, row: &Chain) -> bool {
+    match (class, chain) {
+        (Some(class), Some(chain)) => is_chain(&class, chain, row),
+        (None, None) => matches!(row.end, Ending::NoChain),
+        _ => false,
     }
 }
 
-fn all_have_chains(alloc: Global, declarations: &Declarations) -> Result<bool, AllocError> {
+/// Whether the class of this name, which is that of the case, has its chain, or none.
+fn is_chain_of(
+    alloc: Global,
+    declarations: &Declarations,
+    class: &Name,
+    row: &Chain,
+) -> Result<bool, AllocError> {
+    let chain = declarations.chain(alloc, class)?;
+    Ok(is_told(declarations.find(class), &chain, row))
+}
+
+/// Whether the class of the case has this chain, or none.
+fn has_chain(alloc: Global, declarations: &Declarations, row: &Chain) -> Result<bool, AllocError> {
+    let class = name(alloc, row.class)?;
+    let told = is_chain_of(alloc, declarations, &class, row);
+    drop(class);
+    told
+}
+
+/// Whether so many classes are declared, those of one name again, and all of the cases have their chains.
+fn all_have_chains(
+    alloc: Global,
+    declarations: &Declarations,
+    count: usize,
+) -> Result<bool, AllocError> {
     for row in CHAINS {
         if !has_chain(alloc, declarations, row)? {
             return Ok(false);
         }
     }
-    Ok(true)
+    Ok(declarations.classes().len() == count)
 }
 
-/// Whether the classes of the files have just these chains, and so many are declared, those of one name again.
+/// Whether the classes of the files have just these chains, and so many are declared.
+fn are_chains_of(
+    alloc: Global,
+    files: &[Option<FileTree>],
+    count: usize,
+) -> Result<bool, AllocError> {
+    let declarations = Declarations::new(alloc, files)?;
+    let told = all_have_chains(alloc, &declarations, count);
+    drop(declarations);
+    told
+}
+
+/// The same of the files of these texts.
 fn are_chains(alloc: Global, texts: &[&str], count: usize) -> Result<bool, AllocError> {
     let files = trees_of(alloc, texts)?;
-    let declarations = Declarations::new(alloc, &files)?;
-    Ok(declarations.classes().len() == count && all_have_chains(alloc, &declarations)?)
+    let told = are_chains_of(alloc, &files, count);
+    drop(files);
+    told
 }
 
 #[test]
