@@ -20,20 +20,26 @@ const EDIT: Edit = Edit {
     edited: EDITED,
 };
 
-/// Whether so many workers make sessions with just the files that one makes, and all events are counted. Of the 21 queries all
-/// are executed, three events for each; then ten are, and eleven are green, two events for each.
+/// Whether the history has so many events, and all are counted.
+fn has_events(made: &Made, count: usize) -> bool {
+    made.history == count && made.events == count
+}
+
+/// Whether the sessions are those of one worker, and all events are counted. Of the 21 queries all are executed, three events
+/// for each; then ten are, and eleven are green, two events for each.
+fn are_alike(made: &(Made, Made), alone: &(Made, Made)) -> bool {
+    made.0 == alone.0 && made.1 == alone.1 && has_events(&made.0, 63) && has_events(&made.1, 52)
+}
+
+/// Whether so many workers make sessions with just the files that one makes.
 fn are_same<T: Threads + Wait + Sync>(
     rt: &T,
     alloc: Global,
     workers: usize,
 ) -> Result<bool, Unfit> {
     let alone = made_by(rt, alloc, &EDIT, 1)?;
-    let (first, second) = made_by(rt, alloc, &EDIT, workers)?;
-    Ok(
-        (first, second) == alone
-            && (first.history, first.events) == (63, 63)
-            && (second.history, second.events) == (52, 52),
-    )
+    let made = made_by(rt, alloc, &EDIT, workers)?;
+    Ok(are_alike(&made, &alone))
 }
 
 #[test]
@@ -44,7 +50,7 @@ fn workers_make_the_same_files(rt: HostRuntime) {
 }
 
 /// How many records of a session are executed and green, and how many events there are.
-#[derive(Clone, Copy, PartialEq, Eq)]
+#[derive(Clone, Copy)]
 struct Counts {
     executed: usize,
     green: usize,
@@ -73,20 +79,19 @@ const UNCHANGED: Counts = Counts {
 
 /// Whether all records of the session are counted, and all events by its workers.
 fn has_counts(made: &Made, counts: Counts) -> bool {
-    let Made {
-        records,
-        executed,
-        green,
-        history,
-        events,
-        ..
-    } = *made;
-    let made = Counts {
-        executed,
-        green,
-        events,
-    };
-    made == counts && records == RECORDS && history == events
+    made.records == RECORDS
+        && made.executed == counts.executed
+        && made.green == counts.green
+        && made.history == counts.events
+        && made.events == counts.events
+}
+
+/// Whether the sessions are the same as others, and have these counts.
+fn are_as_counted(made: &(Made, Made), others: &(Made, Made)) -> bool {
+    made.0 == others.0
+        && made.1 == others.1
+        && has_counts(&made.0, FIRST)
+        && has_counts(&made.1, UNCHANGED)
 }
 
 /// Whether so many workers make the same files as others, and count the same.
@@ -96,8 +101,8 @@ fn are_counted<T: Threads + Wait + Sync>(
     workers: usize,
     others: &(Made, Made),
 ) -> Result<bool, Unfit> {
-    let (first, second) = made_of_empty_classes(rt, alloc, EMPTY_CLASSES, workers)?;
-    Ok((first, second) == *others && has_counts(&first, FIRST) && has_counts(&second, UNCHANGED))
+    let made = made_of_empty_classes(rt, alloc, EMPTY_CLASSES, workers)?;
+    Ok(are_as_counted(&made, others))
 }
 
 #[test]
@@ -180,14 +185,34 @@ fn where_none_fails_there_is_a_session(rt: HostRuntime) {
     assert!(rt; fault_of_failing(&rt, rt.alloc(), MAIN, 1, 10) == Ok(None));
 }
 
+/// Crews that leave jobs out: how many workers there are, and by how many jobs each goes on.
+const LEAVING: &[Crew] = &[
+    Crew {
+        workers: 1,
+        step: 2,
+    },
+    Crew {
+        workers: 2,
+        step: 2,
+    },
+    Crew {
+        workers: 8,
+        step: 3,
+    },
+    Crew {
+        workers: 8,
+        step: 0,
+    },
+];
+
 /// Jobs that are left out are done all the same.
 #[test]
 fn left_out_jobs_are_done(rt: HostRuntime) {
     let file = File("M.java", TWO);
     let each = digest_by(&rt, rt.alloc(), file, Crew::of(1));
     assert!(rt; each.is_ok());
-    for (workers, step) in [(1, 2), (2, 2), (8, 3), (8, 0)] {
-        assert!(rt; digest_by(&rt, rt.alloc(), file, Crew { workers, step }) == each);
+    for crew in LEAVING {
+        assert!(rt; digest_by(&rt, rt.alloc(), file, *crew) == each);
     }
 }
 
@@ -195,14 +220,6 @@ fn left_out_jobs_are_done(rt: HostRuntime) {
 const CLASSES: usize = 40;
 
 const SEEDS: [u64; 4] = [1, 2, 3, 4];
-
-/// Whether both sessions have these files, and all events are counted.
-fn have_files(made: &(Made, Made), files: &([u8; 32], [u8; 32])) -> bool {
-    let (first, second) = made;
-    (first.digest, second.digest) == *files
-        && first.events == first.history
-        && second.events == second.history
-}
 
 /// Whether the sessions that were made have the files of others, and all events are counted.
 fn have_files_of(made: &(Made, Made), others: &(Made, Made)) -> bool {
