@@ -44,10 +44,12 @@ pub fn reach<'a>(
     ensures count { IfOk result (λ both. length both.1.items ≡ length both.0.keys) }
 {
     let mut keys = first_keys(alloc, inputs, nodes.len())?;
-    match spread(alloc, inputs, nodes, none, &mut keys) {
-        Ok(found) => Ok((keys, found)),
+    let mut found = Vec::new(alloc);
+    match spread(alloc, inputs, nodes, none, &mut keys, &mut found) {
+        Ok(()) => Ok((keys, found)),
         Err(refused) => {
             drop(keys);
+            drop(found);
             Err(refused)
         }
     }
@@ -60,22 +62,24 @@ fn spread<'a>(
     nodes: &'a NodeMap,
     none: &'a EdgeKeys,
     keys: &mut IndexSet<Key>,
-) -> Result<Vec<Found<'a>>, AllocError>
+    found: &mut Vec<Found<'a>>,
+) -> Result<(), AllocError>
     requires none { none.now ≡ [] }
     requires inputs { AreInputs inputs.now nodes.now }
     requires order { IsInOrder (state_of_nodes inputs.now nodes.now false) }
     requires answer { IsDone (status_at inputs.now nodes.now Answer) }
     requires roots { AreRoots inputs.now keys.old.keys }
+    requires empty { found.old.items ≡ [] }
     ensures reached { OnOk result (AreReached inputs.now
         (state_of_nodes inputs.now nodes.now false) keys.new.keys) }
-    ensures found { IfOk result (λ found. AreFound (state_of_nodes inputs.now nodes.now false)
-        keys.new.keys found.items) }
-    ensures count { IfOk result (λ found. length found.items ≡ length keys.new.keys) }
+    ensures found { OnOk result (AreFound (state_of_nodes inputs.now nodes.now false)
+        keys.new.keys found.new.items) }
+    ensures count { OnOk result (length found.new.items ≡ length keys.new.keys) }
 {
-    let mut found = Vec::with_capacity(alloc, nodes.len())?;
+    found.reserve(nodes.len())?;
     for i in 0..usize::MAX {
         let Some(key) = keys.get_index(i) else {
-            return Ok(found);
+            return Ok(());
         };
         let entry = entry_of(inputs, nodes, none, key);
         let edges = add(alloc, keys, entry.edges)?;
@@ -87,7 +91,7 @@ fn spread<'a>(
     }
     // No set is longer than that.
     let _len = keys.len();
-    Ok(found)
+    Ok(())
 }
 
 /// The keys of the inputs, and Answer, in a set that has room for so many keys.

@@ -12,7 +12,7 @@ use Rattle.key_states.proofs.FoundRules.{founds_more, longer}
 use Rattle.key_states.proofs.reaching.spread.Goals as goal
 
 pub loop-i-init : goal.loop-i-init
-loop-i-init c = rw c.in_ok-found.ensures.items (spreads_first _ _ _ c.requires.roots, (λ i d lt. absurd (omega arith)), refl, omega arith)
+loop-i-init c = rw (c.reserve.ensures.items, c.requires.empty) (spreads_first _ _ _ c.requires.roots, (λ i d lt. absurd (omega arith)), refl, omega arith)
 
 pub entry_of-entry-requires-clause-done : goal.entry_of-entry-requires-clause-done
 entry_of-entry-requires-clause-done c =
