@@ -103,6 +103,24 @@ fn add_source<'a>(
     Ok(())
 }
 
+/// Reads these files, and adds their texts and their trees to lists that have none.
+fn add_sources<'a>(
+    alloc: Global,
+    files: &'a [(String, Vec<u8>)],
+    texts: &mut Vec<ReadText<'a>>,
+    trees: &mut Vec<Option<FileTree>>,
+) -> Result<(), AllocError>
+    requires texts { texts.old.items ≡ [] }
+    requires trees { trees.old.items ≡ [] }
+    ensures texts { OnOk result (texts.new.items ≡ sources_view files.now) }
+    ensures trees { OnOk result (files_view trees.new.items ≡ trees_of (sources_view files.now)) }
+{
+    for file in files {
+        add_source(alloc, file, texts, trees)?;
+    }
+    Ok(())
+}
+
 /// A project with what its files were read as. Contracts see the files.
 #[derive(Drop)]
 pub struct ReadProject<'a> {
@@ -131,10 +149,14 @@ impl<'a> ReadProject<'a> {
     {
         let mut texts = Vec::new(alloc);
         let mut trees = Vec::new(alloc);
-        for file in project.files() {
-            add_source(alloc, file, &mut texts, &mut trees)?;
+        match add_sources(alloc, project.files(), &mut texts, &mut trees) {
+            Ok(()) => Ok(ReadProject { texts, trees }),
+            Err(refused) => {
+                drop(texts);
+                drop(trees);
+                Err(refused)
+            }
         }
-        Ok(ReadProject { texts, trees })
     }
 
     /// The tree of each file, if it is a sentence.

@@ -2,10 +2,10 @@ use Rattle.std.proofs.Common.{◌≡◌, take}
 use Rattle.mj_classes.specs.Classes.{files_view}
 use Rattle.mj_project.specs.Projects.{sources_view}
 use Rattle.mj_rules.specs.Sentences.{trees_of}
-use Rattle.fault_lines.proofs.sources.ReadProject.new.Given as goal
+use Rattle.fault_lines.proofs.sources.add_sources.Given as goal
 
 abbrev pub invariant-loop-file : goal.invariant-loop-file
 invariant-loop-file l = record {
-  texts : l.texts.items ≡ sources_view (take l.file-index l.file-items);
-  trees : files_view l.trees.items ≡ trees_of (sources_view (take l.file-index l.file-items));
+  texts : l.texts.items ≡ sources_view (take l.file-index l.files);
+  trees : files_view l.trees.items ≡ trees_of (sources_view (take l.file-index l.files));
 }
