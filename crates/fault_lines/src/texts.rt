@@ -1,5 +1,5 @@
 //! The files of a project by their lines and tokens, found by their names.
-ghost use Rattle.std.specs.Prelude.{◌≡◌, ℕ, List, map, position, option_copied, slice_get, find, Some, All, IfOk};
+ghost use Rattle.std.specs.Prelude.{◌≡◌, ℕ, List, map, position, option_copied, slice_get, find, None, Some, All, IfOk, OnOk};
 ghost use Rattle.std.specs.Str.{bytes_eq};
 ghost use Rattle.std.specs.BTreeMap.{get};
 ghost use Rattle.std.specs.Cmp.Lexicographic.{slice_cmp};
@@ -120,6 +120,26 @@ fn index_texts<'a, 't>(
     Ok(indexed)
 }
 
+/// Adds the number of the first file of each name to a map that has none.
+fn add_names(
+    alloc: Global,
+    texts: &[IndexedText],
+    numbers: &mut BTreeMap<Name, usize>,
+) -> Result<(), AllocError>
+    requires names { All IsFileName (names_of texts.now) }
+    requires empty { (name : List ℕ) → get (slice_cmp nat_cmp) numbers.old name ≡ None }
+    ensures { OnOk result ((name : List ℕ) → get (slice_cmp nat_cmp) numbers.new name
+        ≡ position (λ f. bytes_eq f.name name) texts.now) }
+{
+    for (number, text) in texts.iter().enumerate() {
+        let name = Name::new(alloc, text.name())?;
+        if !numbers.contains_key(&name) {
+            numbers.insert(name, number)?;
+        }
+    }
+    Ok(())
+}
+
 /// The number of the first file of each name.
 fn number_names(alloc: Global, texts: &[IndexedText]) -> Result<BTreeMap<Name, usize>, AllocError>
     requires { All IsFileName (names_of texts.now) }
@@ -127,13 +147,13 @@ fn number_names(alloc: Global, texts: &[IndexedText]) -> Result<BTreeMap<Name, u
         ≡ position (λ f. bytes_eq f.name name) texts.now) }
 {
     let mut numbers = BTreeMap::new(alloc);
-    for (number, text) in texts.iter().enumerate() {
-        let name = Name::new(alloc, text.name())?;
-        if !numbers.contains_key(&name) {
-            numbers.insert(name, number)?;
+    match add_names(alloc, texts, &mut numbers) {
+        Ok(()) => Ok(numbers),
+        Err(refused) => {
+            drop(numbers);
+            Err(refused)
         }
     }
-    Ok(numbers)
 }
 
 impl<'a, 't> Texts<'a, 't> {

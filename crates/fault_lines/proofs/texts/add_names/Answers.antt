@@ -4,14 +4,14 @@ use Rattle.std.specs.BTreeMap.{get}
 use Rattle.std.specs.Ordering.{nat_cmp, is_eq}
 use Rattle.std.specs.Cmp.Lexicographic.{slice_cmp}
 use Rattle.fault_lines.proofs.Names.{index_kept, index_added, good_name}
-use Rattle.fault_lines.proofs.texts.number_names.Goals as goal
-use Rattle.fault_lines.proofs.texts.number_names.Goals.{then-not-contains_key+in_ok-insert, else-not-contains_key}
+use Rattle.fault_lines.proofs.texts.add_names.Goals as goal
+use Rattle.fault_lines.proofs.texts.add_names.Goals.{then-not-contains_key+in_ok-insert, else-not-contains_key}
 
 pub new-requires-clause-some : goal.new-requires-clause-some
-new-requires-clause-some c = rw c.name.ensures (good_name c.args.texts.now c.loop-number.number c.index-texts-number.result c.requires c.loop-number-test.true c.index-texts-number.is).0
+new-requires-clause-some c = rw c.name.ensures (good_name c.args.texts.now c.loop-number.number c.index-texts-number.result c.requires.names c.loop-number-test.true c.index-texts-number.is).0
 
 pub new-requires-clause-short : goal.new-requires-clause-short
-new-requires-clause-short c = rw c.name.ensures (good_name c.args.texts.now c.loop-number.number c.index-texts-number.result c.requires c.loop-number-test.true c.index-texts-number.is).1
+new-requires-clause-short c = rw c.name.ensures (good_name c.args.texts.now c.loop-number.number c.index-texts-number.result c.requires.names c.loop-number-test.true c.index-texts-number.is).1
 
 pub loop-number-preserved : goal.loop-number-preserved
 loop-number-preserved c =
