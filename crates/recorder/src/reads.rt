@@ -9,9 +9,9 @@ ghost use Rattle.recorder.specs.Places.{first_place};
 ghost use Rattle.recorder.specs.Recording.{IsUnread, first_read};
 
 use crate::told::Read;
-use std::collections::HashMap;
 use item_ids::Key;
 use std::alloc::{AllocError, AllocFailed, Global};
+use std::collections::HashMap;
 use std::marker::Model;
 
 /// Reads in their order, with the place of the first one of each key.
