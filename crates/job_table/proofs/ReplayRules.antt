@@ -44,7 +44,7 @@ events_front {R} es i e lt is = sym (ap (map event_of) front ∙ events_last (ta
     front : take (i + 1) es ≡ take i es ++ e ∷ []
     front = take_more es i e lt ∙ ap (λ (y : StoredEvent R). take i es ++ y ∷ []) (sym is)
 
-abbrev table_of : Option SessionValue → Project → List Event → TableValue
+abbrev pub table_of : Option SessionValue → Project → List Event → TableValue
 table_of so p h = record { past = so; project = p; history = h }
 
 -- the table behind one more event, which is a step

@@ -8,7 +8,7 @@ use Rattle.sessions.specs.Sessions.{SessionValue, past_entry}
 use Rattle.graph_rules.specs.Pasts.{Past}
 use Rattle.graph_rules.specs.Steps.{Event, MayStep, Legal, state_after}
 use Rattle.key_states.specs.Closing.{IsFull}
-use Rattle.job_table.specs.Tables.{TableValue, IsStep, adds}
+use Rattle.job_table.specs.Tables.{TableValue, past_of, IsStep, adds}
 use Rattle.job_table.specs.declared.fault.Asked.{Asked}
 use Rattle.job_table.specs.declared.fault.Asked.TheVariants as asked
 use Rattle.job_table.specs.declared.fault.TableFault.{TableFault}
@@ -51,6 +51,16 @@ pub record IsFirstIllegal (past : Past) (p : Project) (events : List Event) (i :
   pub place : length front ≡ i
   pub legal : Legal past p front
   pub illegal : ¬ MayStep past (state_after past p front) event
+
+-- events in turn, in a table that has none: all of them where they are legal, else those before the first that is
+-- no step
+abbrev pub StepsGive : TableValue → List Event → Result (Unit {0}) ReplayFault → TableValue → Type 0
+StepsGive t events (Ok _) u =
+    Legal (past_of t) t.project events
+    × (u ≡ record { past = t.past; project = t.project; history = events })
+StepsGive t events (Err (replay.Illegal i)) u = IsFirstIllegal (past_of t) t.project events i
+StepsGive t events (Err replay.ChainFull) u = ⊥
+StepsGive t events (Err replay.OutOfMemory) u = Unit {0}
 
 -- replay: a table of just these events where they are legal, else the first that is no step
 abbrev pub ReplayGives : Option SessionValue → Project → List Event → Result TableValue ReplayFault

@@ -1,5 +1,5 @@
 //! Tables from their events.
-ghost use Rattle.std.specs.Prelude.{◌≡◌, map};
+ghost use Rattle.std.specs.Prelude.{◌≡◌, [], map};
 ghost use Rattle.sessions.specs.Sessions.{session_in};
 ghost use Rattle.job_table.specs.Kept.{event_of};
 ghost use Rattle.job_table.specs.Replays.{step_of_ask, step_of_mark, step_of_call, refusal_of};
@@ -15,7 +15,7 @@ use std::alloc::Global;
 use std::sync::Arc;
 
 impl<R: Runner> Table<R> {
-    ghost use Rattle.job_table.specs.Replays.{StepGives, ReplayGives};
+    ghost use Rattle.job_table.specs.Replays.{StepGives, StepsGive, ReplayGives};
 
     /// The table that these events lead to, or the first of them that is no step.
     pub fn replay(
@@ -31,16 +31,28 @@ impl<R: Runner> Table<R> {
             Err(OpenFault::ChainFull) => return Err(ReplayFault::ChainFull),
             Err(OpenFault::OutOfMemory) => return Err(ReplayFault::OutOfMemory),
         };
+        match table.step_all(events) {
+            Ok(()) => Ok(table),
+            Err(fault) => {
+                drop(table);
+                Err(fault)
+            }
+        }
+    }
+
+    /// Makes the calls of these events in a table that has none, up to the first that is no step.
+    fn step_all(&mut self, events: &[Event<R>]) -> Result<(), ReplayFault>
+        requires { self.old.history ≡ [] }
+        ensures { StepsGive self.old (map event_of events.now) result self.new }
+    {
         for (i, event) in events.iter().enumerate() {
-            match table.step(event) {
+            match self.step(event) {
                 Ok(()) => {}
                 Err(StepFault::NoStep) => return Err(ReplayFault::Illegal(i)),
                 Err(StepFault::OutOfMemory) => return Err(ReplayFault::OutOfMemory),
             }
         }
-        // A table's history is legal, by its type.
-        table.laws();
-        Ok(table)
+        Ok(())
     }
 
     /// Makes the call of an event, where it is a step.

@@ -1,17 +1,23 @@
 //! Reserves the memory that a call needs, before the call changes anything.
-ghost use Rattle.std.specs.Prelude.{◌≡◌, ◌+◌, ◌<◌, ◌≤◌, ◌++◌, ◌∷◌, [], IfOk, IfSome, length, map, slice_index_or, vec_len, vec_capacity};
+ghost use Rattle.std.specs.Prelude.{◌≡◌, ◌+◌, ◌<◌, ◌≤◌, ◌++◌, ◌∷◌, [], IfOk, IfSome, OnOk, OnErr, if◌then◌else◌, length, map, slice_index_or, vec_len, vec_capacity};
 ghost use Rattle.std.specs.Arc.{arc_value};
+ghost use Rattle.item_ids.specs.declared.key.Key.{Key as KeyValue};
 ghost use Rattle.recorder.specs.Backed.{keys};
 ghost use Rattle.recorder.specs.Runs.{IsOutcome};
 ghost use Rattle.sessions.specs.Sessions.{key_at, session_in};
+ghost use Rattle.sessions.specs.declared.mark.Mark.TheVariants.{Green};
+ghost use Rattle.graph_rules.specs.Keys.{same_key};
+ghost use Rattle.graph_rules.specs.Steps.{Unknown, Claimed, Done, Claim, MarkGreen, Begin};
+ghost use Rattle.key_states.specs.Nodes.{status_in, AreOpened, KeysStandOnce, IsFirst};
 ghost use Rattle.job_table.specs.Kept.{event_of};
 
 use crate::event::Event;
 use fingerprint::Sealed;
 use item_ids::Key;
-use key_states::EdgeKeys;
+use key_states::{EdgeKeys, NodeMap, Standing};
+use project_inputs::Inputs;
 use recorder::{Outcome, Read, Runner};
-use sessions::{Record, Session};
+use sessions::{Mark, Record, Session};
 use std::alloc::{AllocError, Global};
 use std::sync::Arc;
 
@@ -47,20 +53,80 @@ pub fn room_for_history<R: Runner>(
     Vec::with_capacity(alloc, events)
 }
 
-/// Room for two more events, and a copy of the key.
-pub fn room_for_event<R: Runner>(
+/// The nodes of a table that is opened, and its history without events.
+pub fn room_at_opening<R: Runner>(
+    alloc: Global,
+    inputs: &Inputs,
+    past: &Option<Arc<Session>>,
+) -> Result<(NodeMap, Vec<Event<R>>), AllocError>
+    ensures opened { IfOk result (λ r. AreOpened inputs.now r.0) }
+    ensures apart { IfOk result (λ r. KeysStandOnce r.0) }
+    ensures events { IfOk result (λ r. r.1.items ≡ []) }
+    ensures room { IfOk result (λ r. vec_len r.1 < vec_capacity r.1) }
+{
+    let nodes = NodeMap::of_inputs(alloc, inputs, past_len(past))?;
+    match room_for_history(alloc, past) {
+        Ok(history) => Ok((nodes, history)),
+        Err(refused) => {
+            drop(nodes);
+            Err(refused)
+        }
+    }
+}
+
+/// Claims an unknown key for a worker and notes that, with room for one more event. Where memory runs out, neither the
+/// nodes nor the events change.
+pub fn claim<R: Runner>(
+    alloc: Global,
+    nodes: &mut NodeMap,
+    history: &mut Vec<Event<R>>,
+    w: u32,
+    key: &Key,
+) -> Result<(), AllocError>
+    requires { status_in nodes.old key.now ≡ Unknown }
+    ensures events { OnOk result (map event_of history.new.items ≡ map event_of history.old.items
+        ++ Claim w key.now ∷ []) }
+    ensures room { OnOk result (vec_len history.new < vec_capacity history.new) }
+    ensures claimed { OnOk result ((k : KeyValue) → status_in nodes.new k
+        ≡ (if same_key key.now k then Claimed w else status_in nodes.old k)) }
+    ensures apart { OnOk result (KeysStandOnce nodes.new) }
+    ensures nodes { OnErr result (nodes.new ≡ nodes.old) }
+    ensures history { OnErr result ((history.new.items ≡ history.old.items)
+        × (vec_len history.new ≡ vec_len history.old)
+        × (vec_capacity history.old ≤ vec_capacity history.new)) }
+{
+    history.reserve(2)?;
+    let noted = key.copy(alloc)?;
+    match nodes.add(alloc, key, Standing::Claimed(w)) {
+        Ok(()) => {
+            note(history, Event::Claim(w, noted));
+            Ok(())
+        }
+        Err(refused) => {
+            drop(noted);
+            Err(refused)
+        }
+    }
+}
+
+/// Notes that a worker begins to run a key, with room for one more event. Where memory runs out, no event is noted.
+pub fn note_begin<R: Runner>(
     alloc: Global,
     history: &mut Vec<Event<R>>,
+    w: u32,
     key: &Key,
-) -> Option<Key>
-    ensures history { (history.new.items ≡ history.old.items)
+) -> Result<(), AllocError>
+    ensures events { OnOk result (map event_of history.new.items ≡ map event_of history.old.items
+        ++ Begin w key.now ∷ []) }
+    ensures room { OnOk result (vec_len history.new < vec_capacity history.new) }
+    ensures history { OnErr result ((history.new.items ≡ history.old.items)
         × (vec_len history.new ≡ vec_len history.old)
-        × (vec_capacity history.old ≤ vec_capacity history.new) }
-    ensures key { IfSome result (λ k. k ≡ key.now) }
-    ensures room { IfSome result (λ _. vec_len history.new + 1 < vec_capacity history.new) }
+        × (vec_capacity history.old ≤ vec_capacity history.new)) }
 {
-    history.reserve(2).ok()?;
-    key.copy(alloc).ok()
+    history.reserve(2)?;
+    let noted = key.copy(alloc)?;
+    note(history, Event::Begin(w, noted));
+    Ok(())
 }
 
 /// What marking a key needs: a copy of the key, the keys of its previous edges, and two owners of its previous result.
@@ -123,6 +189,36 @@ fn mark_parts(
         sealed,
         answer,
     })
+}
+
+/// Makes the key at a place done with its previous result and notes that, for which there is room. Answers the result.
+pub fn put_mark<R: Runner>(
+    nodes: &mut NodeMap,
+    history: &mut Vec<Event<R>>,
+    at: usize,
+    w: u32,
+    parts: MarkParts,
+) -> Arc<Sealed>
+    requires place { at < length nodes.old }
+    requires room { vec_len history.old + 1 < vec_capacity history.old }
+    ensures done { (q k : KeyValue) → IsFirst nodes.old q at → status_in nodes.new k
+        ≡ (if same_key q k then Done (arc_value parts.sealed) parts.edges Green
+        else status_in nodes.old k) }
+    ensures apart { KeysStandOnce nodes.old → KeysStandOnce nodes.new }
+    ensures events { map event_of history.new.items ≡ map event_of history.old.items
+        ++ MarkGreen w parts.noted ∷ [] }
+    ensures room { vec_len history.new < vec_capacity history.new }
+    ensures answer { result ≡ parts.answer }
+{
+    let MarkParts {
+        noted,
+        edges,
+        sealed,
+        answer,
+    } = parts;
+    nodes.put(at, Standing::Done(sealed, edges, Mark::Green));
+    note(history, Event::Mark(w, noted));
+    answer
 }
 
 /// What ending a run needs: the keys that were read, and the result.

@@ -9,8 +9,7 @@ use crate::event::Event;
 use crate::fault::{Asked, CloseFault, OpenFault, TableFault};
 use crate::reads::first_stale;
 use crate::room::{
-    FinishParts, MarkParts, note, past_len, room_for_event, room_for_finish, room_for_history,
-    room_for_mark,
+    FinishParts, claim, note, note_begin, put_mark, room_at_opening, room_for_finish, room_for_mark,
 };
 use crate::walks::{WalkEnd, walk_edges, why_not};
 use fingerprint::Sealed;
@@ -124,21 +123,22 @@ impl<R: Runner> Table<R> {
     {
         // Inputs are those of a project, by their type.
         inputs.project();
-        let Ok(nodes) = NodeMap::of_inputs(alloc, &inputs, past_len(&past)) else {
-            return Err(OpenFault::OutOfMemory);
-        };
-        let Ok(history) = room_for_history(alloc, &past) else {
-            return Err(OpenFault::OutOfMemory);
-        };
-        Ok(Table {
-            alloc,
-            past,
-            inputs,
-            nodes,
-            history,
-            failed: false,
-            finder: Finder::new(),
-        })
+        match room_at_opening(alloc, &inputs, &past) {
+            Ok((nodes, history)) => Ok(Table {
+                alloc,
+                past,
+                inputs,
+                nodes,
+                history,
+                failed: false,
+                finder: Finder::new(),
+            }),
+            Err(_) => {
+                drop(past);
+                drop(inputs);
+                Err(OpenFault::OutOfMemory)
+            }
+        }
     }
 
     /// Asks for a key. If nobody has claimed it, the worker claims it.
@@ -162,14 +162,9 @@ impl<R: Runner> Table<R> {
         if !self.nodes.is_below(w, key) {
             return Err(TableFault::OutOfRank);
         }
-        let Some(noted) = room_for_event(self.alloc, &mut self.history, key) else {
+        let Ok(()) = claim(self.alloc, &mut self.nodes, &mut self.history, w, key) else {
             return Err(TableFault::OutOfMemory);
         };
-        match self.nodes.add(self.alloc, key, Standing::Claimed(w)) {
-            Ok(()) => {}
-            Err(_) => return Err(TableFault::OutOfMemory),
-        }
-        note(&mut self.history, Event::Claim(w, noted));
         Ok(Asked::Yours)
     }
 
@@ -195,21 +190,11 @@ impl<R: Runner> Table<R> {
             WalkEnd::Changed(i) => return Err(TableFault::EdgeChanged(i)),
             WalkEnd::AllUnchanged => {}
         }
-        let Some(
-            MarkParts {
-                noted,
-                edges,
-                sealed,
-                answer,
-            },
-        ) = room_for_mark(self.alloc, &mut self.history, key, past, index, record)
+        let Some(parts) = room_for_mark(self.alloc, &mut self.history, key, past, index, record)
         else {
             return Err(TableFault::OutOfMemory);
         };
-        self.nodes
-            .put(at, Standing::Done(sealed, edges, Mark::Green));
-        note(&mut self.history, Event::Mark(w, noted));
-        Ok(answer)
+        Ok(put_mark(&mut self.nodes, &mut self.history, at, w, parts))
     }
 
     /// Begins the run of a key that the worker has claimed, where the previous session lacks the key or a previous edge
@@ -226,11 +211,10 @@ impl<R: Runner> Table<R> {
         if let Some(fault) = why_not(&self.inputs, &self.nodes, &self.past, &mut self.finder, key) {
             return Err(fault);
         }
-        let Some(noted) = room_for_event(self.alloc, &mut self.history, key) else {
+        let Ok(()) = note_begin(self.alloc, &mut self.history, w, key) else {
             return Err(TableFault::OutOfMemory);
         };
         self.nodes.put(at, Standing::Running(w));
-        note(&mut self.history, Event::Begin(w, noted));
         Ok(())
     }
 

@@ -1,9 +1,8 @@
-use Rattle.std.proofs.Common.{◌≡◌, [], ◌∷◌, ◌++◌, map, false, arith, sym, ◌∙◌, refl}
+use Rattle.std.proofs.Common.{map, false, sym, ◌∙◌, refl}
 use Rattle.std.specs.Prelude.{IsTrue}
 use Rattle.graph_rules.specs.Steps.{Claim}
 use Rattle.job_table.specs.Kept.{event_of}
 use Rattle.job_table.proofs.StepRules.{may_claim, kept_claim, is_not_done, is_below, is_not_below, backed_last}
-use Rattle.job_table.proofs.table.Table.ask.Given.{Over}
 use Rattle.job_table.proofs.table.Table.ask.Goals as goal
 
 not_true : IsTrue false → ⊥
@@ -40,16 +39,7 @@ returns-then-not-is_below g c =
 pub returns-in_default : goal.returns-in_default
 returns-in_default g c =
     let may = may_claim _ _ _ _ _ c.self.invariant.0 c.args.w c.args.key.now c.if-self.false c.in-Unknown.ensures.0 c.in-Unknown.ensures.1 (c.if-not-is_below.ensures.0 refl) in
-    rw (← c.self.view_is) (may.0, (λ _. may), rw c.room_for_event.ensures.history.0 refl)
-
-pub returns-in-Err-add : goal.returns-in-Err-add
-returns-in-Err-add g c =
-    let may = may_claim _ _ _ _ _ c.self.invariant.0 c.args.w c.args.key.now c.if-self.false c.in-Unknown.ensures.0 c.in-Unknown.ensures.1 (c.if-not-is_below.ensures.0 refl) in
-    rw (← c.self.view_is) (may.0, (λ _. may), rw c.room_for_event.ensures.history.0 refl)
-
--- the history after the claim
-events_after : (g : Over) (c : goal.After-note g) → map event_of c.note.new.history.items ≡ map event_of c.self.inside.history.items ++ Claim c.args.w c.args.key.now ∷ []
-events_after g c = rw (c.note.ensures.events, c.room_for_event.ensures.history.0, c.in-Some.ensures.key) refl
+    rw (← c.self.view_is) (may.0, (λ _. may), rw c.in_default.ensures.history.0 refl)
 
 pub invariant_of-self-2 : goal.invariant_of-self-2
 invariant_of-self-2 g c =
@@ -57,14 +47,14 @@ invariant_of-self-2 g c =
     let kept = c.self.invariant.0 in
     let nd = c.in-Unknown.ensures.0 in
     let u = c.in-Unknown.ensures.1 in
-    rw (events_after g c) (
-      kept_claim _ _ _ _ _ kept _ c.args.w c.args.key.now c.if-self.false nd u (c.if-not-is_below.ensures.0 refl) c.add.ensures.apart c.in-Ok-add.ensures.ok,
+    rw c.in-Ok-claim.ensures.events (
+      kept_claim _ _ _ _ _ kept _ c.args.w c.args.key.now c.if-self.false nd u (c.if-not-is_below.ensures.0 refl) c.in-Ok-claim.ensures.apart c.in-Ok-claim.ensures.claimed,
       backed_last g.R.Runner.mean g.R.Runner.reads (map event_of i.history.items) (Claim c.args.w c.args.key.now) c.self.invariant.1 tt,
-      (λ _. omega (arith, c.note.ensures.len, c.note.ensures.capacity, c.in-Some.ensures.room, c.room_for_event.ensures.history.1)),
+      (λ _. c.in-Ok-claim.ensures.room),
       c.self.invariant.3,
     )
 
 pub returns : goal.returns
 returns g c =
     let may = may_claim _ _ _ _ _ c.self.invariant.0 c.args.w c.args.key.now c.if-self.false c.in-Unknown.ensures.0 c.in-Unknown.ensures.1 (c.if-not-is_below.ensures.0 refl) in
-    rw (← c.self.view_is) (may, rw (events_after g c) refl)
+    rw (← c.self.view_is) (may, rw c.in-Ok-claim.ensures.events refl)

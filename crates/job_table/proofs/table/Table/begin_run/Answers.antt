@@ -1,4 +1,4 @@
-use Rattle.std.proofs.Common.{◌≡◌, [], ◌∷◌, ◌++◌, map, arith, sym, ◌∙◌, refl, subst}
+use Rattle.std.proofs.Common.{◌≡◌, [], ◌∷◌, ◌++◌, map, sym, ◌∙◌, refl, subst}
 use Rattle.std.specs.Prelude.{Err}
 use Rattle.graph_rules.specs.Steps.{Claimed, Begin}
 use Rattle.job_table.specs.Kept.{event_of}
@@ -25,18 +25,18 @@ returns-in-Some-why_not g c =
     subst (λ (u : TableValue). BeginGives c.args.self.now c.args.w c.args.key.now (Err c.in-Some-why_not.fault) u) (sym c.self.view_is)
     (begin_refused (session_in c.self.inside.past) _ _ _ _ c.self.invariant.0 c.args.key.now c.args.w c.in-Some-why_not.fault c.if-self.false c.in-Some.ensures.claimed c.in-Some-why_not.ensures _ c.self.view_is)
 
-pub returns-in_default-room_for_event : goal.returns-in_default-room_for_event
-returns-in_default-room_for_event g c = (
+pub returns-in_default-note_begin : goal.returns-in_default-note_begin
+returns-in_default-note_begin g c = (
   begin_at (session_in c.self.inside.past) _ _ _ _ c.self.invariant.0 c.args.key.now c.args.w c.if-self.false c.in-Some.ensures.claimed c.in_default-why_not.ensures _ c.self.view_is,
-  rw (← c.self.view_is, c.room_for_event.ensures.history.0) refl,
+  rw (← c.self.view_is, c.in_default-note_begin.ensures.history.0) refl,
 )
 
 pub put-requires-clause-pending : goal.put-requires-clause-pending
 put-requires-clause-pending g c = λ _. first_pending c.self.inside.nodes c.args.key.now c.in-Some.at c.in-Some.ensures.some.0 (λ quiet. let no = rw c.in-Some.ensures.claimed at quiet in no)
 
 -- the history after the event
-events_after : (g : Over) (c : goal.After-note g) → map event_of c.note.new.history.items ≡ map event_of c.self.inside.history.items ++ Begin c.args.w c.args.key.now ∷ []
-events_after g c = rw (c.note.ensures.events, c.room_for_event.ensures.history.0, c.in-Some-room_for_event.ensures.key) refl
+events_after : (g : Over) (c : goal.After-put g) → map event_of c.note_begin.new.history.items ≡ map event_of c.self.inside.history.items ++ Begin c.args.w c.args.key.now ∷ []
+events_after g c = c.in-Ok.ensures.events
 
 pub invariant_of-self-2 : goal.invariant_of-self-2
 invariant_of-self-2 g c =
@@ -45,7 +45,7 @@ invariant_of-self-2 g c =
       begin_kept _ _ _ _ _ _ c.self.invariant.0 c.args.key.now c.args.w c.if-self.false c.in-Some.ensures.claimed c.in_default-why_not.ensures c.put.ensures.apart
           (λ k. c.put.ensures.written c.args.key.now k c.in-Some.ensures.some.0),
       backed_last g.R.Runner.mean g.R.Runner.reads (map event_of i.history.items) (Begin c.args.w c.args.key.now) c.self.invariant.1 tt,
-      (λ _. omega (arith, c.note.ensures.len, c.note.ensures.capacity, c.in-Some-room_for_event.ensures.room, c.room_for_event.ensures.history.1)),
+      (λ _. c.in-Ok.ensures.room),
       c.self.invariant.3,
     )
 

@@ -1,4 +1,4 @@
-use Rattle.std.proofs.Common.{◌≡◌, [], ◌∷◌, ◌++◌, map, false, arith, sym, ◌∙◌, refl, Some, None}
+use Rattle.std.proofs.Common.{◌≡◌, [], ◌∷◌, ◌++◌, map, false, ap, sym, ◌∙◌, refl, Some, None}
 use Rattle.std.specs.Arc.{arc_value}
 use Rattle.sessions.specs.Sessions.{Entry, entry_of, entry_at}
 use Rattle.graph_rules.specs.Steps.{Claimed, MarkGreen, AllUnchanged, walk}
@@ -8,7 +8,7 @@ use Rattle.job_table.proofs.StepRules.{backed_last}
 use Rattle.job_table.proofs.CallRules.{not_standing, mark_at, mark_refused, walk_none, walk_some, mark_gives, mark_kept}
 use Rattle.job_table.proofs.table.Table.mark.Given.{Over}
 use Rattle.job_table.proofs.table.Table.mark.Goals as goal
-use Rattle.job_table.proofs.table.Table.mark.Goals.{After-note}
+use Rattle.job_table.proofs.table.Table.mark.Goals.{After-put_mark}
 
 pub returns-in_default : goal.returns-in_default
 returns-in_default g c =
@@ -67,20 +67,20 @@ returns-then-self g c =
     rw (← c.self.view_is) (sym kept.failed_is ∙ c.if-self.true, refl)
 
 -- the history after the event
-events_after : (g : Over) (c : After-note g) → map event_of c.note.new.history.items ≡ map event_of c.self.inside.history.items ++ MarkGreen c.args.w c.args.key.now ∷ []
-events_after g c = rw (c.note.ensures.events, c.room_for_mark.ensures.history.0, c.in-Some-room_for_mark.ensures.key) refl
+events_after : (g : Over) (c : After-put_mark g) → map event_of c.put_mark.new.history.items ≡ map event_of c.self.inside.history.items ++ MarkGreen c.args.w c.args.key.now ∷ []
+events_after g c = rw (c.put_mark.ensures.events, c.room_for_mark.ensures.history.0, c.in-Some-room_for_mark.ensures.key) refl
 
 -- what the previous session has of the key
-abbrev entry_before : (g : Over) (c : After-note g) → Entry
+abbrev entry_before : (g : Over) (c : After-put_mark g) → Entry
 entry_before g c = entry_of (arc_value c.in-Some-past.past).records c.in-Some-find.record.now
 
-past_has_entry : (g : Over) (c : After-note g) → entry_at (arc_value c.in-Some-past.past) c.args.key.now ≡ Some (entry_before g c)
+past_has_entry : (g : Over) (c : After-put_mark g) → entry_at (arc_value c.in-Some-past.past) c.args.key.now ≡ Some (entry_before g c)
 past_has_entry g c = let e = c.in-Some-find.ensures.found in rw c.deref.ensures at e
 
-walk_is_unchanged : (g : Over) (c : After-note g) → AllUnchanged ≡ walk (entry_at (arc_value c.in-Some-past.past)) (state_of_nodes c.self.inside.inputs c.self.inside.nodes false) (entry_before g c).reads
+walk_is_unchanged : (g : Over) (c : After-put_mark g) → AllUnchanged ≡ walk (entry_at (arc_value c.in-Some-past.past)) (state_of_nodes c.self.inside.inputs c.self.inside.nodes false) (entry_before g c).reads
 walk_is_unchanged g c = let e = c.in-AllUnchanged.ensures in rw (c.deref-2.ensures, c.edges.ensures) at e
 
-edges_same : (g : Over) (c : After-note g) → c.in-Some-room_for_mark.field-0.edges ≡ (entry_before g c).reads
+edges_same : (g : Over) (c : After-put_mark g) → c.in-Some-room_for_mark.parts.edges ≡ (entry_before g c).reads
 edges_same g c = c.in-Some-room_for_mark.ensures.edges
 
 pub invariant_of-self-2 : goal.invariant_of-self-2
@@ -89,10 +89,10 @@ invariant_of-self-2 g c =
     let kept = rw c.in-Some-past.is at c.self.invariant.0 in
     let r = c.in-Some-room_for_mark.ensures in
     rw (c.in-Some-past.is, events_after g c) (
-      mark_kept (entry_at (arc_value c.in-Some-past.past)) _ _ _ _ _ kept c.args.key.now c.args.w (entry_before g c) _ (past_has_entry g c) c.if-self.false c.in-Some.ensures.claimed (walk_is_unchanged g c) (rw (r.results.0, edges_same g c) refl) c.put.ensures.apart
-          (λ k. c.put.ensures.written c.args.key.now k c.in-Some.ensures.some.0),
+      mark_kept (entry_at (arc_value c.in-Some-past.past)) _ _ _ _ _ kept c.args.key.now c.args.w (entry_before g c) _ (past_has_entry g c) c.if-self.false c.in-Some.ensures.claimed (walk_is_unchanged g c) (rw (r.results.0, edges_same g c) refl) c.put_mark.ensures.apart
+          (λ k. c.put_mark.ensures.done c.args.key.now k c.in-Some.ensures.some.0),
       backed_last g.R.Runner.mean g.R.Runner.reads (map event_of i.history.items) (MarkGreen c.args.w c.args.key.now) c.self.invariant.1 tt,
-      (λ _. omega (arith, c.note.ensures.len, c.note.ensures.capacity, r.room, c.room_for_mark.ensures.history.1)),
+      (λ _. c.put_mark.ensures.room),
       (rw c.in-Some-past.is at c.self.invariant.3),
     )
 
@@ -101,7 +101,7 @@ returns g c =
     let kept = rw c.in-Some-past.is at c.self.invariant.0 in
     let te = rw c.in-Some-past.is at c.self.view_is in
     mark_gives (Some (arc_value c.in-Some-past.past)) _ _ _ _ kept c.args.key.now c.args.w (entry_before g c) (past_has_entry g c) c.if-self.false c.in-Some.ensures.claimed (walk_is_unchanged g c) _ _ _ (sym te)
-    (rw (c.in-Some-past.is, events_after g c) refl) (sym c.in-Some-room_for_mark.ensures.results.1)
+    (rw (c.in-Some-past.is, events_after g c) refl) (sym (ap arc_value c.put_mark.ensures.answer ∙ c.in-Some-room_for_mark.ensures.results.1))
 
 pub walk_edges-requires-clause-inputs : goal.walk_edges-requires-clause-inputs
 walk_edges-requires-clause-inputs g c = c.self.invariant.0.inner
