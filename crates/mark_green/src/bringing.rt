@@ -133,10 +133,10 @@ impl<S: Store<Out = Arc<Outcome<R>>>, R: Runner> Worker<'_, S, R> {
         let Some(edges) = past_edges(past, &mut self.finder, key) else {
             return self.start(key);
         };
-        if self.walk_edges(key, past, edges)? {
-            self.mark(key)
-        } else {
-            self.start(key)
+        match self.walk_edges(key, past, edges) {
+            Ok(true) => self.mark(key),
+            Ok(false) => self.start(key),
+            Err(fault) => Err(fault),
         }
     }
 
@@ -155,8 +155,10 @@ impl<S: Store<Out = Arc<Outcome<R>>>, R: Runner> Worker<'_, S, R> {
             (S.table self.old.store.now) (S.table self.new.store.now) }
     {
         'edges: for at in edges.iter() {
-            if !self.is_unchanged(past, *at)? {
-                return Ok(false);
+            match self.is_unchanged(past, *at) {
+                Ok(true) => {}
+                Ok(false) => return Ok(false),
+                Err(fault) => return Err(fault),
             }
         }
         Ok(true)

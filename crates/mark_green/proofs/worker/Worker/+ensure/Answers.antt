@@ -19,8 +19,8 @@ use Rattle.job_table.specs.Tables.{state_of}
 use Rattle.job_table.specs.Calls.{walk_in}
 use Rattle.mark_green.specs.Leaves.{Tells, HasStatus}
 use Rattle.mark_green.specs.Ensures.{WorkGives}
-use Rattle.mark_green.proofs.Turning.{Works, Fetches, Turns, Ends, Runs, Begins, Starts, fetch_ok, fetch_lost, fetch_up, turn_stopped, turn_more, turn_up, holds_more, ends_ok, ends_up, ends_lost, run_ended, run_up, start_run, start_refused}
-use Rattle.mark_green.proofs.Working.{Ensured, Edges, Walks, Overs, Asks, edge_ok, edge_up, far_more, far_changed, far_up, over_marked_at, over_run_at, over_up_at, over_once, over_once_up, over_later, Tries, work_over_past, ensured_work, ensured_done, ensured_stopped, ensured_busy, ensured_refused}
+use Rattle.mark_green.proofs.Turning.{Works, Fetches, Turns, Ends, Begins, Starts, fetch_ok, fetch_lost, fetch_up, turn_stopped, turn_more, turn_up, holds_more, ends_ok, ends_up, ends_lost, run_ended, run_up, start_run, start_refused}
+use Rattle.mark_green.proofs.Working.{Ensured, Edges, Overs, Asks, edge_ok, edge_up, far_more, far_changed, far_up, over_marked_at, over_run_at, over_up_at, over_once, over_once_up, over_later, Tries, work_over_past, ensured_work, ensured_done, ensured_stopped, ensured_busy, ensured_refused}
 use Rattle.mark_green.proofs.worker.Worker.+ensure.Goals as goal
 
 pub ensure-returns-in-Ok-Yours-clause-gives : goal.ensure-returns-in-Ok-Yours-clause-gives
@@ -192,46 +192,42 @@ turns-again-preserved g t c =
     let told = rw (c.in_ok-outcome.was, c.in_default.is) at c.turn.ensures.told in
     (c.turn.ensures.store ∙ c.again.invariant.0, c.turn.ensures.id ∙ c.again.invariant.1, holds_more w c.args.key.now c.again.held c.turn.new.held _ _ _ c.again.invariant.2 h, held c.again.invariant.3, λ q v is. c.turn.ensures.stays q v (c.again.invariant.4 q v is), told c.again.invariant.5)
 
-pub walk_edges-returns-then-not-branch-clause-gives : goal.walk_edges-returns-then-not-branch-clause-gives
-walk_edges-returns-then-not-branch-clause-gives g t c =
+pub walk_edges-returns-in-Ok-false-clause-gives : goal.walk_edges-returns-in-Ok-false-clause-gives
+walk_edges-returns-in-Ok-false-clause-gives g t c =
     let w = c.args.self.now.id in
     let lt : c.edges.at-index < length c.args.edges.now = omega arith in
-    let e = subst (λ (r : Result Bool Fault). Edges c.args.past.now w (key_at c.args.past.now.records (get_or c.args.edges.now c.edges.at-index 0)) r (g.S.Store.table c.edges.self.store.now) (g.S.Store.table c.is_unchanged.new.self.store.now)) (c.in_ok-is_unchanged.was ∙ ap Ok c.if-not-branch.true) (subst (λ (n : ℕ). Edges c.args.past.now n (key_at c.args.past.now.records (get_or c.args.edges.now c.edges.at-index 0)) c.is_unchanged.result (g.S.Store.table c.edges.self.store.now) (g.S.Store.table c.is_unchanged.new.self.store.now)) c.edges.invariant.1 c.is_unchanged.ensures.gives) in
+    let e = subst (λ (r : Result Bool Fault). Edges c.args.past.now w (key_at c.args.past.now.records (get_or c.args.edges.now c.edges.at-index 0)) r (g.S.Store.table c.edges.self.store.now) (g.S.Store.table c.is_unchanged.new.self.store.now)) (c.in-Ok-false.is ∙ ap Ok c.in-Ok-false.field-0-test) (subst (λ (n : ℕ). Edges c.args.past.now n (key_at c.args.past.now.records (get_or c.args.edges.now c.edges.at-index 0)) c.is_unchanged.result (g.S.Store.table c.edges.self.store.now) (g.S.Store.table c.is_unchanged.new.self.store.now)) c.edges.invariant.1 c.is_unchanged.ensures.gives) in
     far_changed c.args.past.now w c.args.key.now c.args.edges.now c.edges.at-index _ _ c.edges.invariant.2 lt _ e
 
-pub walk_edges-returns-in_err-is_unchanged-clause-gives : goal.walk_edges-returns-in_err-is_unchanged-clause-gives
-walk_edges-returns-in_err-is_unchanged-clause-gives g t c =
+pub walk_edges-returns-in-Err-clause-gives : goal.walk_edges-returns-in-Err-clause-gives
+walk_edges-returns-in-Err-clause-gives g t c =
     let w = c.args.self.now.id in
     let lt : c.edges.at-index < length c.args.edges.now = omega arith in
-    let e = subst (λ (r : Result Bool Fault). Edges c.args.past.now w (key_at c.args.past.now.records (get_or c.args.edges.now c.edges.at-index 0)) r (g.S.Store.table c.edges.self.store.now) (g.S.Store.table c.is_unchanged.new.self.store.now)) c.in_err-is_unchanged.was (subst (λ (n : ℕ). Edges c.args.past.now n (key_at c.args.past.now.records (get_or c.args.edges.now c.edges.at-index 0)) c.is_unchanged.result (g.S.Store.table c.edges.self.store.now) (g.S.Store.table c.is_unchanged.new.self.store.now)) c.edges.invariant.1 c.is_unchanged.ensures.gives) in
-    let h : Walks c.args.past.now w c.args.key.now c.args.edges.now (Err c.in_err-is_unchanged.field-0.0) (g.S.Store.table c.args.self.now.store.now) (g.S.Store.table c.is_unchanged.new.self.store.now) =
-    far_up c.args.past.now w c.args.key.now c.args.edges.now c.edges.at-index _ _ c.edges.invariant.2 lt _ c.in_err-is_unchanged.field-0.0 c.requires.edges e in
-    search rules
+    let e = subst (λ (r : Result Bool Fault). Edges c.args.past.now w (key_at c.args.past.now.records (get_or c.args.edges.now c.edges.at-index 0)) r (g.S.Store.table c.edges.self.store.now) (g.S.Store.table c.is_unchanged.new.self.store.now)) c.in-Err.is (subst (λ (n : ℕ). Edges c.args.past.now n (key_at c.args.past.now.records (get_or c.args.edges.now c.edges.at-index 0)) c.is_unchanged.result (g.S.Store.table c.edges.self.store.now) (g.S.Store.table c.is_unchanged.new.self.store.now)) c.edges.invariant.1 c.is_unchanged.ensures.gives) in
+    far_up c.args.past.now w c.args.key.now c.args.edges.now c.edges.at-index _ _ c.edges.invariant.2 lt _ c.in-Err.fault c.requires.edges e
 
 pub walk_edges-edges-preserved : goal.walk_edges-edges-preserved
 walk_edges-edges-preserved g t c =
     let w = c.args.self.now.id in
     let lt : c.edges.at-index < length c.args.edges.now = omega arith in
-    let e = subst (λ (r : Result Bool Fault). Edges c.args.past.now w (key_at c.args.past.now.records (get_or c.args.edges.now c.edges.at-index 0)) r (g.S.Store.table c.edges.self.store.now) (g.S.Store.table c.is_unchanged.new.self.store.now)) (c.in_ok-is_unchanged.was ∙ ap Ok c.if-not-branch.false) (subst (λ (n : ℕ). Edges c.args.past.now n (key_at c.args.past.now.records (get_or c.args.edges.now c.edges.at-index 0)) c.is_unchanged.result (g.S.Store.table c.edges.self.store.now) (g.S.Store.table c.is_unchanged.new.self.store.now)) c.edges.invariant.1 c.is_unchanged.ensures.gives) in
+    let e = subst (λ (r : Result Bool Fault). Edges c.args.past.now w (key_at c.args.past.now.records (get_or c.args.edges.now c.edges.at-index 0)) r (g.S.Store.table c.edges.self.store.now) (g.S.Store.table c.is_unchanged.new.self.store.now)) (c.in-Ok-true.is ∙ ap Ok c.in-Ok-true.field-0-test) (subst (λ (n : ℕ). Edges c.args.past.now n (key_at c.args.past.now.records (get_or c.args.edges.now c.edges.at-index 0)) c.is_unchanged.result (g.S.Store.table c.edges.self.store.now) (g.S.Store.table c.is_unchanged.new.self.store.now)) c.edges.invariant.1 c.is_unchanged.ensures.gives) in
     (c.is_unchanged.ensures.store ∙ c.edges.invariant.0, c.is_unchanged.ensures.id ∙ c.edges.invariant.1, far_more c.args.past.now w c.args.key.now c.args.edges.now c.edges.at-index _ _ c.edges.invariant.2 lt _ e, λ q v is. c.is_unchanged.ensures.stays q v (c.edges.invariant.3 q v is))
 
-pub work_by_edges-returns-then-branch-clause-gives : goal.work_by_edges-returns-then-branch-clause-gives
-work_by_edges-returns-then-branch-clause-gives g t c =
+pub work_by_edges-returns-in-Ok-true-clause-gives : goal.work_by_edges-returns-in-Ok-true-clause-gives
+work_by_edges-returns-in-Ok-true-clause-gives g t c =
     over_marked_at c.args.self.now.id c.args.key.now c.mark.result c.args.past.now c.in-Some.past c.in-Some.is c.deref.result.now c.deref-2.result.now c.deref.ensures c.deref-2.ensures
-    c.in-Some-past_edges.edges.now c.in-Some-past_edges.ensures.found c.walk_edges.result _ _ _ c.walk_edges.ensures.gives (c.in_ok-walk_edges.was ∙ ap Ok c.if-branch.true)
+    c.in-Some-past_edges.edges.now c.in-Some-past_edges.ensures.found c.walk_edges.result _ _ _ c.walk_edges.ensures.gives (c.in-Ok-true.is ∙ ap Ok c.in-Ok-true.field-0-test)
     (subst (λ (n : ℕ). Tells (λ t u. HasStatus (Claimed n) n c.args.key.now t → walk_in t c.args.key.now ≡ Some AllUnchanged → WorkGives t n c.args.key.now c.mark.result u) (g.S.Store.table c.walk_edges.new.self.store.now) (g.S.Store.table c.mark.new.self.store.now)) c.walk_edges.ensures.id c.mark.ensures.gives)
 
-pub work_by_edges-returns-else-branch-clause-gives : goal.work_by_edges-returns-else-branch-clause-gives
-work_by_edges-returns-else-branch-clause-gives g t c =
-    over_run_at c.args.self.now.id c.args.key.now c.start-else-branch.result c.args.past.now c.in-Some.past c.in-Some.is c.deref.result.now c.deref-2.result.now c.deref.ensures c.deref-2.ensures
-    c.in-Some-past_edges.edges.now c.in-Some-past_edges.ensures.found c.walk_edges.result _ _ _ c.walk_edges.ensures.gives (c.in_ok-walk_edges.was ∙ ap Ok c.if-branch.false)
-    (subst (λ (n : ℕ). Starts n c.args.key.now c.start-else-branch.result (g.S.Store.table c.walk_edges.new.self.store.now) (g.S.Store.table c.start-else-branch.new.self.store.now)) c.walk_edges.ensures.id c.start-else-branch.ensures.gives)
+pub work_by_edges-returns-in-Ok-false-clause-gives : goal.work_by_edges-returns-in-Ok-false-clause-gives
+work_by_edges-returns-in-Ok-false-clause-gives g t c =
+    over_run_at c.args.self.now.id c.args.key.now c.start-in-Ok-false.result c.args.past.now c.in-Some.past c.in-Some.is c.deref.result.now c.deref-2.result.now c.deref.ensures c.deref-2.ensures
+    c.in-Some-past_edges.edges.now c.in-Some-past_edges.ensures.found c.walk_edges.result _ _ _ c.walk_edges.ensures.gives (c.in-Ok-false.is ∙ ap Ok c.in-Ok-false.field-0-test)
+    (subst (λ (n : ℕ). Starts n c.args.key.now c.start-in-Ok-false.result (g.S.Store.table c.walk_edges.new.self.store.now) (g.S.Store.table c.start-in-Ok-false.new.self.store.now)) c.walk_edges.ensures.id c.start-in-Ok-false.ensures.gives)
 
-pub work_by_edges-returns-in_err-walk_edges-clause-gives : goal.work_by_edges-returns-in_err-walk_edges-clause-gives
-work_by_edges-returns-in_err-walk_edges-clause-gives g t c =
-    let h : Overs (session_in c.args.past.now) c.args.self.now.id c.args.key.now (Err c.in_err-walk_edges.field-0.0) (g.S.Store.table c.args.self.now.store.now) (g.S.Store.table c.walk_edges.new.self.store.now) =
-    over_up_at c.args.self.now.id c.args.key.now c.args.past.now c.in-Some.past c.in-Some.is c.deref-2.result.now c.deref-2.ensures c.in-Some-past_edges.edges.now c.walk_edges.result c.in_err-walk_edges.field-0.0 c.in_err-walk_edges.was _ _ c.walk_edges.ensures.gives in
-    search rules
+pub work_by_edges-returns-in-Err-clause-gives : goal.work_by_edges-returns-in-Err-clause-gives
+work_by_edges-returns-in-Err-clause-gives g t c =
+    over_up_at c.args.self.now.id c.args.key.now c.args.past.now c.in-Some.past c.in-Some.is c.deref-2.result.now c.deref-2.ensures c.in-Some-past_edges.edges.now c.walk_edges.result c.in-Err.fault c.in-Err.is _ _ c.walk_edges.ensures.gives
 
 pub work_over-returns-in-Ok-Some-clause-gives : goal.work_over-returns-in-Ok-Some-clause-gives
 work_over-returns-in-Ok-Some-clause-gives g t c =
