@@ -1,5 +1,5 @@
 //! Why runs stop, and what answers their reads.
-ghost use Rattle.std.specs.Prelude.{◌≡◌, ◌⊎◌, ◌<◌, ℕ, IfOk, IfErr};
+ghost use Rattle.std.specs.Prelude.{◌≡◌, ◌⊎◌, ◌<◌, ℕ, Some, IfOk, IfErr};
 ghost use Rattle.std.specs.Arc.{arc_value};
 ghost use Rattle.recorder.specs.Backed.{IsOfKind};
 ghost use Rattle.mark_green.specs.Leaves.{Knows, StaysTold};
@@ -94,13 +94,19 @@ impl<S: Store> Reader for Asking<'_, S> {
         }
         match answer_of(self.alloc, self.store, self.w, key) {
             Ok(sealed) => Ok(sealed),
-            Err(stop) => {
-                let fault = fault_of_read(&stop);
-                self.stop = Some(stop);
-                Err(fault)
-            }
+            Err(stop) => Err(stop_for(&mut self.stop, stop)),
         }
     }
+}
+
+/// Notes what stopped the run, and gives the refusal of the read.
+fn stop_for(noted: &mut Option<Stop>, stop: Stop) -> ReadFault
+    ensures noted { noted.new ≡ Some stop }
+    ensures fault { IsFaultOfRead stop result }
+{
+    let fault = fault_of_read(&stop);
+    drop(noted.replace(stop));
+    fault
 }
 
 /// The refusal of a read, by what stopped the run: a key isn't held only where a worker has it.

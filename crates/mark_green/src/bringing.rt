@@ -102,9 +102,10 @@ impl<S: Store<Out = Arc<Outcome<R>>>, R: Runner> Worker<'_, S, R> {
             → WorkGives t self.old.id key.now result u)
             (S.table self.old.store.now) (S.table self.new.store.now) }
     {
-        match self.mark_at_once(key, past)? {
-            Some(sealed) => Ok(sealed),
-            None => self.work_by_edges(key, past),
+        match self.mark_at_once(key, past) {
+            Ok(Some(sealed)) => Ok(sealed),
+            Ok(None) => self.work_by_edges(key, past),
+            Err(fault) => Err(fault),
         }
     }
 
@@ -132,10 +133,10 @@ impl<S: Store<Out = Arc<Outcome<R>>>, R: Runner> Worker<'_, S, R> {
         let Some(edges) = past_edges(past, &mut self.finder, key) else {
             return self.start(key);
         };
-        if self.walk_edges(key, past, edges)? {
-            self.mark(key)
-        } else {
-            self.start(key)
+        match self.walk_edges(key, past, edges) {
+            Ok(true) => self.mark(key),
+            Ok(false) => self.start(key),
+            Err(fault) => Err(fault),
         }
     }
 
@@ -154,8 +155,10 @@ impl<S: Store<Out = Arc<Outcome<R>>>, R: Runner> Worker<'_, S, R> {
             (S.table self.old.store.now) (S.table self.new.store.now) }
     {
         'edges: for at in edges.iter() {
-            if !self.is_unchanged(past, *at)? {
-                return Ok(false);
+            match self.is_unchanged(past, *at) {
+                Ok(true) => {}
+                Ok(false) => return Ok(false),
+                Err(fault) => return Err(fault),
             }
         }
         Ok(true)
@@ -174,8 +177,10 @@ impl<S: Store<Out = Arc<Outcome<R>>>, R: Runner> Worker<'_, S, R> {
             (S.table self.old.store.now) (S.table self.new.store.now) }
     {
         let record = &past.records()[at];
-        let sealed = self.ensure(record.key())?;
-        Ok(is_same(record, sealed))
+        match self.ensure(record.key()) {
+            Ok(sealed) => Ok(is_same(record, sealed)),
+            Err(fault) => Err(fault),
+        }
     }
 
     /// Runs a key that the worker has claimed.
@@ -212,8 +217,10 @@ impl<S: Store<Out = Arc<Outcome<R>>>, R: Runner> Worker<'_, S, R> {
             (S.table self.old.store.now) (S.table self.new.store.now) }
     {
         let mut held = AnswerList::new(self.alloc);
-        let outcome = self.turns(key, &mut held)?;
-        self.end_run(key, outcome)
+        match self.turns(key, &mut held) {
+            Ok(outcome) => self.end_run(key, outcome),
+            Err(fault) => Err(fault),
+        }
     }
 
     /// Runs a key until it has an outcome, each time with one more result held.
@@ -263,11 +270,15 @@ impl<S: Store<Out = Arc<Outcome<R>>>, R: Runner> Worker<'_, S, R> {
     {
         match run_once(self.alloc, self.store, self.runner, self.id, key, held) {
             Ok(outcome) => Ok(Some(outcome)),
-            Err(Stop::Lacks(lacked)) => {
-                self.fetch(lacked, held)?;
-                Ok(None)
+            Err(Stop::Lacks(lacked)) => match self.fetch(lacked, held) {
+                Ok(()) => Ok(None),
+                Err(fault) => Err(fault),
+            },
+            Err(stop) => {
+                let fault = self.give_up_run(&stop);
+                drop(stop);
+                Err(fault)
             }
-            Err(stop) => Err(self.give_up_run(stop)),
         }
     }
 
@@ -286,10 +297,15 @@ impl<S: Store<Out = Arc<Outcome<R>>>, R: Runner> Worker<'_, S, R> {
             → FetchGives t self.old.id lacked result held.new u)
             (S.table self.old.store.now) (S.table self.new.store.now) }
     {
-        let sealed = self.work(&lacked)?;
-        match hold(held, lacked, sealed) {
-            Ok(()) => Ok(()),
-            Err(_) => Err(self.give_up(TableFault::OutOfMemory)),
+        match self.work(&lacked) {
+            Ok(sealed) => match hold(held, lacked, sealed) {
+                Ok(()) => Ok(()),
+                Err(_) => Err(self.give_up(TableFault::OutOfMemory)),
+            },
+            Err(fault) => {
+                drop(lacked);
+                Err(fault)
+            }
         }
     }
 }

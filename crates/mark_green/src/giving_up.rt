@@ -24,20 +24,19 @@ impl<S: Store, R: Runner> Worker<'_, S, R> {
     }
 
     /// The fault of a run that stopped. The worker gives up, unless another one has a key, or a worker failed before.
-    pub(crate) fn give_up_run(&mut self, stop: Stop) -> Fault
+    pub(crate) fn give_up_run(&mut self, stop: &Stop) -> Fault
         ensures store { self.new.store.ghost_name ≡ self.old.store.ghost_name }
         ensures id { self.new.id ≡ self.old.id }
         ensures stays { StaysTold (S.told self.old.store.now) (S.told self.new.store.now) }
-        ensures fault { IsFaultOfStop stop result }
-        ensures stops { Tells (StopsFor stop) (S.table self.old.store.now)
+        ensures fault { IsFaultOfStop stop.now result }
+        ensures stops { Tells (StopsFor stop.now) (S.table self.old.store.now)
             (S.table self.new.store.now) }
     {
         match stop {
             Stop::Busy => Fault::Busy,
             Stop::Stopped => Fault::Stopped,
-            Stop::Refused(fault) => self.give_up(fault),
-            Stop::OutOfMemory => self.give_up(TableFault::OutOfMemory),
-            Stop::Lacks(_) => self.give_up(TableFault::OutOfMemory),
+            Stop::Refused(fault) => self.give_up(*fault),
+            Stop::OutOfMemory | Stop::Lacks(_) => self.give_up(TableFault::OutOfMemory),
         }
     }
 }
