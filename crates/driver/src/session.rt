@@ -1,5 +1,5 @@
 //! One session.
-ghost use Rattle.std.specs.Prelude.{◌≡◌, ◌+◌, ◌↔◌, ◌≤◌, map, IsTrue, IfOk, IfSome, length, vec_len, []};
+ghost use Rattle.std.specs.Prelude.{◌≡◌, ◌+◌, ◌↔◌, ◌≤◌, map, IsTrue, IfOk, IfSome, length, sum, vec_len, []};
 ghost use Rattle.item_ids.specs.declared.key.Key.TheVariants.{Answer};
 ghost use Rattle.job_table.specs.Tables.{state_of};
 ghost use Rattle.key_states.specs.Closing.{IsClosing};
@@ -158,10 +158,24 @@ fn end<J: Naming, R: Runner + Drop>(
     let mut all = all;
     let events = pay(alloc, &mut all, team)?;
     let table = counted.end(&mut all);
+    let done = session_of(&table, events);
+    drop(table);
+    done
+}
+
+/// The session that a table closes with, and what is reported of its history.
+fn session_of<R: Runner>(
+    table: &Table<R>,
+    events: Vec<usize>,
+) -> Result<(Session, Reports), AllocError>
+    requires counted { sum events.items ≡ length table.now.history }
+    ensures { IfOk result (λ done. IsSessionOf R.mean R.reads
+        table.now.past table.now.project (vec_len events) done.0 done.1) }
+{
     // A table's history is legal, by its type.
     table.laws();
     let history = table.history().len();
-    Ok((close(&table)?, Reports { events, history }))
+    Ok((close(table)?, Reports { events, history }))
 }
 
 /// Whether the session before a table has just the files of the project.
