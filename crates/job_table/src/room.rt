@@ -1,4 +1,4 @@
-//! Reserves the memory that a call needs, before the call changes anything.
+//! Reserves the memory that a call needs, before the call changes anything, and makes the changes that follow.
 ghost use Rattle.std.specs.Prelude.{◌≡◌, ◌+◌, ◌<◌, ◌≤◌, ◌++◌, ◌∷◌, [], IfOk, IfSome, OnOk, OnErr, if◌then◌else◌, length, map, slice_index_or, vec_len, vec_capacity};
 ghost use Rattle.std.specs.Arc.{arc_value};
 ghost use Rattle.item_ids.specs.declared.key.Key.{Key as KeyValue};
@@ -33,7 +33,7 @@ pub fn note<R: Runner>(history: &mut Vec<Event<R>>, event: Event<R>)
 }
 
 /// How many records the previous session has.
-pub fn past_len(past: &Option<Arc<Session>>) -> usize
+fn past_len(past: &Option<Arc<Session>>) -> usize
     ensures { IfSome (session_in past.now) (λ s. result ≡ length s.records) }
 {
     match past {
@@ -43,7 +43,7 @@ pub fn past_len(past: &Option<Arc<Session>>) -> usize
 }
 
 /// A history with room for two events for each record of the previous session, and for one more.
-pub fn room_for_history<R: Runner>(
+fn room_for_history<R: Runner>(
     alloc: Global,
     past: &Option<Arc<Session>>,
 ) -> Result<Vec<Event<R>>, AllocError>
