@@ -1,6 +1,6 @@
 -- What was told of keys that are done, while the table goes on.
 use Rattle.std.proofs.Common.{◌≡◌, ℕ, List, [], ◌∷◌, ◌++◌, sym, subst, Contains, refl, arith}
-use Rattle.std.specs.Prelude.{Result, Ok}
+use Rattle.std.specs.Prelude.{Result, Ok, Err, IfOk, IfErr}
 use Rattle.std.specs.List.{AllByRecursion}
 use Rattle.std.proofs.lemmas.List.Elements.{All-contains, All-from_recursion}
 use Rattle.std.specs.declared.alloc.Global.{Global}
@@ -18,10 +18,12 @@ use Rattle.job_table.specs.Calls.{AskGives, MarkGives, BeginGives, FinishGives, 
 use Rattle.job_table.specs.declared.fault.Asked.{Asked}
 use Rattle.job_table.specs.declared.fault.Asked.TheVariants as asked
 use Rattle.job_table.specs.declared.fault.TableFault.{TableFault}
-use Rattle.mark_green.specs.Leaves.{AreTold}
+use Rattle.job_table.specs.declared.fault.TableFault.TheVariants as fault
+use Rattle.mark_green.specs.Leaves.{ClaimsNoInput, StaysTold, TellsDone, AreTold}
 use Rattle.mark_green.proofs.GoingOn.{on_one, held_on, Changes, changes_by}
 use Rattle.known_list.proofs.Beginnings.{prefix_contains}
-use Rattle.shared_table.specs.Told.{is_told}
+use Rattle.shared_table.specs.Told.{is_told, IsFound}
+use Rattle.shared_table.specs.Given.{IsOwnAnswer}
 
 -- ---- what was told still stands after each call
 
@@ -91,3 +93,27 @@ kept_on known longer (r ∷ rs) pre all = (prefix_contains known longer r pre al
 pub kept_one : (known results : List ReadValue) (r : ReadValue) → AllByRecursion (λ r. Contains known r) results → Contains known r → AllByRecursion (λ r. Contains known r) (results ++ r ∷ [])
 kept_one known [] r all h = (h, tt)
 kept_one known (x ∷ xs) r all h = (all.0, kept_one known xs r all.1 h)
+
+-- what a shorter list has told, a longer one has, too
+pub told_on : (old mid new : List ReadValue) → IsPrefix old mid → new ≡ mid → StaysTold (is_told old) (is_told new)
+told_on old mid new pre same q v told = subst (λ (l : List ReadValue). is_told l q v) (sym same) (prefix_contains old mid (record { key = q; value = v }) pre told)
+
+-- ---- the answer for a key whose result is kept
+
+module _ (v : Value) where
+  pub again_told : (list : List ReadValue) (q : Key) (r : Result Asked TableFault) → IfOk r (λ a. IsFound a v) → is_told list q v → TellsDone (is_told list) q r
+  again_told list q (Ok (asked.Done a)) found told = subst (λ (x : Value). is_told list q x) (sym found) told
+  again_told list q (Ok asked.Yours) found told = tt
+  again_told list q (Ok asked.Busy) found told = tt
+  again_told list q (Ok asked.Stopped) found told = tt
+  again_told list q (Err why) found told = tt
+
+  pub again_claims : (q : Key) (r : Result Asked TableFault) → IfOk r (λ a. IsFound a v) → ClaimsNoInput q r
+  again_claims q r found = λ yours. absurd (subst (λ (x : Result Asked TableFault). IfOk x (λ a. IsFound a v)) yours found)
+
+  pub own_again : (r : Result Asked TableFault) → IfOk r (λ a. IsFound a v) → IfErr r (λ why. why ≡ fault.OutOfMemory) → IsOwnAnswer r
+  own_again (Ok (asked.Done a)) found out = tt
+  own_again (Ok asked.Yours) found out = found
+  own_again (Ok asked.Busy) found out = found
+  own_again (Ok asked.Stopped) found out = found
+  own_again (Err why) found out = subst (λ (x : TableFault). IsOwnAnswer (Err x)) (sym out) tt

@@ -2,10 +2,14 @@
 ghost use Rattle.std.specs.Prelude.{◌≡◌, Contains, IfSome};
 ghost use Rattle.std.specs.Arc.{arc_value};
 ghost use mathlib.Core.List.{IsPrefix};
+ghost use Rattle.recorder.specs.Backed.{IsOfKind};
+ghost use Rattle.mark_green.specs.Leaves.{TellsDone};
+ghost use Rattle.shared_table.specs.Told.{is_told};
 
 use crate::naming::Naming;
 use fingerprint::Sealed;
 use item_ids::Key;
+use job_table::{Asked, TableFault};
 use known_list::Known;
 use recorder::{AnswerList, Read};
 use std::alloc::{AllocError, Global};
@@ -74,6 +78,17 @@ impl<J: Naming> Kept<J> {
         }
     }
 
+    /// Keeps the result of a key that was found done, which was told, and tells whether there was memory for it.
+    pub(crate) fn keeps(&mut self, key: &Key, answer: &Result<Asked, TableFault>) -> bool
+        requires { TellsDone (is_told self.old) key.now answer.now }
+        ensures { self.new ≡ self.old }
+    {
+        match answer {
+            Ok(Asked::Done(sealed)) => self.add(key, sealed).is_ok(),
+            _ => true,
+        }
+    }
+
     /// Keeps the result of a key, which was told.
     pub(crate) fn add(&mut self, key: &Key, sealed: &Arc<Sealed>) -> Result<(), AllocError>
         requires { Contains self.old (record { key = key.now; value = arc_value sealed.now }) }
@@ -82,7 +97,21 @@ impl<J: Naming> Kept<J> {
         if sealed.value().kind() != key.kind() {
             return Ok(());
         }
-        let shared = Arc::try_clone(sealed)?;
-        self.results.add(key.copy(self.alloc)?, shared)
+        self.hold(key, Arc::try_clone(sealed)?)
+    }
+
+    /// Keeps a result of the key's kind, which was told.
+    fn hold(&mut self, key: &Key, shared: Arc<Sealed>) -> Result<(), AllocError>
+        requires kind { IsOfKind key.now (arc_value shared) }
+        requires told { Contains self.old (record { key = key.now; value = arc_value shared }) }
+        ensures { self.new ≡ self.old }
+    {
+        match key.copy(self.alloc) {
+            Ok(key) => self.results.add(key, shared),
+            Err(refused) => {
+                drop(shared);
+                Err(refused)
+            }
+        }
     }
 }

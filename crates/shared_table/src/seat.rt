@@ -78,12 +78,12 @@ impl<J: Naming, R: Runner, T: Wait, G: Gate> Store for Seat<'_, J, R, T, G> {
             return again(sealed);
         }
         let answer = self.shared.ask(self.rt, self.tally, &mut self.kept, w, key);
-        if let Ok(Asked::Done(sealed)) = &answer {
-            if self.kept.add(key, sealed).is_err() {
-                return Err(TableFault::OutOfMemory);
-            }
+        if self.kept.keeps(key, &answer) {
+            answer
+        } else {
+            drop(answer);
+            Err(TableFault::OutOfMemory)
         }
-        answer
     }
 
     fn mark(&mut self, w: u32, key: &Key) -> Result<Arc<Sealed>, TableFault>
@@ -118,16 +118,20 @@ impl<J: Naming, R: Runner, T: Wait, G: Gate> Store for Seat<'_, J, R, T, G> {
         ensures given { (result ≡ Err fault.OutOfMemory)
             ⊎ IsGiven J.past J.project (λ t u. FinishTells t w (arc_value outcome) result u) }
     {
-        let Ok(ended) = Arc::try_clone(&outcome) else {
-            return Err(TableFault::OutOfMemory);
-        };
-        let answer = self
-            .shared
-            .finish(self.rt, self.tally, &mut self.kept, w, outcome, &ended);
-        if let Ok(()) = &answer {
-            self.gate.after_run(w, ended.key());
+        match Arc::try_clone(&outcome) {
+            Ok(ended) => {
+                let answer = self
+                    .shared
+                    .finish(self.rt, self.tally, &mut self.kept, w, outcome, &ended);
+                after_run(self.gate, w, &ended, &answer);
+                drop(ended);
+                answer
+            }
+            Err(_) => {
+                drop(outcome);
+                Err(TableFault::OutOfMemory)
+            }
         }
-        answer
     }
 
     fn fail(&mut self, w: u32) -> Result<(), TableFault>
@@ -143,6 +147,18 @@ impl<J: Naming, R: Runner, T: Wait, G: Gate> Store for Seat<'_, J, R, T, G> {
         ensures of_name { IfOk result (λ past. session_in past ≡ J.past) }
     {
         self.shared.past()
+    }
+}
+
+/// Calls the gate after a run that was ended.
+fn after_run<R: Runner, G: Gate>(
+    gate: &G,
+    w: u32,
+    ended: &Outcome<R>,
+    answer: &Result<(), TableFault>,
+) {
+    if let Ok(()) = answer {
+        gate.after_run(w, ended.key());
     }
 }
 

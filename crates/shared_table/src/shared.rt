@@ -42,15 +42,29 @@ impl<J: Naming, R: Runner> Shared<J, R> {
     pub fn new(counted: Counted<J, R>, list: Opened<Read>) -> Result<Self, AllocError>
         requires { list.seen.book ≡ J.book }
     {
-        let past = counted.past()?;
+        match counted.past() {
+            Ok(past) => Ok(Shared::over(counted, past, list)),
+            Err(refused) => {
+                drop(list);
+                drop(counted);
+                Err(refused)
+            }
+        }
+    }
+
+    /// Shares a table with its previous session, and the empty list.
+    fn over(counted: Counted<J, R>, past: Option<Arc<Session>>, list: Opened<Read>) -> Self
+        requires name { list.seen.book ≡ J.book }
+        requires past { session_in past ≡ J.past }
+    {
         let (head, known) = list.named::<J>();
         let told = known.again();
-        Ok(Shared {
+        Shared {
             desk: Mutex::new(Desk::new(counted, head, told)),
             changed: Condvar::new(),
             past,
             known,
-        })
+        }
     }
 
     /// A worker's seat at the table, with this count of events. The gate is called around each run.
@@ -90,16 +104,38 @@ impl<J: Naming, R: Runner> Shared<J, R> {
         ensures stays { IsPrefix kept.old kept.new }
     {
         'asks: for _ in rt.forever() {
-            let mut desk = self.desk.lock(rt);
-            desk.check_name();
-            match desk.ask(tally, kept, w, key) {
-                Ok(Asked::Busy) => {
-                    let _desk = self.changed.wait(rt, desk);
-                }
-                answer => return answer,
+            let answer = self.ask_once(rt, tally, kept, w, key);
+            if !is_busy(&answer) {
+                return answer;
             }
+            drop(answer);
         }
         unreachable!()
+    }
+
+    /// Asks for a key. Where another worker has it, this waits until something has changed.
+    fn ask_once<T: Wait>(
+        &self,
+        rt: &T,
+        tally: &mut Tally<J>,
+        kept: &mut Kept<J>,
+        w: u32,
+        key: &Key,
+    ) -> Result<Asked, TableFault>
+        ensures given { IsGiven J.past J.project (λ t u. AskGives t w key.now result u) }
+        ensures claims { ClaimsNoInput key.now result }
+        ensures told { TellsDone (is_told kept.new) key.now result }
+        ensures stays { IsPrefix kept.old kept.new }
+    {
+        let mut desk = self.desk.lock(rt);
+        desk.check_name();
+        let answer = desk.ask(tally, kept, w, key);
+        if is_busy(&answer) {
+            drop(self.changed.wait(rt, desk));
+        } else {
+            drop(desk);
+        }
+        answer
     }
 
     /// Takes over the previous session's result, and wakes the workers that wait.
@@ -188,4 +224,9 @@ impl<J: Naming, R: Runner> Shared<J, R> {
             None => Ok(None),
         }
     }
+}
+
+/// Whether another worker has the key.
+fn is_busy(answer: &Result<Asked, TableFault>) -> bool {
+    matches!(answer, Ok(Asked::Busy))
 }

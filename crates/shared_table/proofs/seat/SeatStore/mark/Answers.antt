@@ -1,0 +1,6 @@
+use Rattle.std.proofs.Common.{refl}
+use Rattle.shared_table.proofs.Told.{told_on}
+use Rattle.shared_table.proofs.seat.SeatStore.mark.Goals as goal
+
+pub returns-clause-stays : goal.returns-clause-stays
+returns-clause-stays g c = told_on c.args.self.now.kept c.mark.new.kept c.mark.new.kept c.mark.ensures.stays refl
