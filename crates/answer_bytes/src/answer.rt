@@ -19,9 +19,14 @@ use std::alloc::{AllocError, Global};
 use std::marker::Model;
 
 /// The fields and the methods that a class has, each ascending by name.
-#[derive(Drop)]
 pub struct Members {
     table: ClassTable,
+}
+
+impl Drop for Members {
+    fn drop(self) {
+        let Members { table: _ } = self;
+    }
 }
 
 impl Model for Members {
@@ -56,9 +61,14 @@ impl Members {
 }
 
 /// Diagnostics of a class, in ascending order.
-#[derive(Drop)]
 pub struct Faults {
     list: Vec<Diagnostic>,
+}
+
+impl Drop for Faults {
+    fn drop(self) {
+        let Faults { list: _ } = self;
+    }
 }
 
 impl Model for Faults {
@@ -95,9 +105,14 @@ impl Faults {
 }
 
 /// The answer for a whole project: its own diagnostics in ascending order, and its classes ascending by name.
-#[derive(Drop)]
 pub struct WholeAnswer {
     answer: Answer,
+}
+
+impl Drop for WholeAnswer {
+    fn drop(self) {
+        let WholeAnswer { answer: _ } = self;
+    }
 }
 
 impl Model for WholeAnswer {

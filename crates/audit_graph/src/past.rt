@@ -30,12 +30,22 @@ impl Model for Kept {
 
 /// What the audit of the next session needs of a session: its number, the SHA-256 of its file, and the key, edges and
 /// fingerprint of each record. It holds no results.
-#[derive(Drop)]
 pub struct Past {
     number: u32,
     digest: [u8; 32],
     keys: IndexSet<Key>,
     records: Vec<Kept>,
+}
+
+impl Drop for Past {
+    fn drop(self) {
+        let Past {
+            number: _,
+            digest: _,
+            keys: _,
+            records: _,
+        } = self;
+    }
 }
 
 impl Model for Past {

@@ -16,11 +16,20 @@ use std::sync::Arc;
 
 /// The result of an accepted chain: the answer of the last session, how many sessions there are, and how many records
 /// were run.
-#[derive(Drop)]
 pub struct Audited {
     pub answer: Arc<Sealed>,
     pub sessions: usize,
     pub runs: u128,
+}
+
+impl Drop for Audited {
+    fn drop(self) {
+        let Audited {
+            answer: _,
+            sessions: _,
+            runs: _,
+        } = self;
+    }
 }
 
 /// Audits the files of a chain of sessions that begins with an empty cache. Where no two different results that they

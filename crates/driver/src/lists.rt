@@ -44,7 +44,6 @@ pub(crate) enum Pass {
 }
 
 /// The lists of jobs of a session: the trees of the files, and each pass over the classes. They take no memory.
-#[derive(Drop)]
 pub(crate) struct Lists {
     step: usize,
     trees: Numbers,
@@ -53,6 +52,20 @@ pub(crate) struct Lists {
     supers: Numbers,
     members: Numbers,
     faults: Numbers,
+}
+
+impl Drop for Lists {
+    fn drop(self) {
+        let Lists {
+            step: _,
+            trees: _,
+            headers: _,
+            methods: _,
+            supers: _,
+            members: _,
+            faults: _,
+        } = self;
+    }
 }
 
 impl Lists {

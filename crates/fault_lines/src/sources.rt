@@ -15,11 +15,20 @@ use std::marker::Model;
 
 /// A file with its tokens, none if it isn't cut into tokens, and with the byte of its error, if it is no sentence and
 /// the error has a place. Contracts see the file.
-#[derive(Drop)]
 pub struct ReadText<'a> {
     file: &'a (String, Vec<u8>),
     tokens: Vec<Token>,
     stop: Option<usize>,
+}
+
+impl Drop for ReadText<'_> {
+    fn drop(self) {
+        let ReadText {
+            file: _,
+            tokens: _,
+            stop: _,
+        } = self;
+    }
 }
 
 impl<'a> Model for ReadText<'a> {
@@ -122,10 +131,15 @@ fn add_sources<'a>(
 }
 
 /// A project with what its files were read as. Contracts see the files.
-#[derive(Drop)]
 pub struct ReadProject<'a> {
     texts: Vec<ReadText<'a>>,
     trees: Vec<Option<FileTree>>,
+}
+
+impl Drop for ReadProject<'_> {
+    fn drop(self) {
+        let ReadProject { texts: _, trees: _ } = self;
+    }
 }
 
 impl<'a> Model for ReadProject<'a> {

@@ -16,12 +16,22 @@ use std::collections::BTreeMap;
 use std::marker::Model;
 
 /// A file by its lines and its tokens. Contracts see the file.
-#[derive(Drop)]
 pub struct IndexedText<'a, 't> {
     name: &'a str,
     lines: LinedText<'a>,
     tokens: TokenIndex<'t>,
     stop: Option<usize>,
+}
+
+impl Drop for IndexedText<'_, '_> {
+    fn drop(self) {
+        let IndexedText {
+            name: _,
+            lines: _,
+            tokens: _,
+            stop: _,
+        } = self;
+    }
 }
 
 impl<'a, 't> Model for IndexedText<'a, 't> {

@@ -13,11 +13,20 @@ use std::marker::Model;
 use thiserror::Error;
 
 /// A value with its canonical bytes and their fingerprint. Contracts see the value.
-#[derive(Drop)]
 pub struct Sealed {
     value: Value,
     bytes: Vec<u8>,
     print: Print,
+}
+
+impl Drop for Sealed {
+    fn drop(self) {
+        let Sealed {
+            value: _,
+            bytes: _,
+            print: _,
+        } = self;
+    }
 }
 
 impl Model for Sealed {

@@ -11,7 +11,6 @@ use std::hash::{Hash, Hasher};
 
 /// The key of a query, with the names that its kind has: a file, a class, or a class and one of its methods.
 /// Keys are ordered by the number of their kind, then by file or class, then by method, names by their bytes.
-#[derive(Drop)]
 pub enum Key {
     Files,
     Source(Name),
@@ -26,6 +25,26 @@ pub enum Key {
     CheckBody(Name, Name),
     Diags(Name),
     Answer,
+}
+
+impl Drop for Key {
+    fn drop(self) {
+        match self {
+            Key::Files
+            | Key::Source(_)
+            | Key::Tree(_)
+            | Key::Index
+            | Key::Header(_)
+            | Key::Method(_, _)
+            | Key::Sig(_, _)
+            | Key::Supers(_)
+            | Key::Members(_)
+            | Key::CheckClass(_)
+            | Key::CheckBody(_, _)
+            | Key::Diags(_)
+            | Key::Answer => {}
+        }
+    }
 }
 
 impl Key {

@@ -29,7 +29,6 @@ use std::thread::Threads;
 
 /// The table of one session over a previous session and a project, and the events that led to its state. The contract
 /// of each call speaks of the table before and after it; a call that is refused leaves it as it was.
-#[derive(Drop)]
 pub struct Table<R: Runner> {
     alloc: Global,
     past: Option<Arc<Session>>,
@@ -38,6 +37,20 @@ pub struct Table<R: Runner> {
     history: Vec<Event<R>>,
     failed: bool,
     finder: Finder,
+}
+
+impl<R: Runner> Drop for Table<R> {
+    fn drop(self) {
+        let Table {
+            alloc: _,
+            past: _,
+            inputs: _,
+            nodes: _,
+            history: _,
+            failed: _,
+            finder: _,
+        } = self;
+    }
 }
 
 impl<R: Runner> Model for Table<R> {

@@ -13,16 +13,28 @@ use std::sync::Arc;
 
 /// The keys that were read for a key. Those of a record of the previous session aren't copied: its edges lead to them.
 /// Contracts see the keys.
-#[derive(Drop)]
 pub struct EdgeKeys {
     kept: KeptKeys,
 }
 
+impl Drop for EdgeKeys {
+    fn drop(self) {
+        let EdgeKeys { kept: _ } = self;
+    }
+}
+
 /// Keys, or the previous session and the index of its record whose edges lead to the keys.
-#[derive(Drop)]
 enum KeptKeys {
     Own(Vec<Key>),
     Past(Arc<Session>, usize),
+}
+
+impl Drop for KeptKeys {
+    fn drop(self) {
+        match self {
+            KeptKeys::Own(_) | KeptKeys::Past(_, _) => {}
+        }
+    }
 }
 
 impl Model for EdgeKeys {

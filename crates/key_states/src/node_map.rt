@@ -22,10 +22,18 @@ use std::sync::Arc;
 
 /// How each key stands, the inputs first and then in the order of the claims, with the places of the keys that are
 /// claimed or running.
-#[derive(Drop)]
 pub struct NodeMap {
     nodes: IndexMap<Key, Standing>,
     pending: Vec<usize>,
+}
+
+impl Drop for NodeMap {
+    fn drop(self) {
+        let NodeMap {
+            nodes: _,
+            pending: _,
+        } = self;
+    }
 }
 
 impl Model for NodeMap {

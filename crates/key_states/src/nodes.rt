@@ -16,11 +16,18 @@ use sessions::Mark;
 use std::sync::Arc;
 
 /// How a key stands that was asked for.
-#[derive(Drop)]
 pub enum Standing {
     Claimed(u32),
     Running(u32),
     Done(Arc<Sealed>, EdgeKeys, Mark),
+}
+
+impl Drop for Standing {
+    fn drop(self) {
+        match self {
+            Standing::Claimed(_) | Standing::Running(_) | Standing::Done(_, _, _) => {}
+        }
+    }
 }
 
 /// Whether the worker has claimed the key or runs it.

@@ -12,10 +12,16 @@ use item_ids::Key;
 use std::alloc::{AllocError, Global};
 
 /// A key, and the place where it was found.
-#[derive(Drop, PartialEq, Eq, PartialOrd, Ord)]
+#[derive(PartialEq, Eq, PartialOrd, Ord)]
 pub struct Row {
     pub key: Key,
     pub at: usize,
+}
+
+impl Drop for Row {
+    fn drop(self) {
+        let Row { key: _, at: _ } = self;
+    }
 }
 
 /// These keys with their places, in the order of the keys.

@@ -60,11 +60,20 @@ pub struct Head<J: ListNaming, E> {
 }
 
 /// A beginning of the list. Contracts see it as its entries.
-#[derive(Drop)]
 pub struct Known<J: ListNaming, E> {
     entries: u64,
     seen: Seen<E, u64, Law>,
     of: PhantomData<J>,
+}
+
+impl<J: ListNaming, E> Drop for Known<J, E> {
+    fn drop(self) {
+        let Known {
+            entries: _,
+            seen: _,
+            of: _,
+        } = self;
+    }
 }
 
 impl<J: ListNaming, E> Model for Known<J, E> {

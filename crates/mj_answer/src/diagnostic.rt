@@ -6,10 +6,16 @@ use mj_tree::Place;
 use std::alloc::{AllocError, Global};
 
 /// A diagnostic with its place. Diagnostics are ordered by place, then by code.
-#[derive(Drop, PartialEq, Eq, PartialOrd, Ord)]
+#[derive(PartialEq, Eq, PartialOrd, Ord)]
 pub struct Diagnostic {
     pub place: Place,
     pub code: Code,
+}
+
+impl Drop for Diagnostic {
+    fn drop(self) {
+        let Diagnostic { place: _, code: _ } = self;
+    }
 }
 
 impl Diagnostic {

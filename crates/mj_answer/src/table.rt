@@ -8,11 +8,21 @@ use std::alloc::{AllocError, Global};
 use std::marker::Model;
 
 /// A field that a class has, with the class that declares it.
-#[derive(Drop, PartialEq, Eq)]
+#[derive(PartialEq, Eq)]
 pub struct FieldRow {
     pub name: Name,
     pub owner: Name,
     pub ty: Ty,
+}
+
+impl Drop for FieldRow {
+    fn drop(self) {
+        let FieldRow {
+            name: _,
+            owner: _,
+            ty: _,
+        } = self;
+    }
 }
 
 impl FieldRow {
@@ -29,12 +39,22 @@ impl FieldRow {
 }
 
 /// A method that a class has, with the class that declares it.
-#[derive(Drop)]
 pub struct MethodRow {
     name: Name,
     owner: Name,
     formals: Vec<Ty>,
     returns: Ty,
+}
+
+impl Drop for MethodRow {
+    fn drop(self) {
+        let MethodRow {
+            name: _,
+            owner: _,
+            formals: _,
+            returns: _,
+        } = self;
+    }
 }
 
 impl Model for MethodRow {
@@ -108,10 +128,18 @@ impl MethodRow {
 }
 
 /// The fields and the methods that a class has, each ascending by name.
-#[derive(Drop)]
 pub struct ClassTable {
     fields: Vec<FieldRow>,
     methods: Vec<MethodRow>,
+}
+
+impl Drop for ClassTable {
+    fn drop(self) {
+        let ClassTable {
+            fields: _,
+            methods: _,
+        } = self;
+    }
 }
 
 impl Model for ClassTable {
@@ -177,11 +205,20 @@ fn copy_methods(alloc: Global, rows: &[MethodRow]) -> Result<Vec<MethodRow>, All
 }
 
 /// What is answered for a class: its fields and methods, and its diagnostics in ascending order.
-#[derive(Drop)]
 pub struct ClassAnswer {
     name: Name,
     table: ClassTable,
     faults: Vec<Diagnostic>,
+}
+
+impl Drop for ClassAnswer {
+    fn drop(self) {
+        let ClassAnswer {
+            name: _,
+            table: _,
+            faults: _,
+        } = self;
+    }
 }
 
 impl Model for ClassAnswer {
@@ -229,10 +266,18 @@ impl ClassAnswer {
 
 /// What is answered for a project: the diagnostics of the project itself in ascending order, and its classes ascending
 /// by name.
-#[derive(Drop)]
 pub struct Answer {
     faults: Vec<Diagnostic>,
     classes: Vec<ClassAnswer>,
+}
+
+impl Drop for Answer {
+    fn drop(self) {
+        let Answer {
+            faults: _,
+            classes: _,
+        } = self;
+    }
 }
 
 impl Model for Answer {

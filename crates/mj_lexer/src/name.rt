@@ -21,16 +21,28 @@ use std::marker::Model;
 use std::sync::Arc;
 
 /// A text of 1 to 255 bytes, which a name shares with its copies. Contracts see its bytes; names are ordered by them.
-#[derive(Drop)]
 pub struct Name {
     text: Arc<Text>,
 }
 
+impl Drop for Name {
+    fn drop(self) {
+        let Name { text: _ } = self;
+    }
+}
+
 /// A short text lies beside the count of its owners, so that memory is taken for it once.
-#[derive(Drop)]
 enum Text {
     Short(ArrayString<16>),
     Long(String),
+}
+
+impl Drop for Text {
+    fn drop(self) {
+        match self {
+            Text::Short(_) | Text::Long(_) => {}
+        }
+    }
 }
 
 impl Text {

@@ -69,7 +69,7 @@ pub enum Terminal {
 }
 
 /// What a token is.
-#[derive(PartialEq, Eq, Drop)]
+#[derive(PartialEq, Eq)]
 pub enum Kind {
     /// A name that isn't reserved.
     Identifier(Name),
@@ -79,12 +79,30 @@ pub enum Kind {
     Terminal(Terminal),
 }
 
+impl Drop for Kind {
+    fn drop(self) {
+        match self {
+            Kind::Identifier(_) | Kind::Literal(_) | Kind::Terminal(_) => {}
+        }
+    }
+}
+
 /// A token and its place in the text.
-#[derive(PartialEq, Eq, Drop)]
+#[derive(PartialEq, Eq)]
 pub struct Token {
     pub kind: Kind,
     /// The number of its first byte, counted from 0.
     pub start: usize,
     /// The number of the byte behind its last.
     pub end: usize,
+}
+
+impl Drop for Token {
+    fn drop(self) {
+        let Token {
+            kind: _,
+            start: _,
+            end: _,
+        } = self;
+    }
 }

@@ -39,9 +39,14 @@ impl From<AllocError> for ProjectFault {
 }
 
 /// Named files in their order: 1 to 4,096, with distinct names of 1 to 255 bytes.
-#[derive(Drop)]
 pub struct Project {
     files: Vec<(String, Vec<u8>)>,
+}
+
+impl Drop for Project {
+    fn drop(self) {
+        let Project { files: _ } = self;
+    }
 }
 
 impl Model for Project {

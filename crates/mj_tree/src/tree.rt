@@ -10,13 +10,21 @@ use std::alloc::{AllocError, Global};
 pub const MOST_LEVELS: usize = 500;
 
 /// A declared type.
-#[derive(Drop, PartialEq, Eq)]
+#[derive(PartialEq, Eq)]
 pub enum Ty {
     Int,
     Boolean,
     IntArray,
     /// A class, declared or not.
     Class(Name),
+}
+
+impl Drop for Ty {
+    fn drop(self) {
+        match self {
+            Ty::Int | Ty::Boolean | Ty::IntArray | Ty::Class(_) => {}
+        }
+    }
 }
 
 impl Ty {
@@ -60,7 +68,6 @@ pub enum Operator {
 }
 
 /// An expression with its marking token.
-#[derive(Drop)]
 pub enum Exp {
     /// `left && right` and the other operators; the mark is the operator.
     Binary {
@@ -128,8 +135,43 @@ pub enum Exp {
     },
 }
 
+impl Drop for Exp {
+    fn drop(self) {
+        match self {
+            Exp::Binary {
+                operator: _,
+                mark: _,
+                left: _,
+                right: _,
+            }
+            | Exp::Index {
+                mark: _,
+                array: _,
+                index: _,
+            }
+            | Exp::Length { mark: _, array: _ }
+            | Exp::Call {
+                mark: _,
+                receiver: _,
+                method: _,
+                arguments: _,
+            }
+            | Exp::Literal { mark: _, value: _ }
+            | Exp::Boolean { mark: _, value: _ }
+            | Exp::Variable { mark: _, name: _ }
+            | Exp::This { mark: _ }
+            | Exp::NewArray { mark: _, length: _ }
+            | Exp::NewObject { mark: _, class: _ }
+            | Exp::Not {
+                mark: _,
+                operand: _,
+            }
+            | Exp::Parenthesized { mark: _, inner: _ } => {}
+        }
+    }
+}
+
 /// A statement with its marking token.
-#[derive(Drop)]
 pub enum Stmt {
     /// `{ body }`; the mark is `{`.
     Block {
@@ -171,11 +213,49 @@ pub enum Stmt {
     },
 }
 
+impl Drop for Stmt {
+    fn drop(self) {
+        match self {
+            Stmt::Block { mark: _, body: _ }
+            | Stmt::If {
+                mark: _,
+                condition: _,
+                then_branch: _,
+                else_branch: _,
+            }
+            | Stmt::While {
+                mark: _,
+                condition: _,
+                body: _,
+            }
+            | Stmt::Print { mark: _, value: _ }
+            | Stmt::Assign {
+                mark: _,
+                name: _,
+                name_mark: _,
+                value: _,
+            }
+            | Stmt::Store {
+                mark: _,
+                name: _,
+                name_mark: _,
+                index: _,
+                value: _,
+            } => {}
+        }
+    }
+}
+
 /// A field.
-#[derive(Drop)]
 pub struct Field {
     pub name: Name,
     pub ty: Ty,
+}
+
+impl Drop for Field {
+    fn drop(self) {
+        let Field { name: _, ty: _ } = self;
+    }
 }
 
 impl Field {
@@ -212,7 +292,6 @@ impl Variable {
 }
 
 /// A method.
-#[derive(Drop)]
 pub struct MethodTree {
     pub name: Name,
     pub returns: Ty,
@@ -225,11 +304,33 @@ pub struct MethodTree {
     pub return_mark: usize,
 }
 
+impl Drop for MethodTree {
+    fn drop(self) {
+        let MethodTree {
+            name: _,
+            returns: _,
+            formals: _,
+            locals: _,
+            body: _,
+            returned: _,
+            return_mark: _,
+        } = self;
+    }
+}
+
 /// The main class, which has `main` alone.
-#[derive(Drop)]
 pub struct MainTree {
     pub name: Name,
     pub statement: Stmt,
+}
+
+impl Drop for MainTree {
+    fn drop(self) {
+        let MainTree {
+            name: _,
+            statement: _,
+        } = self;
+    }
 }
 
 /// A class that isn't the main class.

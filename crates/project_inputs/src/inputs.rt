@@ -23,11 +23,20 @@ use std::sync::Arc;
 use std::thread::Threads;
 
 /// The sealed results of the inputs of a project, each source found by its file's name. Contracts see the project.
-#[derive(Drop)]
 pub struct Inputs {
     files: Arc<Sealed>,
     sources: IndexMap<Name, Arc<Sealed>>,
     missing: Arc<Sealed>,
+}
+
+impl Drop for Inputs {
+    fn drop(self) {
+        let Inputs {
+            files: _,
+            sources: _,
+            missing: _,
+        } = self;
+    }
 }
 
 impl Model for Inputs {

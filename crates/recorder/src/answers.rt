@@ -14,10 +14,15 @@ use std::marker::Model;
 use std::sync::Arc;
 
 /// Keys with their answers, each of the key's kind, found by key. It has no answer for any other key.
-#[derive(Drop)]
 pub struct AnswerList {
     alloc: Global,
     reads: Reads,
+}
+
+impl Drop for AnswerList {
+    fn drop(self) {
+        let AnswerList { alloc: _, reads: _ } = self;
+    }
 }
 
 impl Model for AnswerList {

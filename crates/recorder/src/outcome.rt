@@ -17,12 +17,22 @@ use std::marker::{Model, PhantomData};
 use std::sync::Arc;
 
 /// What a run of the runner read, and its result, which follows from these reads.
-#[derive(Drop)]
 pub struct Outcome<R: Runner> {
     key: Key,
     reads: Vec<Read>,
     sealed: Arc<Sealed>,
     runner: PhantomData<R>,
+}
+
+impl<R: Runner> Drop for Outcome<R> {
+    fn drop(self) {
+        let Outcome {
+            key: _,
+            reads: _,
+            sealed: _,
+            runner: _,
+        } = self;
+    }
 }
 
 impl<R: Runner> Model for Outcome<R> {

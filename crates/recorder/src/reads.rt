@@ -15,10 +15,15 @@ use std::collections::HashMap;
 use std::marker::Model;
 
 /// Reads in their order, with the place of the first one of each key.
-#[derive(Drop)]
 pub(crate) struct Reads {
     list: Vec<Read>,
     places: HashMap<Key, usize>,
+}
+
+impl Drop for Reads {
+    fn drop(self) {
+        let Reads { list: _, places: _ } = self;
+    }
 }
 
 impl Model for Reads {

@@ -12,10 +12,15 @@ use std::marker::Model;
 use std::sync::Arc;
 
 /// A key that was read, with its answer.
-#[derive(Drop)]
 pub struct Read {
     key: Key,
     answer: Arc<Sealed>,
+}
+
+impl Drop for Read {
+    fn drop(self) {
+        let Read { key: _, answer: _ } = self;
+    }
 }
 
 impl Model for Read {

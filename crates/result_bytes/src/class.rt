@@ -16,12 +16,22 @@ use tree_spelling::{FieldFormat, TypeFormat, check_ty, put_ty, read_ty};
 
 /// A class without its bodies: whether it is the main class, its superclass, its fields with their types and the
 /// names of its methods, repeated ones too. The main class has no fields and no methods.
-#[derive(Drop)]
 pub struct Header {
     is_main: bool,
     superclass: Option<Name>,
     fields: Vec<Field>,
     methods: Vec<Name>,
+}
+
+impl Drop for Header {
+    fn drop(self) {
+        let Header {
+            is_main: _,
+            superclass: _,
+            fields: _,
+            methods: _,
+        } = self;
+    }
 }
 
 impl Model for Header {
@@ -110,10 +120,18 @@ impl Header {
 }
 
 /// The types of a method's formals, and its return type.
-#[derive(Drop)]
 pub struct Signature {
     formals: Vec<Ty>,
     returns: Ty,
+}
+
+impl Drop for Signature {
+    fn drop(self) {
+        let Signature {
+            formals: _,
+            returns: _,
+        } = self;
+    }
 }
 
 impl Model for Signature {
@@ -159,10 +177,15 @@ impl Signature {
 }
 
 /// The chain of classes that begins with a class, and its end.
-#[derive(Drop)]
 pub struct Supers {
     classes: Vec<Name>,
     end: ChainEnd,
+}
+
+impl Drop for Supers {
+    fn drop(self) {
+        let Supers { classes: _, end: _ } = self;
+    }
 }
 
 impl Model for Supers {

@@ -18,9 +18,14 @@ use std::collections::BTreeSet;
 use std::marker::Model;
 
 /// The names of a project's files in their order: 1 to 4,096 names that differ.
-#[derive(Drop)]
 pub struct FileNames {
     names: Vec<Name>,
+}
+
+impl Drop for FileNames {
+    fn drop(self) {
+        let FileNames { names: _ } = self;
+    }
 }
 
 impl Model for FileNames {
@@ -104,9 +109,14 @@ fn read_new_names(alloc: Global, count: u64, bytes: &[u8]) -> Result<(Vec<Name>,
 }
 
 /// The bytes of a source file.
-#[derive(Drop)]
 pub struct Text {
     bytes: Vec<u8>,
+}
+
+impl Drop for Text {
+    fn drop(self) {
+        let Text { bytes: _ } = self;
+    }
 }
 
 impl Model for Text {
@@ -255,9 +265,14 @@ impl Ordered for IndexRowFormat {
 }
 
 /// Each class with the file that declares it, ascending by class.
-#[derive(Drop)]
 pub struct Index {
     rows: Vec<IndexRow>,
+}
+
+impl Drop for Index {
+    fn drop(self) {
+        let Index { rows: _ } = self;
+    }
 }
 
 impl Model for Index {

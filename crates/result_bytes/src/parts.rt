@@ -11,7 +11,6 @@ use mj_lexer::Name;
 use std::alloc::{AllocError, Global};
 
 /// How a chain of classes ends.
-#[derive(Drop)]
 pub enum ChainEnd {
     /// The last class extends nothing.
     Top,
@@ -19,6 +18,14 @@ pub enum ChainEnd {
     Undeclared(Name),
     /// The last class extends this class of the chain.
     Repeated(Name),
+}
+
+impl Drop for ChainEnd {
+    fn drop(self) {
+        match self {
+            ChainEnd::Top | ChainEnd::Undeclared(_) | ChainEnd::Repeated(_) => {}
+        }
+    }
 }
 
 /// A name that is given has a spelling.

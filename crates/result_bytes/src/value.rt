@@ -8,7 +8,6 @@ use item_ids::Kind;
 use tree_bytes::{Body, Tree};
 
 /// The result of a query, one arm for each kind. `None` is the result for a key that names nothing.
-#[derive(Drop)]
 pub enum Value {
     /// The names of the files.
     Files(FileNames),
@@ -36,6 +35,26 @@ pub enum Value {
     Diags(Faults),
     /// The answer for the project.
     Answer(WholeAnswer),
+}
+
+impl Drop for Value {
+    fn drop(self) {
+        match self {
+            Value::Files(_)
+            | Value::Source(_)
+            | Value::Tree(_)
+            | Value::Index(_)
+            | Value::Header(_)
+            | Value::Method(_)
+            | Value::Sig(_)
+            | Value::Supers(_)
+            | Value::Members(_)
+            | Value::CheckClass(_)
+            | Value::CheckBody(_)
+            | Value::Diags(_)
+            | Value::Answer(_) => {}
+        }
+    }
 }
 
 impl Value {

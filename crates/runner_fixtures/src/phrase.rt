@@ -7,10 +7,17 @@ use mj_lexer::Name;
 use std::alloc::{AllocError, AllocFailed, Global};
 
 /// A name, or a phrase with a list of parts.
-#[derive(Drop)]
 pub enum Phrase {
     Name(Name),
     Call(Box<Phrase>, Vec<Phrase>),
+}
+
+impl Drop for Phrase {
+    fn drop(self) {
+        match self {
+            Phrase::Name(_) | Phrase::Call(_, _) => {}
+        }
+    }
 }
 
 /// The phrase that is looked at for two names.

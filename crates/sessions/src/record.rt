@@ -10,12 +10,22 @@ use std::marker::Model;
 use std::sync::Arc;
 
 /// What a session keeps of a key: how it became done, what it read, and its result. Contracts see the result's value.
-#[derive(Drop)]
 pub struct Record {
     key: Key,
     mark: Mark,
     edges: Vec<usize>,
     sealed: Arc<Sealed>,
+}
+
+impl Drop for Record {
+    fn drop(self) {
+        let Record {
+            key: _,
+            mark: _,
+            edges: _,
+            sealed: _,
+        } = self;
+    }
 }
 
 impl Model for Record {

@@ -13,12 +13,22 @@ use std::marker::Model;
 
 /// A session: its number in its chain, its link, which is the SHA-256 of the previous session's file (zeros where there
 /// is none), and its records. Where the SHA-256 of its own file is known, it keeps that too; contracts don't see it.
-#[derive(Drop)]
 pub struct Session {
     number: u32,
     link: [u8; 32],
     records: Vec<Record>,
     digest: Option<[u8; 32]>,
+}
+
+impl Drop for Session {
+    fn drop(self) {
+        let Session {
+            number: _,
+            link: _,
+            records: _,
+            digest: _,
+        } = self;
+    }
 }
 
 impl Model for Session {

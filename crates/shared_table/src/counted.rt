@@ -24,10 +24,15 @@ use std::sync::ledger::{Book, Share};
 
 /// The table of the session that its name stands for, and the sum of its workers' events, which is the length of the
 /// table's history. Each call is that of the table, and its event is counted for the worker that made it.
-#[derive(Drop)]
 pub struct Counted<J: Naming, R: Runner> {
     table: Table<R>,
     book: Book<J>,
+}
+
+impl<J: Naming, R: Runner> Drop for Counted<J, R> {
+    fn drop(self) {
+        let Counted { table: _, book: _ } = self;
+    }
 }
 
 impl<J: Naming, R: Runner> Model for Counted<J, R> {

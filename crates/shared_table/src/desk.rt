@@ -43,11 +43,20 @@ impl Plain<Fact<'_>, Read, u64> for Telling {
 /// What lies under the lock: a table, and the list of all keys with their results that it told its workers. Each of them
 /// is done with that result, and what is done stays done: so a worker's reads still stand when it ends a run, and none is
 /// compared with the table's again.
-#[derive(Drop)]
 pub(crate) struct Desk<J: Naming, R: Runner> {
     counted: Counted<J, R>,
     head: Head<J, Read>,
     told: Known<J, Read>,
+}
+
+impl<J: Naming, R: Runner> Drop for Desk<J, R> {
+    fn drop(self) {
+        let Desk {
+            counted: _,
+            head: _,
+            told: _,
+        } = self;
+    }
 }
 
 impl<J: Naming, R: Runner> Model for Desk<J, R> {

@@ -18,11 +18,20 @@ use std::sync::Arc;
 
 /// What a worker was told of the keys that are done, and the results of some, so that it asks the table once for each.
 /// Contracts see it as the beginning that it knows of the list of all that the table told. What is done stays done.
-#[derive(Drop)]
 pub(crate) struct Kept<J: Naming> {
     alloc: Global,
     known: Known<J, Read>,
     results: AnswerList,
+}
+
+impl<J: Naming> Drop for Kept<J> {
+    fn drop(self) {
+        let Kept {
+            alloc: _,
+            known: _,
+            results: _,
+        } = self;
+    }
 }
 
 impl<J: Naming> Model for Kept<J> {

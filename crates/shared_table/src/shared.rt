@@ -28,13 +28,23 @@ use std::sync::{Arc, Condvar, Mutex, Wait};
 /// the replay of the history, that the history is legal, that each worker's events are counted, and that each result that
 /// a worker was told still stands. What never changes lies beside the lock: the previous session, and what is known at
 /// first of the list of all that is told.
-#[derive(Drop)]
 pub struct Shared<J: Naming, R: Runner> {
     desk: Mutex<Desk<J, R>>,
     changed: Condvar,
     past: Option<Arc<Session>>,
     known: Known<J, Read>,
     ghost of_name: { session_in past ≡ J.past },
+}
+
+impl<J: Naming, R: Runner> Drop for Shared<J, R> {
+    fn drop(self) {
+        let Shared {
+            desk: _,
+            changed: _,
+            past: _,
+            known: _,
+        } = self;
+    }
 }
 
 impl<J: Naming, R: Runner> Shared<J, R> {

@@ -19,12 +19,19 @@ use tree_spelling::{
 };
 
 /// What a body belongs to.
-#[derive(Drop)]
 pub enum MainOrMethod {
     /// The statement of `main`.
     Main(Stmt),
     /// A method.
     Method(MethodTree),
+}
+
+impl Drop for MainOrMethod {
+    fn drop(self) {
+        match self {
+            MainOrMethod::Main(_) | MainOrMethod::Method(_) => {}
+        }
+    }
 }
 
 /// The types that a method declares.
@@ -37,9 +44,14 @@ pub struct MethodTypes {
 /// The statement of `main`, or a method, with tokens in four bytes and at most 500 levels. It is kept as its canonical
 /// bytes, which take a tenth of the room of the tree, and is opened where its parts are needed. Contracts see what the bytes
 /// spell.
-#[derive(Drop)]
 pub struct Body {
     bytes: Vec<u8>,
+}
+
+impl Drop for Body {
+    fn drop(self) {
+        let Body { bytes: _ } = self;
+    }
 }
 
 impl Model for Body {

@@ -12,12 +12,20 @@ use std::alloc::{AllocError, Global};
 use std::collections::BTreeMap;
 
 /// The places of classes and of their methods, found by their names.
-#[derive(Drop)]
 pub(crate) struct ClassIndex {
     /// The place of the first class of each name.
     classes: BTreeMap<Name, usize>,
     /// For each class the place of its first method of each name.
     methods: Vec<BTreeMap<Name, usize>>,
+}
+
+impl Drop for ClassIndex {
+    fn drop(self) {
+        let ClassIndex {
+            classes: _,
+            methods: _,
+        } = self;
+    }
 }
 
 impl ClassIndex {

@@ -13,10 +13,15 @@ use std::alloc::{AllocError, Global};
 use std::marker::Model;
 
 /// A method: its name beside its body. Contracts see the method.
-#[derive(Drop)]
 pub struct StoredMethod {
     pub(crate) name: Name,
     pub(crate) body: Body,
+}
+
+impl Drop for StoredMethod {
+    fn drop(self) {
+        let StoredMethod { name: _, body: _ } = self;
+    }
 }
 
 impl Model for StoredMethod {
@@ -55,10 +60,15 @@ impl StoredMethod {
 }
 
 /// A main class: its name beside its body. Contracts see the main class.
-#[derive(Drop)]
 pub struct StoredMain {
     pub(crate) name: Name,
     pub(crate) body: Body,
+}
+
+impl Drop for StoredMain {
+    fn drop(self) {
+        let StoredMain { name: _, body: _ } = self;
+    }
 }
 
 impl Model for StoredMain {
@@ -96,7 +106,6 @@ impl StoredMain {
 }
 
 /// A class that isn't the main class.
-#[derive(Drop)]
 pub struct StoredClass {
     pub name: Name,
     pub superclass: Option<Name>,
@@ -104,11 +113,30 @@ pub struct StoredClass {
     pub methods: Vec<StoredMethod>,
 }
 
+impl Drop for StoredClass {
+    fn drop(self) {
+        let StoredClass {
+            name: _,
+            superclass: _,
+            fields: _,
+            methods: _,
+        } = self;
+    }
+}
+
 /// A file: the main class, if it has one, and then its classes.
-#[derive(Drop)]
 pub struct StoredFile {
     pub main: Option<StoredMain>,
     pub classes: Vec<StoredClass>,
+}
+
+impl Drop for StoredFile {
+    fn drop(self) {
+        let StoredFile {
+            main: _,
+            classes: _,
+        } = self;
+    }
 }
 
 /// A method with its body as bytes.

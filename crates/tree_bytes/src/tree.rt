@@ -14,10 +14,15 @@ use std::marker::Model;
 
 /// The tree of a file, with tokens in four bytes and at most 500 levels. Contracts see it without where it lies in
 /// memory.
-#[derive(Drop)]
 pub struct Tree {
     root: StoredFile,
     index: ClassIndex,
+}
+
+impl Drop for Tree {
+    fn drop(self) {
+        let Tree { root: _, index: _ } = self;
+    }
 }
 
 impl Model for Tree {
