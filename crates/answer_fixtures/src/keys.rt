@@ -56,9 +56,7 @@ pub fn is_made(alloc: Global, asked: Asked) -> Result<bool, Unfit>
     ensures { IfOk result (λ b. IsTrue b ↔ FitTold asked.entry) }
 {
     let key = perhaps_key(alloc, asked)?;
-    let told = key.is_some();
-    drop(key);
-    Ok(told)
+    Ok(key.is_some())
 }
 
 /// Whether the name has this text, or is missing where the text is empty.
@@ -83,9 +81,7 @@ pub fn is_named(alloc: Global, asked: Asked, other: Asked) -> Result<bool, Unfit
     ensures { IfOk result (λ b. IsTrue b ↔ AreAlike asked.entry other.entry) }
 {
     let key = key_of(alloc, asked)?;
-    let told = is_key(&key, other);
-    drop(key);
-    Ok(told)
+    Ok(is_key(&key, other))
 }
 
 /// Whether the first key is less than the second, and differs from it.
@@ -93,9 +89,7 @@ pub fn is_less(alloc: Global, lesser: Asked, greater: Asked) -> Result<bool, Unf
     ensures { IfOk result (IsOrderOf lesser.entry greater.entry) }
 {
     let key = key_of(alloc, lesser)?;
-    let told = is_less_than(alloc, &key, greater);
-    drop(key);
-    told
+    is_less_than(alloc, &key, greater)
 }
 
 /// Whether the key is less than the one of this kind with these names, and differs from it.
@@ -104,9 +98,7 @@ fn is_less_than(alloc: Global, key: &Key, greater: Asked) -> Result<bool, Unfit>
         × (IsTrue b ↔ (key_cmp key.now other ≡ Less))) }
 {
     let other = key_of(alloc, greater)?;
-    let told = is_below(key, &other);
-    drop(other);
-    Ok(told)
+    Ok(is_below(key, &other))
 }
 
 /// Whether the first key is less than the second, and differs from it.
@@ -121,9 +113,7 @@ pub fn is_copy(alloc: Global, asked: Asked, other: Asked) -> Result<bool, Unfit>
     ensures { IfOk result (λ b. IsTrue b ↔ AreAlike asked.entry other.entry) }
 {
     let key = key_of(alloc, asked)?;
-    let told = equals_named(alloc, &key, other);
-    drop(key);
-    told
+    equals_named(alloc, &key, other)
 }
 
 /// Whether a copy of the key equals the one of this kind with these names.
@@ -133,9 +123,7 @@ fn equals_named(alloc: Global, key: &Key, asked: Asked) -> Result<bool, Unfit>
     // Keys are equal where their kinds, classes and members are.
     keys_in_order();
     let other = key_of(alloc, asked)?;
-    let told = equals_copy(alloc, key, &other);
-    drop(other);
-    told
+    equals_copy(alloc, key, &other)
 }
 
 /// Whether a copy of the key equals the other one.
@@ -145,7 +133,5 @@ fn equals_copy(alloc: Global, key: &Key, other: &Key) -> Result<bool, Unfit>
     // `==` on keys is equality.
     keys_in_order();
     let copy = key.copy(alloc)?;
-    let told = copy == *other;
-    drop(copy);
-    Ok(told)
+    Ok(copy == *other)
 }

@@ -22,8 +22,7 @@ pub fn bytes_of(alloc: Global, digits: &str) -> Result<Vec<u8>, Unfit>
     }
 }
 
-/// The value, shared: a function that drops a value itself is expensive to prove, as it writes out the drops of all
-/// arms.
+/// The value, shared.
 pub(crate) fn share(alloc: Global, value: Value) -> Result<Arc<Value>, AllocError>
     ensures { IfOk result (λ shared. arc_value shared ≡ value) }
 {

@@ -37,9 +37,7 @@ pub(crate) fn rerun<R: Runner>(
         Err(_) => return Err(Mismatch::OutOfMemory),
     };
     let mut recorder = Recorder::new(alloc, script);
-    let ended = replay(alloc, runner, session, item, &mut recorder);
-    drop(recorder);
-    ended
+    replay(alloc, runner, session, item, &mut recorder)
 }
 
 /// Replays an executed record with a recorder that holds the results of its edges and was asked nothing yet.
@@ -64,11 +62,7 @@ fn replay<R: Runner>(
     // A session keeps in its type what its records are.
     let _records = session.records();
     match record(alloc, runner, item.key(), recorder) {
-        Ok(outcome) => {
-            let compared = compare(session, item, recorder, &outcome);
-            drop(outcome);
-            compared
-        }
+        Ok(outcome) => compare(session, item, recorder, &outcome),
         Err(RunFault::OutOfMemory) => Err(Mismatch::OutOfMemory),
         Err(RunFault::Read(fault)) => Err(refused_read::<R>(session, item, recorder, fault)),
     }

@@ -53,8 +53,7 @@ fn check_told<D: Reader>(
     }
 }
 
-/// The mistakes in a body, which is opened. A call drops its tree: left to its scope, the drops of all forms of a
-/// statement would be written out at each exit.
+/// The mistakes in a body, which is opened.
 fn check_opened<D: Reader>(
     alloc: Global,
     recorder: &mut Recorder<D>,
@@ -68,9 +67,7 @@ fn check_opened<D: Reader>(
     ensures follows { D.follows recorder.old.inner recorder.new.inner }
 {
     let root = body.open(alloc)?;
-    let mistakes = check_root(alloc, recorder, class, &root);
-    drop(root);
-    mistakes
+    check_root(alloc, recorder, class, &root)
 }
 
 /// The mistakes in a body as a tree.

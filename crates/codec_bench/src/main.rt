@@ -79,29 +79,20 @@ fn write_session(alloc: Global, session: &Session) -> io::Result<()> {
     }
 }
 
-/// The bytes are read; then their value is spelled or sealed where the step says so. A call drops the value: left to its
-/// scope, the drops of all kinds of results would be written out at each exit.
+/// The bytes are read; then their value is spelled or sealed where the step says so.
 fn tree_once(alloc: Global, step: &str, bytes: &[u8]) -> io::Result<()> {
     let value = read(alloc, bytes)?;
     match step {
-        "decode" => {
-            drop(value);
-            Ok(())
-        }
+        "decode" => Ok(()),
         "encode" => {
-            let spelled = encode(alloc, &value);
-            drop(value);
-            spelled?;
+            encode(alloc, &value)?;
             Ok(())
         }
         "seal" => {
             seal(alloc, value)?;
             Ok(())
         }
-        _ => {
-            drop(value);
-            Err(invalid())
-        }
+        _ => Err(invalid()),
     }
 }
 

@@ -50,7 +50,5 @@ fn has_file(
         return Ok(false);
     }
     let key = Key::Source(name.copy(alloc)?);
-    let same = same_source(past, &key, bytes.as_slice()).is_some();
-    drop(key);
-    Ok(same)
+    Ok(same_source(past, &key, bytes.as_slice()).is_some())
 }

@@ -73,9 +73,7 @@ impl<S: Store<Out = Arc<Outcome<R>>>, R: Runner> Bringer<'_, S, R> {
     fn bring(&mut self, key: Key) -> Result<Arc<Sealed>, Undone>
         requires shows { ShowsOutcomes S.outcome_in }
     {
-        let ensured = self.worker.ensure(&key);
-        drop(key);
-        Ok(ensured?)
+        Ok(self.worker.ensure(&key)?)
     }
 
     /// Evaluates the trees of the files that the worker takes.
@@ -244,9 +242,7 @@ fn part_key(alloc: Global, class: &Name, method: &Name, part: Part) -> Result<Ke
 /// The key of this query of `main`.
 fn main_key(alloc: Global, class: &Name, part: Part) -> Result<Key, AllocError> {
     let main = Name::new(alloc, "main")?;
-    let key = part_key(alloc, class, &main, part);
-    drop(main);
-    key
+    part_key(alloc, class, &main, part)
 }
 
 /// The key of the types of a method.

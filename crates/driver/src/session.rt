@@ -158,9 +158,7 @@ fn end<J: Naming, R: Runner + Drop>(
     let mut all = all;
     let events = pay(alloc, &mut all, team)?;
     let table = counted.end(&mut all);
-    let done = session_of(&table, events);
-    drop(table);
-    done
+    session_of(&table, events)
 }
 
 /// The session that a table closes with, and what is reported of its history.

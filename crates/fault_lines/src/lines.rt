@@ -184,8 +184,5 @@ pub fn fault_lines<'a>(
 {
     let texts = Texts::new(alloc, project.texts())?;
     let declarations = Declarations::new(alloc, project.trees())?;
-    let lines = lines_of(alloc, &texts, &declarations, answer);
-    drop(declarations);
-    drop(texts);
-    lines
+    lines_of(alloc, &texts, &declarations, answer)
 }

@@ -163,14 +163,8 @@ impl<'a> ReadProject<'a> {
     {
         let mut texts = Vec::new(alloc);
         let mut trees = Vec::new(alloc);
-        match add_sources(alloc, project.files(), &mut texts, &mut trees) {
-            Ok(()) => Ok(ReadProject { texts, trees }),
-            Err(refused) => {
-                drop(texts);
-                drop(trees);
-                Err(refused)
-            }
-        }
+        add_sources(alloc, project.files(), &mut texts, &mut trees)?;
+        Ok(ReadProject { texts, trees })
     }
 
     /// The tree of each file, if it is a sentence.

@@ -157,13 +157,8 @@ fn number_names(alloc: Global, texts: &[IndexedText]) -> Result<BTreeMap<Name, u
         ≡ position (λ f. bytes_eq f.name name) texts.now) }
 {
     let mut numbers = BTreeMap::new(alloc);
-    match add_names(alloc, texts, &mut numbers) {
-        Ok(()) => Ok(numbers),
-        Err(refused) => {
-            drop(numbers);
-            Err(refused)
-        }
-    }
+    add_names(alloc, texts, &mut numbers)?;
+    Ok(numbers)
 }
 
 impl<'a, 't> Texts<'a, 't> {

@@ -31,13 +31,8 @@ impl<R: Runner> Table<R> {
             Err(OpenFault::ChainFull) => return Err(ReplayFault::ChainFull),
             Err(OpenFault::OutOfMemory) => return Err(ReplayFault::OutOfMemory),
         };
-        match table.step_all(events) {
-            Ok(()) => Ok(table),
-            Err(fault) => {
-                drop(table);
-                Err(fault)
-            }
-        }
+        table.step_all(events)?;
+        Ok(table)
     }
 
     /// Makes the calls of these events in a table that has none, up to the first that is no step.

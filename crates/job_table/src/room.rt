@@ -65,13 +65,8 @@ pub fn room_at_opening<R: Runner>(
     ensures room { IfOk result (λ r. vec_len r.1 < vec_capacity r.1) }
 {
     let nodes = NodeMap::of_inputs(alloc, inputs, past_len(past))?;
-    match room_for_history(alloc, past) {
-        Ok(history) => Ok((nodes, history)),
-        Err(refused) => {
-            drop(nodes);
-            Err(refused)
-        }
-    }
+    let history = room_for_history(alloc, past)?;
+    Ok((nodes, history))
 }
 
 /// Claims an unknown key for a worker and notes that, with room for one more event. Where memory runs out, neither the
@@ -97,16 +92,9 @@ pub fn claim<R: Runner>(
 {
     history.reserve(2)?;
     let noted = key.copy(alloc)?;
-    match nodes.add(alloc, key, Standing::Claimed(w)) {
-        Ok(()) => {
-            note(history, Event::Claim(w, noted));
-            Ok(())
-        }
-        Err(refused) => {
-            drop(noted);
-            Err(refused)
-        }
-    }
+    nodes.add(alloc, key, Standing::Claimed(w))?;
+    note(history, Event::Claim(w, noted));
+    Ok(())
 }
 
 /// Notes that a worker begins to run a key, with room for one more event. Where memory runs out, no event is noted.

@@ -136,22 +136,18 @@ impl<R: Runner> Table<R> {
     {
         // Inputs are those of a project, by their type.
         inputs.project();
-        match room_at_opening(alloc, &inputs, &past) {
-            Ok((nodes, history)) => Ok(Table {
-                alloc,
-                past,
-                inputs,
-                nodes,
-                history,
-                failed: false,
-                finder: Finder::new(),
-            }),
-            Err(_) => {
-                drop(past);
-                drop(inputs);
-                Err(OpenFault::OutOfMemory)
-            }
-        }
+        let Ok((nodes, history)) = room_at_opening(alloc, &inputs, &past) else {
+            return Err(OpenFault::OutOfMemory);
+        };
+        Ok(Table {
+            alloc,
+            past,
+            inputs,
+            nodes,
+            history,
+            failed: false,
+            finder: Finder::new(),
+        })
     }
 
     /// Asks for a key. If nobody has claimed it, the worker claims it.

@@ -62,9 +62,7 @@ fn rows_found<'a>(
         (state_of_nodes inputs.now nodes.now false) (keys_of both.0.items)) }
 {
     let (keys, found) = reach(alloc, inputs, nodes, none)?;
-    let rows = rows_of(alloc, &keys);
-    drop(keys);
-    Ok((rows?, found))
+    Ok((rows_of(alloc, &keys)?, found))
 }
 
 /// The number of the session after the previous one.

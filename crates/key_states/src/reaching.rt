@@ -45,14 +45,8 @@ pub fn reach<'a>(
 {
     let mut keys = first_keys(alloc, inputs, nodes.len())?;
     let mut found = Vec::new(alloc);
-    match spread(alloc, inputs, nodes, none, &mut keys, &mut found) {
-        Ok(()) => Ok((keys, found)),
-        Err(refused) => {
-            drop(keys);
-            drop(found);
-            Err(refused)
-        }
-    }
+    spread(alloc, inputs, nodes, none, &mut keys, &mut found)?;
+    Ok((keys, found))
 }
 
 /// Adds all that the keys of the inputs, and Answer, lead to, and tells how each key is done, in the set's order.
@@ -99,9 +93,7 @@ fn first_keys(alloc: Global, inputs: &Inputs, room: usize) -> Result<IndexSet<Ke
     ensures { IfOk result (λ set. AreRoots inputs.now set.keys) }
 {
     let first = EdgeKeys::own(roots(alloc, inputs)?);
-    let keys = set_of(alloc, &first, room);
-    drop(first);
-    keys
+    set_of(alloc, &first, room)
 }
 
 /// These keys, in a set that has room for so many.

@@ -148,7 +148,6 @@ fn of_kind(key: &Key, sealed: Arc<Sealed>) -> Result<Arc<Sealed>, Stop>
     if sealed.value().kind() == key.kind() {
         Ok(sealed)
     } else {
-        drop(sealed);
         Err(Stop::OutOfMemory)
     }
 }

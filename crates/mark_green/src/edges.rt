@@ -35,7 +35,5 @@ pub(crate) fn past_edges<'a>(
 pub(crate) fn is_same(entry: &Record, sealed: Arc<Sealed>) -> bool
     ensures { IsTrue result ↔ (print_of entry.now.value ≡ print_of (arc_value sealed)) }
 {
-    let same = entry.sealed().same_print(&sealed);
-    drop(sealed);
-    same
+    entry.sealed().same_print(&sealed)
 }

@@ -75,10 +75,7 @@ fn outcome_of<R: Runner>(
         (λ x. (stop ≡ Some x) ⊎ ((stop ≡ None) × (x ≡ Stop.OutOfMemory))) }
 {
     match stop {
-        Some(stop) => {
-            drop(outcome);
-            Err(stop)
-        }
+        Some(stop) => Err(stop),
         None => match outcome {
             Ok(outcome) => Ok(outcome),
             Err(RunFault::OutOfMemory) => Err(Stop::OutOfMemory),

@@ -104,8 +104,6 @@ pub(crate) fn hold(held: &mut AnswerList, key: Key, sealed: Arc<Sealed>) -> Resu
     if sealed.value().kind() == key.kind() {
         held.add(key, sealed)
     } else {
-        drop(key);
-        drop(sealed);
         Err(AllocError)
     }
 }
@@ -118,15 +116,6 @@ fn share<R: Runner>(
     ensures value { IfOk result (λ both. arc_value both.0 ≡ outcome.value) }
     ensures outcome { IfOk result (λ both. arc_value both.1 ≡ outcome) }
 {
-    let Ok(sealed) = Arc::try_clone(outcome.sealed()) else {
-        drop(outcome);
-        return Err(AllocError);
-    };
-    match Arc::new(alloc, outcome) {
-        Ok(outcome) => Ok((sealed, outcome)),
-        Err(refused) => {
-            drop(sealed);
-            Err(refused.into())
-        }
-    }
+    let sealed = Arc::try_clone(outcome.sealed())?;
+    Ok((sealed, Arc::new(alloc, outcome)?))
 }

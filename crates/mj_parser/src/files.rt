@@ -287,14 +287,9 @@ pub fn file(alloc: Global, tokens: &[Token]) -> Result<FileTree, ParseFault>
     ensures { Finds file_view result (tree_of tokens.now) }
 {
     let main = main_part(alloc, tokens)?;
-    match classes(alloc, tokens, main.after) {
-        Ok(classes) => Ok(FileTree {
-            main: main.tree,
-            classes: classes.tree,
-        }),
-        Err(fault) => {
-            drop(main);
-            Err(fault)
-        }
-    }
+    let classes = classes(alloc, tokens, main.after)?;
+    Ok(FileTree {
+        main: main.tree,
+        classes: classes.tree,
+    })
 }

@@ -130,9 +130,7 @@ fn past_source(
     ensures { IfOk result (λ o. IfSome o (λ a. arc_value a ≡ values.Source (Some bytes.now))) }
 {
     let key = Key::Source(Name::new(alloc, name)?);
-    let same = same_source(past, &key, bytes);
-    drop(key);
-    match same {
+    match same_source(past, &key, bytes) {
         Some(sealed) => Ok(Some(Arc::try_clone(sealed)?)),
         None => Ok(None),
     }

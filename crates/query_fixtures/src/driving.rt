@@ -28,9 +28,7 @@ fn driver_of(alloc: Global, text: &str) -> Result<Driver<MiniJava>, Unfit>
     ensures { IfOk result (λ driver. driver ≡ one_file text.now) }
 {
     let project = project_of(alloc, text)?;
-    let driver = driver_over(alloc, &project);
-    drop(project);
-    driver
+    driver_over(alloc, &project)
 }
 
 /// Whether the driver evaluates the key to the result that these digits spell.
@@ -56,9 +54,7 @@ fn brings(alloc: Global, driver: &mut Driver<MiniJava>, wanted: Given) -> Result
     ensures same { driver.new ≡ driver.old }
 {
     let key = key_of(alloc, wanted.0)?;
-    let told = comes_to(alloc, driver, &key, wanted.1);
-    drop(key);
-    told
+    comes_to(alloc, driver, &key, wanted.1)
 }
 
 /// Whether the driver evaluates each case's query to its value.
@@ -80,9 +76,7 @@ pub fn brings_each(alloc: Global, text: &str, rows: &[Row]) -> Result<bool, Unfi
         → All (λ row. Means (one_file text.now) row.query) rows.now) }
 {
     let mut driver = driver_of(alloc, text)?;
-    let told = brings_all(alloc, &mut driver, rows);
-    drop(driver);
-    told
+    brings_all(alloc, &mut driver, rows)
 }
 
 /// Whether a driver of the project of one file, `M.java` with this text, evaluates Answer to the result that these
@@ -91,7 +85,5 @@ pub fn is_answer(alloc: Global, text: &str, digits: &str) -> Result<bool, Unfit>
     ensures { IfOk result (λ b. IsTrue b → IsAnswerTold (one_file text.now) digits.now) }
 {
     let mut driver = driver_of(alloc, text)?;
-    let told = comes_to(alloc, &mut driver, &Key::Answer, digits);
-    drop(driver);
-    told
+    comes_to(alloc, &mut driver, &Key::Answer, digits)
 }

@@ -68,9 +68,7 @@ fn is_right_of(alloc: Global, key: &Key, row: Row) -> Result<bool, Unfit>
 {
     let list = list_of(alloc, row.reads)?;
     let mut runner = MiniJava::new(alloc);
-    let told = is_run(alloc, &mut runner, key, list, row);
-    drop(runner);
-    told
+    is_run(alloc, &mut runner, key, list, row)
 }
 
 /// Whether the case's query, run over its answers, reads just them, in their order, comes to its value, and is logged.
@@ -78,9 +76,7 @@ pub fn is_right(alloc: Global, row: Row) -> Result<bool, Unfit>
     ensures { IfOk result (λ b. IsTrue b → IsRunOf row.entry.query row.entry.reads.now) }
 {
     let key = query_of(alloc, row.query.0)?;
-    let told = is_right_of(alloc, &key, row);
-    drop(key);
-    told
+    is_right_of(alloc, &key, row)
 }
 
 /// Whether the runner's run over the list is refused an answer that isn't there and is logged, and its recorder keeps
@@ -115,9 +111,7 @@ fn is_lacking_of(alloc: Global, key: &Key, query: Asked, kept: Kept) -> Result<b
 {
     let list = list_of(alloc, kept.reads)?;
     let mut runner = MiniJava::new(alloc);
-    let told = is_refused(alloc, &mut runner, key, list, query, kept);
-    drop(runner);
-    told
+    is_refused(alloc, &mut runner, key, list, query, kept)
 }
 
 /// Whether the run of the query over the answers that are kept is refused another one, and is logged.
@@ -125,9 +119,7 @@ pub fn is_lacking(alloc: Global, query: Asked, kept: Kept) -> Result<bool, Unfit
     ensures { IfOk result (λ b. IsTrue b → IsLackingRun query.entry kept.entry) }
 {
     let key = query_of(alloc, query)?;
-    let told = is_lacking_of(alloc, &key, query, kept);
-    drop(key);
-    told
+    is_lacking_of(alloc, &key, query, kept)
 }
 
 /// Whether the check of the body over the list reads just the case's answers, in their order, and comes to the value.
@@ -160,7 +152,5 @@ pub fn is_checked(alloc: Global, row: Row) -> Result<bool, Unfit>
     ensures { IfOk result (λ b. IsTrue b → IsRunOf row.entry.query row.entry.reads.now) }
 {
     let key = query_of(alloc, row.query.0)?;
-    let told = is_checked_of(alloc, &key, row);
-    drop(key);
-    told
+    is_checked_of(alloc, &key, row)
 }

@@ -105,33 +105,12 @@ pub fn record<R: Runner, D: Reader>(
     is_key(key);
     let value = runner.run(alloc, key, recorder)?;
     let sealed = share(alloc, value)?;
-    match copy_of(alloc, key, recorder.reads()) {
-        Ok((key, reads)) => Ok(Outcome {
-            key,
-            reads,
-            sealed,
-            runner: PhantomData,
-        }),
-        Err(_) => {
-            drop(sealed);
-            Err(RunFault::OutOfMemory)
-        }
-    }
-}
-
-/// The key and the reads again.
-fn copy_of(alloc: Global, key: &Key, reads: &[Read]) -> Result<(Key, Vec<Read>), AllocError>
-    ensures key { IfOk result (λ x. x.0 ≡ key.now) }
-    ensures reads { IfOk result (λ x. x.1.items ≡ reads.now) }
-{
-    let reads = copy_reads(alloc, reads)?;
-    match key.copy(alloc) {
-        Ok(key) => Ok((key, reads)),
-        Err(error) => {
-            drop(reads);
-            Err(error)
-        }
-    }
+    Ok(Outcome {
+        key: key.copy(alloc)?,
+        reads: copy_reads(alloc, recorder.reads())?,
+        sealed,
+        runner: PhantomData,
+    })
 }
 
 /// The sealed value, to be shared.

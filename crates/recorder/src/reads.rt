@@ -131,16 +131,9 @@ fn push_first(
     ensures ok { OnOk result (list.new.items ≡ list.old.items ++ read ∷ []) }
     ensures err { OnErr result (list.new.items ≡ list.old.items) }
 {
-    match make_place(alloc, list, places, &read) {
-        Ok(()) => {
-            list.push_reserved(read);
-            Ok(())
-        }
-        Err(error) => {
-            drop(read);
-            Err(error)
-        }
-    }
+    make_place(alloc, list, places, &read)?;
+    list.push_reserved(read);
+    Ok(())
 }
 
 /// Makes room for the first read of a key, and notes its place.

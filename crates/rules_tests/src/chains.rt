@@ -195,9 +195,7 @@ fn is_chain_of(
 /// Whether the class of the case has this chain, or none.
 fn has_chain(alloc: Global, declarations: &Declarations, row: &Chain) -> Result<bool, AllocError> {
     let class = name(alloc, row.class)?;
-    let told = is_chain_of(alloc, declarations, &class, row);
-    drop(class);
-    told
+    is_chain_of(alloc, declarations, &class, row)
 }
 
 /// Whether so many classes are declared, those of one name again, and all of the cases have their chains.
@@ -221,17 +219,13 @@ fn are_chains_of(
     count: usize,
 ) -> Result<bool, AllocError> {
     let declarations = Declarations::new(alloc, files)?;
-    let told = all_have_chains(alloc, &declarations, count);
-    drop(declarations);
-    told
+    all_have_chains(alloc, &declarations, count)
 }
 
 /// The same of the files of these texts.
 fn are_chains(alloc: Global, texts: &[&str], count: usize) -> Result<bool, AllocError> {
     let files = trees_of(alloc, texts)?;
-    let told = are_chains_of(alloc, &files, count);
-    drop(files);
-    told
+    are_chains_of(alloc, &files, count)
 }
 
 #[test]

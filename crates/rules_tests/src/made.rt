@@ -12,8 +12,7 @@ pub(crate) fn name(alloc: Global, text: &str) -> Result<Name, AllocError> {
     }
 }
 
-/// The tree of each file, if it is a sentence. A list drops them by a call, where a tree that goes out of scope by
-/// itself would write out the drops of all its parts.
+/// The tree of each file, if it is a sentence.
 pub(crate) fn trees_of(alloc: Global, texts: &[&str]) -> Result<Vec<Option<FileTree>>, AllocError> {
     let mut trees = Vec::new(alloc);
     for text in texts {

@@ -61,9 +61,7 @@ fn has(alloc: Global, list: &AnswerList, given: Given) -> Result<bool, Unfit>
     ensures { IfOk result (Holds given.entry list.now) }
 {
     let key = key_of(alloc, given.0)?;
-    let told = has_for(alloc, list, &key, given);
-    drop(key);
-    told
+    has_for(alloc, list, &key, given)
 }
 
 /// Whether the list of these answers has this answer for its key.
@@ -72,9 +70,7 @@ pub fn holds(alloc: Global, answers: &[Given], given: Given) -> Result<bool, Unf
         × Holds given.entry list b) }
 {
     let list = list_of(alloc, answers)?;
-    let told = has(alloc, &list, given);
-    drop(list);
-    told
+    has(alloc, &list, given)
 }
 
 /// Whether two answers are one result with one fingerprint.

@@ -142,9 +142,7 @@ fn becomes(alloc: Global, recorder: &mut Recorder<Counting>, ask: Ask) -> Result
     ensures { IfOk result (λ b. IsTrue b → Becomes ask.entry recorder.old recorder.new) }
 {
     let key = key_of(alloc, asked_by(ask))?;
-    let told = becomes_of(recorder, &key, ask);
-    drop(key);
-    Ok(told)
+    Ok(becomes_of(recorder, &key, ask))
 }
 
 /// Whether the keys have these outcomes, one after the other.
@@ -209,9 +207,7 @@ pub fn keeps_after(
         × IsKept kept.entry end) }
 {
     let mut recorder = recorder_of(alloc, answers)?;
-    let told = become_kept(alloc, &mut recorder, asks, kept);
-    drop(recorder);
-    told
+    become_kept(alloc, &mut recorder, asks, kept)
 }
 
 /// How often the reader of such a recorder was asked.
@@ -233,9 +229,7 @@ pub fn answers_after(
         × HasAnswer end.inner.list asked.entry) }
 {
     let mut reader = reader_after(alloc, answers, asks)?;
-    let told = is_answered(alloc, &mut reader, asked);
-    drop(reader);
-    told
+    is_answered(alloc, &mut reader, asked)
 }
 
 /// Whether the reader has an answer for the key.
@@ -243,7 +237,5 @@ fn is_answered(alloc: Global, reader: &mut Counting, asked: Asked) -> Result<boo
     ensures { IfOk result (λ b. IsTrue b → HasAnswer reader.old.list asked.entry) }
 {
     let key = key_of(alloc, asked)?;
-    let told = reader.read(&key).is_ok();
-    drop(key);
-    Ok(told)
+    Ok(reader.read(&key).is_ok())
 }

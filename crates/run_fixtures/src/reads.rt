@@ -49,9 +49,7 @@ fn copy_of(alloc: Global, given: Given) -> Result<Read, Unfit>
     ensures { IfOk result (IsReadOf given.entry) }
 {
     let read = read_of(alloc, given)?;
-    let copy = read.copy(alloc);
-    drop(read);
-    Ok(copy?)
+    Ok(read.copy(alloc)?)
 }
 
 /// Whether the read is of the key.
@@ -61,9 +59,7 @@ fn is_of(alloc: Global, read: &Read, asked: Asked) -> Result<bool, Unfit>
     // Keys are equal where their kinds, classes and members are.
     keys_in_order();
     let key = key_of(alloc, asked)?;
-    let told = read.is_of(&key);
-    drop(key);
-    Ok(told)
+    Ok(read.is_of(&key))
 }
 
 /// Whether a copy of the read is of this key.
@@ -71,9 +67,7 @@ pub fn is_copy_of(alloc: Global, given: Given, asked: Asked) -> Result<bool, Unf
     ensures { IfOk result (λ b. IsTrue b ↔ AreAlike given.entry.0 asked.entry) }
 {
     let copy = copy_of(alloc, given)?;
-    let told = is_of(alloc, &copy, asked);
-    drop(copy);
-    told
+    is_of(alloc, &copy, asked)
 }
 
 /// Whether a copy of the read has its key and its answer.
@@ -81,7 +75,5 @@ pub fn has_read_copy(alloc: Global, given: Given) -> Result<bool, Unfit>
     ensures { IfOk result (λ b. IsTrue b) }
 {
     let copy = copy_of(alloc, given)?;
-    let told = is_read(alloc, &copy, given);
-    drop(copy);
-    told
+    is_read(alloc, &copy, given)
 }

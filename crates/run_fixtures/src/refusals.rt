@@ -74,9 +74,7 @@ fn is_ended<D: Reader>(
 {
     let mut runner = SampleRunner::new(alloc);
     let end = record(alloc, &mut runner, key, recorder).err();
-    let is_right = end == Some(RunFault::Read(fault)) && is_logged(runner.log(), asked);
-    drop(runner);
-    is_right
+    end == Some(RunFault::Read(fault)) && is_logged(runner.log(), asked)
 }
 
 /// Whether the recorded run ends with the refused read and is logged, and the recorder keeps just this.
@@ -117,9 +115,7 @@ fn leaves_over<D: Reader + Drop>(
         × IsLeft asked.entry fault kept.entry r) }
 {
     let mut recorder = Recorder::new(alloc, reader);
-    let is_right = is_left(alloc, key, &mut recorder, asked, fault, kept);
-    drop(recorder);
-    is_right
+    is_left(alloc, key, &mut recorder, asked, fault, kept)
 }
 
 /// Whether the key's run over the answers that are kept wants an answer that isn't held and is logged, and the recorder
@@ -143,9 +139,7 @@ pub fn leaves(alloc: Global, asked: Asked, kept: Kept) -> Result<bool, Unfit>
         × IsLeft asked.entry NotHeld kept.entry r) }
 {
     let key = query_of(alloc, asked)?;
-    let is_right = leaves_by(alloc, &key, asked, kept);
-    drop(key);
-    is_right
+    leaves_by(alloc, &key, asked, kept)
 }
 
 /// Whether a run whose reads are refused with this fault ends so and is logged, and the recorder keeps no read, this
@@ -166,7 +160,5 @@ pub fn leaves_refused(
         fault: Some(fault),
         refused,
     };
-    let is_right = leaves_over(alloc, &key, Refusing(fault), asked, fault, kept);
-    drop(key);
-    is_right
+    leaves_over(alloc, &key, Refusing(fault), asked, fault, kept)
 }

@@ -38,9 +38,7 @@ fn outcome_over(
     ensures outcome { IfOk result (λ o. IsOutcome sample_mean sample_reads o) }
 {
     let mut runner = SampleRunner::new(alloc);
-    let outcome = record_over(alloc, &mut runner, key, list);
-    drop(runner);
-    outcome
+    record_over(alloc, &mut runner, key, list)
 }
 
 /// The outcome of a run of the query over the list, which is lent.
@@ -53,9 +51,7 @@ fn outcome_by(
     ensures outcome { IfOk result (λ o. IsOutcome sample_mean sample_reads o) }
 {
     let key = query_of(alloc, asked)?;
-    let outcome = outcome_over(alloc, &key, list);
-    drop(key);
-    outcome
+    outcome_over(alloc, &key, list)
 }
 
 /// The outcome of a run of the query over these answers, where no read is refused.
@@ -68,9 +64,7 @@ pub fn outcome_of(
     ensures outcome { IfOk result (λ o. IsOutcome sample_mean sample_reads o) }
 {
     let mut list = list_of(alloc, given)?;
-    let outcome = outcome_by(alloc, asked, &mut list);
-    drop(list);
-    outcome
+    outcome_by(alloc, asked, &mut list)
 }
 
 /// Whether the outcome is of this key, has this result, and read just these answers in this order.
@@ -95,9 +89,7 @@ pub fn gives(alloc: Global, run: Given, reads: &[Given]) -> Result<bool, Unfit>
     ensures { IfOk result (IsGiven run.entry reads.now) }
 {
     let outcome = outcome_of(alloc, run.0, reads)?;
-    let is_right = is_outcome(alloc, &outcome, run, reads);
-    drop(outcome);
-    is_right
+    is_outcome(alloc, &outcome, run, reads)
 }
 
 /// Whether a run over the list, which is lent, reads just these answers and has this result.
@@ -110,9 +102,7 @@ fn gives_by(
     ensures { IfOk result (IsGiven run.entry reads.now) }
 {
     let outcome = outcome_by(alloc, run.0, list)?;
-    let is_right = is_outcome(alloc, &outcome, run, reads);
-    drop(outcome);
-    is_right
+    is_outcome(alloc, &outcome, run, reads)
 }
 
 /// Whether two runs, one after the other, over one list of these answers, which is lent to both, read just them and

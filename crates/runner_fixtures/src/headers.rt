@@ -21,9 +21,7 @@ fn ask<D: Reader>(recorder: &mut Recorder<D>, key: Key) -> Result<Arc<Sealed>, R
     ensures err { IfErr result (λ e. GivesUp (Ask key) recorder.old e recorder.new) }
     ensures follows { D.follows recorder.old.inner recorder.new.inner }
 {
-    let told = ask_key(recorder, &key);
-    drop(key);
-    told
+    ask_key(recorder, &key)
 }
 
 /// Asks the header of a file.

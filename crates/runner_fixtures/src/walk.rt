@@ -107,10 +107,7 @@ fn meet<D: Reader>(
     ensures err { IfErr result (λ e. GivesUp (meet_step first second) recorder.old e recorder.new) }
     ensures follows { D.follows recorder.old.inner recorder.new.inner }
 {
-    let met = meet_types(alloc, recorder, first.as_ref(), second.as_ref());
-    drop(first);
-    drop(second);
-    met
+    meet_types(alloc, recorder, first.as_ref(), second.as_ref())
 }
 
 /// The type of a phrase.

@@ -115,12 +115,6 @@ impl<J: Naming> Kept<J> {
         requires told { Contains self.old (record { key = key.now; value = arc_value shared }) }
         ensures { self.new ≡ self.old }
     {
-        match key.copy(self.alloc) {
-            Ok(key) => self.results.add(key, shared),
-            Err(refused) => {
-                drop(shared);
-                Err(refused)
-            }
-        }
+        self.results.add(key.copy(self.alloc)?, shared)
     }
 }

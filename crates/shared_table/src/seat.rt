@@ -81,7 +81,6 @@ impl<J: Naming, R: Runner, T: Wait, G: Gate> Store for Seat<'_, J, R, T, G> {
         if self.kept.keeps(key, &answer) {
             answer
         } else {
-            drop(answer);
             Err(TableFault::OutOfMemory)
         }
     }
@@ -118,20 +117,14 @@ impl<J: Naming, R: Runner, T: Wait, G: Gate> Store for Seat<'_, J, R, T, G> {
         ensures given { (result ≡ Err fault.OutOfMemory)
             ⊎ IsGiven J.past J.project (λ t u. FinishTells t w (arc_value outcome) result u) }
     {
-        match Arc::try_clone(&outcome) {
-            Ok(ended) => {
-                let answer = self
-                    .shared
-                    .finish(self.rt, self.tally, &mut self.kept, w, outcome, &ended);
-                after_run(self.gate, w, &ended, &answer);
-                drop(ended);
-                answer
-            }
-            Err(_) => {
-                drop(outcome);
-                Err(TableFault::OutOfMemory)
-            }
-        }
+        let Ok(ended) = Arc::try_clone(&outcome) else {
+            return Err(TableFault::OutOfMemory);
+        };
+        let answer = self
+            .shared
+            .finish(self.rt, self.tally, &mut self.kept, w, outcome, &ended);
+        after_run(self.gate, w, &ended, &answer);
+        answer
     }
 
     fn fail(&mut self, w: u32) -> Result<(), TableFault>

@@ -52,14 +52,8 @@ impl<J: Naming, R: Runner> Shared<J, R> {
     pub fn new(counted: Counted<J, R>, list: Opened<Read>) -> Result<Self, AllocError>
         requires { list.seen.book ≡ J.book }
     {
-        match counted.past() {
-            Ok(past) => Ok(Shared::over(counted, past, list)),
-            Err(refused) => {
-                drop(list);
-                drop(counted);
-                Err(refused)
-            }
-        }
+        let past = counted.past()?;
+        Ok(Shared::over(counted, past, list))
     }
 
     /// Shares a table with its previous session, and the empty list.
@@ -118,7 +112,6 @@ impl<J: Naming, R: Runner> Shared<J, R> {
             if !is_busy(&answer) {
                 return answer;
             }
-            drop(answer);
         }
         unreachable!()
     }

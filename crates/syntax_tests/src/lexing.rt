@@ -150,17 +150,13 @@ fn has_copy(alloc: Global, name: &Name, text: &str) -> Result<bool, AllocError> 
 /// Whether the name of the text reads as it.
 fn is_read(alloc: Global, text: &str) -> Result<bool, Fail> {
     let name = named(alloc, text)?;
-    let told = is_spelled(alloc, &name, text);
-    drop(name);
-    Ok(told?)
+    Ok(is_spelled(alloc, &name, text)?)
 }
 
 /// Whether the name of the text has a copy as good as it.
 fn is_copied(alloc: Global, text: &str) -> Result<bool, Fail> {
     let name = named(alloc, text)?;
-    let told = has_copy(alloc, &name, text);
-    drop(name);
-    Ok(told?)
+    Ok(has_copy(alloc, &name, text)?)
 }
 
 #[test]

@@ -193,9 +193,7 @@ fn says(alloc: Global, table: &mut Table<MiniJava>, saying: &Saying) -> Result<b
     ensures { IfOk result (λ b. IsTrue b → IsSaid saying.now table.old table.new) }
 {
     let key = key_of(alloc, saying.key)?;
-    let told = says_of(alloc, table, saying, &key);
-    drop(key);
-    told
+    says_of(alloc, table, saying, &key)
 }
 
 fn all_say(alloc: Global, table: &mut Table<MiniJava>, sayings: &[Saying]) -> Result<bool, Unfit>
@@ -214,7 +212,5 @@ pub fn are_said(alloc: Global, calls: &Calls) -> Result<bool, Unfit>
     ensures { IfOk result (λ b. IsTrue b → AreSaid calls.now) }
 {
     let mut table = table_of(alloc, calls.chain, calls.text)?;
-    let told = all_say(alloc, &mut table, calls.sayings);
-    drop(table);
-    told
+    all_say(alloc, &mut table, calls.sayings)
 }

@@ -127,9 +127,7 @@ pub(crate) fn digest_behind(
         × IsNextOf (session_in past.now) records.now s × (digest ≡ digest_of s)) }
 {
     let session = session_behind(alloc, past, records)?;
-    let told = digest(&session);
-    drop(session);
-    Ok(told)
+    Ok(digest(&session))
 }
 
 /// The session, to be shared.

@@ -98,9 +98,7 @@ pub fn are_reported<T: Threads + Wait + Sync>(
         → AreReported (one_file text.now) first.now again.now) }
 {
     let project = project_of(alloc, text)?;
-    let told = are_reported_of(rt, alloc, &project, first, again);
-    drop(project);
-    told
+    are_reported_of(rt, alloc, &project, first, again)
 }
 
 /// The session of this number without records.
@@ -160,7 +158,5 @@ pub fn drive_fault<T: Threads + Wait + Sync>(
     ensures { IfOk result (IsFaultOf unmade.now.past (one_file text.now) unmade.now.workers) }
 {
     let project = project_of(alloc, text)?;
-    let fault = fault_over(rt, alloc, &project, unmade);
-    drop(project);
-    fault
+    fault_over(rt, alloc, &project, unmade)
 }

@@ -108,9 +108,7 @@ fn comes_done(
     ensures { IfOk result (λ b. IsTrue b → IsBrought records.now kept.now table.old table.new) }
 {
     let key = key_of(alloc, kept.key)?;
-    let told = comes_done_by(alloc, table, records, kept, &key);
-    drop(key);
-    told
+    comes_done_by(alloc, table, records, kept, &key)
 }
 
 /// Evaluates these keys, and tells whether each is done then with its result. The edges are indices of `records`.
@@ -193,9 +191,7 @@ fn is_replayed(alloc: Global, table: &Table<MiniJava>, text: &str) -> Result<boo
     ensures { IfOk result (λ b. IsTrue b → IsReplayed text.now table.now) }
 {
     let project = project_of(alloc, text)?;
-    let told = is_replayed_in(alloc, table, &project);
-    drop(project);
-    told
+    is_replayed_in(alloc, table, &project)
 }
 
 /// Whether the table ends as the history says.
@@ -221,9 +217,7 @@ fn is_of_records(alloc: Global, history: &History, records: &[Kept]) -> Result<b
     ensures { IfOk result (λ b. IsTrue b → IsHistory history.now) }
 {
     let mut table = table_of(alloc, history.chain, history.text)?;
-    let told = is_led(alloc, &mut table, history, records);
-    drop(table);
-    told
+    is_led(alloc, &mut table, history, records)
 }
 
 /// Whether the session is made as the history says: each of its keys is claimed and marked or run as its record says,

@@ -86,9 +86,7 @@ fn events_by(alloc: Global, replay: &Replay, kept: &Kept) -> Result<Events, Unfi
     ensures { IfOk result (λ events. AreEventsOf replay.now (map event_of events.items)) }
 {
     let key = key_of(alloc, kept.key)?;
-    let events = events_with(alloc, &key, replay, kept);
-    drop(key);
-    events
+    events_with(alloc, &key, replay, kept)
 }
 
 fn events_of(alloc: Global, replay: &Replay) -> Result<Events, Unfit>
@@ -132,7 +130,5 @@ pub fn replay_of(alloc: Global, replay: &Replay) -> Result<Result<usize, ReplayF
     ensures { IfOk result (IsReplay replay.now) }
 {
     let project = project_of(alloc, replay.text)?;
-    let ending = replay_over(alloc, &project, replay);
-    drop(project);
-    ending
+    replay_over(alloc, &project, replay)
 }

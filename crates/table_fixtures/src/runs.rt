@@ -119,10 +119,7 @@ fn outcome_over(alloc: Global, key: &Key, list: AnswerList) -> Result<Arc<Outcom
 {
     let mut runner = MiniJava::new(alloc);
     let mut recorder = Recorder::new(alloc, list);
-    let outcome = outcome_by(alloc, &mut runner, key, &mut recorder);
-    drop(recorder);
-    drop(runner);
-    outcome
+    outcome_by(alloc, &mut runner, key, &mut recorder)
 }
 
 /// The outcome of the key's run over the answers of the record's edges, which are indices of these records.
@@ -149,7 +146,5 @@ pub(crate) fn outcome_of(
     ensures { IfOk result (λ o. IsRunOf records.now kept.now (arc_value o)) }
 {
     let key = query_of(alloc, kept.key)?;
-    let outcome = outcome_with(alloc, &key, records, kept);
-    drop(key);
-    outcome
+    outcome_with(alloc, &key, records, kept)
 }

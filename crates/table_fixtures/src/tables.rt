@@ -21,9 +21,7 @@ pub(crate) fn table_of(
     ensures { IfOk result (IsTableOf chain.now text.now) }
 {
     let project = project_of(alloc, text)?;
-    let table = table_over(alloc, chain, &project);
-    drop(project);
-    table
+    table_over(alloc, chain, &project)
 }
 
 fn table_over(alloc: Global, chain: &[Change], project: &Project) -> Result<Table<MiniJava>, Unfit>

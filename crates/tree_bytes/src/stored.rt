@@ -203,18 +203,15 @@ fn store_main(alloc: Global, main: &MainTree) -> Result<StoredMain, AllocError>
     Ok(StoredMain { name, body })
 }
 
-/// A main class, where there is one, with its statement as bytes. A call drops the tree: left to its scope, the drops of
-/// all forms of its statement would be written out at each exit.
+/// A main class, where there is one, with its statement as bytes.
 fn store_any_main(alloc: Global, main: Option<MainTree>) -> Result<Option<StoredMain>, AllocError>
     requires { IfSome (option_map main_view main) MainFits }
     ensures { IfOk result (λ stored. stored ≡ option_map main_view main) }
 {
-    let stored = match &main {
-        Some(main) => store_main(alloc, main).map(Some),
+    match &main {
+        Some(main) => Ok(Some(store_main(alloc, main)?)),
         None => Ok(None),
-    };
-    drop(main);
-    stored
+    }
 }
 
 /// A file with its methods as bytes.

@@ -17,8 +17,8 @@ record-requires-clause-no_input g c =
     subst (λ (k : Key). 0 < rank k) (sym c.key.ensures)
     (rank_above g.R.Runner.mean g.R.Runner.reads c.args.session.now c.records-records.ensures.session c.requires.executed.at c.args.item.now c.requires.executed.here c.requires.executed.mark)
 
-pub compare-compared-requires-clause-inside : goal.compare-compared-requires-clause-inside
-compare-compared-requires-clause-inside g c =
+pub compare-requires-clause-inside : goal.compare-requires-clause-inside
+compare-requires-clause-inside g c =
     edges_inside g.R.Runner.mean g.R.Runner.reads c.args.session.now c.records-records.ensures.session c.requires.executed.at c.args.item.now c.requires.executed.here
 
 pub refused_read-requires-clause-inside : goal.refused_read-requires-clause-inside
@@ -27,7 +27,7 @@ refused_read-requires-clause-inside g c =
 
 pub returns-in-Ok-clause-ok : goal.returns-in-Ok-clause-ok
 returns-in-Ok-clause-ok g c =
-    on_ok (Logs c.args.item.now.key (g.R.Runner.log c.args.runner.now) (g.R.Runner.log c.record.new.runner)) c.compare-compared.result
+    on_ok (Logs c.args.item.now.key (g.R.Runner.log c.args.runner.now) (g.R.Runner.log c.record.new.runner)) c.compare.result
     (logs_ok _ c.in-Ok.outcome OutOfMemory c.record.result c.in-Ok.is c.args.item.now.key c.key.result.now (g.R.Runner.log c.args.runner.now) (g.R.Runner.log c.record.new.runner) c.key.ensures c.record.ensures.log)
 
 pub returns-in-Ok-clause-log : goal.returns-in-Ok-clause-log

@@ -4,6 +4,6 @@ use Rattle.run_fixtures.proofs.refusals.leaves_over.Goals as goal
 
 pub returns : goal.returns
 returns g c =
-    let end = c.is_left-is_right.new.recorder in
-    let follows = subst (λ r. g.D.Reader.follows r.inner end.inner) c.new-recorder.ensures c.is_left-is_right.ensures.follows in
-    if_ok_then _ _ c.is_left-is_right.result (λ b left yes. (end, follows, left yes)) c.is_left-is_right.ensures.left
+    let end = c.is_left.new.recorder in
+    let follows = subst (λ r. g.D.Reader.follows r.inner end.inner) c.new-recorder.ensures c.is_left.ensures.follows in
+    if_ok_then _ _ c.is_left.result (λ b left yes. (end, follows, left yes)) c.is_left.ensures.left

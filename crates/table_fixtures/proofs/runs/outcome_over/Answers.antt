@@ -5,4 +5,4 @@ use Rattle.table_fixtures.proofs.runs.outcome_over.Goals as goal
 
 pub returns-clause-read : goal.returns-clause-read
 returns-clause-read c =
-    subst (λ r. IfOk c.outcome_by-outcome.result (λ o. AllByRecursion (λ t. Contains r.inner t) (arc_value o).told)) c.new-recorder.ensures c.outcome_by-outcome.ensures.read
+    subst (λ r. IfOk c.outcome_by.result (λ o. AllByRecursion (λ t. Contains r.inner t) (arc_value o).told)) c.new-recorder.ensures c.outcome_by.ensures.read

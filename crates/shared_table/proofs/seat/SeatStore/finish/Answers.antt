@@ -6,15 +6,15 @@ use Rattle.shared_table.specs.Given.{IsGiven}
 use Rattle.shared_table.proofs.Told.{told_on}
 use Rattle.shared_table.proofs.seat.SeatStore.finish.Goals as goal
 
-pub returns-in-Ok-clause-told : goal.returns-in-Ok-clause-told
-returns-in-Ok-clause-told g c =
+pub returns-clause-told : goal.returns-clause-told
+returns-clause-told g c =
     let same = c.deref.ensures ∙ c.in-Ok.ensures in
     subst (λ (o : OutcomeValue). IfOk c.finish-answer.result (λ _. is_told c.finish-answer.new.kept o.key o.value)) same c.finish-answer.ensures.told
 
-pub returns-in-Ok-clause-stays : goal.returns-in-Ok-clause-stays
-returns-in-Ok-clause-stays g c = told_on c.args.self.now.kept c.finish-answer.new.kept c.finish-answer.new.kept c.finish-answer.ensures.stays refl
+pub returns-clause-stays : goal.returns-clause-stays
+returns-clause-stays g c = told_on c.args.self.now.kept c.finish-answer.new.kept c.finish-answer.new.kept c.finish-answer.ensures.stays refl
 
-pub returns-in-Ok-clause-given : goal.returns-in-Ok-clause-given
-returns-in-Ok-clause-given g c =
+pub returns-clause-given : goal.returns-clause-given
+returns-clause-given g c =
     let same = c.deref.ensures ∙ c.in-Ok.ensures in
     inr (subst (λ (o : OutcomeValue). IsGiven g.J.Naming.past g.J.Naming.project (λ t u. FinishTells t c.args.w o c.finish-answer.result u)) same c.finish-answer.ensures.given)
