@@ -1,5 +1,5 @@
 -- Kinds of queries: their numbers, their ranks, and which names they have.
-use Rattle.std.specs.Prelude.{◌≡◌, ℕ, Bool, true, false, List, [], Option, Some, None, is_some}
+use Rattle.std.specs.Prelude.{◌≡◌, ℕ, Bool, true, false, List, [], ◌∷◌, Option, Some, None, is_some, find, ◌==◌}
 use Rattle.item_ids.specs.declared.kind.Kind.{Kind}
 use Rattle.item_ids.specs.declared.kind.Kind.TheVariants.{Files, Source, Tree, Index, Header, Method, Sig, Supers, Members, CheckClass, CheckBody, Diags, Answer}
 
@@ -17,6 +17,15 @@ number_of CheckClass = 9
 number_of CheckBody = 10
 number_of Diags = 11
 number_of Answer = 12
+
+abbrev pub all_kinds : List Kind
+all_kinds =
+    Files ∷ Source ∷ Tree ∷ Index ∷ Header ∷ Method ∷ Sig ∷ Supers ∷ Members ∷ CheckClass ∷ CheckBody
+    ∷ Diags ∷ Answer ∷ []
+
+-- the kind of this number
+unfoldable pub kind_with : ℕ → Option Kind
+kind_with n = find (λ kind. number_of kind == n) all_kinds
 
 -- A query reads queries of lower rank alone.
 abbrev pub rank_of : Kind → ℕ

@@ -1,4 +1,5 @@
 pub mod Kinds
+pub mod KindLaws
 pub mod Keys
 pub mod Places
 pub mod Hashes

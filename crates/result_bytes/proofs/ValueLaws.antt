@@ -1,12 +1,12 @@
 -- Values: what is read is spelled there, and each spelling is read back; no spelling has two
 -- values.
-use Rattle.std.proofs.Common.{◌≡◌, ℕ, Bool, true, false, cond, eqb, List, [], ◌∷◌, ◌++◌, length, find, Option, Some, Result, Ok, Err, refl, sym, ap, subst, eq-eqb, ◌∙◌}
+use Rattle.std.proofs.Common.{◌≡◌, ℕ, Bool, true, false, cond, eqb, List, [], ◌∷◌, ◌++◌, length, Result, Ok, Err, refl, sym, ap, subst, eq-eqb, ◌∙◌}
 use Rattle.std.proofs.lemmas.Bool.{eqb-true}
 use Rattle.std.proofs.lemmas.List.{append-nil, nil_from_length}
-use Rattle.std.proofs.lemmas.Option.{same_Some}
 use Rattle.item_ids.specs.declared.kind.Kind.{Kind}
 use Rattle.item_ids.specs.declared.kind.Kind.TheVariants as kinds
 use Rattle.item_ids.specs.Kinds.{number_of}
+use Rattle.item_ids.specs.KindLaws.{number_apart}
 use Rattle.byte_readers.specs.declared.breach.Breach.{Breach}
 use Rattle.byte_readers.specs.Lawful.{IsBytes, Takes, Lawful}
 use Rattle.byte_readers.specs.Reading.{Decoder, made_at}
@@ -109,27 +109,6 @@ decoded_again v h =
 
 pub decoded_at : (kind : Kind) (bytes : List ℕ) (v : Value) → IsValue v → kind_of_value v ≡ kind → bytes ≡ canon v → decoding kind bytes ≡ Ok v
 decoded_at kind bytes v h k e = ap (λ (x : Kind). decoding x bytes) (sym k) ∙ ap (decoding (kind_of_value v)) e ∙ decoded_again v h
-
-abbrev kind_numbered : ℕ → Option Kind
-kind_numbered n = find (λ (kind : Kind). eqb (number_of kind) n) (kinds.Files ∷ kinds.Source ∷ kinds.Tree ∷ kinds.Index ∷ kinds.Header ∷ kinds.Method ∷ kinds.Sig ∷ kinds.Supers ∷ kinds.Members ∷ kinds.CheckClass ∷ kinds.CheckBody ∷ kinds.Diags ∷ kinds.Answer ∷ [])
-
-numbered_again : (kind : Kind) → kind_numbered (number_of kind) ≡ Some kind
-numbered_again kinds.Files = refl
-numbered_again kinds.Source = refl
-numbered_again kinds.Tree = refl
-numbered_again kinds.Index = refl
-numbered_again kinds.Header = refl
-numbered_again kinds.Method = refl
-numbered_again kinds.Sig = refl
-numbered_again kinds.Supers = refl
-numbered_again kinds.Members = refl
-numbered_again kinds.CheckClass = refl
-numbered_again kinds.CheckBody = refl
-numbered_again kinds.Diags = refl
-numbered_again kinds.Answer = refl
-
-number_apart : (a b : Kind) → number_of a ≡ number_of b → a ≡ b
-number_apart a b e = same_Some a b (sym (numbered_again a) ∙ ap kind_numbered e ∙ numbered_again b)
 
 -- the first byte of a spelling is the number of the kind
 first_byte : (v w : Value) → canon v ≡ canon w → number_of (kind_of_value v) ≡ number_of (kind_of_value w)

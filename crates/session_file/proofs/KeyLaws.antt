@@ -3,28 +3,12 @@ use Rattle.std.proofs.Common.{◌≡◌, ℕ, ◌<◌, ◌≤◌, inl, inr, fals
 use Rattle.std.specs.Prelude.{IsSome, IfSome, ◌↔◌}
 use Rattle.std.proofs.lemmas.Bool.{ne_eqb, cases_lt}
 use Rattle.item_ids.specs.declared.kind.Kind.{Kind}
-use Rattle.item_ids.specs.declared.kind.Kind.TheVariants.{Files, Source, Tree, Index, Header, Method, Sig, Supers, Members, CheckClass, CheckBody, Diags, Answer}
-use Rattle.item_ids.specs.Kinds.{number_of}
+use Rattle.item_ids.specs.Kinds.{number_of, kind_with}
+use Rattle.item_ids.specs.KindLaws.{kind_again}
 use Rattle.sessions.specs.declared.mark.Mark.{Mark}
 use Rattle.sessions.specs.declared.mark.Mark.TheVariants.{Input, Executed, Green}
 use Rattle.sessions.specs.Marks.{mark_number}
-use Rattle.session_file.specs.Keys.{kind_with, mark_with}
-
-pub kind_again : (kind : Kind) → kind_with (number_of kind) ≡ Some kind
-unfolding kind_with
-kind_again Files = refl
-kind_again Source = refl
-kind_again Tree = refl
-kind_again Index = refl
-kind_again Header = refl
-kind_again Method = refl
-kind_again Sig = refl
-kind_again Supers = refl
-kind_again Members = refl
-kind_again CheckClass = refl
-kind_again CheckBody = refl
-kind_again Diags = refl
-kind_again Answer = refl
+use Rattle.session_file.specs.Keys.{mark_with}
 
 pub mark_again : (mark : Mark) → mark_with (mark_number mark) ≡ Some mark
 unfolding mark_with

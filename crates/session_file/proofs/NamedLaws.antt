@@ -6,7 +6,7 @@ use Rattle.std.proofs.lemmas.Bool.{eqb-true}
 use Rattle.std.proofs.lemmas.Str.{IsUtf8-nil, is_utf8-from_IsUtf8}
 use Rattle.item_ids.specs.declared.kind.Kind.{Kind}
 use Rattle.item_ids.specs.declared.kind.Kind.TheVariants as kinds
-use Rattle.item_ids.specs.Kinds.{number_of, has_class, has_member}
+use Rattle.item_ids.specs.Kinds.{number_of, all_kinds, kind_with, has_class, has_member}
 use Rattle.item_ids.specs.declared.key.Key.{Key}
 use Rattle.item_ids.specs.declared.key.Key.TheVariants.{Files, Source, Tree, Index, Header, Method, Sig, Supers, Members, CheckClass, CheckBody, Diags, Answer}
 use Rattle.item_ids.specs.Keys.{kind_of, class_of, member_of, class_text, member_text, IsKey}
@@ -15,7 +15,7 @@ use Rattle.byte_readers.specs.Laws.{found_passes}
 use Rattle.sessions.specs.declared.mark.Mark.{Mark}
 use Rattle.sessions.specs.declared.mark.Mark.TheVariants.{Input, Executed, Green}
 use Rattle.sessions.specs.Marks.{mark_number}
-use Rattle.session_file.specs.Keys.{all_kinds, kind_with, mark_with, name_with, same, are_names, key_of_parts, key_of_kind, key_of_some, key_with}
+use Rattle.session_file.specs.Keys.{mark_with, name_with, same, are_names, key_of_parts, key_of_kind, key_of_some, key_with}
 
 both : (a b : Bool) → (a && b) ≡ true → (a ≡ true) × (b ≡ true)
 both true b e = (refl, e)

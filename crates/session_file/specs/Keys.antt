@@ -3,22 +3,12 @@ use Rattle.std.specs.Prelude.{ℕ, Bool, true, false, List, [], ◌∷◌, Optio
 use Rattle.std.specs.Str.{is_utf8}
 use Rattle.item_ids.specs.declared.kind.Kind.{Kind}
 use Rattle.item_ids.specs.declared.kind.Kind.TheVariants as kinds
-use Rattle.item_ids.specs.Kinds.{number_of, has_class, has_member}
+use Rattle.item_ids.specs.Kinds.{kind_with, has_class, has_member}
 use Rattle.item_ids.specs.declared.key.Key.{Key}
 use Rattle.item_ids.specs.declared.key.Key.TheVariants.{Files, Source, Tree, Index, Header, Method, Sig, Supers, Members, CheckClass, CheckBody, Diags, Answer}
 use Rattle.sessions.specs.declared.mark.Mark.{Mark}
 use Rattle.sessions.specs.declared.mark.Mark.TheVariants.{Input, Executed, Green}
 use Rattle.sessions.specs.Marks.{mark_number}
-
-abbrev pub all_kinds : List Kind
-all_kinds =
-    kinds.Files ∷ kinds.Source ∷ kinds.Tree ∷ kinds.Index ∷ kinds.Header ∷ kinds.Method ∷ kinds.Sig
-    ∷ kinds.Supers ∷ kinds.Members ∷ kinds.CheckClass ∷ kinds.CheckBody ∷ kinds.Diags ∷ kinds.Answer
-    ∷ []
-
--- the kind of this number
-unfoldable pub kind_with : ℕ → Option Kind
-kind_with n = find (λ kind. number_of kind == n) all_kinds
 
 -- the mark of this number
 unfoldable pub mark_with : ℕ → Option Mark

@@ -2,7 +2,8 @@
 ghost use Rattle.std.specs.Prelude.{◌≡◌, ◌≤◌, length, IfOk, IfSome, is_some};
 ghost use Rattle.std.specs.Str.{is_utf8};
 ghost use Rattle.mj_lexer.specs.Bytes.{most_name_bytes};
-ghost use Rattle.session_file.specs.Keys.{key_of_kind, key_with, kind_with, mark_with};
+ghost use Rattle.item_ids.specs.Kinds.{kind_with};
+ghost use Rattle.session_file.specs.Keys.{key_of_kind, key_with, mark_with};
 ghost use Rattle.session_file.specs.Reading.{item_at, item_with};
 ghost use Rattle.session_file.specs.Feeding.{CountsStop, Feeds};
 

@@ -1,11 +1,9 @@
 -- Bodies: what is read is spelled there, and each spelling is read back.
-use Rattle.std.proofs.Common.{◌≡◌, ℕ, zero, suc, List, [], ◌∷◌, ◌++◌, Ok, refl, subst}
+use Rattle.std.proofs.Common.{◌≡◌, ℕ, zero, suc, List, [], ◌∷◌, ◌++◌, Ok, subst}
 use Rattle.byte_readers.specs.Lawful.{IsBytes, Takes, Lawful}
 use Rattle.byte_readers.specs.Laws.{IsBytes-rest, takes_behind, made_takes, made_again}
 use Rattle.tree_spelling.specs.FileLaws.{lawful_top_stmt, lawful_method}
-use Rattle.tree_spelling.specs.Reading.{top_stmt_at, method_at}
 use Rattle.tree_spelling.specs.Spelling.{stmt, method}
-use Rattle.tree_spelling.specs.Storable.{TopStmtFits, MethodFits}
 use Rattle.tree_bytes.specs.Bodies.{BodyValue, OfMain, OfMethod, body, BodyFits, body_at}
 
 body_takes : (bytes : List ℕ) (b : BodyValue) (rest : List ℕ) → IsBytes bytes

@@ -1,10 +1,10 @@
 -- Methods, classes and files: what is read is spelled there, and each spelling is read back.
-use Rattle.std.proofs.Common.{◌≡◌, ℕ, zero, suc, ◌<◌, ◌^◌, List, [], ◌∷◌, ◌++◌, Ok, refl, subst}
+use Rattle.std.proofs.Common.{◌≡◌, ℕ, zero, suc, ◌<◌, ◌^◌, List, [], ◌∷◌, ◌++◌, Ok, refl}
 use Rattle.mj_tree.specs.Trees.{Method}
 use Rattle.byte_readers.specs.Spelling.{eight}
 use Rattle.byte_readers.specs.Reading.{any}
 use Rattle.byte_readers.specs.Lawful.{IsBytes, Takes, Lawful}
-use Rattle.byte_readers.specs.Laws.{IsBytes-rest, takes_behind, made_takes, made_again, lawful_name, lawful_four, lawful_pair, lawful_option, lawful_list, lawful_made, lawful_where, any_admits}
+use Rattle.byte_readers.specs.Laws.{IsBytes-rest, takes_behind, lawful_name, lawful_four, lawful_pair, lawful_option, lawful_list, lawful_made, lawful_where, any_admits}
 use Rattle.tree_spelling.specs.Spelling.{exp, stmt, stmts, count_stmts, method, tagged_method, main, class, file}
 use Rattle.mj_tree.specs.Limits.{most_levels}
 use Rattle.tree_spelling.specs.Storable.{TopStmtFits, TopStmtsFit, TopExpFits, MethodFits, MainFits, ClassFits, FileFits}
