@@ -1,9 +1,11 @@
 -- The lines about a session, and about a file that it doesn't follow.
-use Rattle.std.specs.Prelude.{◌≡◌, ◌==◌, ◌++◌, ℕ, Bool, List, [], Option, Some, None, codes, count_by, decimal}
+use Rattle.std.specs.Prelude.{◌≡◌, ◌≢◌, ◌==◌, ◌++◌, ℕ, Bool, List, [], Option, Some, None, codes, count_by, decimal}
 use Rattle.sessions.specs.declared.mark.Mark.{Mark}
 use Rattle.sessions.specs.declared.mark.Mark.TheVariants.{Executed, Green}
 use Rattle.sessions.specs.Marks.{mark_number}
 use Rattle.sessions.specs.Sessions.{RecordValue, SessionValue}
+use Rattle.session_file.specs.declared.fault.FileFault.TheVariants as file
+use Rattle.session_text.specs.FaultWords.{fault_words}
 use Rattle.session_cache.specs.Starts.{path_of}
 use Rattle.session_cache.specs.declared.start.Note.{Note}
 use Rattle.session_cache.specs.declared.start.Why.{Why}
@@ -33,7 +35,8 @@ summary_line s =
 
 -- why no session follows a file
 abbrev pub IsWhyText : Why → List ℕ → Type 0
-IsWhyText (Refused fault) text = (words : List ℕ) × (text ≡ codes "refused: " ++ words)
+IsWhyText (Refused fault) text =
+    (fault ≢ file.OutOfMemory) × (text ≡ codes "refused: " ++ fault_words fault)
 IsWhyText Number text = text ≡ codes "refused: number"
 IsWhyText Full text = text ≡ codes "full"
 

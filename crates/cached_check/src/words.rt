@@ -5,6 +5,7 @@ ghost use Rattle.cached_check.specs.Lines.{IsNoteText, IsWhyText, counts_with, h
 
 use session_cache::{Note, Why};
 use session_file::FileFault;
+use session_text::write_fault;
 use sessions::{Mark, Record, Session};
 use std::alloc::{AllocError, Global};
 use std::fmt::Write;
@@ -36,9 +37,8 @@ fn why_text(alloc: Global, why: Why) -> Result<String, AllocError>
 fn refused_text(alloc: Global, fault: FileFault) -> Result<String, AllocError>
     ensures { IfOk result (λ text. IsWhyText (Why.Refused fault) (string_bytes text)) }
 {
-    let words = format!(in alloc; "{fault}")?;
     let mut text = String::from_str(alloc, "refused: ")?;
-    text.push_str(words.as_str())?;
+    write_fault(&mut text, fault)?;
     Ok(text)
 }
 

@@ -1,6 +1,6 @@
 -- Which failures end a run in which way, and what is written of them.
-use Rattle.std.proofs.Common.{◌≡◌, ◌≢◌, ◌⊎◌, inl, inr, ◌∙◌, ℕ, Bool, true, false, List, [], Option, Result, Ok, Err, string_bytes, refl, sym}
-use Rattle.std.specs.Prelude.{IfOk}
+use Rattle.std.proofs.Common.{◌≡◌, ◌≢◌, ◌⊎◌, inl, inr, ◌∙◌, ℕ, Bool, true, false, List, [], Option, Result, Ok, Err, map, string_bytes, refl, sym, subst}
+use Rattle.std.specs.Prelude.{IfOk, IfErr, IsErrAnd, Contains}
 use Rattle.audit_graph.specs.declared.fault.AuditFault.{AuditFault}
 use Rattle.audit_graph.specs.declared.fault.AuditFault.TheVariants as chain
 use Rattle.mj_rules.specs.AnswerWords.{ProjectFault, RepeatedFile, NoFiles, TooManyFiles, BadFileName, OutOfMemory}
@@ -10,10 +10,15 @@ use Rattle.cached_check.specs.declared.fault.CheckFault.{CheckFault}
 use Rattle.cached_check.specs.declared.fault.CheckFault.TheVariants as cache
 use Rattle.command_line.specs.declared.asked.WordsFault.{WordsFault}
 use Rattle.command_line.specs.declared.asked.WordsFault.TheVariants as words
+use Rattle.command_line.specs.CommandLine.{Asks}
+use Rattle.command_line.specs.Given.{GivesCheck}
+use Rattle.command_line.specs.declared.asked.Words.{Words}
+use Rattle.command_line.specs.declared.asked.Words.TheVariants as asked
 use Rattle.program_run.specs.Audits.{AuditFails, StopsAt}
-use Rattle.program_run.specs.Endings.{IsPlainFailure, status_of_answer, status_of_failure}
+use Rattle.program_run.specs.Endings.{status_of_answer, status_of_failure}
+use Rattle.program_run.specs.Failures.{AreUnread, CheckFails, FailsAt, IsUnread, MayFail, ProjectFails, ScratchFails, ShowFails}
 use Rattle.program_run.specs.Refusals.{AreNotes}
-use Rattle.program_run.specs.Runs.{HasAnswer, MayFail, ReportsRefusal, ReportsUnreadable}
+use Rattle.program_run.specs.Runs.{HasAnswer, RefusesAudit, ReportsFailure, ReportsRefusal, ReportsUnreadable}
 use Rattle.program_run.specs.declared.failure.Failure.{Failure}
 use Rattle.program_run.specs.declared.failure.Failure.TheVariants as failure
 use Rattle.program_run.specs.declared.report.Report.{Report}
@@ -84,7 +89,13 @@ not_third : (one s t : Status) → Ends one s → t ≢ one → t ≢ status.Out
 not_third one s t (inl e) other never = λ same. other (sym same ∙ e)
 not_third one s t (inr e) other never = λ same. never (sym same ∙ e)
 
-pub plain_not_clean : (why : Failure) → IsPlainFailure why → status_of_failure why ≢ status.Clean
+-- neither the words are why, nor a chain
+abbrev IsPlain : Failure → Type 0
+IsPlain (failure.Words fault) = ⊥
+IsPlain (failure.Chain fault) = ⊥
+IsPlain why = Unit {0}
+
+plain_not_clean : (why : Failure) → IsPlain why → status_of_failure why ≢ status.Clean
 plain_not_clean (failure.Words fault) p = absurd p
 plain_not_clean (failure.CannotRead path) p = λ e. absurd cc
 plain_not_clean (failure.Project fault) p = not_third status.Refused _ status.Clean (project_ends fault) (λ e. absurd cc) (λ e. absurd cc)
@@ -92,6 +103,24 @@ plain_not_clean (failure.Chain fault) p = absurd p
 plain_not_clean (failure.SessionFile fault) p = not_third status.Refused _ status.Clean (file_ends fault) (λ e. absurd cc) (λ e. absurd cc)
 plain_not_clean (failure.Cache fault) p = not_third status.Refused _ status.Clean (cache_ends fault) (λ e. absurd cc) (λ e. absurd cc)
 plain_not_clean failure.OutOfMemory p = λ e. absurd cc
+
+check_plain : (dir : List ℕ) (names : List (List ℕ)) (why : Failure) → CheckFails dir names why → IsPlain why
+check_plain dir names (failure.Words fault) f = absurd f
+check_plain dir names (failure.CannotRead path) f = tt
+check_plain dir names (failure.Project fault) f = tt
+check_plain dir names (failure.Chain fault) f = absurd f
+check_plain dir names (failure.SessionFile fault) f = absurd f
+check_plain dir names (failure.Cache fault) f = tt
+check_plain dir names failure.OutOfMemory f = tt
+
+show_plain : (name : List ℕ) (why : Failure) → ShowFails name why → IsPlain why
+show_plain name (failure.Words fault) f = absurd f
+show_plain name (failure.CannotRead path) f = tt
+show_plain name (failure.Project fault) f = absurd f
+show_plain name (failure.Chain fault) f = absurd f
+show_plain name (failure.SessionFile fault) f = tt
+show_plain name (failure.Cache fault) f = absurd f
+show_plain name failure.OutOfMemory f = tt
 
 no_diagnostics : (why : Failure) → status_of_failure why ≢ status.Diagnostics
 no_diagnostics (failure.Words (words.Help text)) = λ e. absurd cc
@@ -108,6 +137,59 @@ no_diagnostics failure.OutOfMemory = λ e. absurd cc
 pub no_answer : (why : Failure) (s : Status) → s ≡ status_of_failure why → status_of_failure why ≢ status.Clean → HasAnswer s → ⊥
 no_answer why s ends never (inl clean) = never (sym ends ∙ clean)
 no_answer why s ends never (inr found) = no_diagnostics why (sym ends ∙ found)
+
+-- ---- failures of one part that are those of the whole
+
+-- what holds of a failure holds of a result that is this failure
+pub told_as : {A E : Type 0} (r : Result A E) (why : E) (P : E → Type 0) → IsErrAnd r (λ e. e ≡ why) → P why → IfErr r P
+told_as (Ok x) why P is p = tt
+told_as (Err e) why P is p = subst P (sym is) p
+
+-- a file that can't be read is one of these
+pub one_unread : (names : List (List ℕ)) (name : List ℕ) (why : Failure) → Contains names name → IsUnread name why → AreUnread names why
+one_unread names name (failure.Words fault) has f = absurd f
+one_unread names name (failure.CannotRead path) has f = subst (λ (n : List ℕ). Contains names n) (sym f) has
+one_unread names name (failure.Project fault) has f = absurd f
+one_unread names name (failure.Chain fault) has f = absurd f
+one_unread names name (failure.SessionFile fault) has f = absurd f
+one_unread names name (failure.Cache fault) has f = absurd f
+one_unread names name failure.OutOfMemory has f = tt
+
+pub unread_scratch : (names : List (List ℕ)) (why : Failure) → AreUnread names why → ScratchFails names why
+unread_scratch names (failure.Words fault) f = absurd f
+unread_scratch names (failure.CannotRead path) f = f
+unread_scratch names (failure.Project fault) f = absurd f
+unread_scratch names (failure.Chain fault) f = absurd f
+unread_scratch names (failure.SessionFile fault) f = absurd f
+unread_scratch names (failure.Cache fault) f = absurd f
+unread_scratch names failure.OutOfMemory f = tt
+
+pub scratch_check : (dir : List ℕ) (names : List (List ℕ)) (why : Failure) → ScratchFails names why → CheckFails dir names why
+scratch_check dir names (failure.Words fault) f = absurd f
+scratch_check dir names (failure.CannotRead path) f = f
+scratch_check dir names (failure.Project fault) f = f
+scratch_check dir names (failure.Chain fault) f = absurd f
+scratch_check dir names (failure.SessionFile fault) f = absurd f
+scratch_check dir names (failure.Cache fault) f = absurd f
+scratch_check dir names failure.OutOfMemory f = tt
+
+pub project_check : (dir : List ℕ) (names : List (List ℕ)) (why : Failure) → ProjectFails dir why → CheckFails dir names why
+project_check dir names (failure.Words fault) f = absurd f
+project_check dir names (failure.CannotRead path) f = absurd f
+project_check dir names (failure.Project fault) f = absurd f
+project_check dir names (failure.Chain fault) f = absurd f
+project_check dir names (failure.SessionFile fault) f = absurd f
+project_check dir names (failure.Cache fault) f = f
+project_check dir names failure.OutOfMemory f = tt
+
+pub unread_show : (name : List ℕ) (why : Failure) → IsUnread name why → ShowFails name why
+unread_show name (failure.Words fault) f = absurd f
+unread_show name (failure.CannotRead path) f = f
+unread_show name (failure.Project fault) f = absurd f
+unread_show name (failure.Chain fault) f = absurd f
+unread_show name (failure.SessionFile fault) f = absurd f
+unread_show name (failure.Cache fault) f = absurd f
+unread_show name failure.OutOfMemory f = tt
 
 module _ {File : Type 0} (held : File → Option (List ℕ)) where
   pub audit_not_clean : (names : List (List ℕ)) (why : Failure) → AuditFails held names why → status_of_failure why ≢ status.Clean
@@ -139,14 +221,28 @@ module _ {File : Type 0} (held : File → Option (List ℕ)) where
   refused_stops names (failure.Cache fault) f e = f
   refused_stops names failure.OutOfMemory f e = absurd cc
 
-  pub plain_may_fail : (given : List (List ℕ)) (why : Failure) → IsPlainFailure why → MayFail held given why
-  plain_may_fail given (failure.Words fault) p = tt
-  plain_may_fail given (failure.CannotRead path) p = tt
-  plain_may_fail given (failure.Project fault) p = tt
-  plain_may_fail given (failure.Chain fault) p = absurd p
-  plain_may_fail given (failure.SessionFile fault) p = tt
-  plain_may_fail given (failure.Cache fault) p = tt
-  plain_may_fail given failure.OutOfMemory p = tt
+  -- what is asked for doesn't end clean where it fails
+  pub fails_not_clean : (words : Words) (why : Failure) → FailsAt held words why → status_of_failure why ≢ status.Clean
+  fails_not_clean (asked.Scratch names) why f = plain_not_clean why (check_plain [] _ why (scratch_check [] _ why f))
+  fails_not_clean (asked.Check given) why f = plain_not_clean why (check_plain _ _ why f)
+  fails_not_clean (asked.Audit names) why f = audit_not_clean _ why f
+  fails_not_clean (asked.Show name) why f = plain_not_clean why (show_plain _ why f)
+
+  pub may_fail : (given : List (List ℕ)) (words : Words) → Asks given words → GivesCheck given words → (why : Failure) → FailsAt held words why → MayFail held given why
+  may_fail given words asks gives (failure.Words fault) f = tt
+  may_fail given words asks gives (failure.CannotRead path) f = record { asked = words; asks = asks; gives = gives; fails = f }
+  may_fail given words asks gives (failure.Project fault) f = record { asked = words; asks = asks; gives = gives; fails = f }
+  may_fail given words asks gives (failure.Chain fault) f = record { asked = words; asks = asks; gives = gives; fails = f }
+  may_fail given words asks gives (failure.SessionFile fault) f = record { asked = words; asks = asks; gives = gives; fails = f }
+  may_fail given words asks gives (failure.Cache fault) f = record { asked = words; asks = asks; gives = gives; fails = f }
+  may_fail given words asks gives failure.OutOfMemory f = record { asked = words; asks = asks; gives = gives; fails = f }
+
+  -- only an audit refuses a chain
+  audit_asked : (given : List (List ℕ)) (words : Words) → Asks given words → (fault : AuditFault) → FailsAt held words (failure.Chain fault) → RefusesAudit held given fault
+  audit_asked given (asked.Scratch names) asks fault f = absurd f
+  audit_asked given (asked.Check check) asks fault f = absurd f
+  audit_asked given (asked.Audit names) asks fault f = record { names = map string_bytes names.items; asked = asks; fails = f }
+  audit_asked given (asked.Show name) asks fault f = absurd f
 
   -- ---- what is written
 
@@ -159,7 +255,7 @@ module _ {File : Type 0} (held : File → Option (List ℕ)) where
       absurd (not_third status.Refused _ status.ChainRefused (project_ends fault) (λ e. absurd cc) (λ e. absurd cc) (sym ends ∙ e))
   reports_refusal given (failure.Chain fault) report ends silent may notes e = record {
     fault = fault;
-    refuses = may;
+    refuses = audit_asked given may.asked may.asks fault may.fails;
     line = notes;
     silent = silent (λ clean. let r : status.Clean ≡ status.ChainRefused = sym clean ∙ e in absurd cc);
     ends = e;
@@ -169,6 +265,17 @@ module _ {File : Type 0} (held : File → Option (List ℕ)) where
   reports_refusal given (failure.Cache fault) report ends silent may notes e =
       absurd (not_third status.Refused _ status.ChainRefused (cache_ends fault) (λ e. absurd cc) (λ e. absurd cc) (sym ends ∙ e))
   reports_refusal given failure.OutOfMemory report ends silent may notes e = let r : status.OutOfMemory ≡ status.ChainRefused = sym ends ∙ e in absurd cc
+
+  -- why a refused run fails stands on standard error alone
+  pub reports_failure : (given : List (List ℕ)) (why : Failure) (report : Report)
+      → (report.status ≢ status.Clean → string_bytes report.answer ≡ []) → MayFail held given why → AreNotes why (string_bytes report.notes)
+      → report.status ≡ status.Refused → ReportsFailure held given report
+  reports_failure given why report silent may notes e = record {
+    why = why;
+    fails = may;
+    notes = notes;
+    silent = silent (λ clean. let r : status.Clean ≡ status.Refused = sym clean ∙ e in absurd cc);
+  }
 
   reports_unreadable : (names : List (List ℕ)) (why : Failure) (report : Report) → report.status ≡ status_of_failure why
       → (report.status ≢ status.Clean → string_bytes report.answer ≡ []) → (status_of_failure why ≡ status.Refused → StopsAt held names why)

@@ -1,5 +1,5 @@
 -- Files that are taken by their names, one after the other.
-use Rattle.std.proofs.Common.{◌≡◌, ◌∷◌, [], ◌++◌, List, ℕ, suc, ◌+◌, length, map, slice_get, Some, refl, sym, ap, subst, ◌∙◌, arith}
+use Rattle.std.proofs.Common.{◌≡◌, ◌∷◌, [], ◌++◌, List, ℕ, suc, ◌<◌, Contains, length, map, slice_get, Some, refl, sym, ap, subst, ◌∙◌, arith}
 use Rattle.std.proofs.lemmas.List.{append-nil}
 
 many_map : {A B : Type 0} (f : A → B) (ys : List A) → length (map f ys) ≡ length ys
@@ -23,6 +23,17 @@ behind f (x ∷ ys) y rest = behind f ys y rest
 pub named_at : {A B : Type 0} (f : A → B) (ys : List A) (y : A) (rest all : List A) (n : ℕ) → n ≡ length (map f ys) → ys ++ y ∷ rest ≡ all → slice_get (map f all) n ≡ Some (f y)
 named_at f ys y rest all n many is =
     subst (λ (l : List _). slice_get (map f l) n ≡ Some (f y)) is (subst (λ (k : ℕ). slice_get (map f (ys ++ y ∷ rest)) k ≡ Some (f y)) (sym (many ∙ many_map f ys)) (behind f ys y rest))
+
+contained : {A B : Type 0} (f : A → B) (ys : List A) (y : A) (rest : List A) → Contains (map f (ys ++ y ∷ rest)) (f y)
+contained f [] y rest = (0, omega arith, refl)
+contained f (x ∷ ys) y rest =
+    let in_rest = contained f ys y rest in
+    let here : suc in_rest.0 < length (map f (x ∷ ys ++ y ∷ rest)) = let b = in_rest.1 in omega arith in
+    (suc in_rest.0, here, in_rest.2)
+
+-- the name behind those whose files were read is one of them all
+pub one_of : {A B : Type 0} (f : A → B) (ys : List A) (y : A) (rest all : List A) → ys ++ y ∷ rest ≡ all → Contains (map f all) (f y)
+one_of f ys y rest all is = subst (λ (l : List _). Contains (map f l) (f y)) is (contained f ys y rest)
 
 pub nothing_left : {A : Type 0} (xs : List A) → length xs ≡ 0 → xs ≡ []
 nothing_left [] e = refl

@@ -31,15 +31,3 @@ status_of_failure (failure.Cache (cache.CannotRead path)) = status.Refused
 status_of_failure (failure.Cache (cache.CannotWrite notes path)) = status.Refused
 status_of_failure (failure.Cache cache.OutOfMemory) = status.OutOfMemory
 status_of_failure failure.OutOfMemory = status.OutOfMemory
-
--- a file can't be read, or memory ran out
-abbrev pub IsFileFailure : Failure → Type 0
-IsFileFailure (failure.CannotRead name) = Unit {0}
-IsFileFailure failure.OutOfMemory = Unit {0}
-IsFileFailure why = ⊥
-
--- no chain is refused, and it isn't by the words that the run fails
-abbrev pub IsPlainFailure : Failure → Type 0
-IsPlainFailure (failure.Words fault) = ⊥
-IsPlainFailure (failure.Chain fault) = ⊥
-IsPlainFailure why = Unit {0}

@@ -1,9 +1,11 @@
 -- The lines of a run that is refused.
-use Rattle.std.specs.Prelude.{◌≡◌, ℕ, List, ◌++◌, codes, decimal, string_bytes}
+use Rattle.std.specs.Prelude.{◌≡◌, ℕ, List, [], ◌++◌, codes, decimal, string_bytes}
 use Rattle.audit_graph.specs.declared.fault.AuditFault.{AuditFault}
 use Rattle.audit_graph.specs.declared.fault.AuditFault.TheVariants as chain
-use Rattle.session_file.specs.declared.fault.FileFault.{FileFault}
-use Rattle.session_file.specs.declared.fault.FileFault.TheVariants as file
+use Rattle.session_text.specs.FaultWords.{fault_words}
+use Rattle.cached_check.specs.declared.fault.CheckFault.{CheckFault}
+use Rattle.cached_check.specs.declared.fault.CheckFault.TheVariants as cache
+use Rattle.command_line.specs.declared.asked.WordsFault.TheVariants as words
 use Rattle.program_run.specs.Lines.{refusal_words}
 use Rattle.program_run.specs.declared.failure.Failure.{Failure}
 use Rattle.program_run.specs.declared.failure.Failure.TheVariants as failure
@@ -18,26 +20,10 @@ two a b = codes "(" ++ decimal a ++ codes ", " ++ decimal b ++ codes ")"
 abbrev pub three : ℕ → ℕ → ℕ → List ℕ
 three a b c = codes "(" ++ decimal a ++ codes ", " ++ decimal b ++ codes ", " ++ decimal c ++ codes ")"
 
--- why a file is that of no session; out of memory has no text
-abbrev pub file_words : FileFault → List ℕ
-file_words file.BadMagic = codes "11.1 BadMagic"
-file_words file.Version = codes "11.2 Version"
-file_words file.Truncated = codes "11.3 Truncated"
-file_words file.BadDigest = codes "11.4 BadDigest"
-file_words (file.KeyOrder n) = codes "11.5 KeyOrder" ++ one n
-file_words (file.BadEdge n i) = codes "11.6 BadEdge" ++ two n i
-file_words (file.Result n) = codes "11.7 Result" ++ one n
-file_words (file.InputKind n) = codes "11.8 InputKind" ++ one n
-file_words file.Trailing = codes "11.9 Trailing"
-file_words file.Device = codes "11.10 Device"
-file_words (file.BadKey n) = codes "11.11 BadKey" ++ one n
-file_words file.Number = codes "11.12 Number"
-file_words file.OutOfMemory = codes ""
-
 -- why files are no accepted chain; out of memory has no text
 abbrev pub chain_words : AuditFault → List ℕ
 chain_words chain.EmptyChain = codes "14.1 EmptyChain"
-chain_words (chain.File k why) = codes "14.2 File(" ++ decimal k ++ codes ", " ++ file_words why ++ codes ")"
+chain_words (chain.File k why) = codes "14.2 File(" ++ decimal k ++ codes ", " ++ fault_words why ++ codes ")"
 chain_words (chain.BrokenLink k) = codes "14.3 BrokenLink" ++ one k
 chain_words (chain.NoFiles k) = codes "14.4 NoFiles" ++ one k
 chain_words (chain.MissingSource k f) = codes "14.5 MissingSource" ++ two k f
@@ -61,10 +47,20 @@ refused_line words = codes "refused: " ++ words ++ codes "\n"
 abbrev pub unreadable_line : List ℕ → List ℕ
 unreadable_line name = codes "cannot read " ++ name ++ codes "\n"
 
--- what is said of a failure that stands in a file
+-- why no session is kept, behind the notes of the check; out of memory has no text
+abbrev pub cache_words : CheckFault → List ℕ
+cache_words (cache.CannotRead path) = unreadable_line (string_bytes path)
+cache_words (cache.CannotWrite notes path) =
+    string_bytes notes ++ codes "cannot write " ++ string_bytes path ++ codes "\n"
+cache_words cache.OutOfMemory = codes ""
+
+-- what is said of a failure; help goes to standard output, and out of memory has no text here
 abbrev pub AreNotes : Failure → List ℕ → Type 0
+AreNotes (failure.Words (words.Refused text)) notes = notes ≡ string_bytes text
+AreNotes (failure.Words _) notes = notes ≡ []
 AreNotes (failure.CannotRead name) notes = notes ≡ unreadable_line (string_bytes name)
 AreNotes (failure.Project fault) notes = notes ≡ refusal_words fault
 AreNotes (failure.Chain fault) notes = notes ≡ refused_line (chain_words fault)
-AreNotes (failure.SessionFile fault) notes = notes ≡ refused_line (file_words fault)
-AreNotes _ notes = Unit {0}
+AreNotes (failure.SessionFile fault) notes = notes ≡ refused_line (fault_words fault)
+AreNotes (failure.Cache fault) notes = notes ≡ cache_words fault
+AreNotes failure.OutOfMemory notes = ⊥

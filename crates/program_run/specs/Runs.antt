@@ -14,8 +14,9 @@ use Rattle.command_line.specs.declared.asked.Subcommand.TheVariants.{Scratch, Au
 use Rattle.program_run.specs.Audits.{AuditFails, AuditsTo, ShowsFile, StopsAt}
 use Rattle.program_run.specs.Checks.{ChecksTo}
 use Rattle.program_run.specs.Endings.{status_of_answer}
+use Rattle.program_run.specs.Failures.{MayFail}
 use Rattle.program_run.specs.Lines.{is_clean, IsFaultText}
-use Rattle.program_run.specs.Refusals.{chain_words, refused_line, unreadable_line}
+use Rattle.program_run.specs.Refusals.{AreNotes, chain_words, refused_line, unreadable_line}
 use Rattle.program_run.specs.declared.failure.Failure.{Failure}
 use Rattle.program_run.specs.declared.failure.Failure.TheVariants as failure
 use Rattle.program_run.specs.declared.report.Report.{Report}
@@ -101,11 +102,6 @@ pub record RefusesAudit {File : Type 0} (held : File → Option (List ℕ)) (giv
   pub asked : files_for Audit given ≡ Some names
   pub fails : AuditFails held names (failure.Chain fault)
 
--- a run that fails for a chain's fault is an audit of it
-abbrev pub MayFail : {File : Type 0} → (File → Option (List ℕ)) → List (List ℕ) → Failure → Type 0
-MayFail held given (failure.Chain fault) = RefusesAudit held given fault
-MayFail held given why = Unit {0}
-
 -- The fault of a refused chain stands on standard error alone.
 pub record ReportsRefusal {File : Type 0} (held : File → Option (List ℕ)) (given : List (List ℕ))
     (report : Report) : Type 0 where
@@ -129,4 +125,14 @@ pub record ReportsUnreadable {File : Type 0} (held : File → Option (List ℕ))
   pub path : String Global
   pub stops : StopsAt held names (failure.CannotRead path)
   pub line : string_bytes report.notes ≡ unreadable_line (string_bytes path)
+  pub silent : string_bytes report.answer ≡ []
+
+-- ---- refused runs
+
+-- Why the run fails stands on standard error alone.
+pub record ReportsFailure {File : Type 0} (held : File → Option (List ℕ)) (given : List (List ℕ))
+    (report : Report) : Type 0 where
+  pub why : Failure
+  pub fails : MayFail held given why
+  pub notes : AreNotes why (string_bytes report.notes)
   pub silent : string_bytes report.answer ≡ []

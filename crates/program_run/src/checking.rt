@@ -3,7 +3,7 @@ ghost use Rattle.std.specs.Prelude.{◌≡◌, ◌≤◌, IfOk, IfErr, map, stri
 ghost use Rattle.mj_project.specs.Projects.{names_of};
 ghost use Rattle.cached_check.specs.Checks.{IsAnswered};
 ghost use Rattle.program_run.specs.Checks.{ChecksTo, TellsSession};
-ghost use Rattle.program_run.specs.Endings.{IsPlainFailure};
+ghost use Rattle.program_run.specs.Failures.{CheckFails, ProjectFails};
 
 use crate::failure::Failure;
 use crate::files::read_files;
@@ -30,7 +30,8 @@ pub(crate) fn check<R: Files + AllocGlobal, T: Threads + Wait + Sync>(
     requires most { asked.jobs ≤ 64 }
     ensures reports { IfOk result
         (ChecksTo (string_bytes asked.cache) (map string_bytes asked.files.items)) }
-    ensures failed { IfErr result IsPlainFailure }
+    ensures failed { IfErr result
+        (CheckFails (string_bytes asked.cache) (map string_bytes asked.files.items)) }
 {
     let CheckWords { cache, jobs, files } = asked;
     let project = Project::new(rt.alloc(), read_files(rt, files)?)?;
@@ -48,7 +49,7 @@ fn check_project<R: Files + AllocGlobal, T: Threads + Wait + Sync>(
     requires some { 1 ≤ jobs }
     requires most { jobs ≤ 64 }
     ensures reports { IfOk result (ChecksTo cache.now (names_of project.now)) }
-    ensures failed { IfErr result IsPlainFailure }
+    ensures failed { IfErr result (ProjectFails cache.now) }
 {
     let alloc = rt.alloc();
     let Beginning { past, place, notes } = begin(rt, cache)?;

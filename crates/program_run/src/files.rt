@@ -1,7 +1,7 @@
 //! The files that the words name.
 ghost use Rattle.std.specs.Prelude.{◌≡◌, ◌≢◌, IfOk, IfErr, map, string_bytes};
 ghost use Rattle.std.specs.IoError.{error_kind};
-ghost use Rattle.program_run.specs.Endings.{IsFileFailure};
+ghost use Rattle.program_run.specs.Failures.{AreUnread, IsUnread};
 ghost use Rattle.program_run.specs.declared.failure.Failure.TheVariants as failures;
 
 use crate::failure::Failure;
@@ -16,7 +16,7 @@ pub(crate) fn read_files<R: Files + AllocGlobal>(
 ) -> Result<Vec<(String, Vec<u8>)>, Failure>
     ensures named { IfOk result (λ files.
         map (λ file. string_bytes file.0) files.items ≡ map string_bytes names.items) }
-    ensures failed { IfErr result IsFileFailure }
+    ensures failed { IfErr result (AreUnread (map string_bytes names.items)) }
 {
     let mut files = Vec::new(rt.alloc());
     for name in names {
@@ -31,7 +31,7 @@ pub(crate) fn read_file<R: Files + AllocGlobal>(
     name: String,
 ) -> Result<(String, Vec<u8>), Failure>
     ensures named { IfOk result (λ file. string_bytes file.0 ≡ string_bytes name) }
-    ensures failed { IfErr result IsFileFailure }
+    ensures failed { IfErr result (IsUnread (string_bytes name)) }
 {
     match fs::read(rt, name.as_str()) {
         Ok(bytes) => Ok((name, bytes)),

@@ -1,13 +1,15 @@
 //! The lines of a run that is refused.
 ghost use Rattle.std.specs.Prelude.{◌≡◌, ◌++◌, IfOk, OnOk, string_bytes};
+ghost use Rattle.session_text.specs.FaultWords.{fault_words};
 ghost use Rattle.program_run.specs.Endings.{status_of_failure};
-ghost use Rattle.program_run.specs.Refusals.{chain_words, file_words, one, refused_line, three, two, unreadable_line};
+ghost use Rattle.program_run.specs.Refusals.{cache_words, chain_words, one, refused_line, three, two, unreadable_line};
 ghost use Rattle.program_run.specs.declared.failure.Failure.TheVariants as failure;
 ghost use Rattle.program_run.specs.declared.report.Status.TheVariants as status;
 
 use audit_graph::AuditFault;
 use cached_check::CheckFault;
 use session_file::FileFault;
+use session_text::write_fault;
 use std::alloc::{AllocError, Global};
 use std::fmt::Write;
 
@@ -20,7 +22,9 @@ pub(crate) fn unreadable(alloc: Global, name: &str) -> Result<String, AllocError
 
 /// Why no session is kept. Out of memory has no text.
 pub(crate) fn cache_refusal(alloc: Global, fault: CheckFault) -> Result<String, AllocError>
-    ensures { IfOk result (λ _. status_of_failure (failure.Cache fault) ≡ status.Refused) }
+    ensures text { IfOk result (λ text. string_bytes text ≡ cache_words fault) }
+    ensures refused { IfOk result (λ _.
+        status_of_failure (failure.Cache fault) ≡ status.Refused) }
 {
     match fault {
         CheckFault::CannotRead(path) => unreadable(alloc, &path),
@@ -43,12 +47,12 @@ pub(crate) fn chain_refusal(alloc: Global, fault: AuditFault) -> Result<String, 
 
 /// Why a file is that of no session. Out of memory has no text.
 pub(crate) fn file_refusal(alloc: Global, fault: FileFault) -> Result<String, AllocError>
-    ensures text { IfOk result (λ text. string_bytes text ≡ refused_line (file_words fault)) }
+    ensures text { IfOk result (λ text. string_bytes text ≡ refused_line (fault_words fault)) }
     ensures refused { IfOk result (λ _.
         status_of_failure (failure.SessionFile fault) ≡ status.Refused) }
 {
     let mut text = String::from_str(alloc, "refused: ")?;
-    add_file_fault(&mut text, fault)?;
+    write_fault(&mut text, fault)?;
     text.push_str("\n")?;
     Ok(text)
 }
@@ -64,7 +68,7 @@ fn add_chain_fault(text: &mut String, fault: AuditFault) -> Result<(), AllocErro
         AuditFault::EmptyChain => text.push_str("14.1 EmptyChain"),
         AuditFault::File(k, why) => {
             write!(text, "14.2 File({k}, ")?;
-            add_file_fault(text, why)?;
+            write_fault(text, why)?;
             text.push_str(")")
         }
         AuditFault::BrokenLink(k) => add_one(text, "14.3 BrokenLink", k),
@@ -81,30 +85,6 @@ fn add_chain_fault(text: &mut String, fault: AuditFault) -> Result<(), AllocErro
         AuditFault::NoAnswer => text.push_str("14.14 NoAnswer"),
         AuditFault::SourcesDiffer => text.push_str("14.15 SourcesDiffer"),
         AuditFault::OutOfMemory => Err(AllocError),
-    }
-}
-
-// Adds why a file is that of no session.
-fn add_file_fault(text: &mut String, fault: FileFault) -> Result<(), AllocError>
-    ensures added { OnOk result
-        (string_bytes text.new ≡ string_bytes text.old ++ file_words fault) }
-    ensures refused { OnOk result
-        (status_of_failure (failure.SessionFile fault) ≡ status.Refused) }
-{
-    match fault {
-        FileFault::BadMagic => text.push_str("11.1 BadMagic"),
-        FileFault::Version => text.push_str("11.2 Version"),
-        FileFault::Truncated => text.push_str("11.3 Truncated"),
-        FileFault::BadDigest => text.push_str("11.4 BadDigest"),
-        FileFault::KeyOrder(n) => add_one(text, "11.5 KeyOrder", n),
-        FileFault::BadEdge(n, i) => add_two(text, "11.6 BadEdge", n, i),
-        FileFault::Result(n) => add_one(text, "11.7 Result", n),
-        FileFault::InputKind(n) => add_one(text, "11.8 InputKind", n),
-        FileFault::Trailing => text.push_str("11.9 Trailing"),
-        FileFault::Device => text.push_str("11.10 Device"),
-        FileFault::BadKey(n) => add_one(text, "11.11 BadKey", n),
-        FileFault::Number => text.push_str("11.12 Number"),
-        FileFault::OutOfMemory => Err(AllocError),
     }
 }
 

@@ -4,10 +4,11 @@ ghost use Rattle.command_line.specs.CommandLine.{AsksCheck, files_for};
 ghost use Rattle.command_line.specs.declared.asked.Subcommand.{Subcommand};
 ghost use Rattle.mj_rules.specs.AnswerWords.{text_of};
 ghost use Rattle.program_run.specs.Audits.{StopsAt};
-ghost use Rattle.program_run.specs.Endings.{IsPlainFailure, status_of_answer, status_of_failure};
+ghost use Rattle.program_run.specs.Endings.{status_of_answer, status_of_failure};
+ghost use Rattle.program_run.specs.Failures.{MayFail, ScratchFails};
 ghost use Rattle.program_run.specs.Lines.{is_clean, IsFaultText};
 ghost use Rattle.program_run.specs.Refusals.{AreNotes};
-ghost use Rattle.program_run.specs.Runs.{AsksPlainly, EndsWithAnswer, HasAnswer, MayFail, Prints, PrintsCheck, PrintsRefusal, Reports, ReportsCheck, ReportsOn, ReportsRefusal, ReportsUnreadable, TellsHelp};
+ghost use Rattle.program_run.specs.Runs.{AsksPlainly, EndsWithAnswer, HasAnswer, Prints, PrintsCheck, PrintsRefusal, Reports, ReportsCheck, ReportsFailure, ReportsOn, ReportsRefusal, ReportsUnreadable, TellsHelp};
 ghost use Rattle.program_run.specs.Statuses.{IsStatus};
 
 use crate::auditing::audit;
@@ -57,7 +58,7 @@ pub fn run<R: Files + AllocGlobal, T: Threads + Wait + Sync, W: Write, E: Write>
 }
 
 // The texts and the end of a run with these words.
-#[tactic(auto, using(crate::proofs::Failures::reports_refusal))]
+#[tactic(auto, using(crate::proofs::Failures::reports_refusal, crate::proofs::Failures::reports_failure))]
 fn report_of<R: Files + AllocGlobal, T: Threads + Wait + Sync>(
     rt: &R,
     threads: &T,
@@ -76,6 +77,9 @@ fn report_of<R: Files + AllocGlobal, T: Threads + Wait + Sync>(
         → AsksPlainly (map string_bytes list.items) Subcommand.Audit names → IfOk result (λ report.
         report.status ≡ Status.Refused
         → ReportsUnreadable R.File.Read.remaining names report) }
+    // Why a run is refused.
+    ensures failed { IfOk result (λ report. report.status ≡ Status.Refused
+        → ReportsFailure R.File.Read.remaining (map string_bytes list.items) report) }
 {
     match perform(rt, threads, list) {
         Ok(report) => Ok(report),
@@ -84,7 +88,7 @@ fn report_of<R: Files + AllocGlobal, T: Threads + Wait + Sync>(
 }
 
 // What the words ask for.
-#[tactic(auto, using(crate::proofs::Failures::has_answer, crate::proofs::Failures::plain_not_clean, crate::proofs::Failures::audit_not_clean, crate::proofs::Failures::plain_may_fail, crate::proofs::Failures::refused_stops,))]
+#[tactic(auto, using(crate::proofs::Failures::has_answer, crate::proofs::Failures::refused_stops))]
 fn perform<R: Files + AllocGlobal, T: Threads + Wait + Sync>(
     rt: &R,
     threads: &T,
@@ -117,7 +121,7 @@ fn perform<R: Files + AllocGlobal, T: Threads + Wait + Sync>(
 // The report on the files of these names.
 fn scratch<R: Files + AllocGlobal>(rt: &R, names: Vec<String>) -> Result<Report, Failure>
     ensures reports { IfOk result (ReportsOn (map string_bytes names.items)) }
-    ensures failed { IfErr result IsPlainFailure }
+    ensures failed { IfErr result (ScratchFails (map string_bytes names.items)) }
 {
     let alloc = rt.alloc();
     let project = Project::new(alloc, read_files(rt, names)?)?;
@@ -152,6 +156,7 @@ fn failure_report(alloc: Global, failure: Failure) -> Result<Report, AllocError>
         report.status ≢ Status.Clean → string_bytes report.answer ≡ []) }
     ensures help { IfOk result (λ report. HasAnswer report.status → TellsHelp report) }
     ensures notes { IfOk result (λ report. AreNotes failure (string_bytes report.notes)) }
+    ensures told { IfOk result (λ report. report.status ≢ Status.OutOfMemory) }
 {
     match failure {
         Failure::Words(WordsFault::Help(text)) => Ok(Report::help(alloc, text)),

@@ -1,7 +1,7 @@
 //! The text of a session file.
-ghost use Rattle.std.specs.Prelude.{IfOk, IfErr};
+ghost use Rattle.std.specs.Prelude.{IfOk, IfErr, string_bytes};
 ghost use Rattle.program_run.specs.Audits.{ShowsFile};
-ghost use Rattle.program_run.specs.Endings.{IsPlainFailure};
+ghost use Rattle.program_run.specs.Failures.{ShowFails};
 
 use crate::failure::Failure;
 use crate::files::read_file;
@@ -12,7 +12,7 @@ use std::rt::Files;
 /// The report on the session file of this name.
 pub(crate) fn show<R: Files + AllocGlobal>(rt: &R, name: String) -> Result<Report, Failure>
     ensures reports { IfOk result ShowsFile }
-    ensures failed { IfErr result IsPlainFailure }
+    ensures failed { IfErr result (ShowFails (string_bytes name)) }
 {
     let alloc = rt.alloc();
     let (_, bytes) = read_file(rt, name)?;

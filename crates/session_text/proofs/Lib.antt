@@ -1,1 +1,2 @@
+pub mod Added
 mod Lines

@@ -1,1 +1,2 @@
+pub mod FaultWords
 pub mod SessionText

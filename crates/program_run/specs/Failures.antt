@@ -1,0 +1,95 @@
+-- Why a run has no answer.
+use Rattle.std.specs.Prelude.{◌≡◌, ◌≢◌, ◌⊎◌, ℕ, List, Option, Contains, map, string_bytes}
+use Rattle.mj_project.specs.Projects.{SourceFile, Refuses, names_of}
+use Rattle.mj_project.specs.declared.project.ProjectFault.{ProjectFault}
+use Rattle.mj_project.specs.declared.project.ProjectFault.TheVariants as project
+use Rattle.session_text.specs.SessionText.{RefusesFile}
+use Rattle.cached_check.specs.Checks.{IsBeginning, IsUnbegun, IsUnkept}
+use Rattle.cached_check.specs.declared.beginning.Beginning.{Beginning}
+use Rattle.cached_check.specs.declared.fault.CheckFault.{CheckFault}
+use Rattle.command_line.specs.CommandLine.{Asks}
+use Rattle.command_line.specs.Given.{GivesCheck}
+use Rattle.command_line.specs.declared.asked.Words.{Words}
+use Rattle.command_line.specs.declared.asked.Words.TheVariants as words
+use Rattle.program_run.specs.Audits.{AuditFails}
+use Rattle.program_run.specs.declared.failure.Failure.{Failure}
+use Rattle.program_run.specs.declared.failure.Failure.TheVariants as failure
+
+-- ---- files
+
+-- the file of this name can't be read, or memory ran out
+abbrev pub IsUnread : List ℕ → Failure → Type 0
+IsUnread name (failure.CannotRead path) = string_bytes path ≡ name
+IsUnread name failure.OutOfMemory = Unit {0}
+IsUnread name why = ⊥
+
+-- the file of one of these names can't be read, or memory ran out
+abbrev pub AreUnread : List (List ℕ) → Failure → Type 0
+AreUnread names (failure.CannotRead path) = Contains names (string_bytes path)
+AreUnread names failure.OutOfMemory = Unit {0}
+AreUnread names why = ⊥
+
+-- Files of these names are no project for this reason, unless it is that memory ran out.
+pub record RefusesNames (names : List (List ℕ)) (fault : ProjectFault) : Type 0 where
+  pub files : List SourceFile
+  pub named : names_of files ≡ names
+  pub refused : fault ≢ project.OutOfMemory → Refuses files fault
+
+-- ---- subcommands
+
+-- why `scratch` fails on files of these names: one can't be read, they are no project, or memory ran
+-- out
+abbrev pub ScratchFails : List (List ℕ) → Failure → Type 0
+ScratchFails names (failure.Project fault) = RefusesNames names fault
+ScratchFails names why = AreUnread names why
+
+-- Where the session begins in the cache of this folder it isn't kept.
+pub record KeepsNone (dir : List ℕ) (fault : CheckFault) : Type 0 where
+  pub beginning : Beginning
+  pub begins : IsBeginning dir beginning
+  pub unkept : IsUnkept dir beginning.place beginning.notes fault
+
+-- the cache of this folder has no beginning for a session, or doesn't keep it
+abbrev pub CacheFails : List ℕ → CheckFault → Type 0
+CacheFails dir fault = IsUnbegun dir fault ⊎ KeepsNone dir fault
+
+-- why a project isn't checked over the cache of this folder: the cache, or memory ran out
+abbrev pub ProjectFails : List ℕ → Failure → Type 0
+ProjectFails dir (failure.Cache fault) = CacheFails dir fault
+ProjectFails dir failure.OutOfMemory = Unit {0}
+ProjectFails dir why = ⊥
+
+-- why `check` fails over the cache of this folder, on files of these names: the cache, or as
+-- `scratch` does
+abbrev pub CheckFails : List ℕ → List (List ℕ) → Failure → Type 0
+CheckFails dir names (failure.Cache fault) = CacheFails dir fault
+CheckFails dir names why = ScratchFails names why
+
+-- why `show` fails on the file of this name: it can't be read, its bytes are the file of no session,
+-- or memory ran out
+abbrev pub ShowFails : List ℕ → Failure → Type 0
+ShowFails name (failure.SessionFile fault) = (bytes : List ℕ) × RefusesFile bytes fault
+ShowFails name why = IsUnread name why
+
+-- ---- runs
+
+-- why what the words ask for fails
+abbrev pub FailsAt : {File : Type 0} → (File → Option (List ℕ)) → Words → Failure → Type 0
+FailsAt held (words.Scratch names) why = ScratchFails (map string_bytes names.items) why
+FailsAt held (words.Check asked) why =
+    CheckFails (string_bytes asked.cache) (map string_bytes asked.files.items) why
+FailsAt held (words.Audit names) why = AuditFails held (map string_bytes names.items) why
+FailsAt held (words.Show name) why = ShowFails (string_bytes name) why
+
+-- What these words ask for fails for this reason.
+pub record FailsAsked {File : Type 0} (held : File → Option (List ℕ)) (given : List (List ℕ))
+    (why : Failure) : Type 0 where
+  pub asked : Words
+  pub asks : Asks given asked
+  pub gives : GivesCheck given asked
+  pub fails : FailsAt held asked why
+
+-- why a run with these words fails: nothing is asked for, or what is asked for fails
+abbrev pub MayFail : {File : Type 0} → (File → Option (List ℕ)) → List (List ℕ) → Failure → Type 0
+MayFail held given (failure.Words fault) = Unit {0}
+MayFail held given why = FailsAsked held given why
