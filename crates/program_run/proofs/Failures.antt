@@ -228,8 +228,14 @@ module _ {File : Type 0} (held : File → Option (List ℕ)) where
   fails_not_clean (asked.Audit names) why f = audit_not_clean _ why f
   fails_not_clean (asked.Show name) why f = plain_not_clean why (show_plain _ why f)
 
+  no_words : (words : Words) (fault : WordsFault) → FailsAt held words (failure.Words fault) → ⊥
+  no_words (asked.Scratch names) fault f = f
+  no_words (asked.Check given) fault f = f
+  no_words (asked.Audit names) fault f = f.fails
+  no_words (asked.Show name) fault f = f
+
   pub may_fail : (given : List (List ℕ)) (words : Words) → Asks given words → GivesCheck given words → (why : Failure) → FailsAt held words why → MayFail held given why
-  may_fail given words asks gives (failure.Words fault) f = tt
+  may_fail given words asks gives (failure.Words fault) f = absurd (no_words words fault f)
   may_fail given words asks gives (failure.CannotRead path) f = record { asked = words; asks = asks; gives = gives; fails = f }
   may_fail given words asks gives (failure.Project fault) f = record { asked = words; asks = asks; gives = gives; fails = f }
   may_fail given words asks gives (failure.Chain fault) f = record { asked = words; asks = asks; gives = gives; fails = f }

@@ -1,5 +1,5 @@
 -- Why a run has no answer.
-use Rattle.std.specs.Prelude.{◌≡◌, ◌≢◌, ◌⊎◌, ℕ, List, Option, Contains, map, string_bytes}
+use Rattle.std.specs.Prelude.{◌≡◌, ◌≢◌, ◌⊎◌, ℕ, List, Option, Contains, IsTrue, map, string_bytes}
 use Rattle.mj_project.specs.Projects.{SourceFile, Refuses, names_of}
 use Rattle.mj_project.specs.declared.project.ProjectFault.{ProjectFault}
 use Rattle.mj_project.specs.declared.project.ProjectFault.TheVariants as project
@@ -7,10 +7,13 @@ use Rattle.session_text.specs.SessionText.{RefusesFile}
 use Rattle.cached_check.specs.Checks.{IsBeginning, IsUnbegun, IsUnkept}
 use Rattle.cached_check.specs.declared.beginning.Beginning.{Beginning}
 use Rattle.cached_check.specs.declared.fault.CheckFault.{CheckFault}
-use Rattle.command_line.specs.CommandLine.{Asks}
+use Rattle.command_line.specs.CommandLine.{Asks, asks_plainly}
 use Rattle.command_line.specs.Given.{GivesCheck}
+use Rattle.command_line.specs.declared.asked.Subcommand.{Subcommand}
 use Rattle.command_line.specs.declared.asked.Words.{Words}
 use Rattle.command_line.specs.declared.asked.Words.TheVariants as words
+use Rattle.command_line.specs.declared.asked.WordsFault.{WordsFault}
+use Rattle.command_line.specs.declared.asked.WordsFault.TheVariants as refusal
 use Rattle.program_run.specs.Audits.{AuditFails}
 use Rattle.program_run.specs.declared.failure.Failure.{Failure}
 use Rattle.program_run.specs.declared.failure.Failure.TheVariants as failure
@@ -89,7 +92,12 @@ pub record FailsAsked {File : Type 0} (held : File → Option (List ℕ)) (given
   pub gives : GivesCheck given asked
   pub fails : FailsAt held asked why
 
--- why a run with these words fails: nothing is asked for, or what is asked for fails
+-- memory ran out, or the words aren't plain ones
+abbrev pub RefusesWords : List (List ℕ) → WordsFault → Type 0
+RefusesWords given fault =
+    (subcommand : Subcommand) → IsTrue (asks_plainly subcommand given) → fault ≡ refusal.OutOfMemory
+
+-- why a run with these words fails: they are refused or ask for help, or what they ask for fails
 abbrev pub MayFail : {File : Type 0} → (File → Option (List ℕ)) → List (List ℕ) → Failure → Type 0
-MayFail held given (failure.Words fault) = Unit {0}
+MayFail held given (failure.Words fault) = RefusesWords given fault
 MayFail held given why = FailsAsked held given why
