@@ -10,6 +10,7 @@ use Rattle.mj_members.specs.Declarations.{ClassDecl}
 use Rattle.mj_classes.specs.Declarations.{decl}
 use Rattle.mj_classes.specs.Laws.{ChainLaws, MemberLaws}
 use Rattle.mj_project.specs.Projects.{SourceFile}
+use Rattle.profiles.specs.declared.profile.Profile.{Profile}
 use Rattle.mj_rules.specs.Sentences.{classes_in}
 use Rattle.mj_rules.specs.Rules.{IsAnswerFor, Rules}
 use Rattle.mj_rules.specs.FaultLists.{project_faults, NamesFitIn, class_faults, class_names}
@@ -33,24 +34,24 @@ is_named cs n None e h =
     let k = at_map (λ (j : ClassDecl). j.name) cs p.0 n p.1 in
     absurd (finds_one _ cs p.0 k.0 k.1 ((bytes_eq-Decides k.0.name n).1 k.2) e)
 
-module _ (chains : ChainLaws) (members : MemberLaws) (bodies : BodyFaultLaws) (cs : List ClassDecl) (fit : NamesFitIn cs) where
-  right_class : (n : Name) (k : ClassDecl) → decl cs n ≡ Some k → IsAnswerFor cs (class_answer cs k)
+module _ (chains : ChainLaws) (members : MemberLaws) (bodies : BodyFaultLaws) (profile : Profile) (cs : List ClassDecl) (fit : NamesFitIn cs) where
+  right_class : (n : Name) (k : ClassDecl) → decl cs n ≡ Some k → IsAnswerFor profile cs (class_answer profile cs k)
   right_class n k e =
-      answer_of_class chains members bodies cs fit k (class_answer cs k) (ap (decl cs) (decl-name cs n k e) ∙ e) refl refl
-      (set_ascends fault_order Before faults_compare (class_faults cs k)) (λ d. (from_set fault_order Before faults_compare (class_faults cs k) d, to_set fault_order Before faults_compare (class_faults cs k) d))
+      answer_of_class chains members bodies profile cs fit k (class_answer profile cs k) (ap (decl cs) (decl-name cs n k e) ∙ e) refl refl
+      (set_ascends fault_order Before faults_compare (class_faults profile cs k)) (λ d. (from_set fault_order Before faults_compare (class_faults profile cs k) d, to_set fault_order Before faults_compare (class_faults profile cs k) d))
 
   abbrev answers_for : List Name → List ClassAnswerValue
-  answers_for names = map (class_answer cs) (filter_map (decl cs) names)
+  answers_for names = map (class_answer profile cs) (filter_map (decl cs) names)
 
-  one_more : (n : Name) (names : List Name) (k : ClassDecl) → decl cs n ≡ Some k → answers_for (n ∷ names) ≡ class_answer cs k ∷ answers_for names
-  one_more n names k e = ap (λ o. map (class_answer cs) (cons_option o (filter_map (decl cs) names))) e
+  one_more : (n : Name) (names : List Name) (k : ClassDecl) → decl cs n ≡ Some k → answers_for (n ∷ names) ≡ class_answer profile cs k ∷ answers_for names
+  one_more n names k e = ap (λ o. map (class_answer profile cs) (cons_option o (filter_map (decl cs) names))) e
 
-  all_right : (names : List Name) → ((n : Name) → Contains names n → Contains (class_names cs) n) → All (IsAnswerFor cs) (answers_for names)
-  all_right [] h = All-nil (IsAnswerFor cs)
+  all_right : (names : List Name) → ((n : Name) → Contains names n → Contains (class_names cs) n) → All (IsAnswerFor profile cs) (answers_for names)
+  all_right [] h = All-nil (IsAnswerFor profile cs)
   all_right (n ∷ names) h =
       let k = is_named cs n (decl cs n) refl (h n (Contains-first n names)) in
-      subst (All (IsAnswerFor cs)) (sym (one_more n names k.0 k.1))
-      (All-cons (IsAnswerFor cs) (class_answer cs k.0) (answers_for names) (right_class n k.0 k.1) (all_right names (λ m i. h m (Contains-later n names m i))))
+      subst (All (IsAnswerFor profile cs)) (sym (one_more n names k.0 k.1))
+      (All-cons (IsAnswerFor profile cs) (class_answer profile cs k.0) (answers_for names) (right_class n k.0 k.1) (all_right names (λ m i. h m (Contains-later n names m i))))
 
   all_named : (names : List Name) → ((n : Name) → Contains names n → Contains (class_names cs) n) → map (λ (c : ClassAnswerValue). c.name) (answers_for names) ≡ names
   all_named [] h = refl
@@ -59,24 +60,24 @@ module _ (chains : ChainLaws) (members : MemberLaws) (bodies : BodyFaultLaws) (c
       ap (map (λ (c : ClassAnswerValue). c.name)) (one_more n names k.0 k.1)
       ∙ ap₂ (λ (m : Name) (ms : List Name). m ∷ ms) (decl-name cs n k.0 k.1) (all_named names (λ m i. h m (Contains-later n names m i)))
 
-module _ (chains : ChainLaws) (members : MemberLaws) (bodies : BodyFaultLaws) (sentences : SentenceLaw) (files : List SourceFile) where
+module _ (chains : ChainLaws) (members : MemberLaws) (bodies : BodyFaultLaws) (sentences : SentenceLaw) (profile : Profile) (files : List SourceFile) where
   abbrev sorted_names : List Name
   sorted_names = set_of name_order (class_names (classes_in files))
 
   declared : (n : Name) → Contains sorted_names n → Contains (class_names (classes_in files)) n
   declared n h = from_set name_order NameBefore names_compare (class_names (classes_in files)) n h
 
-  pub rules_hold : Rules files (rules_of files)
+  pub rules_hold : Rules profile files (rules_of profile files)
   unfolding rules_of
   rules_hold =
-      project_answer sentences files (rules_of files)
+      project_answer sentences profile files (rules_of profile files)
       (set_ascends fault_order Before faults_compare (project_faults files))
       (λ d. (from_set fault_order Before faults_compare (project_faults files) d, to_set fault_order Before faults_compare (project_faults files) d))
-      (class_answers (classes_in files) (rules_of files).classes sorted_names
+      (class_answers profile (classes_in files) (rules_of profile files).classes sorted_names
       (set_ascends name_order NameBefore names_compare (class_names (classes_in files)))
       (λ n. (declared n, to_set name_order NameBefore names_compare (class_names (classes_in files)) n))
-      (all_named chains members bodies (classes_in files) (names_fit_in files) sorted_names declared)
-      (all_right chains members bodies (classes_in files) (names_fit_in files) sorted_names declared))
+      (all_named chains members bodies profile (classes_in files) (names_fit_in files) sorted_names declared)
+      (all_right chains members bodies profile (classes_in files) (names_fit_in files) sorted_names declared))
 
-  pub answer_law : (a : AnswerValue) → Rules files a ↔ (a ≡ rules_of files)
-  answer_law a = (λ r. one_answer files a (rules_of files) r rules_hold, λ e. subst (Rules files) (sym e) rules_hold)
+  pub answer_law : (a : AnswerValue) → Rules profile files a ↔ (a ≡ rules_of profile files)
+  answer_law a = (λ r. one_answer profile files a (rules_of profile files) r rules_hold, λ e. subst (Rules profile files) (sym e) rules_hold)

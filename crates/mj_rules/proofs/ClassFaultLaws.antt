@@ -19,14 +19,15 @@ use Rattle.mj_classes.specs.Laws.{ChainLaws}
 use Rattle.mj_phrases.specs.declared.verdict.Mistake.{Mistake}
 use Rattle.mj_typing.specs.Bodies.{NamesFit, method_faults, main_faults}
 use Rattle.mj_project.specs.Repeats.{is_in, repeats}
+use Rattle.profiles.specs.declared.profile.Profile.{Profile}
 use Rattle.mj_rules.specs.Worlds.{sig_of, world_of}
 use Rattle.mj_rules.specs.ClassFaults.{FaultOfClass, UndeclaredSuperclass, CyclicChain, RepeatedField, RepeatedMethod, OtherSignature, UndeclaredFieldType, InMethod, InMain, IsFirstMethod, main_word, main_of}
-use Rattle.mj_rules.specs.FaultLists.{fault, when_fault, each_numbered, superclass_faults, is_cycle, chain_faults, is_undeclared, field_faults, same_signature, override_faults, inside, rest_of, nearest_sig, method_faults_of, body_faults_of, main_method_faults, field_names, method_names, declaration_faults, NamesFitIn, body_faults, class_faults}
+use Rattle.mj_rules.specs.FaultLists.{fault, when_fault, each_numbered, superclass_faults, is_cycle, chain_faults, is_undeclared, field_faults, may_override, override_faults, inside, rest_of, nearest_sig, method_faults_of, body_faults_of, main_method_faults, field_names, method_names, declaration_faults, NamesFitIn, body_faults, class_faults}
 use Rattle.mj_rules.specs.Laws.{BodyFaultLaws}
 use Rattle.mj_project.proofs.Listed.{place_before, contains_before, contains_at, at_map, map_at, place_of}
 use Rattle.mj_project.proofs.RepeatLemmas.{Contains-is_in, is_in-Contains, repeats-at, flag_at}
 use Rattle.mj_rules.proofs.Numbered.{nowhere, only, from_when, to_when, IsFlagged, from_all, to_all}
-use Rattle.mj_rules.proofs.Signatures.{signature_from, signature_to}
+use Rattle.mj_rules.proofs.MayOverride.{may_from, may_to}
 use Rattle.mj_rules.proofs.Overriding.{overridden_from, overridden_to}
 use Rattle.mj_rules.proofs.OneAnswer.{decl_stands}
 
@@ -55,9 +56,9 @@ to_inside m mistakes x h =
     let p = place_of mistakes x h in
     contains_at (inside m mistakes) p.0 _ (map_at (λ (y : Mistake). fault (places.Inside m y.mark) y.code) mistakes p.0 x p.1)
 
-module _ (chains : ChainLaws) (bodies : BodyFaultLaws) (cs : List ClassDecl) (fit : NamesFitIn cs) (k : ClassDecl) (first : decl cs k.name ≡ Some k) where
+module _ (chains : ChainLaws) (bodies : BodyFaultLaws) (profile : Profile) (cs : List ClassDecl) (fit : NamesFitIn cs) (k : ClassDecl) (first : decl cs k.name ≡ Some k) where
   abbrev Row : Diagnostic → Type 0
-  Row d = FaultOfClass cs k d.place d.code
+  Row d = FaultOfClass profile cs k d.place d.code
 
   -- ---- the class itself
 
@@ -115,14 +116,14 @@ module _ (chains : ChainLaws) (bodies : BodyFaultLaws) (cs : List ClassDecl) (fi
       later p = let f = at_map (λ (f : Method). f.name) k.methods p.0 m.name p.2 in is.first p.0 f.0 p.1 f.1 f.2
 
   from_override : (d : Diagnostic) (n : ℕ) (m : Method) (o : Option (Name × Method)) → IsFirstMethod k n m → nearest (own_method m.name) (rest_of cs k.name) ≡ o
-      → Contains (override_faults n m (option_map (λ (f : Name × Method). sig_of f.1) o)) d → Row d
+      → Contains (override_faults profile cs n m (option_map (λ (f : Name × Method). sig_of f.1) o)) d → Row d
   from_override d n m None is e h = absurd (nowhere d h)
   from_override d n m (Some found) is e h =
-      let w = from_when (not (same_signature m (sig_of found.1))) (places.Method n) E205 d h in
+      let w = from_when (not (may_override profile cs m (sig_of found.1))) (places.Method n) E205 d h in
       subst Row w.1 (OtherSignature n m found.1 is (overridden_from chains cs k.name m.name k found.0 found.1 first e)
-      (λ same. true≢false (sym (signature_to m (sig_of found.1) same) ∙ not_when (same_signature m (sig_of found.1)) w.0)))
+      (λ may. true≢false (sym (may_to profile cs m found.1 may) ∙ not_when (may_override profile cs m (sig_of found.1)) w.0)))
 
-  by_flag : (d : Diagnostic) (n : ℕ) (m : Method) (flag : Bool) → slice_get k.methods n ≡ Some m → flag ≡ is_in (take n (method_names k)) m.name → Contains (method_faults_of (nearest_sig (rest_of cs k.name)) n flag m) d → Row d
+  by_flag : (d : Diagnostic) (n : ℕ) (m : Method) (flag : Bool) → slice_get k.methods n ≡ Some m → flag ≡ is_in (take n (method_names k)) m.name → Contains (method_faults_of profile cs (nearest_sig (rest_of cs k.name)) n flag m) d → Row d
   by_flag d n m true e s h =
       let p = place_before n (method_names k) m.name (Contains-is_in (take n (method_names k)) m.name (sym s)) in
       let f = at_map (λ (f : Method). f.name) k.methods p.0 m.name p.2 in
@@ -141,7 +142,7 @@ module _ (chains : ChainLaws) (bodies : BodyFaultLaws) (cs : List ClassDecl) (fi
   method_flag : (i : ℕ) (flag : Bool) (m : Method) → slice_get k.methods i ≡ Some m → slice_get (repeats (method_names k)) i ≡ Some flag → flag ≡ is_in (take i (method_names k)) m.name
   method_flag i flag m e f = repeats-at (method_names k) i flag m.name (map_at (λ (g : Method). g.name) k.methods i m e) f
 
-  from_method : (d : Diagnostic) → IsFlagged (method_faults_of (nearest_sig (rest_of cs k.name))) k.methods (repeats (method_names k)) d → Row d
+  from_method : (d : Diagnostic) → IsFlagged (method_faults_of profile cs (nearest_sig (rest_of cs k.name))) k.methods (repeats (method_names k)) d → Row d
   from_method d r = by_flag d r.i r.item r.flag r.here (method_flag r.i r.flag r.item r.here r.flagged) r.found
 
   from_body : (d : Diagnostic) → IsFlagged (body_faults_of cs k.name) k.methods (repeats (method_names k)) d → Row d
@@ -153,16 +154,16 @@ module _ (chains : ChainLaws) (bodies : BodyFaultLaws) (cs : List ClassDecl) (fi
       let x = from_inside main_word (main_faults (world_of cs) (main_of k s)) d h in
       subst Row x.2 (InMain s x.0 e ((bodies.main (world_of cs) (main_of k s) x.0).1 x.1))
 
-  from_declarations : (d : Diagnostic) → Contains (declaration_faults cs k) d → Row d
+  from_declarations : (d : Diagnostic) → Contains (declaration_faults profile cs k) d → Row d
   unfolding declaration_faults
   from_declarations d h =
       elim (Contains-append_cases (superclass_faults cs k.superclass) _ d h) [
         | inl a ↦ from_superclass d k.superclass refl a
         | inr b ↦ elim (Contains-append_cases (chain_faults (chain_of cs k.name)) _ d b) [
           | inl a ↦ from_chain d (chain_of cs k.name) refl a
-          | inr c ↦ elim (Contains-append_cases (each_numbered (field_faults cs) 0 k.fields (repeats (field_names k))) (each_numbered (method_faults_of (nearest_sig (rest_of cs k.name))) 0 k.methods (repeats (method_names k))) d c) [
+          | inr c ↦ elim (Contains-append_cases (each_numbered (field_faults cs) 0 k.fields (repeats (field_names k))) (each_numbered (method_faults_of profile cs (nearest_sig (rest_of cs k.name))) 0 k.methods (repeats (method_names k))) d c) [
             | inl a ↦ from_field d (from_all (field_faults cs) k.fields (repeats (field_names k)) d a)
-            | inr e ↦ from_method d (from_all (method_faults_of (nearest_sig (rest_of cs k.name))) k.methods (repeats (method_names k)) d e)
+            | inr e ↦ from_method d (from_all (method_faults_of profile cs (nearest_sig (rest_of cs k.name))) k.methods (repeats (method_names k)) d e)
           ]
         ]
       ]
@@ -175,62 +176,62 @@ module _ (chains : ChainLaws) (bodies : BodyFaultLaws) (cs : List ClassDecl) (fi
         | inr a ↦ from_main d k.main refl a
       ]
 
-  pub from_class_faults : (d : Diagnostic) → Contains (class_faults cs k) d → Row d
-  from_class_faults d h = elim (Contains-append_cases (declaration_faults cs k) (body_faults cs k) d h) [ inl a ↦ from_declarations d a | inr b ↦ from_bodies d b ]
+  pub from_class_faults : (d : Diagnostic) → Contains (class_faults profile cs k) d → Row d
+  from_class_faults d h = elim (Contains-append_cases (declaration_faults profile cs k) (body_faults cs k) d h) [ inl a ↦ from_declarations d a | inr b ↦ from_bodies d b ]
 
   -- ---- the other way
 
-  in_superclass : (d : Diagnostic) → Contains (superclass_faults cs k.superclass) d → Contains (class_faults cs k) d
+  in_superclass : (d : Diagnostic) → Contains (superclass_faults cs k.superclass) d → Contains (class_faults profile cs k) d
   unfolding declaration_faults
-  in_superclass d h = Contains-append_left (declaration_faults cs k) (body_faults cs k) d (Contains-append_left (superclass_faults cs k.superclass) _ d h)
+  in_superclass d h = Contains-append_left (declaration_faults profile cs k) (body_faults cs k) d (Contains-append_left (superclass_faults cs k.superclass) _ d h)
 
-  in_chain : (d : Diagnostic) → Contains (chain_faults (chain_of cs k.name)) d → Contains (class_faults cs k) d
+  in_chain : (d : Diagnostic) → Contains (chain_faults (chain_of cs k.name)) d → Contains (class_faults profile cs k) d
   unfolding declaration_faults
   in_chain d h =
-      Contains-append_left (declaration_faults cs k) (body_faults cs k) d
+      Contains-append_left (declaration_faults profile cs k) (body_faults cs k) d
       (Contains-append_right (superclass_faults cs k.superclass) _ d (Contains-append_left (chain_faults (chain_of cs k.name)) _ d h))
 
-  in_fields : (d : Diagnostic) → Contains (each_numbered (field_faults cs) 0 k.fields (repeats (field_names k))) d → Contains (class_faults cs k) d
+  in_fields : (d : Diagnostic) → Contains (each_numbered (field_faults cs) 0 k.fields (repeats (field_names k))) d → Contains (class_faults profile cs k) d
   unfolding declaration_faults
   in_fields d h =
-      Contains-append_left (declaration_faults cs k) (body_faults cs k) d
+      Contains-append_left (declaration_faults profile cs k) (body_faults cs k) d
       (Contains-append_right (superclass_faults cs k.superclass) _ d (Contains-append_right (chain_faults (chain_of cs k.name)) _ d
       (Contains-append_left (each_numbered (field_faults cs) 0 k.fields (repeats (field_names k))) _ d h)))
 
-  in_methods : (d : Diagnostic) → Contains (each_numbered (method_faults_of (nearest_sig (rest_of cs k.name))) 0 k.methods (repeats (method_names k))) d → Contains (class_faults cs k) d
+  in_methods : (d : Diagnostic) → Contains (each_numbered (method_faults_of profile cs (nearest_sig (rest_of cs k.name))) 0 k.methods (repeats (method_names k))) d → Contains (class_faults profile cs k) d
   unfolding declaration_faults
   in_methods d h =
-      Contains-append_left (declaration_faults cs k) (body_faults cs k) d
+      Contains-append_left (declaration_faults profile cs k) (body_faults cs k) d
       (Contains-append_right (superclass_faults cs k.superclass) _ d (Contains-append_right (chain_faults (chain_of cs k.name)) _ d
-      (Contains-append_right (each_numbered (field_faults cs) 0 k.fields (repeats (field_names k))) (each_numbered (method_faults_of (nearest_sig (rest_of cs k.name))) 0 k.methods (repeats (method_names k))) d h)))
+      (Contains-append_right (each_numbered (field_faults cs) 0 k.fields (repeats (field_names k))) (each_numbered (method_faults_of profile cs (nearest_sig (rest_of cs k.name))) 0 k.methods (repeats (method_names k))) d h)))
 
-  in_bodies : (d : Diagnostic) → Contains (each_numbered (body_faults_of cs k.name) 0 k.methods (repeats (method_names k))) d → Contains (class_faults cs k) d
+  in_bodies : (d : Diagnostic) → Contains (each_numbered (body_faults_of cs k.name) 0 k.methods (repeats (method_names k))) d → Contains (class_faults profile cs k) d
   unfolding body_faults
   in_bodies d h =
-      Contains-append_right (declaration_faults cs k) (body_faults cs k) d
+      Contains-append_right (declaration_faults profile cs k) (body_faults cs k) d
       (Contains-append_left (each_numbered (body_faults_of cs k.name) 0 k.methods (repeats (method_names k))) (main_method_faults cs k k.main) d h)
 
-  in_main : (d : Diagnostic) → Contains (main_method_faults cs k k.main) d → Contains (class_faults cs k) d
+  in_main : (d : Diagnostic) → Contains (main_method_faults cs k k.main) d → Contains (class_faults profile cs k) d
   unfolding body_faults
   in_main d h =
-      Contains-append_right (declaration_faults cs k) (body_faults cs k) d
+      Contains-append_right (declaration_faults profile cs k) (body_faults cs k) d
       (Contains-append_right (each_numbered (body_faults_of cs k.name) 0 k.methods (repeats (method_names k))) (main_method_faults cs k k.main) d h)
 
-  in_first_method : (n : ℕ) (m : Method) (d : Diagnostic) → IsFirstMethod k n m → Contains (override_faults n m (nearest_sig (rest_of cs k.name) m.name)) d → Contains (class_faults cs k) d
+  in_first_method : (n : ℕ) (m : Method) (d : Diagnostic) → IsFirstMethod k n m → Contains (override_faults profile cs n m (nearest_sig (rest_of cs k.name) m.name)) d → Contains (class_faults profile cs k) d
   in_first_method n m d is h =
       let here = map_at (λ (f : Method). f.name) k.methods n m is.here in
       let flag = flag_at (method_names k) n m.name here in
-      in_methods d (to_all (method_faults_of (nearest_sig (rest_of cs k.name))) k.methods (repeats (method_names k)) d n flag.0 m is.here flag.1
-      (subst (λ b. Contains (method_faults_of (nearest_sig (rest_of cs k.name)) n b m) d) (sym (flag.2 ∙ not_before n m is)) h))
+      in_methods d (to_all (method_faults_of profile cs (nearest_sig (rest_of cs k.name))) k.methods (repeats (method_names k)) d n flag.0 m is.here flag.1
+      (subst (λ b. Contains (method_faults_of profile cs (nearest_sig (rest_of cs k.name)) n b m) d) (sym (flag.2 ∙ not_before n m is)) h))
 
-  in_first_body : (n : ℕ) (m : Method) (d : Diagnostic) → IsFirstMethod k n m → Contains (inside m.name (method_faults (world_of cs) k.name m)) d → Contains (class_faults cs k) d
+  in_first_body : (n : ℕ) (m : Method) (d : Diagnostic) → IsFirstMethod k n m → Contains (inside m.name (method_faults (world_of cs) k.name m)) d → Contains (class_faults profile cs k) d
   in_first_body n m d is h =
       let here = map_at (λ (f : Method). f.name) k.methods n m is.here in
       let flag = flag_at (method_names k) n m.name here in
       in_bodies d (to_all (body_faults_of cs k.name) k.methods (repeats (method_names k)) d n flag.0 m is.here flag.1
       (subst (λ b. Contains (body_faults_of cs k.name n b m) d) (sym (flag.2 ∙ not_before n m is)) h))
 
-  pub to_class_faults : {place : Place} {code : Code} → FaultOfClass cs k place code → Contains (class_faults cs k) (fault place code)
+  pub to_class_faults : {place : Place} {code : Code} → FaultOfClass profile cs k place code → Contains (class_faults profile cs k) (fault place code)
   to_class_faults (UndeclaredSuperclass u e none) =
       in_superclass _ (subst (λ o. Contains (superclass_faults cs o) (fault places.Class E201)) (sym e) (to_when _ _ _ (ap (λ (o : Option ClassDecl). is_none o) none)))
   to_class_faults (CyclicChain chain u is) =
@@ -247,12 +248,12 @@ module _ (chains : ChainLaws) (bodies : BodyFaultLaws) (cs : List ClassDecl) (fi
       let flag = flag_at (method_names k) n m.name here in
       let before = contains_before n i (method_names k) m.name below (map_at (λ (g : Method). g.name) k.methods i earlier ei ∙ ap Some same) in
       let set : flag.0 ≡ true = flag.2 ∙ is_in-Contains (take n (method_names k)) m.name before in
-      in_methods _ (to_all (method_faults_of (nearest_sig (rest_of cs k.name))) k.methods (repeats (method_names k)) _ n flag.0 m en flag.1
-      (subst (λ b. Contains (method_faults_of (nearest_sig (rest_of cs k.name)) n b m) (fault (places.Method n) E204)) (sym set) (Contains-first _ [])))
+      in_methods _ (to_all (method_faults_of profile cs (nearest_sig (rest_of cs k.name))) k.methods (repeats (method_names k)) _ n flag.0 m en flag.1
+      (subst (λ b. Contains (method_faults_of profile cs (nearest_sig (rest_of cs k.name)) n b m) (fault (places.Method n) E204)) (sym set) (Contains-first _ [])))
   to_class_faults (OtherSignature n m found is over other) =
-      let differs : not (same_signature m (sig_of found)) ≡ true = ap not (when_not (same_signature m (sig_of found)) (λ e. other (signature_from m (sig_of found) e))) in
+      let differs : not (may_override profile cs m (sig_of found)) ≡ true = ap not (when_not (may_override profile cs m (sig_of found)) (λ e. other (may_from profile cs m found e))) in
       in_first_method n m _ is
-      (subst (λ (o : Option (Name × Method)). Contains (override_faults n m (option_map (λ (f : Name × Method). sig_of f.1) o)) (fault (places.Method n) E205)) (sym (overridden_to chains cs k.name m.name found over)) (to_when _ _ _ differs))
+      (subst (λ (o : Option (Name × Method)). Contains (override_faults profile cs n m (option_map (λ (f : Name × Method). sig_of f.1) o)) (fault (places.Method n) E205)) (sym (overridden_to chains cs k.name m.name found over)) (to_when _ _ _ differs))
   to_class_faults (UndeclaredFieldType n f u en et none) =
       let here = map_at (λ (g : Field). g.name) k.fields n f en in
       let flag = flag_at (field_names k) n f.name here in
@@ -264,6 +265,6 @@ module _ (chains : ChainLaws) (bodies : BodyFaultLaws) (cs : List ClassDecl) (fi
       in_main _ (subst (λ o. Contains (main_method_faults cs k o) (fault (places.Inside main_word x.mark) x.code)) (sym e)
       (to_inside main_word (main_faults (world_of cs) (main_of k s)) x ((bodies.main (world_of cs) (main_of k s) x).0 ill)))
 
-pub class_fault_law : ChainLaws → BodyFaultLaws → (cs : List ClassDecl) → NamesFitIn cs → (k : ClassDecl) → decl cs k.name ≡ Some k → (place : Place) (code : Code)
-    → Contains (class_faults cs k) (fault place code) ↔ FaultOfClass cs k place code
-class_fault_law chains bodies cs fit k first place code = (λ h. from_class_faults chains bodies cs fit k first (fault place code) h, λ r. to_class_faults chains bodies cs fit k first r)
+pub class_fault_law : ChainLaws → BodyFaultLaws → (profile : Profile) (cs : List ClassDecl) → NamesFitIn cs → (k : ClassDecl) → decl cs k.name ≡ Some k → (place : Place) (code : Code)
+    → Contains (class_faults profile cs k) (fault place code) ↔ FaultOfClass profile cs k place code
+class_fault_law chains bodies profile cs fit k first place code = (λ h. from_class_faults chains bodies profile cs fit k first (fault place code) h, λ r. to_class_faults chains bodies profile cs fit k first r)

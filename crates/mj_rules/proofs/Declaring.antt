@@ -23,6 +23,7 @@ use Rattle.mj_members.specs.Tables.{own_rows, all_along, firsts, fields_along, m
 use Rattle.mj_classes.proofs.Climb.{decl_name, is_chain_of, links_declared}
 use Rattle.mj_classes.proofs.Nearest.{ancestry_of_chain}
 use Rattle.mj_project.specs.Repeats.{repeats}
+use Rattle.profiles.specs.declared.profile.Profile.{Profile}
 use Rattle.mj_rules.specs.Tables.{table_along, behind}
 use Rattle.mj_rules.specs.FaultLists.{when_fault, is_cycle, chain_faults, rest_of, nearest_sig, each_numbered, method_faults_of, override_faults, fault}
 use Rattle.mj_rules.specs.Worlds.{sig_of}
@@ -119,10 +120,10 @@ rest_declaring cs c end e = by (chain_of cs c) refl e
         by_names chain.0 is.rest chain.1 is is.first
 
 -- the methods behind a class are those of the rest of its chain
-pub methods_behind : (cs : List ClassDecl) (c : Name) (end : EndOf) (classes : List ClassDecl) → option_map (λ (p : Chain). p.1) (chain_of cs c) ≡ Some end → classes ≡ filter has_members (ancestry cs c)
-    → (ms : List Method) (flags : List Bool) → each_numbered (method_faults_of (nearest_sig (behind c classes))) 0 ms flags ≡ each_numbered (method_faults_of (nearest_sig (rest_of cs c))) 0 ms flags
-methods_behind cs c end classes e same ms flags =
-    each_same (method_faults_of (nearest_sig (behind c classes))) (method_faults_of (nearest_sig (rest_of cs c))) (λ n b m. ap (λ o. if b then fault (places.Method n) E204 ∷ [] else override_faults n m o) (sig m.name)) 0 ms flags
+pub methods_behind : (profile : Profile) (cs : List ClassDecl) (c : Name) (end : EndOf) (classes : List ClassDecl) → option_map (λ (p : Chain). p.1) (chain_of cs c) ≡ Some end → classes ≡ filter has_members (ancestry cs c)
+    → (ms : List Method) (flags : List Bool) → each_numbered (method_faults_of profile cs (nearest_sig (behind c classes))) 0 ms flags ≡ each_numbered (method_faults_of profile cs (nearest_sig (rest_of cs c))) 0 ms flags
+methods_behind profile cs c end classes e same ms flags =
+    each_same (method_faults_of profile cs (nearest_sig (behind c classes))) (method_faults_of profile cs (nearest_sig (rest_of cs c))) (λ n b m. ap (λ o. if b then fault (places.Method n) E204 ∷ [] else override_faults profile cs n m o) (sig m.name)) 0 ms flags
   where
     sig : (x : Name) → nearest_sig (behind c classes) x ≡ nearest_sig (rest_of cs c) x
     sig x =
@@ -130,11 +131,11 @@ methods_behind cs c end classes e same ms flags =
         ∙ ap (option_map (λ (found : Name × Method). sig_of found.1)) (nearest_declaring x (rest_of cs c))
 
 -- without methods there is none that overrides
-pub no_methods_added : (old : List Diagnostic) (above : List ClassDecl) (methods : List MethodTree) → (length methods == 0) ≡ true
-    → old ≡ old ++ each_numbered (method_faults_of (nearest_sig above)) 0 (map method_view methods) (repeats (map (λ (m : Method). m.name) (map method_view methods)))
-no_methods_added old above methods e =
+pub no_methods_added : (profile : Profile) (cs : List ClassDecl) (old : List Diagnostic) (above : List ClassDecl) (methods : List MethodTree) → (length methods == 0) ≡ true
+    → old ≡ old ++ each_numbered (method_faults_of profile cs (nearest_sig above)) 0 (map method_view methods) (repeats (map (λ (m : Method). m.name) (map method_view methods)))
+no_methods_added profile cs old above methods e =
     let none : methods ≡ [] = nil_from_length methods ((Decides-eqb (length methods) 0).0 e) in
-    sym (ap (λ (ms : List MethodTree). old ++ each_numbered (method_faults_of (nearest_sig above)) 0 (map method_view ms) (repeats (map (λ (m : Method). m.name) (map method_view ms)))) none ∙ append-nil old)
+    sym (ap (λ (ms : List MethodTree). old ++ each_numbered (method_faults_of profile cs (nearest_sig above)) 0 (map method_view ms) (repeats (map (λ (m : Method). m.name) (map method_view ms)))) none ∙ append-nil old)
 
 -- ---- the end of a chain
 

@@ -2,6 +2,7 @@ pub mod Numbered
 pub mod ProjectFaultLaws
 pub mod Signatures
 pub mod Overriding
+pub mod MayOverride
 pub mod ClassFaultLaws
 pub mod TableLaws
 pub mod Steps

@@ -14,6 +14,7 @@ use Rattle.mj_answer.proofs.Alike.{one_list_by}
 use Rattle.mj_members.specs.Declarations.{ClassDecl}
 use Rattle.mj_classes.specs.Declarations.{decl}
 use Rattle.mj_project.specs.Projects.{SourceFile}
+use Rattle.profiles.specs.declared.profile.Profile.{Profile}
 use Rattle.mj_rules.specs.Sentences.{classes_in}
 use Rattle.mj_rules.specs.ClassFaults.{FaultOfClass}
 use Rattle.mj_rules.specs.Rules.{AreTheFaults, IsTableOf, IsAnswerFor, Rules}
@@ -36,11 +37,11 @@ one_table cs c t u a b =
     let build : List FieldRow → List MethodRowValue → ClassTableValue = λ fs ms. record { fields = fs; methods = ms } in
     ap₂ build fields methods
 
-one_class : (cs : List ClassDecl) (x y : ClassAnswerValue) → IsAnswerFor cs x → IsAnswerFor cs y → x.name ≡ y.name → x ≡ y
-one_class cs x y a b same =
+one_class : (profile : Profile) (cs : List ClassDecl) (x y : ClassAnswerValue) → IsAnswerFor profile cs x → IsAnswerFor profile cs y → x.name ≡ y.name → x ≡ y
+one_class profile cs x y a b same =
     let class = same_Some a.class b.class (sym a.first ∙ (ap (decl cs) same ∙ b.first)) in
     let table = one_table cs y.name x.table y.table (subst (λ (n : Name). IsTableOf cs n x.table) same a.table) b.table in
-    let listed = one_fault_list (FaultOfClass cs b.class) x.faults y.faults (subst (λ (k : ClassDecl). AreTheFaults (FaultOfClass cs k) x.faults) class a.faults) b.faults in
+    let listed = one_fault_list (FaultOfClass profile cs b.class) x.faults y.faults (subst (λ (k : ClassDecl). AreTheFaults (FaultOfClass profile cs k) x.faults) class a.faults) b.faults in
     let build : Name → ClassTableValue → List Diagnostic → ClassAnswerValue = λ n t ds. record { name = n; table = t; faults = ds } in
     ap (λ (n : Name). build n x.table x.faults) same ∙ ap₂ (build y.name) table listed
 
@@ -49,18 +50,18 @@ pub decl_stands : (cs : List ClassDecl) (c : Name) (k : ClassDecl) → decl cs c
 unfolding decl
 decl_stands cs c k e = (found_stands _ cs k e).0
 
-module _ (files : List SourceFile) where
-  other_has : (a b : AnswerValue) → Rules files a → Rules files b → (x : ClassAnswerValue) → Contains a.classes x → Contains b.classes x
+module _ (profile : Profile) (files : List SourceFile) where
+  other_has : (a b : AnswerValue) → Rules profile files a → Rules profile files b → (x : ClassAnswerValue) → Contains a.classes x → Contains b.classes x
   other_has a b ra rb x h =
-      let is = All-contains (IsAnswerFor (classes_in files)) a.classes x ra.classes.each h in
+      let is = All-contains (IsAnswerFor profile (classes_in files)) a.classes x ra.classes.each h in
       let named = rb.classes.all is.class (decl_stands (classes_in files) x.name is.class is.first) in
       let p = place_of (map (λ (c : ClassAnswerValue). c.name) b.classes) is.class.name named in
       let y = at_map (λ (c : ClassAnswerValue). c.name) b.classes p.0 is.class.name p.1 in
       let stands = contains_at b.classes p.0 y.0 y.1 in
       let same : x.name ≡ y.0.name = sym (decl-name (classes_in files) x.name is.class is.first) ∙ sym y.2 in
-      subst (Contains b.classes) (sym (one_class (classes_in files) x y.0 is (All-contains (IsAnswerFor (classes_in files)) b.classes y.0 rb.classes.each stands) same)) stands
+      subst (Contains b.classes) (sym (one_class profile (classes_in files) x y.0 is (All-contains (IsAnswerFor profile (classes_in files)) b.classes y.0 rb.classes.each stands) same)) stands
 
-  pub one_answer : (a b : AnswerValue) → Rules files a → Rules files b → a ≡ b
+  pub one_answer : (a b : AnswerValue) → Rules profile files a → Rules profile files b → a ≡ b
   one_answer a b ra rb =
       let listed = one_fault_list _ a.faults b.faults ra.faults rb.faults in
       let classes = one_list_by ClassAnswerValue Name (λ c. c.name) NameBefore names a.classes b.classes ra.classes.ascending rb.classes.ascending

@@ -20,6 +20,7 @@ use Rattle.std.specs.Ordering.{nat_cmp}
 use Rattle.std.specs.Cmp.Lexicographic.{slice_cmp}
 use Rattle.mj_members.specs.Classes.{classes_view}
 use Rattle.mj_members.specs.declared.class.ClassRef.{ClassRef}
+use Rattle.profiles.specs.declared.profile.Profile.{Profile}
 use Rattle.mj_rules.specs.Worlds.{sig_of}
 use Rattle.mj_rules.specs.Tables.{method_row, row_sig, sig_in}
 use Rattle.mj_project.proofs.Listed.{place_of}
@@ -101,11 +102,11 @@ each_same f g same n (x ∷ xs) (flag ∷ flags) = ap₂ (λ (a b : List Diagnos
 pub rows_ascend : (ks : List ClassDecl) → IsAscendingByName (λ (r : MethodRowValue). r.name) (map method_row (methods_along ks))
 rows_ascend ks = mapped method_row (λ (r : MethodRowValue). r.name) (methods_along ks) (ascends (slice_cmp nat_cmp) NameBefore (λ m n e. e) _ (along_is_table ks).ascending)
 
-pub methods_same : (ks : List ClassDecl) (rows : List MethodRowValue) → rows ≡ map method_row (methods_along ks) → (ms : List Method) (flags : List Bool)
-    → each_numbered (method_faults_of (sig_in rows)) 0 ms flags ≡ each_numbered (method_faults_of (nearest_sig ks)) 0 ms flags
-methods_same ks rows e ms flags =
-    each_same (method_faults_of (sig_in rows)) (method_faults_of (nearest_sig ks))
-    (λ n b m. ap (λ o. if b then fault (places.Method n) E204 ∷ [] else override_faults n m o) (ap (λ rs. sig_in rs m.name) e ∙ sig_in-rows ks m.name)) 0 ms flags
+pub methods_same : (profile : Profile) (cs ks : List ClassDecl) (rows : List MethodRowValue) → rows ≡ map method_row (methods_along ks) → (ms : List Method) (flags : List Bool)
+    → each_numbered (method_faults_of profile cs (sig_in rows)) 0 ms flags ≡ each_numbered (method_faults_of profile cs (nearest_sig ks)) 0 ms flags
+methods_same profile cs ks rows e ms flags =
+    each_same (method_faults_of profile cs (sig_in rows)) (method_faults_of profile cs (nearest_sig ks))
+    (λ n b m. ap (λ o. if b then fault (places.Method n) E204 ∷ [] else override_faults profile cs n m o) (ap (λ rs. sig_in rs m.name) e ∙ sig_in-rows ks m.name)) 0 ms flags
 
 pub view_behind : (cs : List ClassRef) → classes_view (drop 1 cs) ≡ drop 1 (classes_view cs)
 view_behind [] = refl

@@ -33,14 +33,14 @@ itself Boolean = refl
 itself IntArray = refl
 itself (Class c) = (bytes_eq-Decides c c).1 refl
 
-both : (a b : Bool) → (a && b) ≡ true → (a ≡ true) × (b ≡ true)
+pub both : (a b : Bool) → (a && b) ≡ true → (a ≡ true) × (b ≡ true)
 both true b e = (refl, e)
 both false b e = absurd (true≢false (sym e))
 
-both_hold : (a b : Bool) → a ≡ true → b ≡ true → (a && b) ≡ true
+pub both_hold : (a b : Bool) → a ≡ true → b ≡ true → (a && b) ≡ true
 both_hold a b e f = ap (λ c. c && b) e ∙ f
 
-types_from : (vs : List Variable) (ts : List Ty) → same_types vs ts ≡ true → map (λ (v : Variable). v.ty) vs ≡ ts
+pub types_from : (vs : List Variable) (ts : List Ty) → same_types vs ts ≡ true → map (λ (v : Variable). v.ty) vs ≡ ts
 types_from [] [] h = refl
 types_from [] (t ∷ ts) h = absurd (true≢false (sym h))
 types_from (v ∷ vs) [] h = absurd (true≢false (sym h))
@@ -48,7 +48,7 @@ types_from (v ∷ vs) (t ∷ ts) h =
     let w = both (same_type v.ty t) (same_types vs ts) h in
     ap₂ (λ (u : Ty) (us : List Ty). u ∷ us) (same_from v.ty t w.0) (types_from vs ts w.1)
 
-types_itself : (vs : List Variable) → same_types vs (map (λ (v : Variable). v.ty) vs) ≡ true
+pub types_itself : (vs : List Variable) → same_types vs (map (λ (v : Variable). v.ty) vs) ≡ true
 types_itself [] = refl
 types_itself (v ∷ vs) = both_hold _ _ (itself v.ty) (types_itself vs)
 

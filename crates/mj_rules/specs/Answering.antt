@@ -11,6 +11,7 @@ use Rattle.mj_answer.specs.Order.{place_order, name_in, number_in}
 use Rattle.mj_members.specs.Declarations.{ClassDecl}
 use Rattle.mj_classes.specs.Declarations.{decl}
 use Rattle.mj_project.specs.Projects.{SourceFile}
+use Rattle.profiles.specs.declared.profile.Profile.{Profile}
 use Rattle.mj_rules.specs.Sentences.{classes_in}
 use Rattle.mj_rules.specs.Tables.{table_of}
 use Rattle.mj_rules.specs.FaultLists.{project_faults, class_faults, class_names}
@@ -40,11 +41,11 @@ fault_order d e =
 
 -- ---- answers
 
-abbrev pub class_answer : List ClassDecl → ClassDecl → ClassAnswerValue
-class_answer cs k = record {
+abbrev pub class_answer : Profile → List ClassDecl → ClassDecl → ClassAnswerValue
+class_answer profile cs k = record {
   name = k.name;
   table = table_of cs k.name;
-  faults = set_of fault_order (class_faults cs k);
+  faults = set_of fault_order (class_faults profile cs k);
 }
 
 -- the first class of each name, in the order of the names
@@ -52,8 +53,8 @@ abbrev pub first_classes : List ClassDecl → List ClassDecl
 first_classes cs = filter_map (decl cs) (set_of name_order (class_names cs))
 
 -- the answer that the rules give
-unfoldable pub rules_of : List SourceFile → AnswerValue
-rules_of files = record {
+unfoldable pub rules_of : Profile → List SourceFile → AnswerValue
+rules_of profile files = record {
   faults = set_of fault_order (project_faults files);
-  classes = map (class_answer (classes_in files)) (first_classes (classes_in files));
+  classes = map (class_answer profile (classes_in files)) (first_classes (classes_in files));
 }

@@ -17,10 +17,13 @@ use Rattle.mj_classes.specs.Declarations.{decl}
 use Rattle.mj_classes.specs.Chains.{EndOf, Top, Undeclared, Repeated, Chain, chain_of, ancestry}
 use Rattle.mj_classes.specs.Members.{nearest, own_method}
 use Rattle.mj_phrases.specs.declared.verdict.Mistake.{Mistake}
-use Rattle.mj_phrases.specs.Inquiries.{Sig}
+use Rattle.mj_phrases.specs.Inquiries.{Sig, conclusion}
+use Rattle.mj_phrases.specs.Table.{is_accepted}
 use Rattle.mj_typing.specs.Bodies.{NamesFit, method_faults, main_faults}
 use Rattle.mj_project.specs.Projects.{SourceFile}
 use Rattle.mj_project.specs.Repeats.{repeats}
+use Rattle.profiles.specs.declared.profile.Profile.{Profile}
+use Rattle.profiles.specs.declared.profile.Profile.TheVariants.{One, Two}
 use Rattle.mj_rules.specs.Sentences.{file_of, classes_in}
 use Rattle.mj_rules.specs.Worlds.{sig_of, world_of}
 use Rattle.mj_rules.specs.ClassFaults.{main_word, main_of}
@@ -123,9 +126,19 @@ same_types (v ∷ vs) (t ∷ ts) = same_type v.ty t && same_types vs ts
 abbrev pub same_signature : Method → Sig → Bool
 same_signature m sig = same_type m.returns sig.returns && same_types m.formals sig.formals
 
-abbrev pub override_faults : ℕ → Method → Option Sig → List Diagnostic
-override_faults n m None = []
-override_faults n m (Some sig) = when_fault (not (same_signature m sig)) (places.Method n) E205
+-- a type is accepted by another
+abbrev pub accepts : List ClassDecl → Ty → Ty → Bool
+accepts cs t u = conclusion (world_of cs) (is_accepted t u)
+
+-- the method may override one with these types
+abbrev pub may_override : Profile → List ClassDecl → Method → Sig → Bool
+may_override One cs m sig = same_signature m sig
+may_override Two cs m sig = same_types m.formals sig.formals && accepts cs m.returns sig.returns
+
+abbrev pub override_faults : Profile → List ClassDecl → ℕ → Method → Option Sig → List Diagnostic
+override_faults profile cs n m None = []
+override_faults profile cs n m (Some sig) =
+    when_fault (not (may_override profile cs m sig)) (places.Method n) E205
 
 -- the chain of a class behind the class itself
 abbrev pub rest_of : List ClassDecl → Name → List ClassDecl
@@ -136,9 +149,11 @@ abbrev pub nearest_sig : List ClassDecl → Name → Option Sig
 nearest_sig ks m = option_map (λ found. sig_of found.1) (nearest (own_method m) ks)
 
 -- what is wrong with a method, where these are the methods of the rest of the chain by their names
-abbrev pub method_faults_of : (Name → Option Sig) → ℕ → Bool → Method → List Diagnostic
-method_faults_of overridden n repeated m =
-    if repeated then fault (places.Method n) E204 ∷ [] else override_faults n m (overridden m.name)
+abbrev pub method_faults_of : Profile → List ClassDecl → (Name → Option Sig) → ℕ → Bool → Method
+    → List Diagnostic
+method_faults_of profile cs overridden n repeated m =
+    if repeated then fault (places.Method n) E204 ∷ []
+    else override_faults profile cs n m (overridden m.name)
 
 abbrev pub field_names : ClassDecl → List Name
 field_names k = map (λ f. f.name) k.fields
@@ -146,12 +161,12 @@ field_names k = map (λ f. f.name) k.fields
 abbrev pub method_names : ClassDecl → List Name
 method_names k = map (λ m. m.name) k.methods
 
-unfoldable pub declaration_faults : List ClassDecl → ClassDecl → List Diagnostic
-declaration_faults cs k =
+unfoldable pub declaration_faults : Profile → List ClassDecl → ClassDecl → List Diagnostic
+declaration_faults profile cs k =
     superclass_faults cs k.superclass
     ++ (chain_faults (chain_of cs k.name)
     ++ (each_numbered (field_faults cs) 0 k.fields (repeats (field_names k))
-    ++ each_numbered (method_faults_of (nearest_sig (rest_of cs k.name))) 0 k.methods
+    ++ each_numbered (method_faults_of profile cs (nearest_sig (rest_of cs k.name))) 0 k.methods
     (repeats (method_names k))))
 
 -- ---- bodies
@@ -178,5 +193,5 @@ body_faults cs k =
     each_numbered (body_faults_of cs k.name) 0 k.methods (repeats (method_names k))
     ++ main_method_faults cs k k.main
 
-abbrev pub class_faults : List ClassDecl → ClassDecl → List Diagnostic
-class_faults cs k = declaration_faults cs k ++ body_faults cs k
+abbrev pub class_faults : Profile → List ClassDecl → ClassDecl → List Diagnostic
+class_faults profile cs k = declaration_faults profile cs k ++ body_faults cs k

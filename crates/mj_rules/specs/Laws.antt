@@ -10,6 +10,7 @@ use Rattle.mj_phrases.specs.declared.verdict.Mistake.{Mistake}
 use Rattle.mj_phrases.specs.Inquiries.{World}
 use Rattle.mj_typing.specs.Bodies.{MethodFault, MainFault, NamesFit, method_faults, main_faults}
 use Rattle.mj_project.specs.Projects.{SourceFile}
+use Rattle.profiles.specs.declared.profile.Profile.{Profile}
 use Rattle.mj_rules.specs.Sentences.{IsSentence, file_of, classes_in}
 use Rattle.mj_rules.specs.ProjectFaults.{FaultOfProject}
 use Rattle.mj_rules.specs.Worlds.{world_of, Says}
@@ -30,10 +31,10 @@ ProjectFaultLaw =
 
 abbrev pub ClassFaultLaw : Type 0
 ClassFaultLaw =
-    (files : List SourceFile) (k : ClassDecl) → decl (classes_in files) k.name ≡ Some k
-    → (place : Place) (code : Code)
-    → Contains (class_faults (classes_in files) k) (fault place code)
-    ↔ FaultOfClass (classes_in files) k place code
+    (profile : Profile) (files : List SourceFile) (k : ClassDecl)
+    → decl (classes_in files) k.name ≡ Some k → (place : Place) (code : Code)
+    → Contains (class_faults profile (classes_in files) k) (fault place code)
+    ↔ FaultOfClass profile (classes_in files) k place code
 
 -- the answers that the check of a body gets agree with the chains, the accepted types and the
 -- members
@@ -43,8 +44,8 @@ WorldLaw = (cs : List ClassDecl) → Says cs (world_of cs)
 -- the computed answer is the only one that the rules give
 abbrev pub AnswerLaw : Type 0
 AnswerLaw =
-    (files : List SourceFile) (answer : AnswerValue)
-    → Rules files answer ↔ (answer ≡ rules_of files)
+    (profile : Profile) (files : List SourceFile) (answer : AnswerValue)
+    → Rules profile files answer ↔ (answer ≡ rules_of profile files)
 
 pub record BodyFaultLaws : Type 0 where
   pub method : (w : World) (class : Name) (m : Method) → NamesFit m → (x : Mistake)

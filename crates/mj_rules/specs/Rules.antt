@@ -12,6 +12,7 @@ use Rattle.mj_members.specs.Declarations.{ClassDecl}
 use Rattle.mj_classes.specs.Declarations.{decl}
 use Rattle.mj_classes.specs.Members.{FieldOf, MethodOf}
 use Rattle.mj_project.specs.Projects.{SourceFile}
+use Rattle.profiles.specs.declared.profile.Profile.{Profile}
 use Rattle.mj_rules.specs.Sentences.{classes_in}
 use Rattle.mj_rules.specs.ProjectFaults.{FaultOfProject}
 use Rattle.mj_rules.specs.ClassFaults.{FaultOfClass}
@@ -42,19 +43,21 @@ pub record IsTableOf (cs : List ClassDecl) (c : Name) (table : ClassTableValue) 
   pub methods : (row : MethodRowValue) → Contains table.methods row ↔ IsMethodOf cs c row
 
 -- the table and the diagnostics of the first class of a name
-pub record IsAnswerFor (cs : List ClassDecl) (answer : ClassAnswerValue) : Type 0 where
+pub record IsAnswerFor (profile : Profile) (cs : List ClassDecl)
+    (answer : ClassAnswerValue) : Type 0 where
   pub class : ClassDecl
   pub first : decl cs answer.name ≡ Some class
   pub table : IsTableOf cs answer.name answer.table
-  pub faults : AreTheFaults (FaultOfClass cs class) answer.faults
+  pub faults : AreTheFaults (FaultOfClass profile cs class) answer.faults
 
 -- each declared class with its table and its diagnostics, ascending by name
-pub record AreClassAnswers (cs : List ClassDecl) (answers : List ClassAnswerValue) : Type 0 where
+pub record AreClassAnswers (profile : Profile) (cs : List ClassDecl)
+    (answers : List ClassAnswerValue) : Type 0 where
   pub ascending : IsAscendingByName (λ class. class.name) answers
-  pub each : All (IsAnswerFor cs) answers
+  pub each : All (IsAnswerFor profile cs) answers
   pub all : (k : ClassDecl) → Contains cs k → Contains (map (λ class. class.name) answers) k.name
 
 -- the project's own diagnostics, and its classes
-pub record Rules (files : List SourceFile) (answer : AnswerValue) : Type 0 where
+pub record Rules (profile : Profile) (files : List SourceFile) (answer : AnswerValue) : Type 0 where
   pub faults : AreTheFaults (FaultOfProject files) answer.faults
-  pub classes : AreClassAnswers (classes_in files) answer.classes
+  pub classes : AreClassAnswers profile (classes_in files) answer.classes

@@ -5,6 +5,7 @@ ghost use Rattle.mj_classes.specs.Declarations.{decl};
 ghost use Rattle.mj_members.specs.Classes.{class_ref_view};
 ghost use Rattle.mj_classes.specs.Classes.{files_view};
 ghost use Rattle.mj_classes.specs.Index.{declared_in};
+ghost use Rattle.profiles.specs.declared.profile.Profile.TheVariants.{One};
 ghost use Rattle.mj_rules.specs.FaultLists.{NamesFitIn, class_names};
 ghost use Rattle.mj_rules.specs.Sentences.{trees_of};
 ghost use Rattle.mj_rules.specs.Rules.{IsAnswerFor, AreClassAnswers, Rules};
@@ -19,11 +20,13 @@ use mj_classes::{ClassRef, Declarations};
 use mj_lexer::Name;
 use mj_project::Project;
 use mj_tree::FileTree;
+use profiles::Profile;
 use std::alloc::{AllocError, Global};
 
 /// The answer for a class, the first one of its name.
 fn class_answer(
     alloc: Global,
+    profile: Profile,
     declarations: &Declarations,
     class: &ClassRef,
 ) -> Result<ClassAnswer, AllocError>
@@ -31,13 +34,13 @@ fn class_answer(
         ≡ Some (class_ref_view class.now) }
     requires fit { NamesFitIn (declared_in declarations.now) }
     ensures name { IfOk result (λ answer. answer.name ≡ (class_ref_view class.now).name) }
-    ensures rules { IfOk result (IsAnswerFor (declared_in declarations.now)) }
+    ensures rules { IfOk result (IsAnswerFor profile (declared_in declarations.now)) }
 {
     let Some(chain) = declarations.chain(alloc, class.name())? else {
         unreachable!();
     };
     let table = class_table(alloc, &chain.classes)?;
-    let mut faults = declaration_faults(alloc, declarations, class, &chain)?;
+    let mut faults = declaration_faults(alloc, profile, declarations, class, &chain)?;
     add_body_faults(alloc, &mut faults, declarations, class)?;
     let name = class.name().copy(alloc)?;
     Ok(ClassAnswer::new(name, table, fault_set(faults)))
@@ -59,10 +62,14 @@ fn declared_names(alloc: Global, declarations: &Declarations) -> Result<Vec<Name
 }
 
 /// The answers for the declared classes, ascending by name.
-fn class_answers(alloc: Global, declarations: &Declarations) -> Result<Vec<ClassAnswer>, AllocError>
+fn class_answers(
+    alloc: Global,
+    profile: Profile,
+    declarations: &Declarations,
+) -> Result<Vec<ClassAnswer>, AllocError>
     requires { NamesFitIn (declared_in declarations.now) }
     ensures { IfOk result (λ answers.
-        AreClassAnswers (declared_in declarations.now) answers.items) }
+        AreClassAnswers profile (declared_in declarations.now) answers.items) }
 {
     let names = declared_names(alloc, declarations)?;
     let mut answers = Vec::new(alloc);
@@ -70,30 +77,50 @@ fn class_answers(alloc: Global, declarations: &Declarations) -> Result<Vec<Class
         let Some(class) = declarations.find(name) else {
             unreachable!();
         };
-        answers.push(class_answer(alloc, declarations, &class)?)?;
+        answers.push(class_answer(alloc, profile, declarations, &class)?)?;
     }
     Ok(answers)
 }
 
-/// The answer that the rules give a project whose files have these trees.
+/// The answer that the rules of a profile give a project whose files have these trees.
+pub fn answer_for_as(
+    alloc: Global,
+    profile: Profile,
+    project: &Project,
+    trees: &[Option<FileTree>],
+) -> Result<Answer, AllocError>
+    requires { files_view trees.now ≡ trees_of project.now }
+    ensures { IfOk result (λ answer. Rules profile project.now answer) }
+{
+    let declarations = Declarations::new(alloc, trees)?;
+    let faults = project_faults(alloc, project, trees, declarations.classes())?;
+    let classes = class_answers(alloc, profile, &declarations)?;
+    Ok(Answer::new(fault_set(faults), classes))
+}
+
+/// The answer that the rules of profile 1 give a project whose files have these trees.
 pub fn answer_for(
     alloc: Global,
     project: &Project,
     trees: &[Option<FileTree>],
 ) -> Result<Answer, AllocError>
     requires { files_view trees.now ≡ trees_of project.now }
-    ensures { IfOk result (λ answer. Rules project.now answer) }
+    ensures { IfOk result (λ answer. Rules One project.now answer) }
 {
-    let declarations = Declarations::new(alloc, trees)?;
-    let faults = project_faults(alloc, project, trees, declarations.classes())?;
-    let classes = class_answers(alloc, &declarations)?;
-    Ok(Answer::new(fault_set(faults), classes))
+    answer_for_as(alloc, Profile::One, project, trees)
 }
 
-/// The answer that the rules give a project.
-pub fn scratch(alloc: Global, project: &Project) -> Result<Answer, AllocError>
-    ensures { IfOk result (λ answer. Rules project.now answer) }
+/// The answer that the rules of a profile give a project.
+pub fn scratch_as(alloc: Global, profile: Profile, project: &Project) -> Result<Answer, AllocError>
+    ensures { IfOk result (λ answer. Rules profile project.now answer) }
 {
     let trees = read_files(alloc, project)?;
-    answer_for(alloc, project, &trees)
+    answer_for_as(alloc, profile, project, &trees)
+}
+
+/// The answer that the rules of profile 1 give a project.
+pub fn scratch(alloc: Global, project: &Project) -> Result<Answer, AllocError>
+    ensures { IfOk result (λ answer. Rules One project.now answer) }
+{
+    scratch_as(alloc, Profile::One, project)
 }

@@ -10,7 +10,7 @@ ghost use Rattle.mj_classes.specs.Classes.{end_view};
 ghost use Rattle.mj_classes.specs.Index.{declared_in};
 ghost use Rattle.mj_project.specs.Repeats.{repeats};
 ghost use Rattle.mj_rules.specs.Tables.{row_sig, sig_in, behind};
-ghost use Rattle.mj_rules.specs.FaultLists.{when_fault, each_numbered, superclass_faults, is_cycle, is_undeclared, field_faults, same_type, same_types, same_signature, override_faults, method_faults_of, nearest_sig, declaration_faults};
+ghost use Rattle.mj_rules.specs.FaultLists.{when_fault, each_numbered, superclass_faults, is_cycle, is_undeclared, field_faults, same_type, same_types, same_signature, accepts, may_override, override_faults, method_faults_of, nearest_sig, declaration_faults};
 ghost use Rattle.mj_tree.specs.declared.place.Place.TheVariants as places;
 ghost use Rattle.mj_answer.specs.declared.code.Code.TheVariants.{E202};
 
@@ -20,6 +20,7 @@ use mj_classes::{ClassChain, ClassRef, Declarations, End};
 use mj_lexer::Name;
 use mj_project::repeats;
 use mj_tree::{Field, MethodTree, Place, Ty, Variable};
+use profiles::Profile;
 use std::alloc::{AllocError, Global};
 
 fn is_declared(declarations: &Declarations, name: &Name) -> bool
@@ -176,9 +177,47 @@ fn same_signature(method: &MethodTree, other: &MethodRow) -> bool
     same_type(&method.returns, other.returns()) && same_types(&method.formals, other.formals())
 }
 
+/// Whether a type is accepted by another.
+#[tactic(auto, unfolding(mj_phrases::specs::Table::is_accepted))]
+fn accepts(declarations: &Declarations, ty: &Ty, other: &Ty) -> bool
+    ensures { result ≡ accepts (declared_in declarations.now) ty.now other.now }
+{
+    match (ty, other) {
+        (Ty::Class(class), Ty::Class(ancestor)) => {
+            class == ancestor || declarations.descends(class, ancestor)
+        }
+        (Ty::Class(_), _) => false,
+        (Ty::Int, _) => matches!(other, Ty::Int),
+        (Ty::Boolean, _) => matches!(other, Ty::Boolean),
+        (Ty::IntArray, _) => matches!(other, Ty::IntArray),
+    }
+}
+
+/// Whether a method may override another.
+fn may_override(
+    profile: Profile,
+    declarations: &Declarations,
+    method: &MethodTree,
+    other: &MethodRow,
+) -> bool
+    ensures { result
+        ≡ may_override profile (declared_in declarations.now) (method_view method.now)
+        (record { formals = other.now.formals; returns = other.now.returns }) }
+{
+    match profile {
+        Profile::One => same_signature(method, other),
+        Profile::Two => {
+            same_types(&method.formals, other.formals())
+                && accepts(declarations, &method.returns, other.returns())
+        }
+    }
+}
+
 /// Adds what is wrong with a method that overrides another or none.
 fn add_override(
+    profile: Profile,
     faults: &mut Vec<Diagnostic>,
+    declarations: &Declarations,
     number: usize,
     method: &MethodTree,
     other: Option<&MethodRow>,
@@ -186,11 +225,11 @@ fn add_override(
     ensures { OnOk result
         (faults.new.items
         ≡ faults.old.items
-        ++ override_faults number (method_view method.now)
-        (option_map row_sig (option_copied other.entry))) }
+        ++ override_faults profile (declared_in declarations.now) number
+        (method_view method.now) (option_map row_sig (option_copied other.entry))) }
 {
     if let Some(other) = other {
-        if !same_signature(method, other) {
+        if !may_override(profile, declarations, method, other) {
             faults.push(Diagnostic {
                 place: Place::Method(number),
                 code: Code::E205,
@@ -202,7 +241,9 @@ fn add_override(
 
 /// Adds what is wrong with a method; these are the methods of the rest of its class's chain.
 fn add_method(
+    profile: Profile,
     faults: &mut Vec<Diagnostic>,
+    declarations: &Declarations,
     rest: &[MethodRow],
     number: usize,
     repeated: bool,
@@ -212,8 +253,8 @@ fn add_method(
     ensures { OnOk result
         (faults.new.items
         ≡ faults.old.items
-        ++ method_faults_of (sig_in rest.now) number repeated
-        (method_view method.now)) }
+        ++ method_faults_of profile (declared_in declarations.now) (sig_in rest.now) number
+        repeated (method_view method.now)) }
 {
     if repeated {
         faults.push(Diagnostic {
@@ -222,14 +263,17 @@ fn add_method(
         })?;
         Ok(())
     } else {
-        add_override(faults, number, method, find_by_name(rest, &method.name))
+        let other = find_by_name(rest, &method.name);
+        add_override(profile, faults, declarations, number, method, other)
     }
 }
 
 /// Adds what is wrong with the methods of a class; these are the methods of the rest of its chain.
 pub fn add_methods(
     alloc: Global,
+    profile: Profile,
     faults: &mut Vec<Diagnostic>,
+    declarations: &Declarations,
     rest: &[MethodRow],
     methods: &[MethodTree],
 ) -> Result<(), AllocError>
@@ -237,14 +281,23 @@ pub fn add_methods(
     ensures { OnOk result
         (faults.new.items
         ≡ faults.old.items
-        ++ each_numbered (method_faults_of (sig_in rest.now)) 0
+        ++ each_numbered
+        (method_faults_of profile (declared_in declarations.now) (sig_in rest.now)) 0
         (map method_view methods.now)
         (repeats (map (λ m. m.name) (map method_view methods.now)))) }
 {
     let repeated = repeated_methods(alloc, methods)?;
     let flags = repeated.as_slice();
     for (number, method) in methods.iter().enumerate() {
-        add_method(faults, rest, number, flags[number], method)?;
+        add_method(
+            profile,
+            faults,
+            declarations,
+            rest,
+            number,
+            flags[number],
+            method,
+        )?;
     }
     Ok(())
 }
@@ -262,7 +315,9 @@ fn behind<'a, 'b>(name: &Name, classes: &'b [ClassRef<'a>]) -> &'b [ClassRef<'a>
 /// Adds what is wrong with the methods of a class that has this name, and these classes of its chain declare members.
 fn add_method_faults(
     alloc: Global,
+    profile: Profile,
     faults: &mut Vec<Diagnostic>,
+    declarations: &Declarations,
     name: &Name,
     classes: &[ClassRef],
     methods: &[MethodTree],
@@ -271,7 +326,8 @@ fn add_method_faults(
         (faults.new.items
         ≡ faults.old.items
         ++ each_numbered
-        (method_faults_of (nearest_sig (behind name.now (classes_view classes.now)))) 0
+        (method_faults_of profile (declared_in declarations.now)
+        (nearest_sig (behind name.now (classes_view classes.now)))) 0
         (map method_view methods.now)
         (repeats (map (λ m. m.name) (map method_view methods.now)))) }
 {
@@ -279,12 +335,13 @@ fn add_method_faults(
         return Ok(());
     }
     let rest = method_rows(alloc, behind(name, classes))?;
-    add_methods(alloc, faults, &rest, methods)
+    add_methods(alloc, profile, faults, declarations, &rest, methods)
 }
 
 /// The diagnostics of the declarations of a class with this chain.
 pub fn declaration_faults(
     alloc: Global,
+    profile: Profile,
     declarations: &Declarations,
     class: &ClassRef,
     chain: &ClassChain,
@@ -297,7 +354,8 @@ pub fn declaration_faults(
         (ancestry (declared_in declarations.now) (class_ref_view class.now).name) }
     ensures { IfOk result (λ faults.
         faults.items
-        ≡ declaration_faults (declared_in declarations.now) (class_ref_view class.now)) }
+        ≡ declaration_faults profile (declared_in declarations.now)
+        (class_ref_view class.now)) }
 {
     let mut faults = Vec::new(alloc);
     add_superclass_fault(&mut faults, declarations, class)?;
@@ -305,7 +363,9 @@ pub fn declaration_faults(
     add_fields(alloc, &mut faults, declarations, class.fields())?;
     add_method_faults(
         alloc,
+        profile,
         &mut faults,
+        declarations,
         class.name(),
         &chain.classes,
         class.methods(),

@@ -10,10 +10,11 @@ mod reading;
 mod tables;
 mod world;
 
-pub use checker::{answer_for, scratch};
+pub use checker::{answer_for, answer_for_as, scratch, scratch_as};
 pub use laws::{answer_laws, class_fault_laws, project_fault_laws, sentence_laws, world_laws};
 pub use mj_answer::{
     Answer, ClassAnswer, ClassTable, Code, Diagnostic, FieldRow, MethodRow, render,
 };
 pub use mj_project::{Project, ProjectFault};
+pub use profiles::Profile;
 pub use reading::read_file;

@@ -14,6 +14,7 @@ use Rattle.mj_classes.specs.Declarations.{decl}
 use Rattle.mj_phrases.specs.declared.verdict.Mistake.{Mistake}
 use Rattle.mj_typing.specs.Bodies.{MethodFault, MainFault}
 use Rattle.mj_project.specs.Projects.{SourceFile}
+use Rattle.profiles.specs.declared.profile.Profile.{Profile}
 use Rattle.mj_rules.specs.Sentences.{classes_in}
 use Rattle.mj_rules.specs.Worlds.{world_of}
 use Rattle.mj_rules.specs.ClassFaults.{FaultOfClass, UndeclaredSuperclass, CyclicChain, RepeatedField, RepeatedMethod, OtherSignature, UndeclaredFieldType, InMethod, InMain, IsFirstMethod, main_word, main_of}
@@ -32,9 +33,9 @@ same_name e = cc
 same_mark : {a b : Name} {i j : ℕ} → place.Inside a i ≡ place.Inside b j → i ≡ j
 same_mark e = cc
 
-module _ (cs : List ClassDecl) (k : ClassDecl) (orderly : IsOrderly k) where
+module _ (profile : Profile) (cs : List ClassDecl) (k : ClassDecl) (orderly : IsOrderly k) where
   module _ (n : ℕ) (m : Method) (is : IsFirstMethod k n m) (mark : ℕ) where
-    of_method : (p : Place) (code : Code) → FaultOfClass cs k p code → p ≡ place.Inside m.name mark → MethodFault (world_of cs) k.name m (record { mark = mark; code = code })
+    of_method : (p : Place) (code : Code) → FaultOfClass profile cs k p code → p ≡ place.Inside m.name mark → MethodFault (world_of cs) k.name m (record { mark = mark; code = code })
     of_method p code (UndeclaredSuperclass u e d) at = absurd cc
     of_method p code (CyclicChain chain u e) at = absurd cc
     of_method p code (RepeatedField i j a b l e f s) at = absurd cc
@@ -47,7 +48,7 @@ module _ (cs : List ClassDecl) (k : ClassDecl) (orderly : IsOrderly k) where
     of_method p code (InMain statement x e h) at = absurd (no_method k n m (orderly.main_alone statement e) is.here)
 
   module _ (statement : Statement) (is : k.main ≡ Some statement) (mark : ℕ) where
-    of_main : (p : Place) (code : Code) → FaultOfClass cs k p code → p ≡ place.Inside main_word mark → MainFault (world_of cs) (main_of k statement) (record { mark = mark; code = code })
+    of_main : (p : Place) (code : Code) → FaultOfClass profile cs k p code → p ≡ place.Inside main_word mark → MainFault (world_of cs) (main_of k statement) (record { mark = mark; code = code })
     of_main p code (UndeclaredSuperclass u e d) at = absurd cc
     of_main p code (CyclicChain chain u e) at = absurd cc
     of_main p code (RepeatedField i j a b l e f s) at = absurd cc
@@ -61,16 +62,16 @@ module _ (cs : List ClassDecl) (k : ClassDecl) (orderly : IsOrderly k) where
 
 -- ---- answers
 
-module _ (files : List SourceFile) (answer : AnswerValue) (rules : Rules files answer) (class : ClassAnswerValue) (listed : Contains answer.classes class) where
-  for_class : IsAnswerFor (classes_in files) class
-  for_class = All-contains (IsAnswerFor (classes_in files)) answer.classes class rules.classes.each listed
+module _ (profile : Profile) (files : List SourceFile) (answer : AnswerValue) (rules : Rules profile files answer) (class : ClassAnswerValue) (listed : Contains answer.classes class) where
+  for_class : IsAnswerFor profile (classes_in files) class
+  for_class = All-contains (IsAnswerFor profile (classes_in files)) answer.classes class rules.classes.each listed
 
   -- the class that the answer speaks of
-  faults_are : (k : ClassDecl) → decl (classes_in files) class.name ≡ Some k → (p : Place) (code : Code) → Contains class.faults (record { place = p; code = code }) ↔ FaultOfClass (classes_in files) k p code
+  faults_are : (k : ClassDecl) → decl (classes_in files) class.name ≡ Some k → (p : Place) (code : Code) → Contains class.faults (record { place = p; code = code }) ↔ FaultOfClass profile (classes_in files) k p code
   faults_are k e p code =
-      subst (λ (k : ClassDecl). Contains class.faults (record { place = p; code = code }) ↔ FaultOfClass (classes_in files) k p code) (same_Some for_class.class k (sym for_class.first ∙ e)) (for_class.faults.exactly p code)
+      subst (λ (k : ClassDecl). Contains class.faults (record { place = p; code = code }) ↔ FaultOfClass profile (classes_in files) k p code) (same_Some for_class.class k (sym for_class.first ∙ e)) (for_class.faults.exactly p code)
 
-  inside_of : (k : ClassDecl) → decl (classes_in files) class.name ≡ Some k → (p : Place) (code : Code) (name : Name) (mark : ℕ) → FaultOfClass (classes_in files) k p code → p ≡ place.Inside name mark
+  inside_of : (k : ClassDecl) → decl (classes_in files) class.name ≡ Some k → (p : Place) (code : Code) (name : Name) (mark : ℕ) → FaultOfClass profile (classes_in files) k p code → p ≡ place.Inside name mark
       → ((m : Method) × IsMethodIn files class.name m × (m.name ≡ name)) ⊎ ((statement : Statement) × IsMainIn files class.name statement × (main_word ≡ name))
   inside_of k first p code name mark (UndeclaredSuperclass u e d) at = absurd cc
   inside_of k first p code name mark (CyclicChain chain u e) at = absurd cc
@@ -90,7 +91,7 @@ module _ (files : List SourceFile) (answer : AnswerValue) (rules : Rules files a
       let k = is.declaration in
       let o = orderly_class files class.name k is.first_class in
       let named = decl-name (classes_in files) class.name k is.first_class in
-      let f = of_method (classes_in files) k o is.number m is.first_method x.mark (place.Inside m.name x.mark) x.code ((faults_are k is.first_class (place.Inside m.name x.mark) x.code).0 h) refl in
+      let f = of_method profile (classes_in files) k o is.number m is.first_method x.mark (place.Inside m.name x.mark) x.code ((faults_are k is.first_class (place.Inside m.name x.mark) x.code).0 h) refl in
       in_method (world_in files) class.name m x (subst (λ (c : Name). MethodFault (world_in files) c m x) named f)
 
   to_method : (m : Method) (is : IsMethodIn files class.name m) (x : Mistake) → FaultInMethod (world_in files) class.name m x → Contains class.faults (fault_inside m.name x)
@@ -104,7 +105,7 @@ module _ (files : List SourceFile) (answer : AnswerValue) (rules : Rules files a
   main_to statement is x h =
       let k = is.declaration in
       let o = orderly_class files class.name k is.first_class in
-      let f = of_main (classes_in files) k o statement is.main x.mark (place.Inside main_word x.mark) x.code ((faults_are k is.first_class (place.Inside main_word x.mark) x.code).0 h) refl in
+      let f = of_main profile (classes_in files) k o statement is.main x.mark (place.Inside main_word x.mark) x.code ((faults_are k is.first_class (place.Inside main_word x.mark) x.code).0 h) refl in
       in_main (world_in files) (record { name = class.name; statement = statement }) x f
 
   to_main : (statement : Statement) (is : IsMainIn files class.name statement) (x : Mistake) → FaultInMain (world_in files) (record { name = class.name; statement = statement }) x → Contains class.faults (fault_inside main_word x)

@@ -9,6 +9,7 @@ use Rattle.mj_phrases.specs.declared.verdict.Mistake.{Mistake}
 use Rattle.mj_phrases.specs.Phrases.{type_of, Well}
 use Rattle.mj_phrases.specs.Table.{Scope, phrase_of, own_phrase, return_phrase}
 use Rattle.mj_project.specs.Projects.{SourceFile}
+use Rattle.profiles.specs.declared.profile.Profile.{Profile}
 use Rattle.mj_rules.specs.Rules.{Rules}
 use Rattle.rule_laws.specs.Demands.{OfExpression, OfStatement, OfReturn}
 use Rattle.rule_laws.specs.Typing.{world_in, IsMethodIn, IsMainIn, IsScopeIn, HasTypeIn, IsWellIn, IsFaultIn}
@@ -49,6 +50,7 @@ fault_inside m x = record { place = Inside m x.mark; code = x.code }
 -- the answer of the rules has just the diagnostics of each method, and those of main
 abbrev pub MethodFaultLaw : Type 0
 MethodFaultLaw =
-    (files : List SourceFile) (answer : AnswerValue) → Rules files answer
+    (profile : Profile) (files : List SourceFile) (answer : AnswerValue)
+    → Rules profile files answer
     → (class : ClassAnswerValue) → Contains answer.classes class → (m : Name) (x : Mistake)
     → Contains class.faults (fault_inside m x) ↔ IsFaultIn files class.name m x

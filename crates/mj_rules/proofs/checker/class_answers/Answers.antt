@@ -43,11 +43,11 @@ loop-name-preserved c =
           ∙ (map-append (λ (a : ClassAnswerValue). a.name) c.loop-name.answers.items (c.in_ok-class_answer.field-0 ∷ [])
           ∙ (ap (λ (ns : List Name). ns ++ c.in_ok-class_answer.field-0.name ∷ []) c.loop-name.invariant.named
           ∙ (ap (λ (n : Name). take c.loop-name.name-index c.deref-name-items.result.now ++ n ∷ []) name ∙ sym more)));
-      each = subst (All (IsAnswerFor cs)) (sym c.in_ok-push.ensures.items) (All-push (IsAnswerFor cs) c.loop-name.answers.items c.in_ok-class_answer.field-0 c.loop-name.invariant.each c.in_ok-class_answer.ensures.rules);
+      each = subst (All (IsAnswerFor c.args.profile cs)) (sym c.in_ok-push.ensures.items) (All-push (IsAnswerFor c.args.profile cs) c.loop-name.answers.items c.in_ok-class_answer.field-0 c.loop-name.invariant.each c.in_ok-class_answer.ensures.rules);
     }
 
 pub returns : goal.returns
 returns c =
     let end : length c.deref-name-items.result.now ≤ c.loop-name.name-index = omega arith in
-    class_answers (declared_in c.args.declarations.now) c.loop-name.answers.items c.in_ok-names.names.items c.in_ok-names.ensures.ascending c.in_ok-names.ensures.same
+    class_answers c.args.profile (declared_in c.args.declarations.now) c.loop-name.answers.items c.in_ok-names.names.items c.in_ok-names.ensures.ascending c.in_ok-names.ensures.same
     (c.loop-name.invariant.named ∙ (take_all c.loop-name.name-index c.deref-name-items.result.now end ∙ c.deref-name-items.ensures.value)) c.loop-name.invariant.each

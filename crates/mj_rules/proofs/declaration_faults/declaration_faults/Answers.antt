@@ -27,10 +27,10 @@ returns c =
     let fields = c.in_ok-add_fields.ensures ∙ ap (λ (fs : List Field). c.add_chain_fault.new.faults.items ++ each_numbered (field_faults cs) 0 fs (repeats (map (λ (f : Field). f.name) fs))) c.fields.ensures in
     let along : List ClassDecl = classes_view c.deref.result.now in
     let methods = c.in_ok-add_method_faults.ensures
-    ∙ (ap (λ (x : Name). c.add_fields.new.faults.items ++ each_numbered (method_faults_of (nearest_sig (behind x along))) 0 (map method_view c.methods.result.now) (repeats (map (λ (m : Method). m.name) (map method_view c.methods.result.now)))) c.name.ensures
-    ∙ (ap (λ (ms : List Method). c.add_fields.new.faults.items ++ each_numbered (method_faults_of (nearest_sig (behind k.name along))) 0 ms (repeats (map (λ (m : Method). m.name) ms))) c.methods.ensures
-    ∙ ap (λ ds. c.add_fields.new.faults.items ++ ds) (methods_behind cs k.name end along c.requires.end members k.methods (repeats (method_names k))))) in
+    ∙ (ap (λ (x : Name). c.add_fields.new.faults.items ++ each_numbered (method_faults_of c.args.profile cs (nearest_sig (behind x along))) 0 (map method_view c.methods.result.now) (repeats (map (λ (m : Method). m.name) (map method_view c.methods.result.now)))) c.name.ensures
+    ∙ (ap (λ (ms : List Method). c.add_fields.new.faults.items ++ each_numbered (method_faults_of c.args.profile cs (nearest_sig (behind k.name along))) 0 ms (repeats (map (λ (m : Method). m.name) ms))) c.methods.ensures
+    ∙ ap (λ ds. c.add_fields.new.faults.items ++ ds) (methods_behind c.args.profile cs k.name end along c.requires.end members k.methods (repeats (method_names k))))) in
     four_parts (superclass_faults cs k.superclass) (chain_faults (chain_of cs k.name)) (each_numbered (field_faults cs) 0 k.fields (repeats (field_names k)))
-    (each_numbered (method_faults_of (nearest_sig (rest_of cs k.name))) 0 k.methods (repeats (method_names k)))
+    (each_numbered (method_faults_of c.args.profile cs (nearest_sig (rest_of cs k.name))) 0 k.methods (repeats (method_names k)))
     c.new-faults.result.items c.add_superclass_fault.new.faults.items c.add_chain_fault.new.faults.items c.add_fields.new.faults.items c.add_method_faults.new.faults.items
     c.new-faults.ensures.items c.in_ok-add_superclass_fault.ensures (c.in_ok-add_chain_fault.ensures ∙ ap (λ ds. c.add_superclass_fault.new.faults.items ++ ds) (sym chain)) fields methods

@@ -6,4 +6,4 @@ use Rattle.mj_rules.proofs.Declared.{names_fit_in}
 use Rattle.mj_rules.proofs.laws.class_fault_laws.Goals as goal
 
 pub returns : goal.returns
-returns c = λ files. class_fault_law chain_laws body_laws (classes_in files) (names_fit_in files)
+returns c = λ profile files. class_fault_law chain_laws body_laws profile (classes_in files) (names_fit_in files)

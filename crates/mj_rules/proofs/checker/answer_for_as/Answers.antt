@@ -11,7 +11,7 @@ use Rattle.mj_rules.specs.Rules.{AreClassAnswers}
 use Rattle.mj_rules.proofs.Composing.{SameFaults, project_answer}
 use Rattle.mj_rules.proofs.LowerLaws.{sentence_law}
 use Rattle.mj_rules.proofs.Declared.{names_fit_in}
-use Rattle.mj_rules.proofs.checker.answer_for.Goals as goal
+use Rattle.mj_rules.proofs.checker.answer_for_as.Goals as goal
 
 pub class_answers-requires : goal.class_answers-requires
 class_answers-requires c =
@@ -26,6 +26,6 @@ returns c =
     let faults : c.new-2.result.faults ≡ c.fault_set.result.items = ap (λ (a : AnswerValue). a.faults) c.new-2.ensures in
     let classes : c.new-2.result.classes ≡ c.in_ok-classes.classes.items = ap (λ (a : AnswerValue). a.classes) c.new-2.ensures in
     let same : SameFaults c.fault_set.result.items (project_faults files) = subst (λ (ds : List Diagnostic). SameFaults c.fault_set.result.items ds) c.in_ok-faults.ensures c.fault_set.ensures.same in
-    let answers : AreClassAnswers (classes_in files) c.in_ok-classes.classes.items = subst (λ (cs : List ClassDecl). AreClassAnswers cs c.in_ok-classes.classes.items) declared c.in_ok-classes.ensures in
-    project_answer sentence_law files c.new-2.result (subst IsAscending (sym faults) c.fault_set.ensures.ascending) (subst (λ (ds : List Diagnostic). SameFaults ds (project_faults files)) (sym faults) same)
-    (subst (AreClassAnswers (classes_in files)) (sym classes) answers)
+    let answers : AreClassAnswers c.args.profile (classes_in files) c.in_ok-classes.classes.items = subst (λ (cs : List ClassDecl). AreClassAnswers c.args.profile cs c.in_ok-classes.classes.items) declared c.in_ok-classes.ensures in
+    project_answer sentence_law c.args.profile files c.new-2.result (subst IsAscending (sym faults) c.fault_set.ensures.ascending) (subst (λ (ds : List Diagnostic). SameFaults ds (project_faults files)) (sym faults) same)
+    (subst (AreClassAnswers c.args.profile (classes_in files)) (sym classes) answers)
