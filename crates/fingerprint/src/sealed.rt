@@ -1,5 +1,6 @@
 //! Sealed results.
 ghost use Rattle.std.specs.Prelude.{◌≡◌, ◌↔◌, IsTrue, IfOk};
+ghost use Rattle.std.specs.Arc.{arc_value};
 ghost use Rattle.result_bytes.specs.declared.value.Value.{Value};
 ghost use Rattle.result_bytes.specs.Values.{IsValue, canon, kind_of_value};
 ghost use Rattle.fingerprint.specs.Prints.{print_of};
@@ -10,6 +11,7 @@ use item_ids::Kind;
 use result_bytes::{Refusal, Value, decode, encode, is_value, one_spelling};
 use std::alloc::{AllocError, Global};
 use std::marker::Model;
+use std::sync::Arc;
 use thiserror::Error;
 
 /// A value with its canonical bytes and their fingerprint. Contracts see the value.
@@ -102,7 +104,6 @@ impl Sealed {
 }
 
 /// The value with its bytes and fingerprint.
-#[tactic(auto, unfolding(crate::specs::Prints::print_of))]
 pub fn seal(alloc: Global, value: Value) -> Result<Sealed, AllocError>
     ensures sealed { IfOk result (λ sealed. sealed ≡ value) }
     ensures kept { IfOk result IsValue }
@@ -110,12 +111,44 @@ pub fn seal(alloc: Global, value: Value) -> Result<Sealed, AllocError>
     // A value keeps in its type what its spelling demands.
     is_value(&value);
     let bytes = encode(alloc, &value)?;
+    Ok(with_bytes(value, bytes))
+}
+
+/// The value with its bytes and fingerprint, to be shared. Where a known result has the same bytes it is that, and nothing
+/// is hashed.
+pub fn seal_or_share(
+    alloc: Global,
+    value: Value,
+    known: Option<&Arc<Sealed>>,
+) -> Result<Arc<Sealed>, AllocError>
+    ensures sealed { IfOk result (λ sealed. arc_value sealed ≡ value) }
+    ensures kept { IfOk result (λ sealed. IsValue (arc_value sealed)) }
+{
+    // A value keeps in its type what its spelling demands, and no spelling has two values.
+    one_spelling();
+    is_value(&value);
+    let bytes = encode(alloc, &value)?;
+    if let Some(known) = known {
+        is_value(known.value());
+        if known.bytes() == bytes.as_slice() {
+            return Ok(Arc::try_clone(known)?);
+        }
+    }
+    Ok(Arc::new(alloc, with_bytes(value, bytes))?)
+}
+
+/// The value with its bytes, and with their fingerprint.
+#[tactic(auto, unfolding(crate::specs::Prints::print_of))]
+fn with_bytes(value: Value, bytes: Vec<u8>) -> Sealed
+    requires { bytes.items ≡ canon value }
+    ensures { result ≡ value }
+{
     let print = Print::of(&bytes);
-    Ok(Sealed {
+    Sealed {
         value,
         bytes,
         print,
-    })
+    }
 }
 
 /// The value of a kind that the bytes spell, whose fingerprint is this one.
