@@ -1,20 +1,26 @@
 -- The diagnostics of a class's declarations: its header and its chain, the header of each class
 -- that is the type of a field, then, where it has methods and its chain a second class, the members
--- of both.
-use Rattle.std.specs.Prelude.{Bool, false, not, List, [], ◌∷◌, ◌++◌, map, Option, Some, None}
+-- of both, and in profile 2 the chains of return types.
+use Rattle.std.specs.Prelude.{Bool, true, false, not, List, [], ◌∷◌, ◌++◌, map, Option, Some, None, if◌then◌else◌}
 use Rattle.item_ids.specs.declared.key.Key.TheVariants as keys
 use Rattle.mj_tree.specs.Trees.{Name}
 use Rattle.mj_tree.specs.declared.tree.Ty.{Ty}
 use Rattle.mj_tree.specs.declared.tree.Ty.TheVariants as types
 use Rattle.mj_tree.specs.declared.tree.Field.{Field}
+use Rattle.mj_phrases.specs.Types.{is_same}
+use Rattle.mj_phrases.specs.Inquiries.{Sig}
+use Rattle.profiles.specs.declared.profile.Profile.{Profile}
+use Rattle.profiles.specs.declared.profile.Profile.TheVariants.{One, Two}
+use Rattle.mj_rules.specs.FaultLists.{same_type}
 use Rattle.result_bytes.specs.Payloads.{HeaderValue, ChainValue}
 use Rattle.result_bytes.specs.declared.value.Value.{Value}
 use Rattle.result_bytes.specs.declared.value.Value.TheVariants as values
 use Rattle.recorder.specs.Programs.{Prog, Ask, each}
 use Rattle.query_rules.specs.Items.{fault_set}
 use Rattle.body_questions.specs.Facts.{is_declared_in, chain_classes, method_in}
+use Rattle.body_questions.specs.Questions.{descends_step}
 use Rattle.member_queries.specs.Facts.{header_in, chain_in}
-use Rattle.answer_queries.specs.Signatures.{differ}
+use Rattle.answer_queries.specs.Signatures.{same_types, same_signature}
 use Rattle.answer_queries.specs.Told.{faults_told}
 
 -- ---- fields
@@ -39,28 +45,53 @@ overridden_class (m ∷ ms) [] = None
 overridden_class (m ∷ ms) (c ∷ []) = None
 overridden_class (m ∷ ms) (c ∷ s ∷ farther) = Some s
 
--- for each of these methods, whether two classes have it with other types
-abbrev pub differ_in : Value → Value → List Name → List Bool
-differ_in own other methods = map (λ m. differ (method_in own m) (method_in other m)) methods
+-- whether a type is accepted by another: a class by its chain, where the two differ
+abbrev pub accept_step : Ty → Ty → (Bool → Prog) → Prog
+accept_step (types.Class c) (types.Class d) k =
+    if is_same c d then k true else descends_step c d k
+accept_step t u k = k (same_type t u)
 
--- for each method of the class, whether it overrides one with other types
-abbrev pub override_step : Name → List Name → Option Name → (List Bool → Prog) → Prog
-override_step c methods None k = k (map (λ m. false) methods)
-override_step c methods (Some s) k =
-    Ask (keys.Members c) (λ own. Ask (keys.Members s) (λ other. k (differ_in own other methods)))
+-- whether a method with the first types may override one with the others
+abbrev pub may_step : Profile → Sig → Sig → (Bool → Prog) → Prog
+may_step One own other k = k (same_signature own other)
+may_step Two own other k =
+    if same_types own.formals other.formals then accept_step own.returns other.returns k
+    else k false
+
+-- whether a method overrides one that it may not
+abbrev pub override_flag : Profile → Option Sig → Option Sig → (Bool → Prog) → Prog
+override_flag profile None other k = k false
+override_flag profile (Some own) None k = k false
+override_flag profile (Some own) (Some other) k = may_step profile own other (λ may. k (not may))
+
+-- the flags with that of one more method, by the members of both classes
+abbrev pub override_flag_step
+    : Profile → Value → Value → Name → List Bool → (List Bool → Prog) → Prog
+override_flag_step profile own other m flags k =
+    override_flag profile (method_in own m) (method_in other m) (λ flag. k (flags ++ flag ∷ []))
+
+-- for each method of the class, whether it overrides one that it may not
+abbrev pub override_step : Profile → Name → List Name → Option Name → (List Bool → Prog) → Prog
+override_step profile c methods None k = k (map (λ m. false) methods)
+override_step profile c methods (Some s) k =
+    Ask (keys.Members c) (λ own. Ask (keys.Members s) (λ other.
+    each (override_flag_step profile own other) methods [] k))
 
 -- ---- the class
 
 -- a class with this header and this chain
-abbrev pub declared_steps : Name → HeaderValue → Option ChainValue → (Value → Prog) → Prog
-declared_steps c h chain k =
+abbrev pub declared_steps
+    : Profile → Name → HeaderValue → Option ChainValue → (Value → Prog) → Prog
+declared_steps profile c h chain k =
     each field_type_step h.fields []
-    (λ undeclared. override_step c h.methods (overridden_class h.methods (chain_classes chain))
+    (λ undeclared. override_step profile c h.methods
+    (overridden_class h.methods (chain_classes chain))
     (λ others. k (values.CheckClass (fault_set (faults_told h chain undeclared others)))))
 
-abbrev pub check_class_by : Name → Option HeaderValue → (Value → Prog) → Prog
-check_class_by c None k = k (values.CheckClass [])
-check_class_by c (Some h) k = Ask (keys.Supers c) (λ v. declared_steps c h (chain_in v) k)
+abbrev pub check_class_by : Profile → Name → Option HeaderValue → (Value → Prog) → Prog
+check_class_by profile c None k = k (values.CheckClass [])
+check_class_by profile c (Some h) k =
+    Ask (keys.Supers c) (λ v. declared_steps profile c h (chain_in v) k)
 
-abbrev pub check_class_steps : Name → (Value → Prog) → Prog
-check_class_steps c k = Ask (keys.Header c) (λ v. check_class_by c (header_in v) k)
+abbrev pub check_class_steps : Profile → Name → (Value → Prog) → Prog
+check_class_steps profile c k = Ask (keys.Header c) (λ v. check_class_by profile c (header_in v) k)

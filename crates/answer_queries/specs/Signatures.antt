@@ -1,5 +1,5 @@
--- Which methods differ in their types.
-use Rattle.std.specs.Prelude.{Bool, true, false, ◌&&◌, not, List, [], ◌∷◌, Option, Some, None}
+-- Types that are the same.
+use Rattle.std.specs.Prelude.{Bool, true, false, ◌&&◌, List, [], ◌∷◌}
 use Rattle.mj_tree.specs.declared.tree.Ty.{Ty}
 use Rattle.mj_phrases.specs.Inquiries.{Sig}
 use Rattle.mj_rules.specs.FaultLists.{same_type}
@@ -11,9 +11,7 @@ same_types [] (u ∷ us) = false
 same_types (t ∷ ts) [] = false
 same_types (t ∷ ts) (u ∷ us) = same_type t u && same_types ts us
 
--- two methods that have other parameter types or another return type
-abbrev pub differ : Option Sig → Option Sig → Bool
-differ None other = false
-differ (Some own) None = false
-differ (Some own) (Some other) =
-    not (same_type own.returns other.returns && same_types own.formals other.formals)
+-- the same parameter types and the same return type
+abbrev pub same_signature : Sig → Sig → Bool
+same_signature own other =
+    same_type own.returns other.returns && same_types own.formals other.formals

@@ -35,7 +35,7 @@ field_told n repeated undeclared =
     when_fault repeated (places.Field (bound n)) E203
     ++ when_fault undeclared (places.Field (bound n)) E206
 
--- what is wrong with a method, whose name stands before it or which overrides one with other types
+-- what is wrong with a method, whose name stands before it or which overrides one that it may not
 abbrev pub method_told : ℕ → Bool → Bool → List Diagnostic
 method_told n repeated other =
     if repeated then fault (places.Method (bound n)) E204 ∷ []
@@ -49,7 +49,7 @@ abbrev pub methods_told : HeaderValue → List Bool → List Diagnostic
 methods_told h others = each_numbered method_told 0 others (repeats h.methods)
 
 -- all that is wrong with the declarations of a class, by flags: for each field whether its type is
--- undeclared, for each method whether it overrides one with other types
+-- undeclared, for each method whether it overrides one that it may not
 unfoldable pub faults_told
     : HeaderValue → Option ChainValue → List Bool → List Bool → List Diagnostic
 faults_told h chain undeclared others =

@@ -14,6 +14,7 @@ use body_questions::read;
 use item_ids::Key;
 use member_queries::{chain_in, header_in};
 use mj_lexer::Name;
+use profiles::Profile;
 use recorder::{Reader, Recorder, RunFault};
 use result_bytes::{Header, Supers, Value};
 use std::alloc::Global;
@@ -32,21 +33,22 @@ fn classes_in(chain: Option<&Supers>) -> &[Name]
 fn check_declared<D: Reader>(
     alloc: Global,
     recorder: &mut Recorder<D>,
+    profile: Profile,
     class: &Name,
     header: &Header,
     chain: Option<&Supers>,
 ) -> Result<Value, RunFault>
     ensures ok { IfOk result (λ v. Goes
-        (declared_steps class.now header.now (option_copied chain.entry)) recorder.old v
+        (declared_steps profile class.now header.now (option_copied chain.entry)) recorder.old v
         recorder.new) }
     ensures err { IfErr result (λ e. GivesUp
-        (declared_steps class.now header.now (option_copied chain.entry)) recorder.old e
+        (declared_steps profile class.now header.now (option_copied chain.entry)) recorder.old e
         recorder.new) }
     ensures follows { D.follows recorder.old.inner recorder.new.inner }
 {
     let undeclared = ask_fields(alloc, recorder, header.fields())?;
     let other = overridden_class(header.methods(), classes_in(chain));
-    let others = ask_overrides(alloc, recorder, class, header.methods(), other)?;
+    let others = ask_overrides(alloc, recorder, profile, class, header.methods(), other)?;
     let faults = faults_of(alloc, header, chain, &undeclared, &others)?;
     Ok(Value::CheckClass(faults))
 }
@@ -55,19 +57,21 @@ fn check_declared<D: Reader>(
 fn check_header<D: Reader>(
     alloc: Global,
     recorder: &mut Recorder<D>,
+    profile: Profile,
     class: &Name,
     header: &Header,
 ) -> Result<Value, RunFault>
     ensures ok { IfOk result (λ v. Goes (λ k. Ask (keys.Supers class.now)
-        (λ told. declared_steps class.now header.now (chain_told told) k)) recorder.old v
+        (λ told. declared_steps profile class.now header.now (chain_told told) k)) recorder.old v
         recorder.new) }
     ensures err { IfErr result (λ e. GivesUp (λ k. Ask (keys.Supers class.now)
-        (λ told. declared_steps class.now header.now (chain_told told) k)) recorder.old e
+        (λ told. declared_steps profile class.now header.now (chain_told told) k)) recorder.old e
         recorder.new) }
     ensures follows { D.follows recorder.old.inner recorder.new.inner }
 {
     let answer = read(recorder, Key::Supers(class.copy(alloc)?))?;
-    check_declared(alloc, recorder, class, header, chain_in(answer.value()))
+    let chain = chain_in(answer.value());
+    check_declared(alloc, recorder, profile, class, header, chain)
 }
 
 /// No diagnostics.
@@ -81,17 +85,20 @@ fn no_faults(alloc: Global) -> Faults
 fn check_told<D: Reader>(
     alloc: Global,
     recorder: &mut Recorder<D>,
+    profile: Profile,
     class: &Name,
     header: Option<&Header>,
 ) -> Result<Value, RunFault>
-    ensures ok { IfOk result (λ v. Goes (check_class_by class.now (option_copied header.entry))
-        recorder.old v recorder.new) }
+    ensures ok { IfOk result (λ v. Goes
+        (check_class_by profile class.now (option_copied header.entry)) recorder.old v
+        recorder.new) }
     ensures err { IfErr result (λ e. GivesUp
-        (check_class_by class.now (option_copied header.entry)) recorder.old e recorder.new) }
+        (check_class_by profile class.now (option_copied header.entry)) recorder.old e
+        recorder.new) }
     ensures follows { D.follows recorder.old.inner recorder.new.inner }
 {
     match header {
-        Some(header) => check_header(alloc, recorder, class, header),
+        Some(header) => check_header(alloc, recorder, profile, class, header),
         None => Ok(Value::CheckClass(no_faults(alloc))),
     }
 }
@@ -100,14 +107,15 @@ fn check_told<D: Reader>(
 pub fn run_check_class<D: Reader>(
     alloc: Global,
     recorder: &mut Recorder<D>,
+    profile: Profile,
     class: &Name,
 ) -> Result<Value, RunFault>
-    ensures ok { IfOk result (λ v. Goes (check_class_steps class.now) recorder.old v
+    ensures ok { IfOk result (λ v. Goes (check_class_steps profile class.now) recorder.old v
         recorder.new) }
-    ensures err { IfErr result (λ e. GivesUp (check_class_steps class.now) recorder.old e
+    ensures err { IfErr result (λ e. GivesUp (check_class_steps profile class.now) recorder.old e
         recorder.new) }
     ensures follows { D.follows recorder.old.inner recorder.new.inner }
 {
     let answer = read(recorder, Key::Header(class.copy(alloc)?))?;
-    check_told(alloc, recorder, class, header_in(answer.value()))
+    check_told(alloc, recorder, profile, class, header_in(answer.value()))
 }

@@ -37,7 +37,7 @@ fn ask_type<D: Reader>(alloc: Global, recorder: &mut Recorder<D>, ty: &Ty) -> Re
 }
 
 /// One more flag.
-fn add_flag(flags: &mut Vec<bool>, flag: bool) -> Result<(), AllocError>
+pub fn add_flag(flags: &mut Vec<bool>, flag: bool) -> Result<(), AllocError>
     ensures { OnOk result (flags.new.items ≡ flags.old.items ++ flag ∷ []) }
 {
     flags.push(flag)?;

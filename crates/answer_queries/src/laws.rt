@@ -1,5 +1,5 @@
-//! Laws of the queries: in every project the program of each gives the value of the query and asks what it reads;
-//! whatever the answers, it asks keys of lower rank and gives a value of the kind.
+//! Laws of the queries: in every profile and project the program of each gives the value of the query and asks what it
+//! reads; whatever the answers, it asks keys of lower rank and gives a value of the kind.
 ghost use Rattle.answer_queries.specs.Laws.{CheckClassTies, ClassBounds, AnswerTies, ProjectBounds};
 
 /// The diagnostics of a class's declarations.

@@ -18,6 +18,7 @@ use Rattle.mj_rules.specs.FaultLists.{fault, inside}
 use Rattle.tree_bytes.specs.Bodies.{BodyValue, OfMain, OfMethod}
 use Rattle.result_bytes.specs.declared.value.Value.{Value}
 use Rattle.result_bytes.specs.declared.value.Value.TheVariants as values
+use Rattle.profiles.specs.declared.profile.Profile.{Profile}
 use Rattle.recorder.specs.Projects.{Project}
 use Rattle.recorder.specs.Backed.{rank}
 use Rattle.recorder.specs.Programs.{Prog, Ret, runs, asks, Fits}
@@ -71,28 +72,28 @@ same_faults m (x ∷ xs) h = ap₂ (λ d ds. d ∷ ds) (same_fault m x h.0) (sam
 abbrev value_of : Name → List Mistake → Value
 value_of x ms = values.CheckBody (fault_set (faults_of_mistakes x ms))
 
-module _ (c x : Name) (p : Project) where
-  means : mean p (keys.CheckBody c x) ≡ runs (body_prog (keys.CheckBody c x)) (mean p)
+module _ (c x : Name) (profile : Profile) (p : Project) where
+  means : mean profile p (keys.CheckBody c x) ≡ runs (body_prog (keys.CheckBody c x)) (mean profile p)
   unfolding mean runs
   means = sym
-      (runs_reads (mean p) (check_of c (body_at p c x)) (λ ms. Ret (value_of x ms))
-      ∙ ap (value_of x) (concludes (world_in (mean p)) c (body_at p c x) ∙ ap (λ w. mistakes_in w c (body_at p c x)) (world_same p))
+      (runs_reads (mean profile p) (check_of c (body_at p c x)) (λ ms. Ret (value_of x ms))
+      ∙ ap (value_of x) (concludes (world_in (mean profile p)) c (body_at p c x) ∙ ap (λ w. mistakes_in w c (body_at p c x)) (world_same profile p))
       ∙ ap (λ ds. values.CheckBody (fault_set ds)) (same_faults x (mistakes_in (world_of (classes_in p)) c (body_at p c x)) (small_mistakes (world_of (classes_in p)) p c x)))
 
-  are_asked : reads p (keys.CheckBody c x) ≡ asks (body_prog (keys.CheckBody c x)) (mean p) []
+  are_asked : reads profile p (keys.CheckBody c x) ≡ asks (body_prog (keys.CheckBody c x)) (mean profile p) []
   unfolding mean asks reads asked_keys
   are_asked = sym (ap (λ ks. keys.Method c x ∷ ks)
-      (asks_reads (mean p) (check_of c (body_at p c x)) (value_of x) (keys.Method c x ∷ [])
-      ∙ ap (first_keys (keys.Method c x ∷ [])) (asked (world_in (mean p)) c (body_at p c x) ∙ ap (λ w. body_reads w c (body_at p c x)) (world_same p))))
+      (asks_reads (mean profile p) (check_of c (body_at p c x)) (value_of x) (keys.Method c x ∷ [])
+      ∙ ap (first_keys (keys.Method c x ∷ [])) (asked (world_in (mean profile p)) c (body_at p c x) ∙ ap (λ w. body_reads w c (body_at p c x)) (world_same profile p))))
 
 fits : (c x : Name) → Fits (keys.CheckBody c x) (body_prog (keys.CheckBody c x))
 unfolding Fits
 fits c x = (omega arith, λ v. fits_reads (keys.CheckBody c x) (omega arith) (check_of c (body_in v)) (λ ms. Ret (value_of x ms)) (λ ms. refl))
 
 pub body_ties : BodyTies
-body_ties c x = record {
-  means = λ p h. means c x p;
-  asked = λ p h. are_asked c x p;
+body_ties c x profile = record {
+  means = λ p h. means c x profile p;
+  asked = λ p h. are_asked c x profile p;
   fits = fits c x;
 }
 

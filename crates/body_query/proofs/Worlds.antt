@@ -15,6 +15,7 @@ use Rattle.mj_rules.specs.Sentences.{classes_in}
 use Rattle.mj_rules.specs.Tables.{field_row, method_row, table_of, sig_in}
 use Rattle.mj_rules.specs.Worlds.{world_of}
 use Rattle.mj_rules.proofs.RowLemmas.{sig_in-rows}
+use Rattle.profiles.specs.declared.profile.Profile.{Profile}
 use Rattle.recorder.specs.Projects.{Project}
 use Rattle.query_rules.specs.Items.{class_at, header_of, chain_value}
 use Rattle.query_rules.specs.Meaning.{mean}
@@ -51,28 +52,28 @@ module _ (cs : List ClassDecl) (c : Name) where
   methods_told None e = ap (map method_row) (no_methods ∙ ap methods_along (sym (no_ancestry e)))
   methods_told (Some k) e = refl
 
-module _ (p : Project) where
-  descends_same : (c d : Name) → descends_in (mean p (keys.Supers c)) d ≡ is_in (chain_names (chain_of (classes_in p) c)) d
+module _ (profile : Profile) (p : Project) where
+  descends_same : (c d : Name) → descends_in (mean profile p (keys.Supers c)) d ≡ is_in (chain_names (chain_of (classes_in p) c)) d
   unfolding mean
   descends_same c d = ap (λ ns. is_in ns d) (names_told (chain_of (classes_in p) c))
 
-  field_same : (c x : Name) → field_in (mean p (keys.Members c)) x ≡ (world_of (classes_in p)).field c x
+  field_same : (c x : Name) → field_in (mean profile p (keys.Members c)) x ≡ (world_of (classes_in p)).field c x
   unfolding mean
   field_same c x =
       ap (λ (rows : List FieldRow). option_map (λ (row : FieldRow). row.ty) (find (λ (row : FieldRow). bytes_eq row.name x) rows)) (fields_told (classes_in p) c (class_at p c) refl)
       ∙ type_in-rows (ancestry (classes_in p) c) x
 
-  method_same : (c x : Name) → method_in (mean p (keys.Members c)) x ≡ (world_of (classes_in p)).method c x
+  method_same : (c x : Name) → method_in (mean profile p (keys.Members c)) x ≡ (world_of (classes_in p)).method c x
   unfolding mean
   method_same c x =
       ap (λ (rows : List MethodRowValue). sig_in rows x) (methods_told (classes_in p) c (class_at p c) refl)
       ∙ sig_in-rows (ancestry (classes_in p) c) x
 
-  declared_same : (c : Name) → is_declared_in (mean p (keys.Header c)) ≡ is_some (class_at p c)
+  declared_same : (c : Name) → is_declared_in (mean profile p (keys.Header c)) ≡ is_some (class_at p c)
   unfolding mean
   declared_same c = declared_told (class_at p c)
 
-  pub world_same : world_in (mean p) ≡ world_of (classes_in p)
+  pub world_same : world_in (mean profile p) ≡ world_of (classes_in p)
   world_same = λ i. record {
     descends = λ c d. descends_same c d i;
     field = λ c x. field_same c x i;

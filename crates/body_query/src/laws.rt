@@ -2,8 +2,8 @@
 ghost use Rattle.body_query.specs.Bounds.{BoundsLaw};
 ghost use Rattle.body_query.specs.Laws.{BodyTies};
 
-/// In every project the program of a body's mistakes gives the value of the query and asks what it reads; whatever the
-/// answers, it asks keys of lower rank and gives diagnostics.
+/// In every profile and project the program of a body's mistakes gives the value of the query and asks what it reads;
+/// whatever the answers, it asks keys of lower rank and gives diagnostics.
 pub fn body_ties()
     ensures { BodyTies }
 {}

@@ -2,6 +2,7 @@
 ghost use Rattle.std.specs.Prelude.{◌≡◌, [], None, Some, IfOk, IfErr, option_copied};
 ghost use Rattle.item_ids.specs.Keys.{kind_of};
 ghost use Rattle.item_ids.specs.declared.kind.Kind.TheVariants as kinds;
+ghost use Rattle.profiles.specs.declared.profile.Profile.{Profile};
 ghost use Rattle.recorder.specs.Programs.{Goes, GivesUp, Performs};
 ghost use Rattle.recorder.specs.Runs.{IsRun};
 ghost use Rattle.query_rules.specs.Items.{fault_set};
@@ -118,8 +119,8 @@ fn check_body_steps<D: Reader>(
     Ok(Value::CheckBody(faults))
 }
 
-/// Runs a query of this kind, with a recorder that hasn't read: what it asks is what the query reads, and its result
-/// follows from the answers.
+/// Runs a query of this kind, with a recorder that hasn't read: what it asks is what the query reads in each profile, and
+/// its result follows from the answers.
 pub fn check_body<D: Reader>(
     alloc: Global,
     key: &Key,
@@ -128,7 +129,8 @@ pub fn check_body<D: Reader>(
     requires kind { kind_of key.now ≡ kinds.CheckBody }
     requires unread { recorder.old.told ≡ [] }
     requires unrefused { recorder.old.refused ≡ None }
-    ensures run { IsRun mean reads key.now recorder.new result }
+    ensures run { (profile : Profile) → IsRun (mean profile) (reads profile) key.now recorder.new
+        result }
     ensures performs { Performs (body_prog key.now) recorder.old result recorder.new }
     ensures follows { D.follows recorder.old.inner recorder.new.inner }
 {

@@ -20,6 +20,7 @@ use Rattle.mj_rules.specs.FaultLists.{each_numbered, declaration_faults, class_f
 use Rattle.tree_bytes.specs.Bodies.{BodyValue, OfMain, OfMethod}
 use Rattle.result_bytes.specs.Payloads.{HeaderValue}
 use Rattle.result_bytes.specs.declared.value.Value.TheVariants as values
+use Rattle.profiles.specs.declared.profile.Profile.{Profile}
 use Rattle.recorder.specs.Projects.{Project}
 use Rattle.recorder.specs.Programs.{Prog, Ret, Fits}
 use Rattle.recorder.proofs.Rules.{each_fits}
@@ -39,7 +40,7 @@ use Rattle.member_queries.proofs.FaultSets.{same_append, same_flat, set_same, on
 abbrev name_of : Method → Name
 name_of m = m.name
 
-module _ (p : Project) (c : Name) where
+module _ (profile : Profile) (p : Project) (c : Name) where
   abbrev cs : List ClassDecl
   cs = classes_in p
 
@@ -100,38 +101,38 @@ module _ (p : Project) (c : Name) where
     -- ---- what is asked, and what comes of it
 
     abbrev told : List Diagnostic
-    told = fault_set (declaration_faults cs k) ++ flat_map (λ m. fault_set (body_list m)) (bodies_in (header_of k))
+    told = fault_set (declaration_faults profile cs k) ++ flat_map (λ m. fault_set (body_list m)) (bodies_in (header_of k))
 
-    told_same : Same told (class_faults cs k)
+    told_same : Same told (class_faults profile cs k)
     told_same =
         let bodies : Same (flat_map (λ m. fault_set (body_list m)) (bodies_in (header_of k))) (body_faults cs k) =
         subst (Same (flat_map (λ m. fault_set (body_list m)) (bodies_in (header_of k)))) (all_bodies k.main refl)
         (same_flat (λ m. fault_set (body_list m)) body_list (λ m. set_same (body_list m)) (bodies_in (header_of k))) in
-        same_append (fault_set (declaration_faults cs k)) (declaration_faults cs k) (flat_map (λ m. fault_set (body_list m)) (bodies_in (header_of k))) (body_faults cs k)
-        (set_same (declaration_faults cs k)) bodies
+        same_append (fault_set (declaration_faults profile cs k)) (declaration_faults profile cs k) (flat_map (λ m. fault_set (body_list m)) (bodies_in (header_of k))) (body_faults cs k)
+        (set_same (declaration_faults profile cs k)) bodies
 
-    one_body : (m : Name) (faults : List Diagnostic) (q : List Diagnostic → Prog) → Passes (mean p) (body_step c m faults q) (keys.CheckBody c m ∷ []) (q (faults ++ fault_set (body_list m)))
+    one_body : (m : Name) (faults : List Diagnostic) (q : List Diagnostic → Prog) → Passes (mean profile p) (body_step c m faults q) (keys.CheckBody c m ∷ []) (q (faults ++ fault_set (body_list m)))
     unfolding mean
     one_body m faults q = Reads (keys.CheckBody c m) (λ v. q (faults ++ faults_in v)) [] (q (faults ++ fault_set (body_list m))) (Stays _)
 
-    every_body : (ms : List Name) → AllByRecursion (λ (m : Name). (faults : List Diagnostic) (q : List Diagnostic → Prog) → Passes (mean p) (body_step c m faults q) (keys.CheckBody c m ∷ []) (q (faults ++ fault_set (body_list m)))) ms
+    every_body : (ms : List Name) → AllByRecursion (λ (m : Name). (faults : List Diagnostic) (q : List Diagnostic → Prog) → Passes (mean profile p) (body_step c m faults q) (keys.CheckBody c m ∷ []) (q (faults ++ fault_set (body_list m)))) ms
     every_body [] = tt
     every_body (m ∷ ms) = (one_body m, every_body ms)
 
-    bodies_pass : (start : List Diagnostic) (q : List Diagnostic → Prog) → Passes (mean p) (bodies_steps c (header_of k) start q) (map (keys.CheckBody c) (bodies_in (header_of k))) (q (start ++ flat_map (λ m. fault_set (body_list m)) (bodies_in (header_of k))))
+    bodies_pass : (start : List Diagnostic) (q : List Diagnostic → Prog) → Passes (mean profile p) (bodies_steps c (header_of k) start q) (map (keys.CheckBody c) (bodies_in (header_of k))) (q (start ++ flat_map (λ m. fault_set (body_list m)) (bodies_in (header_of k))))
     bodies_pass start q =
-        subst (λ (ks : List Key). Passes (mean p) (bodies_steps c (header_of k) start q) ks (q (start ++ flat_map (λ m. fault_set (body_list m)) (bodies_in (header_of k))))) (flat_one (keys.CheckBody c) (bodies_in (header_of k)))
-        (subst (λ (l : List Diagnostic). Passes (mean p) (bodies_steps c (header_of k) start q) (flat_map (λ (m : Name). keys.CheckBody c m ∷ []) (bodies_in (header_of k))) (q l)) (fold_append (λ (m : Name). fault_set (body_list m)) (bodies_in (header_of k)) start)
-        (passes_each (mean p) (body_step c) (λ (m : Name). keys.CheckBody c m ∷ []) (λ m faults. faults ++ fault_set (body_list m)) (bodies_in (header_of k)) (every_body (bodies_in (header_of k))) start q))
+        subst (λ (ks : List Key). Passes (mean profile p) (bodies_steps c (header_of k) start q) ks (q (start ++ flat_map (λ m. fault_set (body_list m)) (bodies_in (header_of k))))) (flat_one (keys.CheckBody c) (bodies_in (header_of k)))
+        (subst (λ (l : List Diagnostic). Passes (mean profile p) (bodies_steps c (header_of k) start q) (flat_map (λ (m : Name). keys.CheckBody c m ∷ []) (bodies_in (header_of k))) (q l)) (fold_append (λ (m : Name). fault_set (body_list m)) (bodies_in (header_of k)) start)
+        (passes_each (mean profile p) (body_step c) (λ (m : Name). keys.CheckBody c m ∷ []) (λ m faults. faults ++ fault_set (body_list m)) (bodies_in (header_of k)) (every_body (bodies_in (header_of k))) start q))
 
-    declared_pass : Passes (mean p) (declared_steps c (header_of k) (λ faults. Ret (values.Diags faults))) (keys.CheckClass c ∷ map (keys.CheckBody c) (bodies_in (header_of k))) (Ret (values.Diags (fault_set (class_faults cs k))))
+    declared_pass : Passes (mean profile p) (declared_steps c (header_of k) (λ faults. Ret (values.Diags faults))) (keys.CheckClass c ∷ map (keys.CheckBody c) (bodies_in (header_of k))) (Ret (values.Diags (fault_set (class_faults profile cs k))))
     unfolding mean
     declared_pass =
-        let check : faults_in (mean p (keys.CheckClass c)) ≡ fault_set (declaration_faults cs k) = ap (faults_of (declaration_faults cs)) e in
-        Reads (keys.CheckClass c) (λ v. bodies_steps c (header_of k) (faults_in v) (λ faults. Ret (values.Diags (fault_set faults)))) (map (keys.CheckBody c) (bodies_in (header_of k))) (Ret (values.Diags (fault_set (class_faults cs k))))
-        (subst (λ (start : List Diagnostic). Passes (mean p) (bodies_steps c (header_of k) start (λ faults. Ret (values.Diags (fault_set faults)))) (map (keys.CheckBody c) (bodies_in (header_of k))) (Ret (values.Diags (fault_set (class_faults cs k))))) (sym check)
-        (subst (λ (l : List Diagnostic). Passes (mean p) (bodies_steps c (header_of k) (fault_set (declaration_faults cs k)) (λ faults. Ret (values.Diags (fault_set faults)))) (map (keys.CheckBody c) (bodies_in (header_of k))) (Ret (values.Diags l)))
-        (one_set told (class_faults cs k) told_same) (bodies_pass (fault_set (declaration_faults cs k)) (λ faults. Ret (values.Diags (fault_set faults))))))
+        let check : faults_in (mean profile p (keys.CheckClass c)) ≡ fault_set (declaration_faults profile cs k) = ap (faults_of (declaration_faults profile cs)) e in
+        Reads (keys.CheckClass c) (λ v. bodies_steps c (header_of k) (faults_in v) (λ faults. Ret (values.Diags (fault_set faults)))) (map (keys.CheckBody c) (bodies_in (header_of k))) (Ret (values.Diags (fault_set (class_faults profile cs k))))
+        (subst (λ (start : List Diagnostic). Passes (mean profile p) (bodies_steps c (header_of k) start (λ faults. Ret (values.Diags (fault_set faults)))) (map (keys.CheckBody c) (bodies_in (header_of k))) (Ret (values.Diags (fault_set (class_faults profile cs k))))) (sym check)
+        (subst (λ (l : List Diagnostic). Passes (mean profile p) (bodies_steps c (header_of k) (fault_set (declaration_faults profile cs k)) (λ faults. Ret (values.Diags (fault_set faults)))) (map (keys.CheckBody c) (bodies_in (header_of k))) (Ret (values.Diags l)))
+        (one_set told (class_faults profile cs k) told_same) (bodies_pass (fault_set (declaration_faults profile cs k)) (λ faults. Ret (values.Diags (fault_set faults))))))
 
     -- the bodies are those of the class, each where it stands first
     same_bodies : (o : Option Statement) → k.main ≡ o → (seen : List Key) → first_keys seen (map (keys.CheckBody c) (bodies_in (header_of k))) ≡ first_keys seen (map (keys.CheckBody c) (bodies_of k))
@@ -144,13 +145,13 @@ module _ (p : Project) (c : Name) where
   asked_by None = []
   asked_by (Some k) = keys.CheckClass c ∷ map (keys.CheckBody c) (bodies_in (header_of k))
 
-  by_class : (o : Option ClassDecl) → class_at p c ≡ o → Passes (mean p) (diags_by c (option_map header_of o) Ret) (asked_by o) (Ret (values.Diags (faults_of (class_faults cs) o)))
+  by_class : (o : Option ClassDecl) → class_at p c ≡ o → Passes (mean profile p) (diags_by c (option_map header_of o) Ret) (asked_by o) (Ret (values.Diags (faults_of (class_faults profile cs) o)))
   by_class None e = Stays _
   by_class (Some k) e = declared_pass k e
 
-  passes : Passes (mean p) (diags_steps c Ret) (keys.Header c ∷ asked_by (class_at p c)) (Ret (mean p (keys.Diags c)))
+  passes : Passes (mean profile p) (diags_steps c Ret) (keys.Header c ∷ asked_by (class_at p c)) (Ret (mean profile p (keys.Diags c)))
   unfolding mean
-  passes = Reads (keys.Header c) (λ v. diags_by c (header_in v) Ret) (asked_by (class_at p c)) (Ret (mean p (keys.Diags c))) (by_class (class_at p c) refl)
+  passes = Reads (keys.Header c) (λ v. diags_by c (header_in v) Ret) (asked_by (class_at p c)) (Ret (mean profile p (keys.Diags c))) (by_class (class_at p c) refl)
 
   firsts_on : (k : Key) (xs ys : List Key) → ((seen : List Key) → first_keys seen xs ≡ first_keys seen ys) → (seen : List Key) → first_keys seen (k ∷ xs) ≡ first_keys seen (k ∷ ys)
   firsts_on k xs ys h seen = ap₂ (λ (as' bs : List Key). if is_seen seen k then as' else k ∷ bs) (h seen) (h (seen ++ k ∷ []))
@@ -159,7 +160,7 @@ module _ (p : Project) (c : Name) where
   same_by None e seen = refl
   same_by (Some k) e seen = firsts_on (keys.CheckClass c) (map (keys.CheckBody c) (bodies_in (header_of k))) (map (keys.CheckBody c) (bodies_of k)) (same_bodies k e k.main refl) seen
 
-  same_reads : first_keys [] (keys.Header c ∷ asked_by (class_at p c)) ≡ reads p (keys.Diags c)
+  same_reads : first_keys [] (keys.Header c ∷ asked_by (class_at p c)) ≡ reads profile p (keys.Diags c)
   unfolding reads asked_keys
   same_reads = firsts_on (keys.Header c) (asked_by (class_at p c)) (diagnosis_reads c (class_at p c)) (same_by (class_at p c) refl) []
 
@@ -174,4 +175,4 @@ fits c = (omega arith, λ v. by_header (header_in v))
     by_header (Some h) = (omega arith, λ v. each_fits (keys.Diags c) (body_step c) (λ m faults q g. (omega arith, λ w. g (faults ++ faults_in w))) (bodies_in h) (faults_in v) (λ faults. Ret (values.Diags (fault_set faults))) (λ faults. refl))
 
 pub diags_ties : DiagsTies
-diags_ties c = ties_by (keys.Diags c) (diags_steps c Ret) (λ p. keys.Header c ∷ asked_by p c (class_at p c)) (λ p. passes p c) (λ p. same_reads p c) (fits c)
+diags_ties c profile = ties_by profile (keys.Diags c) (diags_steps c Ret) (λ p. keys.Header c ∷ asked_by profile p c (class_at p c)) (λ p. passes profile p c) (λ p. same_reads profile p c) (fits c)

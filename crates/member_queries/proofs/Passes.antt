@@ -5,13 +5,14 @@ use Rattle.std.specs.Prelude.{flat_map}
 use Rattle.std.specs.List.{AllByRecursion}
 use Rattle.item_ids.specs.declared.key.Key.{Key}
 use Rattle.result_bytes.specs.declared.value.Value.{Value}
+use Rattle.profiles.specs.declared.profile.Profile.{Profile}
 use Rattle.recorder.specs.Projects.{Project}
 use Rattle.recorder.specs.Programs.{Prog, Ret, Ask, runs, asks, Fits, each}
 use Rattle.recorder.proofs.Rules.{fold_of}
 use Rattle.recorder.specs.Backed.{is_seen}
 use Rattle.query_rules.specs.Meaning.{mean}
 use Rattle.query_rules.specs.Reads.{first_keys, reads}
-use Rattle.query_rules.specs.Ties.{Ties}
+use Rattle.query_rules.specs.Ties.{TiesIn}
 
 -- asking these keys in turn, the first program comes to the second
 pub data Passes (m : Key → Value) : Prog → List Key → Prog → Type 0 where
@@ -49,12 +50,12 @@ flat_one f [] = refl
 flat_one f (x ∷ xs) = ap (λ ys. f x ∷ ys) (flat_one f xs)
 
 -- a program that gives the value of its key, and asks what the key reads
-pub ties_by : (q : Key) (prog : Prog) (asked : Project → List Key)
-    → ((p : Project) → Passes (mean p) prog (asked p) (Ret (mean p q)))
-    → ((p : Project) → first_keys [] (asked p) ≡ reads p q) → Fits q prog → Ties q prog
+pub ties_by : (profile : Profile) (q : Key) (prog : Prog) (asked : Project → List Key)
+    → ((p : Project) → Passes (mean profile p) prog (asked p) (Ret (mean profile p q)))
+    → ((p : Project) → first_keys [] (asked p) ≡ reads profile p q) → Fits q prog → TiesIn profile q prog
 unfolding runs asks
-ties_by q prog asked passes same fits = record {
-  means = λ p h. sym (passes_runs (mean p) prog (asked p) (Ret (mean p q)) (passes p));
-  asked = λ p h. sym (same p) ∙ sym (passes_asks (mean p) prog (asked p) (Ret (mean p q)) (λ seen. refl) (passes p) []);
+ties_by profile q prog asked passes same fits = record {
+  means = λ p h. sym (passes_runs (mean profile p) prog (asked p) (Ret (mean profile p q)) (passes p));
+  asked = λ p h. sym (same p) ∙ sym (passes_asks (mean profile p) prog (asked p) (Ret (mean profile p q)) (λ seen. refl) (passes p) []);
   fits = fits;
 }

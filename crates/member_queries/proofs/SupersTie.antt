@@ -13,6 +13,7 @@ use Rattle.mj_rules.specs.Sentences.{classes_in}
 use Rattle.result_bytes.specs.declared.files.IndexRow.{IndexRow}
 use Rattle.result_bytes.specs.Payloads.{HeaderValue, ChainValue}
 use Rattle.result_bytes.specs.declared.value.Value.TheVariants as values
+use Rattle.profiles.specs.declared.profile.Profile.{Profile}
 use Rattle.recorder.specs.Projects.{Project}
 use Rattle.recorder.specs.Backed.{rank}
 use Rattle.recorder.specs.Programs.{Prog, Ret, Fits}
@@ -27,24 +28,24 @@ use Rattle.member_queries.specs.Laws.{SupersTies}
 use Rattle.member_queries.proofs.Passes.{Passes, Stays, Reads, ties_by}
 use Rattle.member_queries.proofs.Indexed.{listed, no_more}
 
-module _ (p : Project) where
+module _ (profile : Profile) (p : Project) where
   abbrev cs : List ClassDecl
   cs = classes_in p
 
   -- the superclass in the header of a declared class
-  superclass_told : (c : Name) (k : ClassDecl) (s : Option Name) → decl cs c ≡ Some k → k.superclass ≡ s → option_and_then (λ (h : HeaderValue). h.superclass) (header_in (mean p (keys.Header c))) ≡ s
+  superclass_told : (c : Name) (k : ClassDecl) (s : Option Name) → decl cs c ≡ Some k → k.superclass ≡ s → option_and_then (λ (h : HeaderValue). h.superclass) (header_in (mean profile p (keys.Header c))) ≡ s
   unfolding mean
   superclass_told c k s e f = rw e f
 
   -- a link, where the class extends this
   one_link : (more : ℕ) (names : List Name) (c : Name) (k : ChainValue → Prog) (ks : List Key) (q : Prog) (s : Option Name)
-      → option_and_then (λ (h : HeaderValue). h.superclass) (header_in (mean p (keys.Header c))) ≡ s
-      → Passes (mean p) (climb_on (chain_steps more (index_of p)) (names ++ c ∷ [], climb_by (index_of p) (names ++ c ∷ []) s) k) ks q
-      → Passes (mean p) (chain_steps (suc more) (index_of p) names c k) (keys.Header c ∷ ks) q
+      → option_and_then (λ (h : HeaderValue). h.superclass) (header_in (mean profile p (keys.Header c))) ≡ s
+      → Passes (mean profile p) (climb_on (chain_steps more (index_of p)) (names ++ c ∷ [], climb_by (index_of p) (names ++ c ∷ []) s) k) ks q
+      → Passes (mean profile p) (chain_steps (suc more) (index_of p) names c k) (keys.Header c ∷ ks) q
   unfolding chain_steps
   one_link more names c k ks q s e w =
       Reads (keys.Header c) (λ v. climb_on (chain_steps more (index_of p)) (names ++ c ∷ [], climb_by (index_of p) (names ++ c ∷ []) (option_and_then (λ (h : HeaderValue). h.superclass) (header_in v))) k) ks q
-      (subst (λ (s : Option Name). Passes (mean p) (climb_on (chain_steps more (index_of p)) (names ++ c ∷ [], climb_by (index_of p) (names ++ c ∷ []) s) k) ks q) (sym e) w)
+      (subst (λ (s : Option Name). Passes (mean profile p) (climb_on (chain_steps more (index_of p)) (names ++ c ∷ [], climb_by (index_of p) (names ++ c ∷ []) s) k) ks q) (sym e) w)
 
   not_listed : (u : Name) → decl cs u ≡ None → is_listed (index_of p) u ≡ false
   not_listed u e = listed p u ∙ ap is_some e
@@ -54,7 +55,7 @@ module _ (p : Project) where
 
   climbs : (rest whole names : List Name) (c : Name) (end : EndOf) (more : ℕ) (k : ChainValue → Prog)
       → whole ≡ names ++ (c ∷ rest) → AreDistinct whole → ((x : Name) → Contains whole x → (j : ClassDecl) × (decl cs x ≡ Some j)) → Links cs whole (c ∷ rest) end → length rest < more
-      → Passes (mean p) (chain_steps more (index_of p) names c k) (map keys.Header (c ∷ rest)) (k (chain whole (end_value end)))
+      → Passes (mean profile p) (chain_steps more (index_of p) names c k) (map keys.Header (c ∷ rest)) (k (chain whole (end_value end)))
   climbs rest whole names c end zero k is d all l lt = absurd (omega (arith, lt))
   climbs [] whole names c Top (suc more) k is d all l lt =
       one_link more names c k [] (k (chain whole (end_value Top))) None (superclass_told c l.0 None l.1 l.2) (rw is (Stays _))
@@ -74,14 +75,14 @@ module _ (p : Project) where
       (rw (n, there) (climbs rest whole (names ++ c ∷ []) u end more k split d all l.1 (omega (arith, lt))))
 
   -- a chain of the rules
-  whole_chain : (c : Name) (names : List Name) (end : EndOf) (k : ChainValue → Prog) → IsChain cs c names end → Passes (mean p) (chain_steps (length (index_of p)) (index_of p) [] c k) (map keys.Header names) (k (chain names (end_value end)))
+  whole_chain : (c : Name) (names : List Name) (end : EndOf) (k : ChainValue → Prog) → IsChain cs c names end → Passes (mean profile p) (chain_steps (length (index_of p)) (index_of p) [] c k) (map keys.Header names) (k (chain names (end_value end)))
   whole_chain c names end k is =
       let all : (x : Name) → Contains names x → (j : ClassDecl) × (decl cs x ≡ Some j) = λ x h. all_declared cs names names end is.links x (contains_in names x h) in
       let few = no_more p names is.distinct all in
-      subst (λ (xs : List Name). Passes (mean p) (chain_steps (length (index_of p)) (index_of p) [] c k) (map keys.Header xs) (k (chain names (end_value end)))) (sym is.first)
+      subst (λ (xs : List Name). Passes (mean profile p) (chain_steps (length (index_of p)) (index_of p) [] c k) (map keys.Header xs) (k (chain names (end_value end)))) (sym is.first)
       (climbs is.rest names [] c end (length (index_of p)) k is.first is.distinct all (subst (λ (xs : List Name). Links cs names xs end) is.first is.links) (omega (arith, few, ap length is.first)))
 
-  by_class : (c : Name) (o : Option ClassDecl) → class_at p c ≡ o → Passes (mean p) (listed_steps (is_listed (index_of p) c) (index_of p) c Ret) (chain_headers p c) (Ret (values.Supers (option_map chain_value (chain_of cs c))))
+  by_class : (c : Name) (o : Option ClassDecl) → class_at p c ≡ o → Passes (mean profile p) (listed_steps (is_listed (index_of p) c) (index_of p) c Ret) (chain_headers p c) (Ret (values.Supers (option_map chain_value (chain_of cs c))))
   by_class c None e =
       let no = not_listed c e in
       let none = has_none cs c e in
@@ -92,9 +93,9 @@ module _ (p : Project) where
       let same = chain_of_is cs c h.0 h.1 h.2 in
       rw (yes, same) (whole_chain c h.0 h.1 (λ x. Ret (values.Supers (Some x))) h.2)
 
-  passes : (c : Name) → Passes (mean p) (supers_steps c Ret) (asked_keys p (keys.Supers c)) (Ret (mean p (keys.Supers c)))
+  passes : (c : Name) → Passes (mean profile p) (supers_steps c Ret) (asked_keys profile p (keys.Supers c)) (Ret (mean profile p (keys.Supers c)))
   unfolding mean asked_keys
-  passes c = Reads keys.Index (λ v. listed_steps (is_listed (rows_in v) c) (rows_in v) c Ret) (chain_headers p c) (Ret (mean p (keys.Supers c))) (by_class c (class_at p c) refl)
+  passes c = Reads keys.Index (λ v. listed_steps (is_listed (rows_in v) c) (rows_in v) c Ret) (chain_headers p c) (Ret (mean profile p (keys.Supers c))) (by_class c (class_at p c) refl)
 
 -- ---- ranks and kinds
 
@@ -118,4 +119,4 @@ fits c = (omega arith, λ v. by_test (is_listed (rows_in v) c) (rows_in v))
 
 pub supers_ties : SupersTies
 unfolding reads
-supers_ties c = ties_by (keys.Supers c) (supers_steps c Ret) (λ p. asked_keys p (keys.Supers c)) (λ p. passes p c) (λ p. refl) (fits c)
+supers_ties c profile = ties_by profile (keys.Supers c) (supers_steps c Ret) (λ p. asked_keys profile p (keys.Supers c)) (λ p. passes profile p c) (λ p. refl) (fits c)

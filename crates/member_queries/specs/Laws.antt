@@ -1,5 +1,5 @@
--- What the programs are tied to: in every project the program of a kind gives the value of the
--- query and asks what it reads.
+-- What the programs are tied to: in every profile and project the program of a kind gives the value
+-- of the query and asks what it reads.
 use Rattle.std.specs.Prelude.{List, ℕ}
 use Rattle.item_ids.specs.declared.key.Key.TheVariants as keys
 use Rattle.recorder.specs.Programs.{Ret}

@@ -19,11 +19,12 @@ use Rattle.mj_phrases.specs.Inquiries.{Sig}
 use Rattle.mj_typing.specs.Bodies.{MethodFault, MainFault, method_faults, main_faults}
 use Rattle.mj_project.specs.Repeats.{repeats}
 use Rattle.mj_project.proofs.Listed.{contains_at, place_of, at_map, map_at}
+use Rattle.profiles.specs.declared.profile.Profile.{Profile}
 use Rattle.mj_rules.specs.Sentences.{classes_in}
 use Rattle.mj_rules.specs.Worlds.{world_of}
 use Rattle.mj_rules.specs.Rules.{AreTheFaults}
 use Rattle.mj_rules.specs.ClassFaults.{FaultOfClass, UndeclaredSuperclass, CyclicChain, RepeatedField, RepeatedMethod, OtherSignature, UndeclaredFieldType, InMethod, InMain, main_word}
-use Rattle.mj_rules.specs.FaultLists.{fault, when_fault, each_numbered, superclass_faults, chain_faults, is_undeclared, field_faults, same_signature, override_faults, inside, rest_of, nearest_sig, method_faults_of, body_faults_of, main_method_faults, field_names, method_names, declaration_faults, body_faults, class_faults}
+use Rattle.mj_rules.specs.FaultLists.{fault, when_fault, each_numbered, superclass_faults, chain_faults, is_undeclared, field_faults, may_override, override_faults, inside, rest_of, nearest_sig, method_faults_of, body_faults_of, main_method_faults, field_names, method_names, declaration_faults, body_faults, class_faults}
 use Rattle.mj_rules.specs.Answering.{fault_order}
 use Rattle.mj_rules.proofs.Numbered.{nowhere, only, from_when, IsFlagged, from_all}
 use Rattle.mj_rules.proofs.Sets.{faults_compare, set_ascends, from_set, to_set}
@@ -83,7 +84,7 @@ same_name e = cc
 when_outside : (b : Bool) (place : Place) (code : Code) (d : Diagnostic) → Outside (fault place code) → Contains (when_fault b place code) d → Outside d
 when_outside b place code d out h = subst Outside (from_when b place code d h).1 out
 
-module _ (cs : List ClassDecl) (k : ClassDecl) (d : Diagnostic) where
+module _ (profile : Profile) (cs : List ClassDecl) (k : ClassDecl) (d : Diagnostic) where
   superclass_outside : (o : Option Name) → Contains (superclass_faults cs o) d → Outside d
   superclass_outside None h = absurd (nowhere d h)
   superclass_outside (Some u) h = when_outside _ places.Class E201 d (λ m is. class_apart is.1) h
@@ -99,25 +100,25 @@ module _ (cs : List ClassDecl) (k : ClassDecl) (d : Diagnostic) where
         | inr b ↦ when_outside (is_undeclared cs r.item.ty) (places.Field r.i) E206 d (λ m is. field_apart is.1) b
       ]
 
-  override_outside : (n : ℕ) (a : Method) (o : Option Sig) → Contains (override_faults n a o) d → Outside d
+  override_outside : (n : ℕ) (a : Method) (o : Option Sig) → Contains (override_faults profile cs n a o) d → Outside d
   override_outside n a None h = absurd (nowhere d h)
-  override_outside n a (Some sig) h = when_outside (not (same_signature a sig)) (places.Method n) E205 d (λ m is. method_apart is.1) h
+  override_outside n a (Some sig) h = when_outside (not (may_override profile cs a sig)) (places.Method n) E205 d (λ m is. method_apart is.1) h
 
-  by_flag : (overridden : Name → Option Sig) (n : ℕ) (flag : Bool) (a : Method) → Contains (method_faults_of overridden n flag a) d → Outside d
+  by_flag : (overridden : Name → Option Sig) (n : ℕ) (flag : Bool) (a : Method) → Contains (method_faults_of profile cs overridden n flag a) d → Outside d
   by_flag overridden n true a h = subst Outside (only (fault (places.Method n) E204) d h) (λ m is. method_apart is.1)
   by_flag overridden n false a h = override_outside n a (overridden a.name) h
 
-  declared_outside : Contains (declaration_faults cs k) d → Outside d
+  declared_outside : Contains (declaration_faults profile cs k) d → Outside d
   unfolding declaration_faults
   declared_outside h =
       elim (Contains-append_cases (superclass_faults cs k.superclass) _ d h) [
         | inl a ↦ superclass_outside k.superclass a
         | inr b ↦ elim (Contains-append_cases (chain_faults (chain_of cs k.name)) _ d b) [
           | inl a ↦ chain_outside (chain_of cs k.name) a
-          | inr c ↦ elim (Contains-append_cases (each_numbered (field_faults cs) 0 k.fields (repeats (field_names k))) (each_numbered (method_faults_of (nearest_sig (rest_of cs k.name))) 0 k.methods (repeats (method_names k))) d c) [
+          | inr c ↦ elim (Contains-append_cases (each_numbered (field_faults cs) 0 k.fields (repeats (field_names k))) (each_numbered (method_faults_of profile cs (nearest_sig (rest_of cs k.name))) 0 k.methods (repeats (method_names k))) d c) [
             | inl a ↦ field_outside (from_all (field_faults cs) k.fields (repeats (field_names k)) d a)
             | inr e ↦
-                let r = from_all (method_faults_of (nearest_sig (rest_of cs k.name))) k.methods (repeats (method_names k)) d e in
+                let r = from_all (method_faults_of profile cs (nearest_sig (rest_of cs k.name))) k.methods (repeats (method_names k)) d e in
                 by_flag (nearest_sig (rest_of cs k.name)) r.i r.flag r.item r.found
           ]
         ]
@@ -161,19 +162,19 @@ module _ (cs : List ClassDecl) (k : ClassDecl) (d : Diagnostic) where
 
 -- ---- the diagnostics of a class
 
-module _ (p : Project) (c : Name) where
+module _ (profile : Profile) (p : Project) (c : Name) where
   module _ (k : ClassDecl) (e : Counts p c k) where
-    all_law : HasJust (class_faults (classes_in p) k) (IsFaultOf p c)
+    all_law : HasJust (class_faults profile (classes_in p) k) (IsFaultOf profile p c)
     all_law place code =
-        let law = class_fault_law chain_laws body_laws (classes_in p) (names_fit_in p) k (ap (decl (classes_in p)) (decl-name (classes_in p) c k e) ∙ e) place code in (
+        let law = class_fault_law chain_laws body_laws profile (classes_in p) (names_fit_in p) k (ap (decl (classes_in p)) (decl-name (classes_in p) c k e) ∙ e) place code in (
           λ h. record { declaration = k; counts = e; is_fault = law.0 h },
-          λ f. law.1 (subst (λ (j : ClassDecl). FaultOfClass (classes_in p) j place code) (same_Some f.declaration k (sym f.counts ∙ e)) f.is_fault),
+          λ f. law.1 (subst (λ (j : ClassDecl). FaultOfClass profile (classes_in p) j place code) (same_Some f.declaration k (sym f.counts ∙ e)) f.is_fault),
         )
 
-    outside_law : HasJust (declaration_faults (classes_in p) k) (IsFaultOutside p c)
+    outside_law : HasJust (declaration_faults profile (classes_in p) k) (IsFaultOutside profile p c)
     outside_law place code = (
-      λ h. ((all_law place code).0 (Contains-append_left (declaration_faults (classes_in p) k) (body_faults (classes_in p) k) (fault place code) h), declared_outside (classes_in p) k (fault place code) h),
-      λ f. elim (Contains-append_cases (declaration_faults (classes_in p) k) (body_faults (classes_in p) k) (fault place code) ((all_law place code).1 f.0)) [
+      λ h. ((all_law place code).0 (Contains-append_left (declaration_faults profile (classes_in p) k) (body_faults (classes_in p) k) (fault place code) h), declared_outside profile (classes_in p) k (fault place code) h),
+      λ f. elim (Contains-append_cases (declaration_faults profile (classes_in p) k) (body_faults (classes_in p) k) (fault place code) ((all_law place code).1 f.0)) [
         | inl a ↦ a
         | inr b ↦ let i = body_inside (classes_in p) k (fault place code) b in absurd (f.1 i.0 i.1)
       ],
@@ -194,28 +195,28 @@ module _ (p : Project) (c : Name) where
       }
       by_class (Some k) e = set_right Fault (faults k) (law k e)
 
-  pub class_faults_right : AreTheFaults (IsFaultOf p c) (faults_of (class_faults (classes_in p)) (class_at p c))
-  class_faults_right = class_right (IsFaultOf p c) (class_faults (classes_in p)) (λ place code f. (f.declaration, f.counts)) all_law
+  pub class_faults_right : AreTheFaults (IsFaultOf profile p c) (faults_of (class_faults profile (classes_in p)) (class_at p c))
+  class_faults_right = class_right (IsFaultOf profile p c) (class_faults profile (classes_in p)) (λ place code f. (f.declaration, f.counts)) all_law
 
-  pub declaration_faults_right : AreTheFaults (IsFaultOutside p c) (faults_of (declaration_faults (classes_in p)) (class_at p c))
-  declaration_faults_right = class_right (IsFaultOutside p c) (declaration_faults (classes_in p)) (λ place code f. (f.0.declaration, f.0.counts)) outside_law
+  pub declaration_faults_right : AreTheFaults (IsFaultOutside profile p c) (faults_of (declaration_faults profile (classes_in p)) (class_at p c))
+  declaration_faults_right = class_right (IsFaultOutside profile p c) (declaration_faults profile (classes_in p)) (λ place code f. (f.0.declaration, f.0.counts)) outside_law
 
 -- ---- the diagnostics in a method
 
-module _ (p : Project) (c m : Name) where
+module _ (profile : Profile) (p : Project) (c m : Name) where
   abbrev found_in : Option BodyValue → List Diagnostic
   found_in o = inside m (mistakes_in (world_of (classes_in p)) c o)
 
   -- a mistake in the body is a diagnostic of the class in the method
-  inside_by : (k : ClassDecl) → Counts p c k → (n : Name) → n ≡ m → (x : Mistake) (place : Place) (code : Code) → FaultOfClass (classes_in p) k (places.Inside n x.mark) x.code → fault (places.Inside m x.mark) x.code ≡ fault place code
-      → IsFaultInside p c m place code
+  inside_by : (k : ClassDecl) → Counts p c k → (n : Name) → n ≡ m → (x : Mistake) (place : Place) (code : Code) → FaultOfClass profile (classes_in p) k (places.Inside n x.mark) x.code → fault (places.Inside m x.mark) x.code ≡ fault place code
+      → IsFaultInside profile p c m place code
   inside_by k e n named x place code f same =
-      let at_m = subst (λ (a : Name). FaultOfClass (classes_in p) k (places.Inside a x.mark) x.code) named f in (
-        record { declaration = k; counts = e; is_fault = subst (λ (d : Diagnostic). FaultOfClass (classes_in p) k d.place d.code) same at_m },
+      let at_m = subst (λ (a : Name). FaultOfClass profile (classes_in p) k (places.Inside a x.mark) x.code) named f in (
+        record { declaration = k; counts = e; is_fault = subst (λ (d : Diagnostic). FaultOfClass profile (classes_in p) k d.place d.code) same at_m },
         (x.mark, ap (λ (d : Diagnostic). d.place) (sym same)),
       )
 
-  inside_from : (place : Place) (code : Code) (o : Option BodyValue) → body_at p c m ≡ o → Contains (found_in o) (fault place code) → IsFaultInside p c m place code
+  inside_from : (place : Place) (code : Code) (o : Option BodyValue) → body_at p c m ≡ o → Contains (found_in o) (fault place code) → IsFaultInside profile p c m place code
   inside_from place code None e h = absurd (nowhere (fault place code) h)
   inside_from place code (Some (bodies.OfMain s)) e h =
       let x = from_inside m (main_faults (world_of (classes_in p)) (record { name = c; statement = s })) (fault place code) h in
@@ -239,7 +240,7 @@ module _ (p : Project) (c m : Name) where
       (subst (λ (b : Option BodyValue). Contains (found_in b) (fault (places.Inside m mark) code)) (sym body) h)
 
   module _ (k : ClassDecl) (e : Counts p c k) where
-    inside_to : (place : Place) (code : Code) → FaultOfClass (classes_in p) k place code → (mark : ℕ) → place ≡ places.Inside m mark → Contains (found_in (body_at p c m)) (fault place code)
+    inside_to : (place : Place) (code : Code) → FaultOfClass profile (classes_in p) k place code → (mark : ℕ) → place ≡ places.Inside m mark → Contains (found_in (body_at p c m)) (fault place code)
     inside_to place code (UndeclaredSuperclass u s d) mark at = absurd cc
     inside_to place code (CyclicChain chain u s) mark at = absurd cc
     inside_to place code (RepeatedField i j a b l s f g) mark at = absurd cc
@@ -260,6 +261,6 @@ module _ (p : Project) (c m : Name) where
         in_body (Some (bodies.OfMain s)) (main_body p c m s (record { declaration = k; first_class = e; main = is }) named) main_word named x.mark x.code
         (to_inside m (main_faults (world_of (classes_in p)) (record { name = c; statement = s })) x listed)
 
-  pub body_faults_right : AreTheFaults (IsFaultInside p c m) (fault_set (found_in (body_at p c m)))
-  body_faults_right = set_right (IsFaultInside p c m) (found_in (body_at p c m))
+  pub body_faults_right : AreTheFaults (IsFaultInside profile p c m) (fault_set (found_in (body_at p c m)))
+  body_faults_right = set_right (IsFaultInside profile p c m) (found_in (body_at p c m))
       (λ place code. (inside_from place code (body_at p c m) refl, λ f. inside_to f.0.declaration f.0.counts place code f.0.is_fault f.1.0 f.1.1))

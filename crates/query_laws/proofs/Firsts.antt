@@ -199,7 +199,7 @@ run_firsts m _ _ seen (Asked k f ks r) = by_test (is_seen seen k) (run_firsts m 
 pub read_laws : ReadLaws
 unfolding reads
 read_laws = record {
-  query = λ p q read. firsts_law (asked_keys p q) read;
+  query = λ profile p q read. firsts_law (asked_keys profile p q) read;
   every = every_run;
   run = λ m prog asked r read.
       let law = firsts_law asked read in

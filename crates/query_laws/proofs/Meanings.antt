@@ -6,6 +6,7 @@ use Rattle.mj_answer.specs.declared.diagnostic.Diagnostic.{Diagnostic}
 use Rattle.mj_answer.specs.AnswerValues.{ClassTableValue, AnswerValue}
 use Rattle.mj_members.specs.Declarations.{ClassDecl}
 use Rattle.mj_classes.specs.Chains.{chain_of}
+use Rattle.profiles.specs.declared.profile.Profile.{Profile}
 use Rattle.mj_rules.specs.Sentences.{classes_in}
 use Rattle.mj_rules.specs.Worlds.{world_of}
 use Rattle.mj_rules.specs.Rules.{Rules}
@@ -62,14 +63,14 @@ same_diags a b e = cc
 same_answer : (a b : AnswerValue) → values.Answer a ≡ values.Answer b → a ≡ b
 same_answer a b e = cc
 
-answer_given : (p : Project) (answer : AnswerValue) → (rules_of p ≡ answer) ↔ Rules p answer
-answer_given p answer =
-    let law = answer_law chain_laws member_laws body_laws sentence_law p answer in
+answer_given : (profile : Profile) (p : Project) (answer : AnswerValue) → (rules_of profile p ≡ answer) ↔ Rules profile p answer
+answer_given profile p answer =
+    let law = answer_law chain_laws member_laws body_laws sentence_law profile p answer in
     (λ e. law.1 (sym e), λ r. sym (law.0 r))
 
-pub mean_laws : (p : Project) → MeanLaws p
+pub mean_laws : (profile : Profile) (p : Project) → MeanLaws profile p
 unfolding mean
-mean_laws p = record {
+mean_laws profile p = record {
   tree = λ f o. through (contents values.Tree same_tree (tree_at p f) o) (given (IsTreeAt p f) (tree_at p f) (tree_given p f) o);
   index = λ rows. through (contents values.Index same_index (index_of p) rows) (index_given p rows);
   header = λ c o. through (contents values.Header same_header (option_map header_of (class_at p c)) o) (given (IsHeaderOf p c) (option_map header_of (class_at p c)) (header_given p c) o);
@@ -80,11 +81,11 @@ mean_laws p = record {
       (given (IsChainOf p c) (option_map chain_value (chain_of (classes_in p) c)) (chain_given p c) o);
   members = λ c o. through (contents values.Members same_members (option_map (λ (k : ClassDecl). table_of (classes_in p) c) (class_at p c)) o)
       (given (AreMembersOf p c) (option_map (λ (k : ClassDecl). table_of (classes_in p) c) (class_at p c)) (members_given p c) o);
-  check_class = λ c faults. through (contents values.CheckClass same_check_class (faults_of (declaration_faults (classes_in p)) (class_at p c)) faults)
-      (faults_given (IsFaultOutside p c) (faults_of (declaration_faults (classes_in p)) (class_at p c)) (declaration_faults_right p c) faults);
+  check_class = λ c faults. through (contents values.CheckClass same_check_class (faults_of (declaration_faults profile (classes_in p)) (class_at p c)) faults)
+      (faults_given (IsFaultOutside profile p c) (faults_of (declaration_faults profile (classes_in p)) (class_at p c)) (declaration_faults_right profile p c) faults);
   check_body = λ c m faults. through (contents values.CheckBody same_check_body (fault_set (inside m (mistakes_in (world_of (classes_in p)) c (body_at p c m)))) faults)
-      (faults_given (IsFaultInside p c m) (fault_set (inside m (mistakes_in (world_of (classes_in p)) c (body_at p c m)))) (body_faults_right p c m) faults);
-  diags = λ c faults. through (contents values.Diags same_diags (faults_of (class_faults (classes_in p)) (class_at p c)) faults)
-      (faults_given (IsFaultOf p c) (faults_of (class_faults (classes_in p)) (class_at p c)) (class_faults_right p c) faults);
-  answer = λ answer. through (contents values.Answer same_answer (rules_of p) answer) (answer_given p answer);
+      (faults_given (IsFaultInside profile p c m) (fault_set (inside m (mistakes_in (world_of (classes_in p)) c (body_at p c m)))) (body_faults_right profile p c m) faults);
+  diags = λ c faults. through (contents values.Diags same_diags (faults_of (class_faults profile (classes_in p)) (class_at p c)) faults)
+      (faults_given (IsFaultOf profile p c) (faults_of (class_faults profile (classes_in p)) (class_at p c)) (class_faults_right profile p c) faults);
+  answer = λ answer. through (contents values.Answer same_answer (rules_of profile p) answer) (answer_given profile p answer);
 }

@@ -10,6 +10,7 @@ use Rattle.mj_members.specs.Declarations.{ClassDecl}
 use Rattle.mj_classes.specs.Declarations.{classes_of, decl}
 use Rattle.mj_classes.specs.Chains.{EndOf, IsChain}
 use Rattle.mj_project.specs.Projects.{SourceFile}
+use Rattle.profiles.specs.declared.profile.Profile.{Profile}
 use Rattle.mj_rules.specs.Sentences.{IsSentence, classes_in}
 use Rattle.mj_rules.specs.ClassFaults.{FaultOfClass, main_word}
 use Rattle.mj_rules.specs.Rules.{IsTableOf}
@@ -101,18 +102,20 @@ pub record IsSignatureOf (p : Project) (c m : Name) (signature : SignatureValue)
 -- ---- diagnostics
 
 -- a diagnostic of a class
-pub record IsFaultOf (p : Project) (c : Name) (place : Place) (code : Code) : Type 0 where
+pub record IsFaultOf (profile : Profile) (p : Project) (c : Name) (place : Place)
+    (code : Code) : Type 0 where
   pub declaration : ClassDecl
   pub counts : Counts p c declaration
-  pub is_fault : FaultOfClass (classes_in p) declaration place code
+  pub is_fault : FaultOfClass profile (classes_in p) declaration place code
 
 -- the place is in the method
 abbrev pub IsInside : Name → Place → Type 0
 IsInside m place = (mark : ℕ) × (place ≡ Inside m mark)
 
 -- a diagnostic of a class in this method, and one in none
-abbrev pub IsFaultInside : Project → Name → Name → Place → Code → Type 0
-IsFaultInside p c m place code = IsFaultOf p c place code × IsInside m place
+abbrev pub IsFaultInside : Profile → Project → Name → Name → Place → Code → Type 0
+IsFaultInside profile p c m place code = IsFaultOf profile p c place code × IsInside m place
 
-abbrev pub IsFaultOutside : Project → Name → Place → Code → Type 0
-IsFaultOutside p c place code = IsFaultOf p c place code × ((m : Name) → IsInside m place → ⊥)
+abbrev pub IsFaultOutside : Profile → Project → Name → Place → Code → Type 0
+IsFaultOutside profile p c place code =
+    IsFaultOf profile p c place code × ((m : Name) → IsInside m place → ⊥)

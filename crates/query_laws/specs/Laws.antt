@@ -1,4 +1,4 @@
--- What each query means, and in which order it reads.
+-- What each query means in a profile, and in which order it reads.
 use Rattle.std.specs.Prelude.{◌≡◌, ◌≢◌, ◌↔◌, ℕ, ◌<◌, List, [], ◌∷◌, Option, Some, Contains, slice_get}
 use Rattle.item_ids.specs.declared.key.Key.{Key}
 use Rattle.item_ids.specs.declared.key.Key.TheVariants as keys
@@ -7,6 +7,7 @@ use Rattle.mj_answer.specs.declared.diagnostic.Diagnostic.{Diagnostic}
 use Rattle.mj_answer.specs.AnswerValues.{ClassTableValue, AnswerValue}
 use Rattle.mj_members.specs.Declarations.{ClassDecl}
 use Rattle.mj_classes.specs.Declarations.{decl}
+use Rattle.profiles.specs.declared.profile.Profile.{Profile}
 use Rattle.mj_rules.specs.Sentences.{classes_in}
 use Rattle.mj_rules.specs.Rules.{AreTheFaults, Rules}
 use Rattle.mj_phrases.specs.declared.verdict.Mistake.{Mistake}
@@ -30,39 +31,40 @@ DeclarationLaw =
     (p : Project) (c : Name) (o : Option ClassDecl)
     → (decl (classes_in p) c ≡ o) ↔ IsGiven (IsDeclaration p c) o
 
--- a query above the inputs means just what the rules give
-pub record MeanLaws (p : Project) : Type 0 where
+-- a query above the inputs means just what the rules of the profile give
+pub record MeanLaws (profile : Profile) (p : Project) : Type 0 where
   pub tree : (f : Name) (o : Option File)
-      → (mean p (keys.Tree f) ≡ values.Tree o) ↔ IsGiven (IsTreeAt p f) o
+      → (mean profile p (keys.Tree f) ≡ values.Tree o) ↔ IsGiven (IsTreeAt p f) o
   pub index : (rows : List IndexRow)
-      → (mean p keys.Index ≡ values.Index rows) ↔ IsIndexOf p rows
+      → (mean profile p keys.Index ≡ values.Index rows) ↔ IsIndexOf p rows
   pub header : (c : Name) (o : Option HeaderValue)
-      → (mean p (keys.Header c) ≡ values.Header o) ↔ IsGiven (IsHeaderOf p c) o
+      → (mean profile p (keys.Header c) ≡ values.Header o) ↔ IsGiven (IsHeaderOf p c) o
   pub method : (c m : Name) (o : Option BodyValue)
-      → (mean p (keys.Method c m) ≡ values.Method o) ↔ IsGiven (IsBodyOf p c m) o
+      → (mean profile p (keys.Method c m) ≡ values.Method o) ↔ IsGiven (IsBodyOf p c m) o
   pub sig : (c m : Name) (o : Option SignatureValue)
-      → (mean p (keys.Sig c m) ≡ values.Sig o) ↔ IsGiven (IsSignatureOf p c m) o
+      → (mean profile p (keys.Sig c m) ≡ values.Sig o) ↔ IsGiven (IsSignatureOf p c m) o
   pub supers : (c : Name) (o : Option ChainValue)
-      → (mean p (keys.Supers c) ≡ values.Supers o) ↔ IsGiven (IsChainOf p c) o
+      → (mean profile p (keys.Supers c) ≡ values.Supers o) ↔ IsGiven (IsChainOf p c) o
   pub members : (c : Name) (o : Option ClassTableValue)
-      → (mean p (keys.Members c) ≡ values.Members o) ↔ IsGiven (AreMembersOf p c) o
+      → (mean profile p (keys.Members c) ≡ values.Members o) ↔ IsGiven (AreMembersOf p c) o
   pub check_class : (c : Name) (faults : List Diagnostic)
-      → (mean p (keys.CheckClass c) ≡ values.CheckClass faults)
-      ↔ AreTheFaults (IsFaultOutside p c) faults
+      → (mean profile p (keys.CheckClass c) ≡ values.CheckClass faults)
+      ↔ AreTheFaults (IsFaultOutside profile p c) faults
   pub check_body : (c m : Name) (faults : List Diagnostic)
-      → (mean p (keys.CheckBody c m) ≡ values.CheckBody faults)
-      ↔ AreTheFaults (IsFaultInside p c m) faults
+      → (mean profile p (keys.CheckBody c m) ≡ values.CheckBody faults)
+      ↔ AreTheFaults (IsFaultInside profile p c m) faults
   pub diags : (c : Name) (faults : List Diagnostic)
-      → (mean p (keys.Diags c) ≡ values.Diags faults) ↔ AreTheFaults (IsFaultOf p c) faults
+      → (mean profile p (keys.Diags c) ≡ values.Diags faults)
+      ↔ AreTheFaults (IsFaultOf profile p c) faults
   pub answer : (answer : AnswerValue)
-      → (mean p keys.Answer ≡ values.Answer answer) ↔ Rules p answer
+      → (mean profile p keys.Answer ≡ values.Answer answer) ↔ Rules profile p answer
 
 -- the check of a body finds just the diagnostics of its formals, its locals and its return type,
 -- and those that the demands of its phrases give
 abbrev pub DemandLaw : Type 0
 DemandLaw =
-    (p : Project) (c m : Name) (faults : List Diagnostic)
-    → mean p (keys.CheckBody c m) ≡ values.CheckBody faults → (x : Mistake)
+    (profile : Profile) (p : Project) (c m : Name) (faults : List Diagnostic)
+    → mean profile p (keys.CheckBody c m) ≡ values.CheckBody faults → (x : Mistake)
     → Contains faults (fault_inside m x) ↔ IsFaultIn p c m x
 
 -- the key stands at this place, and at none before it
@@ -86,8 +88,8 @@ pub data RunAsks (m : Key → Value) : Prog → List Key → Type 0 where
 
 pub record ReadLaws : Type 0 where
   -- a query reads just these of the keys in its list
-  pub query : (p : Project) (q : Key) (read : List Key)
-      → (read ≡ reads p q) ↔ AreFirsts (asked_keys p q) read
+  pub query : (profile : Profile) (p : Project) (q : Key) (read : List Key)
+      → (read ≡ reads profile p q) ↔ AreFirsts (asked_keys profile p q) read
   -- each run asks some keys, and reads just these of them
   pub every : (m : Key → Value) (prog : Prog) → (asked : List Key) × RunAsks m prog asked
   pub run : (m : Key → Value) (prog : Prog) (asked : List Key) → RunAsks m prog asked

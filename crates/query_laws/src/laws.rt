@@ -1,4 +1,5 @@
 //! Laws of meanings and of reads.
+ghost use Rattle.profiles.specs.declared.profile.Profile.{Profile};
 ghost use Rattle.recorder.specs.Projects.{Project};
 ghost use Rattle.query_laws.specs.Laws.{DeclarationLaw, DemandLaw, MeanLaws, ReadLaws};
 
@@ -7,10 +8,10 @@ pub fn declaration_laws()
     ensures { DeclarationLaw }
 {}
 
-/// Each query above the inputs means what the rules give, and nothing else: a tree, the classes with their files, a
+/// In each profile each query above the inputs means what the rules give, and nothing else: a tree, the classes with their files, a
 /// declaration, a method and its types, a chain, members, the diagnostics in and outside of methods, the answer.
 pub fn mean_laws()
-    ensures { (p : Project) → MeanLaws p }
+    ensures { (profile : Profile) (p : Project) → MeanLaws profile p }
 {}
 
 /// The check of a body finds just the diagnostics of its formals, its locals and its return type, and those that the

@@ -30,7 +30,7 @@ module _ (P : Key → Type 0) (header : (c : Name) → P (keys.Header c)) (chain
   field_all None None = tt
   field_all None (Some c) = (table c, tt)
 
-  accept_all : (t u : Ty) → All (accept_reads t u)
+  pub accept_all : (t u : Ty) → All (accept_reads t u)
   accept_all types.Int u = tt
   accept_all types.Boolean u = tt
   accept_all types.IntArray u = tt
@@ -48,7 +48,7 @@ module _ (P : Key → Type 0) (header : (c : Name) → P (keys.Header c)) (chain
   value_all (Some t) None = tt
   value_all (Some t) (Some u) = accept_all t u
 
-  when_all : (b : Bool) (ks : List Key) → All ks → All (if b then ks else [])
+  pub when_all : (b : Bool) (ks : List Key) → All ks → All (if b then ks else [])
   when_all true ks h = h
   when_all false ks h = tt
 

@@ -1,4 +1,4 @@
--- Which keys each query reads in a project, in order.
+-- Which keys each query reads in a project, in order, in a profile.
 use Rattle.std.specs.Prelude.{List, [], ◌∷◌, ◌++◌, map, flat_map, Option, Some, None, if◌then◌else◌}
 use Rattle.item_ids.specs.declared.key.Key.{Key}
 use Rattle.item_ids.specs.declared.key.Key.TheVariants as keys
@@ -8,17 +8,21 @@ use Rattle.mj_tree.specs.declared.tree.Field.{Field}
 use Rattle.mj_answer.specs.AnswerValues.{MethodRowValue}
 use Rattle.mj_members.specs.Declarations.{ClassDecl}
 use Rattle.mj_classes.specs.Chains.{chain_of, chain_names}
+use Rattle.mj_classes.specs.Members.{own_method}
+use Rattle.mj_phrases.specs.Inquiries.{Sig}
 use Rattle.mj_project.specs.Projects.{names_of}
+use Rattle.profiles.specs.declared.profile.Profile.{Profile}
+use Rattle.profiles.specs.declared.profile.Profile.TheVariants.{One, Two}
 use Rattle.mj_rules.specs.Sentences.{classes_in}
 use Rattle.mj_rules.specs.Worlds.{world_of}
 use Rattle.mj_rules.specs.ClassFaults.{main_word}
-use Rattle.mj_rules.specs.FaultLists.{method_names}
+use Rattle.mj_rules.specs.FaultLists.{same_types, rest_of, nearest_sig, method_names}
 use Rattle.mj_rules.specs.Answering.{first_classes}
 use Rattle.mj_rules.specs.Tables.{table_of}
 use Rattle.recorder.specs.Projects.{Project}
 use Rattle.recorder.specs.Backed.{is_seen}
 use Rattle.query_rules.specs.Items.{class_at, file_of_class, body_at}
-use Rattle.query_rules.specs.BodyReads.{type_reads, body_reads}
+use Rattle.query_rules.specs.BodyReads.{type_reads, accept_reads, body_reads}
 
 -- ---- lists of keys
 
@@ -47,12 +51,27 @@ signatures p c = map row_signature (table_of (classes_in p) c).methods
 abbrev pub field_headers : List Field → List Key
 field_headers fields = flat_map (λ f. type_reads f.ty) fields
 
--- where a class has methods and its chain a second class, the members of both
-abbrev pub overriding : List Method → List Name → List Key
-overriding [] chain = []
-overriding (m ∷ ms) [] = []
-overriding (m ∷ ms) (c ∷ []) = []
-overriding (m ∷ ms) (c ∷ s ∷ farther) = keys.Members c ∷ keys.Members s ∷ []
+-- the chain of a method's return type, where the method has the parameter types of the one that it
+-- overrides, and their return types are classes and differ
+abbrev pub return_chain : Option Method → Option Sig → List Key
+return_chain (Some m) (Some sig) =
+    if same_types m.formals sig.formals then accept_reads m.returns sig.returns else []
+return_chain m sig = []
+
+-- in profile 2 that of the first method of each name
+abbrev pub return_chains : Profile → List ClassDecl → ClassDecl → List Key
+return_chains One cs k = []
+return_chains Two cs k =
+    flat_map (λ m. return_chain (own_method m k) (nearest_sig (rest_of cs k.name) m))
+    (method_names k)
+
+-- where a class has methods and its chain a second class, the members of both, then the chains of
+-- return types
+abbrev pub overriding : List Method → List Name → List Key → List Key
+overriding [] chain returned = []
+overriding (m ∷ ms) [] returned = []
+overriding (m ∷ ms) (c ∷ []) returned = []
+overriding (m ∷ ms) (c ∷ s ∷ farther) returned = keys.Members c ∷ keys.Members s ∷ returned
 
 abbrev pub bodies_by : Option trees.Statement → ClassDecl → List Name
 bodies_by (Some statement) k = main_word ∷ []
@@ -68,11 +87,12 @@ answer_parts k = keys.Members k.name ∷ keys.Diags k.name ∷ []
 
 -- ---- what is read of a class that is declared
 
-abbrev pub class_check_reads : Project → Name → Option ClassDecl → List Key
-class_check_reads p c None = []
-class_check_reads p c (Some k) =
+abbrev pub class_check_reads : Profile → Project → Name → Option ClassDecl → List Key
+class_check_reads profile p c None = []
+class_check_reads profile p c (Some k) =
     keys.Supers c ∷ (field_headers k.fields
-    ++ overriding k.methods (chain_names (chain_of (classes_in p) c)))
+    ++ overriding k.methods (chain_names (chain_of (classes_in p) c))
+    (return_chains profile (classes_in p) k))
 
 abbrev pub diagnosis_reads : Name → Option ClassDecl → List Key
 diagnosis_reads c None = []
@@ -81,21 +101,22 @@ diagnosis_reads c (Some k) = keys.CheckClass c ∷ map (keys.CheckBody c) (bodie
 -- ---- the kinds
 
 -- all reads of a key in order, repeated ones too
-unfoldable pub asked_keys : Project → Key → List Key
-asked_keys p keys.Files = []
-asked_keys p (keys.Source f) = []
-asked_keys p (keys.Tree f) = keys.Source f ∷ []
-asked_keys p keys.Index = keys.Files ∷ all_trees p
-asked_keys p (keys.Header c) = keys.Index ∷ tree_of_class p (class_at p c)
-asked_keys p (keys.Method c m) = keys.Index ∷ tree_of_class p (class_at p c)
-asked_keys p (keys.Sig c m) = keys.Method c m ∷ []
-asked_keys p (keys.Supers c) = keys.Index ∷ chain_headers p c
-asked_keys p (keys.Members c) = keys.Supers c ∷ (chain_headers p c ++ signatures p c)
-asked_keys p (keys.CheckClass c) = keys.Header c ∷ class_check_reads p c (class_at p c)
-asked_keys p (keys.CheckBody c m) =
+unfoldable pub asked_keys : Profile → Project → Key → List Key
+asked_keys profile p keys.Files = []
+asked_keys profile p (keys.Source f) = []
+asked_keys profile p (keys.Tree f) = keys.Source f ∷ []
+asked_keys profile p keys.Index = keys.Files ∷ all_trees p
+asked_keys profile p (keys.Header c) = keys.Index ∷ tree_of_class p (class_at p c)
+asked_keys profile p (keys.Method c m) = keys.Index ∷ tree_of_class p (class_at p c)
+asked_keys profile p (keys.Sig c m) = keys.Method c m ∷ []
+asked_keys profile p (keys.Supers c) = keys.Index ∷ chain_headers p c
+asked_keys profile p (keys.Members c) = keys.Supers c ∷ (chain_headers p c ++ signatures p c)
+asked_keys profile p (keys.CheckClass c) =
+    keys.Header c ∷ class_check_reads profile p c (class_at p c)
+asked_keys profile p (keys.CheckBody c m) =
     keys.Method c m ∷ body_reads (world_of (classes_in p)) c (body_at p c m)
-asked_keys p (keys.Diags c) = keys.Header c ∷ diagnosis_reads c (class_at p c)
-asked_keys p keys.Answer =
+asked_keys profile p (keys.Diags c) = keys.Header c ∷ diagnosis_reads c (class_at p c)
+asked_keys profile p keys.Answer =
     keys.Files ∷ (all_trees p ++ (keys.Index
     ∷ flat_map answer_parts (first_classes (classes_in p))))
 
@@ -105,5 +126,5 @@ first_keys seen [] = []
 first_keys seen (k ∷ ks) = if is_seen seen k then first_keys seen ks else k ∷ first_keys (seen ++ k ∷ []) ks
 
 -- the reads of a key: each where it stands first
-unfoldable pub reads : Project → Key → List Key
-reads p q = first_keys [] (asked_keys p q)
+unfoldable pub reads : Profile → Project → Key → List Key
+reads profile p q = first_keys [] (asked_keys profile p q)

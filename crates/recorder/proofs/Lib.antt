@@ -6,4 +6,5 @@ pub mod ProgramLaws
 pub mod Whole
 pub mod StepRules
 pub mod LoopRules
+pub mod Across
 pub mod Rules

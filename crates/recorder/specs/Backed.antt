@@ -2,6 +2,8 @@
 use Rattle.std.specs.Prelude.{◌≡◌, ◌≢◌, ℕ, suc, ◌<◌, List, [], ◌∷◌, ◌++◌, length, take, map, Bool, true, false, if◌then◌else◌}
 use Rattle.std.specs.List.{AllByRecursion}
 use Rattle.std.specs.Ordering.{is_eq}
+use Rattle.profiles.specs.declared.profile.Profile.{Profile}
+use Rattle.item_ids.specs.declared.kind.Kind.{Kind}
 use Rattle.item_ids.specs.declared.key.Key.{Key}
 use Rattle.item_ids.specs.declared.key.Key.TheVariants.{Files, Source}
 use Rattle.item_ids.specs.Kinds.{rank_of}
@@ -85,6 +87,20 @@ pub record RunnerLaws (mean : Meaning) (reads : ReadLists) : Type 0 where
   -- of it, they have one value
   pub next : (p r : Project) (q : Key) (i : ℕ) → NextAlike mean reads mean reads p r q i
   pub same : (p r : Project) (q : Key) → ValueAlike mean reads mean reads p r q
+
+-- What a runner's queries are: the kinds that go by the profile, and what keys mean and read in each
+-- profile.
+pub record Queries : Type 0 where
+  pub by_profile : Kind → Bool
+  pub mean : Profile → Meaning
+  pub reads : Profile → ReadLists
+
+-- In each profile the laws of runners hold. A key whose kind doesn't go by the profile keeps to the laws
+-- of reads from one profile to another, too.
+pub record AreLawful (queries : Queries) : Type 0 where
+  pub each : (a : Profile) → RunnerLaws (queries.mean a) (queries.reads a)
+  pub across : (a b : Profile) (q : Key) → queries.by_profile (kind_of q) ≡ false
+      → ReadLaws (queries.mean a) (queries.reads a) (queries.mean b) (queries.reads b) q
 
 -- ---- what the reads of a run say
 

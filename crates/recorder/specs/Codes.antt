@@ -1,6 +1,8 @@
 -- The codes of what contracts see of reads, recorders and outcomes.
 use Rattle.std.specs.Prelude.{List, Option, refl}
 use Rattle.std.specs.Coded.{Coded, code_by, coded×, coded_list, coded_option}
+use Rattle.profiles.specs.declared.profile.Profile.{Profile}
+use Rattle.profiles.specs.contracts.profile.Profile as profile_contracts
 use Rattle.item_ids.specs.declared.key.Key.{Key}
 use Rattle.item_ids.specs.contracts.key.Key as key_contracts
 use Rattle.result_bytes.specs.declared.value.Value.{Value}
@@ -10,6 +12,9 @@ use Rattle.recorder.specs.Recording.{Recording}
 use Rattle.recorder.specs.Runs.{OutcomeValue}
 use Rattle.recorder.specs.declared.refused.Refused.{Refused}
 use Rattle.recorder.specs.contracts.refused.Refused as refused_contracts
+
+abbrev coded_profile : Coded Profile
+coded_profile = profile_contracts.the_row.coded
 
 abbrev coded_key : Coded Key
 coded_key = key_contracts.the_row.coded
@@ -39,7 +44,8 @@ coded_recording {D} inner =
 
 abbrev pub coded_outcome : Coded OutcomeValue
 coded_outcome =
-    code_by (Key × (List ReadValue × Value)) (coded× coded_key (coded× coded_reads coded_value))
-    (λ r. (r.key, (r.told, r.value)))
-    (λ p. record { key = p.0; told = p.1.0; value = p.1.1 })
+    code_by (Profile × (Key × (List ReadValue × Value)))
+    (coded× coded_profile (coded× coded_key (coded× coded_reads coded_value)))
+    (λ r. (r.profile, (r.key, (r.told, r.value))))
+    (λ p. record { profile = p.0; key = p.1.0; told = p.1.1.0; value = p.1.1.1 })
     (λ _. refl)

@@ -1,6 +1,7 @@
 -- What a run of a query keeps to.
 use Rattle.std.specs.Prelude.{◌≡◌, ◌<◌, List, [], ◌∷◌, ◌++◌, Option, None, Some, IfSome, Result, IfOk, IfErr}
 use Rattle.std.specs.List.{AllByRecursion}
+use Rattle.profiles.specs.declared.profile.Profile.{Profile}
 use Rattle.item_ids.specs.declared.key.Key.{Key}
 use Rattle.item_ids.specs.Keys.{IsKey}
 use Rattle.result_bytes.specs.declared.value.Value.{Value}
@@ -52,8 +53,9 @@ Logs q old new = new ≡ old ++ q ∷ []
 
 -- ---- the outcome of a run
 
--- a key, what was read for it, and its value
+-- the profile of the run, a key, what was read for it, and its value
 pub record OutcomeValue : Type 0 where
+  pub profile : Profile
   pub key : Key
   pub told : List ReadValue
   pub value : Value

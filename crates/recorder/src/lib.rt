@@ -16,7 +16,7 @@ pub use answers::AnswerList;
 pub use laws::{
     programs_are_runs, programs_keep_the_laws, programs_read_alike, tied_programs_are_runs,
 };
-pub use outcome::{Outcome, record};
+pub use outcome::{Outcome, record, record_sharing};
 pub use reader::{ReadFault, Reader};
 pub use recorder::Recorder;
 pub use refused::Refused;

@@ -1,12 +1,15 @@
 //! What computes the results of queries.
-ghost use Rattle.std.specs.Prelude.{◌≡◌, ◌⊎◌, ◌<◌, List, [], None, Err};
+ghost use Rattle.std.specs.Prelude.{◌≡◌, ◌⊎◌, ◌<◌, List, [], None, Err, false};
+ghost use Rattle.profiles.specs.declared.profile.Profile.{Profile};
 ghost use Rattle.item_ids.specs.declared.key.Key.{Key};
-ghost use Rattle.recorder.specs.Backed.{Meaning, ReadLists, rank, RunnerLaws};
+ghost use Rattle.item_ids.specs.Keys.{kind_of};
+ghost use Rattle.recorder.specs.Backed.{Queries, rank, AreLawful};
 ghost use Rattle.recorder.specs.Runs.{IsRun, Logs};
 
 use crate::reader::{ReadFault, Reader};
 use crate::recorder::Recorder;
-use item_ids::Key;
+use item_ids::{Key, Kind};
+use profiles::Profile;
 use result_bytes::Value;
 use std::alloc::{AllocError, AllocFailed, Global};
 use thiserror::Error;
@@ -33,33 +36,40 @@ impl From<AllocError> for RunFault {
     }
 }
 
-/// What computes the results of queries. Values and reads in a project belong to the type, the log to the value.
+/// What computes the results of queries. What keys mean and read belongs to the type, the log to the value.
 pub trait Runner {
-    /// The value of a key in a project.
-    ghost mean: { Meaning };
-
-    /// What a key reads in a project, in order.
-    ghost reads: { ReadLists };
+    /// Which kinds go by the profile, and in each profile the value of a key in a project, and what it reads there, in
+    /// order.
+    ghost queries: { Queries };
 
     /// The keys that it was asked to run, in order.
     ghost log: { Self → List Key };
 
-    /// Runs a key that is no input, with a recorder that hasn't read. Only if memory runs out for the log, nothing is
-    /// read and the call isn't logged.
+    /// Whether keys of this kind go by the profile.
+    fn by_profile(kind: Kind) -> bool
+        ensures { result ≡ queries.by_profile kind };
+
+    /// Runs a key that is no input in a profile, with a recorder that hasn't read. Where the key's kind doesn't go by
+    /// the profile, it is a run in every profile. Only if memory runs out for the log, nothing is read and the call
+    /// isn't logged.
     fn run<D: Reader>(
         &mut self,
         alloc: Global,
+        profile: Profile,
         key: &Key,
         recorder: &mut Recorder<D>,
     ) -> Result<Value, RunFault>
         requires no_input { 0 < rank key.now }
         requires unread { recorder.old.told ≡ [] }
         requires unrefused { recorder.old.refused ≡ None }
-        ensures run { IsRun mean reads key.now recorder.new result }
+        ensures run { IsRun (queries.mean profile) (queries.reads profile) key.now recorder.new
+            result }
+        ensures across { queries.by_profile (kind_of key.now) ≡ false → (other : Profile)
+            → IsRun (queries.mean other) (queries.reads other) key.now recorder.new result }
         ensures log { Logs key.now (log self.old) (log self.new)
             ⊎ ((result ≡ Err RunFault.OutOfMemory) × (log self.new ≡ log self.old)
             × (recorder.new ≡ recorder.old)) }
         ensures follows { D.follows recorder.old.inner recorder.new.inner };
 
-    ghost laws: { RunnerLaws mean reads };
+    ghost laws: { AreLawful queries };
 }

@@ -7,6 +7,7 @@ use Rattle.mj_tree.specs.Trees.{Name, File}
 use Rattle.mj_members.specs.Declarations.{ClassDecl}
 use Rattle.mj_project.specs.Projects.{IsProject}
 use Rattle.result_bytes.specs.declared.value.Value.{Value}
+use Rattle.profiles.specs.declared.profile.Profile.{Profile}
 use Rattle.recorder.specs.Projects.{Project}
 use Rattle.recorder.specs.Backed.{rank}
 use Rattle.recorder.specs.Programs.{Prog, Ret, runs, asks, Fits}
@@ -23,26 +24,26 @@ tree_for p o = option_and_then (λ k. tree_at p (file_of_class p k)) o
 
 -- ---- what the step gives and asks
 
-module _ (p : Project) where
-  file_runs : (o : Option ClassDecl) (k : Option File → Prog) → runs (file_step (option_map (file_of_class p) o) k) (mean p) ≡ runs (k (tree_for p o)) (mean p)
+module _ (profile : Profile) (p : Project) where
+  file_runs : (o : Option ClassDecl) (k : Option File → Prog) → runs (file_step (option_map (file_of_class p) o) k) (mean profile p) ≡ runs (k (tree_for p o)) (mean profile p)
   unfolding mean runs
   file_runs None k = refl
   file_runs (Some x) k = refl
 
-  pub tree_runs : (c : Name) (k : Option File → Prog) → runs (class_tree_step c k) (mean p) ≡ runs (k (tree_for p (class_at p c))) (mean p)
+  pub tree_runs : (c : Name) (k : Option File → Prog) → runs (class_tree_step c k) (mean profile p) ≡ runs (k (tree_for p (class_at p c))) (mean profile p)
   unfolding runs
-  tree_runs c k = ap (λ o. runs (file_step o k) (mean p)) (index_tells p c) ∙ file_runs (class_at p c) k
+  tree_runs c k = ap (λ o. runs (file_step o k) (mean profile p)) (index_tells profile p c) ∙ file_runs (class_at p c) k
 
-  file_asks : (o : Option ClassDecl) (value : Option File → Value) → asks (file_step (option_map (file_of_class p) o) (λ tree. Ret (value tree))) (mean p) (keys.Index ∷ []) ≡ first_keys (keys.Index ∷ []) (tree_of_class p o)
+  file_asks : (o : Option ClassDecl) (value : Option File → Value) → asks (file_step (option_map (file_of_class p) o) (λ tree. Ret (value tree))) (mean profile p) (keys.Index ∷ []) ≡ first_keys (keys.Index ∷ []) (tree_of_class p o)
   unfolding asks
   file_asks None value = refl
   file_asks (Some x) value = refl
 
-  pub tree_asks : (c : Name) (value : Option File → Value) → asks (class_tree_step c (λ tree. Ret (value tree))) (mean p) [] ≡ first_keys [] (keys.Index ∷ tree_of_class p (class_at p c))
+  pub tree_asks : (c : Name) (value : Option File → Value) → asks (class_tree_step c (λ tree. Ret (value tree))) (mean profile p) [] ≡ first_keys [] (keys.Index ∷ tree_of_class p (class_at p c))
   unfolding asks
   tree_asks c value =
       ap (λ ks. keys.Index ∷ ks)
-      (ap (λ o. asks (file_step o (λ tree. Ret (value tree))) (mean p) (keys.Index ∷ [])) (index_tells p c) ∙ file_asks (class_at p c) value)
+      (ap (λ o. asks (file_step o (λ tree. Ret (value tree))) (mean profile p) (keys.Index ∷ [])) (index_tells profile p c) ∙ file_asks (class_at p c) value)
 
 module _ (q : Key) (high : 2 < rank q) (k : Option File → Prog) (fits : (tree : Option File) → Fits q (k tree)) where
   file_fits : (o : Option Name) → Fits q (file_step o k)

@@ -7,6 +7,7 @@ use Rattle.mj_members.specs.Declarations.{ClassDecl}
 use Rattle.mj_project.specs.Projects.{IsProject}
 use Rattle.result_bytes.specs.declared.value.Value.{Value}
 use Rattle.result_bytes.specs.declared.value.Value.TheVariants as values
+use Rattle.profiles.specs.declared.profile.Profile.{Profile}
 use Rattle.recorder.specs.Projects.{Project}
 use Rattle.recorder.specs.Programs.{Ret, runs, asks, Fits}
 use Rattle.query_rules.specs.Items.{class_at, header_of}
@@ -24,21 +25,21 @@ as_and_then : (o : Option ClassDecl) → option_map header_of o ≡ option_and_t
 as_and_then None = refl
 as_and_then (Some k) = refl
 
-module _ (c : Name) (p : Project) (is : IsProject p) where
-  means : mean p (keys.Header c) ≡ runs (header_steps c Ret) (mean p)
+module _ (c : Name) (profile : Profile) (p : Project) (is : IsProject p) where
+  means : mean profile p (keys.Header c) ≡ runs (header_steps c Ret) (mean profile p)
   unfolding mean runs
   means = sym
-      (tree_runs p c (λ tree. Ret (value_of c tree))
+      (tree_runs profile p c (λ tree. Ret (value_of c tree))
       ∙ ap values.Header (as_and_then _ ∙ (class_told (λ k. Some (header_of k)) (λ i k. refl) p is c ∙ sym (as_and_then (class_at p c)))))
 
-  asked : reads p (keys.Header c) ≡ asks (header_steps c Ret) (mean p) []
+  asked : reads profile p (keys.Header c) ≡ asks (header_steps c Ret) (mean profile p) []
   unfolding reads asked_keys
-  asked = sym (tree_asks p c (value_of c))
+  asked = sym (tree_asks profile p c (value_of c))
 
 pub header_ties : HeaderTies
 unfolding Fits
-header_ties c = record {
-  means = λ p is. means c p is;
-  asked = λ p is. asked c p is;
+header_ties c profile = record {
+  means = λ p is. means c profile p is;
+  asked = λ p is. asked c profile p is;
   fits = tree_fits (keys.Header c) (omega arith) (λ tree. Ret (value_of c tree)) (λ tree. refl) c;
 }

@@ -16,6 +16,7 @@ use Rattle.mj_rules.specs.Answering.{set_of, name_order, first_classes}
 use Rattle.result_bytes.specs.declared.files.IndexRow.{IndexRow}
 use Rattle.result_bytes.specs.declared.value.Value.{Value}
 use Rattle.result_bytes.specs.declared.value.Value.TheVariants as values
+use Rattle.profiles.specs.declared.profile.Profile.{Profile}
 use Rattle.recorder.specs.Projects.{Project}
 use Rattle.recorder.specs.Programs.{Ret, runs, asks, Fits, each}
 use Rattle.recorder.proofs.Rules.{fold_of, each_runs, each_fits}
@@ -90,33 +91,33 @@ module _ (p : Project) where
 
 -- ---- the tie
 
-means : (p : Project) → IsProject p → mean p keys.Index ≡ runs (index_steps Ret) (mean p)
+means : (profile : Profile) (p : Project) → IsProject p → mean profile p keys.Index ≡ runs (index_steps Ret) (mean profile p)
 unfolding mean runs
-means p is = sym
-    (each_runs rows_step (mean p) (step p is) (λ n rows k. refl) (names_of p) [] (λ rows. Ret (values.Index (first_rows rows)))
+means profile p is = sym
+    (each_runs rows_step (mean profile p) (step p is) (λ n rows k. refl) (names_of p) [] (λ rows. Ret (values.Index (first_rows rows)))
     ∙ ap (λ rows. values.Index (first_rows rows)) (all_rows p is)
     ∙ ap values.Index (first_of_all p (classes_in p)))
 
-each_asked : (p : Project) (names : List Name) (rows : List IndexRow) (value : List IndexRow → Value) (seen : List Key)
-    → asks (each rows_step names rows (λ rs. Ret (value rs))) (mean p) seen ≡ first_keys seen (map keys.Tree names)
+each_asked : (profile : Profile) (p : Project) (names : List Name) (rows : List IndexRow) (value : List IndexRow → Value) (seen : List Key)
+    → asks (each rows_step names rows (λ rs. Ret (value rs))) (mean profile p) seen ≡ first_keys seen (map keys.Tree names)
 unfolding asks each
-each_asked p [] rows value seen = refl
-each_asked p (n ∷ names) rows value seen =
+each_asked profile p [] rows value seen = refl
+each_asked profile p (n ∷ names) rows value seen =
     ap₂ (λ x y. if is_seen seen (keys.Tree n) then x else keys.Tree n ∷ y)
-    (each_asked p names (rows ++ file_rows n (tree_in (mean p (keys.Tree n)))) value seen)
-    (each_asked p names (rows ++ file_rows n (tree_in (mean p (keys.Tree n)))) value (seen ++ keys.Tree n ∷ []))
+    (each_asked profile p names (rows ++ file_rows n (tree_in (mean profile p (keys.Tree n)))) value seen)
+    (each_asked profile p names (rows ++ file_rows n (tree_in (mean profile p (keys.Tree n)))) value (seen ++ keys.Tree n ∷ []))
 
-asked : (p : Project) → reads p keys.Index ≡ asks (index_steps Ret) (mean p) []
+asked : (profile : Profile) (p : Project) → reads profile p keys.Index ≡ asks (index_steps Ret) (mean profile p) []
 unfolding mean asks reads asked_keys
-asked p = sym (ap (λ ks. keys.Files ∷ ks) (each_asked p (names_of p) [] (λ rows. values.Index (first_rows rows)) (keys.Files ∷ [])))
+asked profile p = sym (ap (λ ks. keys.Files ∷ ks) (each_asked profile p (names_of p) [] (λ rows. values.Index (first_rows rows)) (keys.Files ∷ [])))
 
 fits : Fits keys.Index (index_steps Ret)
 unfolding Fits
 fits = (omega arith, λ v. each_fits keys.Index rows_step (λ n rows k h. (omega arith, λ w. h _)) _ [] (λ rows. Ret (values.Index (first_rows rows))) (λ rows. refl))
 
 pub index_ties : IndexTies
-index_ties = record {
-  means = means;
-  asked = λ p is. asked p;
+index_ties profile = record {
+  means = means profile;
+  asked = λ p is. asked profile p;
   fits = fits;
 }

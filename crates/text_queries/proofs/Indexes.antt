@@ -8,6 +8,7 @@ use Rattle.mj_classes.specs.Declarations.{decl}
 use Rattle.mj_rules.specs.Sentences.{classes_in}
 use Rattle.mj_rules.specs.Answering.{first_classes}
 use Rattle.result_bytes.specs.declared.files.IndexRow.{IndexRow}
+use Rattle.profiles.specs.declared.profile.Profile.{Profile}
 use Rattle.recorder.specs.Projects.{Project}
 use Rattle.query_rules.specs.Items.{class_at, file_of_class, index_row}
 use Rattle.query_rules.specs.Meaning.{mean}
@@ -24,8 +25,8 @@ unfolding decl
 class_found p c = found_first (λ (k : ClassDecl). k.name) (classes_in p) c
 
 -- the file that the index has for a class is the one that declares it
-pub index_tells : (p : Project) (c : Name) → file_in (mean p keys.Index) c ≡ option_map (file_of_class p) (class_at p c)
+pub index_tells : (profile : Profile) (p : Project) (c : Name) → file_in (mean profile p keys.Index) c ≡ option_map (file_of_class p) (class_at p c)
 unfolding mean
-index_tells p c =
+index_tells profile p c =
     ap (option_map (λ (row : IndexRow). row.file)) (find_seen (index_row p) (λ (row : IndexRow). bytes_eq row.class c) (first_classes (classes_in p)) ∙ ap (option_map (index_row p)) (class_found p c))
     ∙ file_told p (class_at p c)

@@ -10,6 +10,7 @@ use Rattle.mj_project.specs.Projects.{IsProject}
 use Rattle.tree_bytes.specs.NamedBodies.{class_body, main_body, method_in, body_behind, body_named}
 use Rattle.result_bytes.specs.declared.value.Value.{Value}
 use Rattle.result_bytes.specs.declared.value.Value.TheVariants as values
+use Rattle.profiles.specs.declared.profile.Profile.{Profile}
 use Rattle.recorder.specs.Projects.{Project}
 use Rattle.recorder.specs.Programs.{Ret, runs, asks, Fits}
 use Rattle.query_rules.specs.Items.{class_at, body_by, own_body}
@@ -67,21 +68,21 @@ by_class : (c m : Name) (o : Option File) → option_and_then (λ tree. body_nam
 by_class c m None = refl
 by_class c m (Some tree) = body_same 0 tree c m
 
-module _ (c m : Name) (p : Project) (is : IsProject p) where
-  means : mean p (keys.Method c m) ≡ runs (method_steps c m Ret) (mean p)
+module _ (c m : Name) (profile : Profile) (p : Project) (is : IsProject p) where
+  means : mean profile p (keys.Method c m) ≡ runs (method_steps c m Ret) (mean profile p)
   unfolding mean runs
   means = sym
-      (tree_runs p c (λ tree. Ret (value_of c m tree))
+      (tree_runs profile p c (λ tree. Ret (value_of c m tree))
       ∙ ap values.Method (by_class c m (tree_for p (class_at p c)) ∙ class_told (own_body m) (body_moved m) p is c))
 
-  asked : reads p (keys.Method c m) ≡ asks (method_steps c m Ret) (mean p) []
+  asked : reads profile p (keys.Method c m) ≡ asks (method_steps c m Ret) (mean profile p) []
   unfolding reads asked_keys
-  asked = sym (tree_asks p c (value_of c m))
+  asked = sym (tree_asks profile p c (value_of c m))
 
 pub method_ties : MethodTies
 unfolding Fits
-method_ties c m = record {
-  means = λ p is. means c m p is;
-  asked = λ p is. asked c m p is;
+method_ties c m profile = record {
+  means = λ p is. means c m profile p is;
+  asked = λ p is. asked c m profile p is;
   fits = tree_fits (keys.Method c m) (omega arith) (λ tree. Ret (value_of c m tree)) (λ tree. refl) c;
 }

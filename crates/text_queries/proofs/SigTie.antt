@@ -14,7 +14,7 @@ fits c m = (omega arith, λ v. refl)
 
 pub sig_ties : SigTies
 unfolding mean runs asks reads asked_keys
-sig_ties c m = record {
+sig_ties c m profile = record {
   means = λ p h. refl;
   asked = λ p h. refl;
   fits = fits c m;

@@ -14,7 +14,7 @@ fits f = (omega arith, λ v. refl)
 
 pub tree_ties : TreeTies
 unfolding mean runs asks reads asked_keys
-tree_ties f = record {
+tree_ties f profile = record {
   means = λ p h. refl;
   asked = λ p h. refl;
   fits = fits f;

@@ -1,5 +1,5 @@
--- What the queries' programs are tied to: in every project each gives the value of its query and
--- asks what it reads.
+-- What the queries' programs are tied to: in every profile and project each gives the value of its
+-- query and asks what it reads.
 use Rattle.item_ids.specs.declared.key.Key.TheVariants as keys
 use Rattle.mj_tree.specs.Trees.{Name}
 use Rattle.recorder.specs.Programs.{Ret}

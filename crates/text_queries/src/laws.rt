@@ -1,8 +1,8 @@
 //! Laws of the queries.
 ghost use Rattle.text_queries.specs.Laws.{TreeTies, IndexTies, SigTies, HeaderTies, MethodTies};
 
-/// In every project the program of a file's tree gives the value of the query and asks what it reads; whatever the
-/// answers, it asks keys of lower rank and gives a tree or none.
+/// In every profile and project the program of a file's tree gives the value of the query and asks what it reads;
+/// whatever the answers, it asks keys of lower rank and gives a tree or none.
 pub fn tree_ties()
     ensures { TreeTies }
 {}

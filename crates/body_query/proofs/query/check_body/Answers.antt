@@ -18,4 +18,4 @@ returns-clause-performs g c = subst (λ q. Performs (body_prog q) c.args.recorde
 })
 
 pub returns-clause-run : goal.returns-clause-run
-returns-clause-run g c = run_performed mean reads c.args.key.now (body_prog c.args.key.now) (body_tied c.args.key.now c.requires.kind) c.args.recorder.now c.check_body_steps.new.recorder c.check_body_steps.result (returns-clause-performs g c)
+returns-clause-run g c = λ profile. run_performed (mean profile) (reads profile) c.args.key.now (body_prog c.args.key.now) (body_tied c.args.key.now c.requires.kind profile) c.args.recorder.now c.check_body_steps.new.recorder c.check_body_steps.result (returns-clause-performs g c)
