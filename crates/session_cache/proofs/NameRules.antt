@@ -3,8 +3,10 @@ use Rattle.std.proofs.Common.{◌≡◌, ◌≢◌, ℕ, ◌+◌, ◌*◌, ◌/�
 use Rattle.std.specs.Prelude.{Contains, IfSome, codes}
 use Rattle.std.proofs.lemmas.Fmt.{decimal_digit}
 use Rattle.std.proofs.lemmas.List.{append_cancel_left, append_cancel_right, take-append-drop, take_more, map-append}
-use Rattle.std.proofs.lemmas.List.Elements.{Contains-append_left, Contains-push, Contains-push_cases}
-use Rattle.session_cache.specs.Names.{most, four_digits, name_of, AreFour, IsSpelled, IsHighest}
+use Rattle.std.proofs.lemmas.List.Elements.{All-contains, Contains-append_left, Contains-get_or, Contains-push, Contains-push_cases}
+use Rattle.std.specs.List.Sorted.{IsPermutation}
+use Rattle.std.proofs.lemmas.List.Sorted.{All-permutation, Contains-permutation}
+use Rattle.session_cache.specs.Names.{most, four_digits, name_of, AreFour, AreNumbers, IsSpelled, IsHighest}
 use Rattle.session_cache.specs.declared.names.Named.{Named}
 use Rattle.session_cache.specs.declared.names.Named.TheVariants.{Chain, Session}
 
@@ -126,4 +128,46 @@ pub more_names : (A : Type 0) (f : A → List ℕ) (what : Named) (highest : Opt
     → get_or xs i x ≡ x → IsHighest what (map f (take i xs) ++ f x ∷ []) highest → IsHighest what (map f (take (i + 1) xs)) highest
 more_names A f what highest xs i x lt is h =
     subst (λ (l : List (List ℕ)). IsHighest what l highest)
+    (sym (ap (map f) (take_more xs i x lt ∙ ap (λ (z : A). take i xs ++ z ∷ []) is) ∙ map-append f (take i xs) (x ∷ []))) h
+
+-- ---- all numbers
+
+pub no_numbers : (what : Named) → AreNumbers what [] []
+no_numbers what = record { named = λ k d lt. absurd (omega arith); all = λ n le c. absurd (omega (arith, c.1)) }
+
+pub number_added : (what : Named) (name : List ℕ) (n : ℕ) → IsSpelled (name_of what) name (Some n) → (front : List (List ℕ)) (numbers : List ℕ) → AreNumbers what front numbers
+    → AreNumbers what (front ++ name ∷ []) (numbers ++ n ∷ [])
+number_added what name n spelled front numbers h = record {
+  named = λ k d lt. is_named (get_or (numbers ++ n ∷ []) k d) (Contains-push_cases numbers n _ (Contains-get_or (numbers ++ n ∷ []) k d lt));
+  all = λ m le c. is_there m le (Contains-push_cases front name _ c);
+}
+  where
+    is_named : (m : ℕ) → Contains numbers m ⊎ (n ≡ m) → (m ≤ most) × Contains (front ++ name ∷ []) (name_of what m)
+    is_named m (inl c) = let x = All-contains (λ k. (k ≤ most) × Contains front (name_of what k)) numbers m h.named c in (x.0, Contains-append_left front (name ∷ []) _ x.1)
+    is_named m (inr e) = subst (λ (k : ℕ). (k ≤ most) × Contains (front ++ name ∷ []) (name_of what k)) e (spelled.0, subst (λ (x : List ℕ). Contains (front ++ name ∷ []) x) spelled.1 (Contains-push front name))
+
+    is_there : (m : ℕ) → m ≤ most → Contains front (name_of what m) ⊎ (name ≡ name_of what m) → Contains (numbers ++ n ∷ []) m
+    is_there m le (inl c) = Contains-append_left numbers (n ∷ []) m (h.all m le c)
+    is_there m le (inr e) = subst (λ (k : ℕ). Contains (numbers ++ n ∷ []) k) (sym (same_name what m n le spelled.0 (sym e ∙ spelled.1))) (Contains-push numbers n)
+
+pub number_passed : (what : Named) (name : List ℕ) → IsSpelled (name_of what) name None → (front : List (List ℕ)) (numbers : List ℕ) → AreNumbers what front numbers → AreNumbers what (front ++ name ∷ []) numbers
+number_passed what name other front numbers h = record {
+  named = λ k d lt. let x = h.named k d lt in (x.0, Contains-append_left front (name ∷ []) _ x.1);
+  all = λ m le c. is_there m le (Contains-push_cases front name _ c);
+}
+  where
+    is_there : (m : ℕ) → m ≤ most → Contains front (name_of what m) ⊎ (name ≡ name_of what m) → Contains numbers m
+    is_there m le (inl c) = h.all m le c
+    is_there m le (inr e) = absurd (other m le e)
+
+pub numbers_sorted : (what : Named) (names : List (List ℕ)) (xs ys : List ℕ) → AreNumbers what names xs → IsPermutation xs ys → AreNumbers what names ys
+numbers_sorted what names xs ys h p = record {
+  named = All-permutation (λ n. (n ≤ most) × Contains names (name_of what n)) xs ys p h.named;
+  all = λ n le c. Contains-permutation xs ys n p (h.all n le c);
+}
+
+pub more_numbers : (A : Type 0) (f : A → List ℕ) (what : Named) (numbers : List ℕ) (xs : List A) (i : ℕ) (x : A) → i < length xs
+    → get_or xs i x ≡ x → AreNumbers what (map f (take i xs) ++ f x ∷ []) numbers → AreNumbers what (map f (take (i + 1) xs)) numbers
+more_numbers A f what numbers xs i x lt is h =
+    subst (λ (l : List (List ℕ)). AreNumbers what l numbers)
     (sym (ap (map f) (take_more xs i x lt ∙ ap (λ (z : A). take i xs ++ z ∷ []) is) ∙ map-append f (take i xs) (x ∷ []))) h

@@ -1,5 +1,5 @@
 -- The names of chains, which are folders, and of the files of their sessions.
-use Rattle.std.specs.Prelude.{◌≡◌, ◌≢◌, ℕ, ◌/◌, ◌%◌, ◌≤◌, List, ◌++◌, Option, Some, None, Contains, codes, decimal}
+use Rattle.std.specs.Prelude.{◌≡◌, ◌≢◌, ℕ, ◌/◌, ◌%◌, ◌≤◌, List, ◌++◌, Option, Some, None, All, Contains, codes, decimal}
 use Rattle.sessions.specs.Sessions.{most_number}
 use Rattle.session_cache.specs.declared.names.Named.{Named}
 use Rattle.session_cache.specs.declared.names.Named.TheVariants.{Chain, Session}
@@ -36,3 +36,8 @@ IsHighest what names (Some n) =
     (n ≤ most) × Contains names (name_of what n)
     × ((m : ℕ) → m ≤ most → Contains names (name_of what m) → m ≤ n)
 IsHighest what names None = (m : ℕ) → m ≤ most → ¬ Contains names (name_of what m)
+
+-- these are the numbers that the names have
+pub record AreNumbers (what : Named) (names : List (List ℕ)) (numbers : List ℕ) : Type 0 where
+  pub named : All (λ n. (n ≤ most) × Contains names (name_of what n)) numbers
+  pub all : (n : ℕ) → n ≤ most → Contains names (name_of what n) → Contains numbers n

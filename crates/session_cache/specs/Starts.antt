@@ -7,6 +7,8 @@ use Rattle.session_cache.specs.Names.{most, name_of}
 use Rattle.session_cache.specs.declared.names.Named.TheVariants.{Chain, Session}
 use Rattle.session_cache.specs.declared.fault.CacheFault.{CacheFault}
 use Rattle.session_cache.specs.declared.fault.CacheFault.TheVariants.{CannotRead, CannotWrite, OutOfMemory}
+use Rattle.session_cache.specs.declared.folders.Front.{Front}
+use Rattle.session_cache.specs.declared.folders.Front.TheVariants.{Read, Ended}
 use Rattle.session_cache.specs.declared.place.Place.{Place}
 use Rattle.session_cache.specs.declared.start.Why.{Why}
 use Rattle.session_cache.specs.declared.start.Why.TheVariants.{Refused, Number, Full}
@@ -69,6 +71,11 @@ abbrev pub IsLast : Last → Type 0
 IsLast NoChain = Unit {0}
 IsLast (NoSession chain) = chain ≤ most
 IsLast (File last read) = IsPlace last
+
+-- where a file in front of the last one ends the chain, it stands at a place
+abbrev pub IsFront : Front → Type 0
+IsFront (Read past) = Unit {0}
+IsFront (Ended place read) = IsPlace place
 
 -- The place, where there is one, is that of the next session, for which the previous one leaves
 -- room. What is noted is noted of a place, and where there is none for the session, of one in the

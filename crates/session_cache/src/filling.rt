@@ -3,10 +3,11 @@ ghost use Rattle.std.specs.Prelude.{IfOk};
 ghost use Rattle.std.specs.Io.KnownBytes.{Appends, Keeps};
 ghost use Rattle.std.specs.Io.{WritesAtMost};
 ghost use Rattle.std.specs.Io.Buffered.{writer_contents};
-ghost use Rattle.session_file.specs.Devices.{Puts};
+ghost use Rattle.devices.specs.Devices.{Puts};
 ghost use Rattle.sessions.specs.Spelling.{file_of};
 
-use session_file::{FileFault, Sink, WriterSink, write, write_by_two};
+use devices::{Sink, WriterSink};
+use session_file::{FileFault, write, write_by_two};
 use sessions::Session;
 use std::io;
 use std::io::{BufWriter, ErrorKind, Write};

@@ -1,17 +1,17 @@
 //! Reading and writing the cache.
-ghost use Rattle.std.specs.Prelude.{◌≡◌, ◌≤◌, [], IfOk, IfErr, IsErrAnd};
+ghost use Rattle.std.specs.Prelude.{◌≡◌, ◌≤◌, [], length, All, IfOk, IfErr, IsErrAnd};
 ghost use Rattle.session_cache.specs.Names.{most};
-ghost use Rattle.session_cache.specs.Starts.{IsLast, IsPlace, IsStart, IsStartOf, IsStartless, IsUnread, IsUnwritten};
+ghost use Rattle.session_cache.specs.Starts.{IsFront, IsLast, IsPlace, IsStart, IsStartOf, IsStartless, IsUnread, IsUnwritten};
 
 use crate::fault::CacheFault;
 use crate::filling::{NewFile, write_to};
-use crate::names::{Named, highest};
+use crate::names::{Named, highest, numbers_in};
 use crate::place::{Place, chain_path};
 use crate::start::{Last, Start, start_behind};
-use session_file::read;
-use sessions::Session;
+use session_file::{FileFault, read, read_after, terms_of_start};
+use sessions::{Form, Session, Terms};
 use std::alloc::Global;
-use std::io::{BufWriter, ErrorKind, Write};
+use std::io::{BufWriter, ErrorKind, Read, Write};
 use std::rt::Files;
 use std::thread::Threads;
 use std::{fs, io};
@@ -32,8 +32,8 @@ pub fn find_start<R: Files + AllocGlobal>(rt: &R, dir: &str) -> Result<Start, Ca
     }
 }
 
-/// Reads the last file of the last chain in the cache of this folder. A folder that doesn't exist is an empty cache. An
-/// empty word names no folder, and can't be read.
+/// Reads the last file of the last chain in the cache of this folder, over those in front of it that it is taken from. A
+/// folder that doesn't exist is an empty cache. An empty word names no folder, and can't be read.
 pub fn find_last<R: Files + AllocGlobal>(rt: &R, dir: &str) -> Result<Last, CacheFault>
     ensures last { IfOk result IsLast }
     ensures startless { IfErr result (IsStartless dir.now) }
@@ -53,7 +53,7 @@ pub fn find_last<R: Files + AllocGlobal>(rt: &R, dir: &str) -> Result<Last, Cach
     }
 }
 
-/// Reads the last file of a chain.
+/// Reads the last file of a chain, over those in front of it that it is taken from.
 fn last_in<R: Files + AllocGlobal>(rt: &R, dir: &str, chain: u32) -> Result<Last, CacheFault>
     requires { chain ≤ most }
     ensures last { IfOk result IsLast }
@@ -64,22 +64,170 @@ fn last_in<R: Files + AllocGlobal>(rt: &R, dir: &str, chain: u32) -> Result<Last
         Ok(names) => names,
         Err(error) => return Err(unreadable(rt.alloc(), dir, &error)),
     };
-    match highest(Named::Session, &sessions) {
-        Some(number) => file_at(rt, dir, Place { chain, number }),
+    let numbers = numbers_in(rt.alloc(), Named::Session, &sessions)?;
+    match numbers.split_last() {
+        Some((last, front)) => read_last(rt, dir, chain, *last, front),
         None => Ok(Last::NoSession(chain)),
     }
 }
 
-/// Reads the file at this place.
-fn file_at<R: Files + AllocGlobal>(rt: &R, dir: &str, place: Place) -> Result<Last, CacheFault>
-    requires { IsPlace place }
+/// Reads the last file of a chain. Where it is of form 2, those in front of it are read first.
+fn read_last<R: Files + AllocGlobal>(
+    rt: &R,
+    dir: &str,
+    chain: u32,
+    number: u32,
+    front: &[u32],
+) -> Result<Last, CacheFault>
+    requires chain { chain ≤ most }
+    requires number { number ≤ most }
+    requires front { All (λ n. n ≤ most) front.now }
     ensures last { IfOk result IsLast }
     ensures startless { IfErr result (IsStartless dir.now) }
+{
+    let place = Place { chain, number };
+    let bytes = match bytes_at(rt, dir, place) {
+        Ok(bytes) => bytes,
+        Err(fault) => return Err(fault),
+    };
+    if !is_of_form_2(&bytes) {
+        return Ok(Last::File(place, read(rt.alloc(), &bytes)));
+    }
+    match read_front(rt, dir, chain, front) {
+        Ok(Front::Read(past)) => Ok(Last::File(
+            place,
+            read_after(rt.alloc(), past.as_ref(), &bytes),
+        )),
+        Ok(Front::Ended(place, read)) => Ok(Last::File(place, read)),
+        Err(fault) => Err(fault),
+    }
+}
+
+/// Whether the bytes begin as a file of form 2 does.
+fn is_of_form_2(bytes: &[u8]) -> bool {
+    match bytes.first_chunk::<6>() {
+        Some(start) => matches!(
+            terms_of_start(start),
+            Some(Terms {
+                form: Form::Two,
+                ..
+            })
+        ),
+        None => false,
+    }
+}
+
+/// What was read of the files in front of the last one.
+#[derive(Drop)]
+pub enum Front {
+    /// The session that the last one is read over, where there is one.
+    Read(Option<Session>),
+    /// The file at this place, which no session follows, with this result.
+    Ended(Place, Result<Session, FileFault>),
+}
+
+/// The index of the last of these sessions of a chain whose file isn't of form 2, and stands alone therefore; the first
+/// where there is none.
+fn first_to_read<R: Files + AllocGlobal>(
+    rt: &R,
+    dir: &str,
+    chain: u32,
+    numbers: &[u32],
+) -> Result<usize, CacheFault>
+    requires chain { chain ≤ most }
+    requires numbers { All (λ n. n ≤ most) numbers.now }
+    ensures within { IfOk result (λ first. first ≤ length numbers.now) }
+    ensures startless { IfErr result (IsStartless dir.now) }
+{
+    let mut first = numbers.len();
+    while first > 0 {
+        first -= 1;
+        let place = Place {
+            chain,
+            number: numbers[first],
+        };
+        match form_at(rt, dir, place) {
+            Ok(Some(Form::Two)) => {}
+            Ok(Some(Form::One) | None) => return Ok(first),
+            Err(fault) => return Err(fault),
+        }
+    }
+    Ok(first)
+}
+
+/// The form of the file at this place, by its first bytes; none where they are no start of a file.
+fn form_at<R: Files + AllocGlobal>(
+    rt: &R,
+    dir: &str,
+    place: Place,
+) -> Result<Option<Form>, CacheFault>
+    requires { IsPlace place }
+    ensures { IfErr result (IsStartless dir.now) }
+{
+    let alloc = rt.alloc();
+    let path = place.path(alloc, dir)?;
+    match start_in(rt, path.as_str()) {
+        Ok(Some(start)) => Ok(terms_of_start(&start).map(|terms| terms.form)),
+        Ok(None) => Ok(None),
+        Err(error) => Err(unreadable(alloc, path.as_str(), &error)),
+    }
+}
+
+/// The first bytes of a file, where there are so many.
+fn start_in<R: Files + AllocGlobal>(rt: &R, path: &str) -> io::Result<Option<[u8; 6]>> {
+    let mut file = fs::File::open(rt, path)?;
+    let mut start = [0; 6];
+    match file.read_exact(&mut start) {
+        Ok(()) => Ok(Some(start)),
+        Err(error) if error.kind() == ErrorKind::UnexpectedEof => Ok(None),
+        Err(error) => Err(error),
+    }
+}
+
+/// Reads the files of these sessions of a chain from the last one on that isn't of form 2, each over the one before, up to the
+/// first that no session follows.
+fn read_front<R: Files + AllocGlobal>(
+    rt: &R,
+    dir: &str,
+    chain: u32,
+    numbers: &[u32],
+) -> Result<Front, CacheFault>
+    requires chain { chain ≤ most }
+    requires numbers { All (λ n. n ≤ most) numbers.now }
+    ensures front { IfOk result IsFront }
+    ensures startless { IfErr result (IsStartless dir.now) }
+{
+    let first = match first_to_read(rt, dir, chain, numbers) {
+        Ok(first) => first,
+        Err(fault) => return Err(fault),
+    };
+    let mut past = None;
+    for number in &numbers[first..] {
+        let place = Place {
+            chain,
+            number: *number,
+        };
+        let bytes = match bytes_at(rt, dir, place) {
+            Ok(bytes) => bytes,
+            Err(fault) => return Err(fault),
+        };
+        match read_after(rt.alloc(), past.as_ref(), &bytes) {
+            Ok(session) if session.number() == place.number => past = Some(session),
+            read => return Ok(Front::Ended(place, read)),
+        }
+    }
+    Ok(Front::Read(past))
+}
+
+/// The bytes of the file at this place.
+fn bytes_at<R: Files + AllocGlobal>(rt: &R, dir: &str, place: Place) -> Result<Vec<u8>, CacheFault>
+    requires { IsPlace place }
+    ensures { IfErr result (IsStartless dir.now) }
 {
     let alloc = rt.alloc();
     let path = place.path(alloc, dir)?;
     match fs::read(rt, path.as_str()) {
-        Ok(bytes) => Ok(Last::File(place, read(alloc, &bytes))),
+        Ok(bytes) => Ok(bytes),
         Err(error) => Err(unreadable(alloc, path.as_str(), &error)),
     }
 }

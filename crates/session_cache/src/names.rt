@@ -1,9 +1,11 @@
 //! Names of chains and of session files.
-ghost use Rattle.std.specs.Prelude.{◌≡◌, ◌≤◌, ◌++◌, ◌∷◌, [], ℕ, map, string_bytes, IfSome, Some, OnOk, ◌⊎◌, ◌↔◌, ◌-◌, List, IsTrue, codes};
-ghost use Rattle.session_cache.specs.Names.{most, four_digits, name_of, IsDigit, AreFour, IsSpelled, IsHighest};
+ghost use Rattle.std.specs.Prelude.{◌≡◌, ◌≤◌, ◌++◌, ◌∷◌, [], ℕ, map, string_bytes, All, IfOk, IfSome, Some, OnOk, ◌⊎◌, ◌↔◌, ◌-◌, List, IsTrue, codes};
+ghost use Rattle.std.specs.List.Sorted.{IsSorted};
+ghost use Rattle.std.specs.Ordering.{nat_cmp};
+ghost use Rattle.session_cache.specs.Names.{most, four_digits, name_of, IsDigit, AreFour, AreNumbers, IsSpelled, IsHighest};
 
 use sessions::Session;
-use std::alloc::AllocError;
+use std::alloc::{AllocError, Global};
 
 /// The greatest number of a chain in its cache; it is the same for a session in its chain.
 pub(crate) const MOST: u32 = Session::MOST;
@@ -26,6 +28,36 @@ pub fn highest(what: Named, names: &[String]) -> Option<u32>
         highest = higher(what, highest, name.as_bytes());
     }
     highest
+}
+
+/// The numbers that these names have, in order. Other names are passed over.
+pub(crate) fn numbers_in(
+    alloc: Global,
+    what: Named,
+    names: &[String],
+) -> Result<Vec<u32>, AllocError>
+    ensures numbers { IfOk result
+        (λ numbers. AreNumbers what (map string_bytes names.now) numbers.items) }
+    ensures ordered { IfOk result (λ numbers. IsSorted nat_cmp numbers.items) }
+    ensures few { IfOk result (λ numbers. All (λ n. n ≤ most) numbers.items) }
+{
+    let mut numbers = Vec::new(alloc);
+    for name in names {
+        add_number(what, &mut numbers, name.as_bytes())?;
+    }
+    numbers.sort_unstable();
+    Ok(numbers)
+}
+
+/// Adds the number of a name, if it has one.
+fn add_number(what: Named, numbers: &mut Vec<u32>, name: &[u8]) -> Result<(), AllocError>
+    ensures { (front : List (List ℕ)) → AreNumbers what front numbers.old.items
+        → OnOk result (AreNumbers what (front ++ name.now ∷ []) numbers.new.items) }
+{
+    match number_in(what, name) {
+        Some(number) => Ok(numbers.push(number)?),
+        None => Ok(()),
+    }
 }
 
 /// The greater of a number and that of a name, if the name has one.

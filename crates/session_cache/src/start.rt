@@ -46,8 +46,8 @@ pub enum Last {
     NoChain,
     /// The chain of this number, the greatest one, has no session.
     NoSession(u32),
-    /// The file at this place was read, with this result. It has the greatest number in the chain of the greatest
-    /// number.
+    /// The file at this place was read, with this result. It is the one of the greatest number in the chain of the greatest
+    /// number, or one before it that no session follows.
     File(Place, Result<Session, FileFault>),
 }
 

@@ -1,5 +1,7 @@
 -- What is read from a feed, step by step.
 use Rattle.std.proofs.Common.{◌≡◌, ℕ, suc, ◌+◌, ◌-◌, ◌<◌, ◌≤◌, inl, inr, false, ltb, List, [], ◌∷◌, ◌++◌, length, take, drop, get_or, Result, Ok, Err, refl, sym, ap, subst, ◌∙◌, append_assoc, arith}
+use Rattle.std.specs.Result.{IsErrAnd}
+use Rattle.std.proofs.lemmas.Result.{err_from_is_err_and}
 use Rattle.std.specs.Int.{Width, w16, w32, w64, byte_len, from_be_bytes}
 use Rattle.byteorder.specs.Endian.{big_number}
 use Rattle.byte_readers.proofs.Numbers.{two_is, four_is, eight_is}
@@ -12,10 +14,10 @@ use Rattle.byte_readers.specs.Lawful.{IsBytes}
 use Rattle.byte_readers.specs.Reading.{byte_at, number_at, two_at, four_at, eight_at}
 use Rattle.session_file.specs.declared.fault.FileFault.{FileFault}
 use Rattle.session_file.specs.declared.fault.FileFault.TheVariants.{Truncated}
-use Rattle.session_file.specs.declared.hashing.HashingSink.{HashingSink}
+use Rattle.devices.specs.declared.hashing.HashingSink.{HashingSink}
 use Rattle.session_file.specs.declared.stop.Stop.{Stop}
 use Rattle.session_file.specs.declared.stop.Stop.TheVariants as stops
-use Rattle.session_file.specs.Devices.{MovesBytes}
+use Rattle.devices.specs.Devices.{MovesBytes}
 use Rattle.session_file.specs.Reading.{Parser, whole, bytes_at, text_at}
 use Rattle.session_file.specs.Feeding.{Given, IsShort, FillsNot, Moved, Took, Breaks, Halts, Leads}
 
@@ -72,6 +74,10 @@ pub stops_short : {B : Type 0} {old mid : List ℕ → Type 0} {count : ℕ} {q 
 stops_short stops.Memory h f = tt
 stops_short stops.Device h f = tt
 stops_short {B} {old} {mid} {count} {q} (stops.Breach fault) h f = subst (Breaks old q) (sym h.0) (f h.1)
+
+-- what stopped a step is handed on
+pub handed_on : {A : Type 0} (r : Result A Stop) (stop : Stop) → IsErrAnd r (λ e. e ≡ stop) → r ≡ Err stop
+handed_on r stop is = let e = err_from_is_err_and r is in e.1 ∙ ap Err e.2
 
 -- ---- numbers
 

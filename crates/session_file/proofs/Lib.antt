@@ -1,10 +1,10 @@
-pub mod PutLaws
 pub mod PartLaws
 pub mod KeyLaws
 pub mod NamedLaws
 pub mod ReadLaws
 pub mod EdgeReadLaws
 pub mod RecordReadLaws
+pub mod TakenLaws
 pub mod RecordsReadLaws
 pub mod FileLaws
 pub mod FeedLaws

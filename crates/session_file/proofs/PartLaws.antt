@@ -9,12 +9,13 @@ use Rattle.byte_readers.specs.Spelling.{four, eight}
 use Rattle.result_bytes.specs.declared.value.Value.{Value}
 use Rattle.result_bytes.specs.Values.{canon}
 use Rattle.fingerprint.specs.Prints.{print_of}
+use Rattle.sessions.specs.declared.terms.Form.{Form}
 use Rattle.sessions.specs.Marks.{mark_number}
 use Rattle.sessions.specs.Sessions.{RecordValue, SessionValue}
-use Rattle.sessions.specs.Spelling.{start, key_bytes, result_bytes, record_bytes, head_bytes, body_bytes, file_of, digest_of}
+use Rattle.sessions.specs.Spelling.{start, key_bytes, result_bytes, told_bytes, record_bytes, head_bytes, body_bytes, file_of, digest_of}
 use Rattle.session_file.specs.Parts.{front_bytes}
 
-pub head_is : (s : SessionValue) (a b c d : List ℕ) → a ≡ start → b ≡ four s.number → c ≡ s.link → d ≡ eight (length s.records) → a ++ (b ++ (c ++ (d ++ []))) ≡ head_bytes s
+pub head_is : (s : SessionValue) (a b c d : List ℕ) → a ≡ start s.terms → b ≡ four s.number → c ≡ s.link → d ≡ eight (length s.records) → a ++ (b ++ (c ++ (d ++ []))) ≡ head_bytes s
 unfolding head_bytes
 head_is s a b c d ea eb ec ed = rw (ea, eb, ec, ed, append-nil) refl
 
@@ -28,13 +29,14 @@ pub result_is : (v : Value) (p n b : List ℕ) → p ≡ print_of v → n ≡ ei
 unfolding result_bytes
 result_is v p n b ep en eb = rw (ep, en, eb, append-nil) refl
 
-pub record_is : (r : RecordValue) → front_bytes r ++ (flat_map eight r.edges ++ result_bytes r.value) ≡ record_bytes r
+pub record_is : (form : Form) (r : RecordValue) → front_bytes r ++ (flat_map eight r.edges ++ told_bytes form r.mark r.value) ≡ record_bytes form r
 unfolding record_bytes front_bytes
-record_is r =
-    append_assoc (key_bytes r.key) (mark_number r.mark ∷ eight (length r.edges)) (flat_map eight r.edges ++ result_bytes r.value)
-    ∙ ap (λ (xs : List ℕ). key_bytes r.key ++ (mark_number r.mark ∷ xs)) (sym (append_assoc (eight (length r.edges)) (flat_map eight r.edges) (result_bytes r.value)))
+record_is form r =
+    let told = told_bytes form r.mark r.value in
+    append_assoc (key_bytes r.key) (mark_number r.mark ∷ eight (length r.edges)) (flat_map eight r.edges ++ told)
+    ∙ ap (λ (xs : List ℕ). key_bytes r.key ++ (mark_number r.mark ∷ xs)) (sym (append_assoc (eight (length r.edges)) (flat_map eight r.edges) told))
 
-pub body_is : (s : SessionValue) → head_bytes s ++ flat_map record_bytes s.records ≡ body_bytes s
+pub body_is : (s : SessionValue) → head_bytes s ++ flat_map (record_bytes s.terms.form) s.records ≡ body_bytes s
 unfolding body_bytes
 body_is s = refl
 

@@ -1,6 +1,6 @@
 -- Records: what is read is spelled there, and each spelling is read back.
 use Rattle.std.proofs.Common.{◌≡◌, ◌≢◌, ℕ, ◌-◌, ◌<◌, ◌^◌, Bool, true, false, cond, List, [], ◌∷◌, ◌++◌, length, Option, Some, None, Result, Ok, Err, refl, sym, ap, subst, ◌∙◌, append_assoc, arith}
-use Rattle.std.specs.Prelude.{slice_get, bytes_eq}
+use Rattle.std.specs.Prelude.{slice_get, bytes_eq, IfSome}
 use Rattle.std.specs.List.{flat_map}
 use Rattle.std.proofs.lemmas.Slice.Eq.{bytes_eq-Decides}
 use Rattle.sha2.proofs.Facts256.{length-sha256}
@@ -19,13 +19,16 @@ use Rattle.result_bytes.proofs.ValueLaws.{decoded_takes, decoded_at}
 use Rattle.fingerprint.specs.Prints.{print_of}
 use Rattle.sessions.specs.declared.mark.Mark.{Mark}
 use Rattle.sessions.specs.Marks.{is_input, is_input_mark, mark_number}
-use Rattle.sessions.specs.Sessions.{RecordValue, IsAbove, FitsBehind, AreRecords}
+use Rattle.sessions.specs.declared.terms.Form.{Form}
+use Rattle.sessions.specs.Terms.{ends_with_print}
+use Rattle.sessions.specs.Sessions.{RecordValue, SessionValue, Entry, IsAbove, IsSession, FitsBehind, AreRecords, entry_at}
 use Rattle.sessions.specs.Edges.{AreEdges}
-use Rattle.sessions.specs.Spelling.{key_bytes, result_bytes, record_bytes}
+use Rattle.sessions.specs.Spelling.{key_bytes, result_bytes, told_bytes, record_bytes}
+use Rattle.sessions.proofs.EntryRules.{some_map, has_value, has_size, has_kind}
 use Rattle.sessions.proofs.RecordLaws.{above_last, last_below, less_of_test, test_of_less}
-use Rattle.session_file.specs.declared.fault.FileFault.TheVariants.{BadKey, KeyOrder, Result as BadResult}
+use Rattle.session_file.specs.declared.fault.FileFault.TheVariants.{BadKey, KeyOrder, Result as BadResult, NoPastResult}
 use Rattle.session_file.specs.Keys.{same, key_with, mark_with}
-use Rattle.session_file.specs.Reading.{whole, bytes_at, text_at, there, demand, ItemValue, item_with, item_at, is_behind, check_place, edges_from, edges_at, value_with_print, result_at, RestValue, rest_at, behind_item, record_at}
+use Rattle.session_file.specs.Reading.{whole, bytes_at, text_at, there, demand, ItemValue, item_with, item_at, is_behind, check_place, edges_from, edges_at, value_with_print, result_at, OriginValue, past_value, past_with_print, taken_at, told_at, RestValue, rest_at, behind_item, record_at}
 use Rattle.session_file.proofs.ReadLaws.{ok_is, bind_ok, bind_is, tested_ok, tested_is, there_ok, number_takes, number_again, byte_takes, bytes_takes, bytes_again, text_takes, text_again}
 use Rattle.session_file.proofs.KeyLaws.{mark_again}
 use Rattle.session_file.proofs.NamedLaws.{key_takes, mark_takes, key_again}
@@ -195,6 +198,11 @@ is_printed v r e =
     let same : bytes_eq (print_of v) (print_of v) ≡ true = (bytes_eq-Decides (print_of v) (print_of v)).1 refl in
     ap (value_with_print (print_of v)) e ∙ rw same refl
 
+-- a value whose bytes and fingerprint stand there
+pub spelled_is : (kind : Kind) (v : Value) (print text : List ℕ) → IsValue v → kind_of_value v ≡ kind → print ≡ print_of v → text ≡ canon v → value_with_print print (decoding kind text) ≡ Some v
+spelled_is kind v print text value of_kind printed spelled =
+    rw printed (is_printed v (decoding kind text) (decoded_at kind text v value of_kind spelled))
+
 pub result_again : (i : ℕ) (kind : Kind) (v : Value) (rest : List ℕ) → ResultFits kind v → result_at i kind (result_bytes v ++ rest) ≡ Ok (v, rest)
 unfolding result_at
 result_again i kind v rest h =
@@ -204,75 +212,160 @@ result_again i kind v rest h =
     ∙ bind_is (bytes_at (length (canon v)) (canon v ++ rest)) _ (canon v, rest) (bytes_again (length (canon v)) (canon v) rest refl)
     ∙ ap (λ (o : Option Value). there (BadResult i) o rest) (is_printed v (decoding kind (canon v)) (decoded_at kind (canon v) v h.value h.kind refl))
 
+-- ---- what a record ends with
+
+-- where a record ends with its fingerprint, this is the result that the previous session has of its key
+abbrev pub IsTold : OriginValue → Key → Mark → Value → Type 0
+IsTold origin key mark v =
+    ends_with_print origin.form mark ≡ true → past_value origin.past key ≡ Some v
+
+record PastPrinted (p : List ℕ) (had : Option Value) (v : Value) : Type 0 where
+  pub value : had ≡ Some v
+  pub print : p ≡ print_of v
+
+past_printed : (print : List ℕ) (had : Option Value) (v : Value) → past_with_print print had ≡ Some v → PastPrinted print had v
+past_printed print (Some w) v e =
+    let k = kept (bytes_eq print (print_of w)) (Some w) v e in
+    let is = some_is w v k.1 in
+    record { value = k.1; print = (bytes_eq-Decides print (print_of w)).0 k.0 ∙ ap print_of is }
+past_printed print None v e = absurd cc
+
+taken_takes : (i : ℕ) (had : Option Value) (bytes : List ℕ) (v : Value) (rest : List ℕ) → IsBytes bytes → taken_at i had bytes ≡ Ok (v, rest) → Takes bytes (print_of v) rest × (had ≡ Some v)
+unfolding taken_at
+taken_takes i had bytes v rest fits e =
+    let a = bind_ok (bytes_at 32 bytes) _ (v, rest) e in
+    let t = there_ok (NoPastResult i) (past_with_print a.0.0 had) a.0.1 v rest a.2 in
+    let p = past_printed a.0.0 had v t.0 in
+    let ta = bytes_takes 32 bytes a.0.0 a.0.1 fits a.1 in
+    (subst (λ (xs : List ℕ). Takes bytes xs rest) p.print (subst (λ (xs : List ℕ). Takes bytes a.0.0 xs) t.1 ta.0), p.value)
+
+taken_again : (i : ℕ) (v : Value) (rest : List ℕ) → taken_at i (Some v) (print_of v ++ rest) ≡ Ok (v, rest)
+unfolding taken_at
+taken_again i v rest =
+    let same : bytes_eq (print_of v) (print_of v) ≡ true = (bytes_eq-Decides (print_of v) (print_of v)).1 refl in
+    bind_is (bytes_at 32 (print_of v ++ rest)) _ (print_of v, rest) (bytes_again 32 (print_of v) rest (print_length v))
+    ∙ rw same refl
+
+-- a result that the previous session has is one
+past_fits : (past : Option SessionValue) (key : Key) (v : Value) → IfSome past IsSession → past_value past key ≡ Some v → ResultFits (kind_of key) v
+past_fits None key v before is = absurd cc
+past_fits (Some s) key v before is =
+    let x = some_map (λ (r : Entry). r.value) (entry_at s key) v is in
+    record {
+      value = subst IsValue x.2 (has_value s before key x.0 x.1);
+      kind = ap kind_of_value (sym x.2) ∙ has_kind s before key x.0 x.1;
+      size = subst (λ (w : Value). length (canon w) < 2 ^ 64) x.2 (has_size s before key x.0 x.1);
+    }
+
+pub record Told (origin : OriginValue) (item : ItemValue) (bytes : List ℕ) (v : Value) (rest : List ℕ) : Type 0 where
+  pub takes : Takes bytes (told_bytes origin.form item.mark v) rest
+  pub fits : ResultFits (kind_of item.key) v
+  pub told : IsTold origin item.key item.mark v
+
+told_takes : (origin : OriginValue) (i : ℕ) (item : ItemValue) (bytes : List ℕ) (v : Value) (rest : List ℕ) → IfSome origin.past IsSession → IsBytes bytes → told_at origin i item bytes ≡ Ok (v, rest) → Told origin item bytes v rest
+unfolding told_at told_bytes
+told_takes origin i item bytes v rest before fits e = by_form (ends_with_print origin.form item.mark) refl e
+  where
+    by_form : (b : Bool) → ends_with_print origin.form item.mark ≡ b → cond b (taken_at i (past_value origin.past item.key)) (result_at i (kind_of item.key)) bytes ≡ Ok (v, rest) → Told origin item bytes v rest
+    by_form true is e =
+        let t = taken_takes i (past_value origin.past item.key) bytes v rest fits e in
+        record { takes = rw is t.0; fits = past_fits origin.past item.key v before t.1; told = λ yes. t.1 }
+    by_form false is e =
+        let t = result_takes i (kind_of item.key) bytes v rest fits e in
+        record { takes = rw is t.0; fits = t.1; told = λ yes. absurd cc }
+
+told_again : (origin : OriginValue) (i : ℕ) (item : ItemValue) (v : Value) (rest : List ℕ) → ResultFits (kind_of item.key) v → IsTold origin item.key item.mark v → told_at origin i item (told_bytes origin.form item.mark v ++ rest) ≡ Ok (v, rest)
+unfolding told_at told_bytes
+told_again origin i item v rest fits told = by_form (ends_with_print origin.form item.mark) refl
+  where
+    by_form : (b : Bool) → ends_with_print origin.form item.mark ≡ b → cond b (taken_at i (past_value origin.past item.key)) (result_at i (kind_of item.key)) (cond b (print_of v) (result_bytes v) ++ rest) ≡ Ok (v, rest)
+    by_form true is = rw (told is) (taken_again i v rest)
+    by_form false is = result_again i (kind_of item.key) v rest fits
+
 -- ---- a record
 
-abbrev rest_bytes : List ℕ → Value → List ℕ
-rest_bytes edges v = list eight edges ++ result_bytes v
+abbrev rest_bytes : Form → Mark → List ℕ → Value → List ℕ
+rest_bytes form mark edges v = list eight edges ++ told_bytes form mark v
 
-pub record RestFits (front : List RecordValue) (key : Key) (r : RestValue) : Type 0 where
-  pub edges : AreEdges front key r.edges
+pub record RestFits (origin : OriginValue) (front : List RecordValue) (item : ItemValue) (r : RestValue) : Type 0 where
+  pub edges : AreEdges front item.key r.edges
   pub few : length r.edges < 2 ^ 64
-  pub result : ResultFits (kind_of key) r.value
+  pub result : ResultFits (kind_of item.key) r.value
+  pub told : IsTold origin item.key item.mark r.value
 
-pub rest_takes : (front : List RecordValue) (key : Key) (bytes : List ℕ) (r : RestValue) (rest : List ℕ) → IsBytes bytes → rest_at front key bytes ≡ Ok (r, rest) → Takes bytes (rest_bytes r.edges r.value) rest × RestFits front key r
+pub rest_takes : (origin : OriginValue) (front : List RecordValue) (item : ItemValue) (bytes : List ℕ) (r : RestValue) (rest : List ℕ) → IfSome origin.past IsSession → IsBytes bytes → rest_at origin front item bytes ≡ Ok (r, rest) → Takes bytes (rest_bytes origin.form item.mark r.edges r.value) rest × RestFits origin front item r
 unfolding rest_at edges_at
-rest_takes front key bytes r rest fits e =
-    let a = bind_ok (edges_at front key bytes) _ (r, rest) e in
-    let b = bind_ok (result_at (length front) (kind_of key) a.0.1) _ (r, rest) a.2 in
-    let c = bind_ok (whole (eight_at bytes)) (λ n. edges_from front key [] n.0 n.1) a.0 a.1 in
+rest_takes origin front item bytes r rest before fits e =
+    let a = bind_ok (edges_at front item.key bytes) _ (r, rest) e in
+    let b = bind_ok (told_at origin (length front) item a.0.1) _ (r, rest) a.2 in
+    let c = bind_ok (whole (eight_at bytes)) (λ n. edges_from front item.key [] n.0 n.1) a.0 a.1 in
     let tc = number_takes lawful_eight bytes c.0.0 c.0.1 fits c.1 in
-    let ta = edges_take front key c.0.0 [] c.0.1 a.0.0 a.0.1 (tt, tt) tc.0.rest_fits c.2 in
-    let tb = result_takes (length front) (kind_of key) a.0.1 b.0.0 b.0.1 ta.takes.rest_fits b.1 in
+    let ta = edges_take front item.key c.0.0 [] c.0.1 a.0.0 a.0.1 (tt, tt) tc.0.rest_fits c.2 in
+    let tb = told_takes origin (length front) item a.0.1 b.0.0 b.0.1 before ta.takes.rest_fits b.1 in
     let count : length a.0.0 ≡ c.0.0 = ap (λ (xs : List ℕ). length xs) (sym ta.whole_is) ∙ ta.count_is in
     let edges : Takes c.0.1 (flat_map eight a.0.0) a.0.1 = subst (λ (xs : List ℕ). Takes c.0.1 (flat_map eight xs) a.0.1) ta.whole_is ta.takes in
     let listed : Takes bytes (list eight a.0.0) a.0.1 = subst (λ (n : ℕ). Takes bytes (eight n ++ flat_map eight a.0.0) a.0.1) (sym count) (Takes-then bytes (eight c.0.0) c.0.1 (flat_map eight a.0.0) a.0.1 tc.0 edges) in
-    subst (λ (x : RestValue × List ℕ). Takes bytes (rest_bytes x.0.edges x.0.value) x.1 × RestFits front key x.0) (ok_is (record { edges = a.0.0; value = b.0.0 }, b.0.1) (r, rest) b.2)
-    (Takes-then bytes (list eight a.0.0) a.0.1 (result_bytes b.0.0) b.0.1 listed tb.0, record { edges = ta.are; few = omega (arith, count, tc.1); result = tb.1 })
+    subst (λ (x : RestValue × List ℕ). Takes bytes (rest_bytes origin.form item.mark x.0.edges x.0.value) x.1 × RestFits origin front item x.0) (ok_is (record { edges = a.0.0; value = b.0.0 }, b.0.1) (r, rest) b.2) (
+      Takes-then bytes (list eight a.0.0) a.0.1 (told_bytes origin.form item.mark b.0.0) b.0.1 listed tb.takes,
+      record { edges = ta.are; few = omega (arith, count, tc.1); result = tb.fits; told = tb.told },
+    )
 
-pub rest_again : (front : List RecordValue) (key : Key) (r : RestValue) (rest : List ℕ) → length front < 2 ^ 64 → RestFits front key r → rest_at front key (rest_bytes r.edges r.value ++ rest) ≡ Ok (r, rest)
+pub rest_again : (origin : OriginValue) (front : List RecordValue) (item : ItemValue) (r : RestValue) (rest : List ℕ) → length front < 2 ^ 64 → RestFits origin front item r → rest_at origin front item (rest_bytes origin.form item.mark r.edges r.value ++ rest) ≡ Ok (r, rest)
 unfolding rest_at edges_at
-rest_again front key r rest few h =
-    let regrouped : rest_bytes r.edges r.value ++ rest ≡ eight (length r.edges) ++ (flat_map eight r.edges ++ (result_bytes r.value ++ rest)) = append_assoc (list eight r.edges) (result_bytes r.value) rest ∙ append_assoc (eight (length r.edges)) (flat_map eight r.edges) (result_bytes r.value ++ rest) in
-    let edges : edges_at front key (eight (length r.edges) ++ (flat_map eight r.edges ++ (result_bytes r.value ++ rest))) ≡ Ok (r.edges, result_bytes r.value ++ rest) = bind_is (whole (eight_at (eight (length r.edges) ++ (flat_map eight r.edges ++ (result_bytes r.value ++ rest))))) (λ n. edges_from front key [] n.0 n.1) (length r.edges, flat_map eight r.edges ++ (result_bytes r.value ++ rest)) (number_again lawful_eight (length r.edges) _ h.few) ∙ edges_again front key r.edges [] (result_bytes r.value ++ rest) few h.edges in
-    ap (rest_at front key) regrouped
-    ∙ bind_is (edges_at front key (eight (length r.edges) ++ (flat_map eight r.edges ++ (result_bytes r.value ++ rest)))) _ (r.edges, result_bytes r.value ++ rest) edges
-    ∙ bind_is (result_at (length front) (kind_of key) (result_bytes r.value ++ rest)) _ (r.value, rest) (result_again (length front) (kind_of key) r.value rest h.result)
+rest_again origin front item r rest few h =
+    let told = told_bytes origin.form item.mark r.value in
+    let regrouped : rest_bytes origin.form item.mark r.edges r.value ++ rest ≡ eight (length r.edges) ++ (flat_map eight r.edges ++ (told ++ rest)) = append_assoc (list eight r.edges) told rest ∙ append_assoc (eight (length r.edges)) (flat_map eight r.edges) (told ++ rest) in
+    let edges : edges_at front item.key (eight (length r.edges) ++ (flat_map eight r.edges ++ (told ++ rest))) ≡ Ok (r.edges, told ++ rest) = bind_is (whole (eight_at (eight (length r.edges) ++ (flat_map eight r.edges ++ (told ++ rest))))) (λ n. edges_from front item.key [] n.0 n.1) (length r.edges, flat_map eight r.edges ++ (told ++ rest)) (number_again lawful_eight (length r.edges) _ h.few) ∙ edges_again front item.key r.edges [] (told ++ rest) few h.edges in
+    ap (rest_at origin front item) regrouped
+    ∙ bind_is (edges_at front item.key (eight (length r.edges) ++ (flat_map eight r.edges ++ (told ++ rest)))) _ (r.edges, told ++ rest) edges
+    ∙ bind_is (told_at origin (length front) item (told ++ rest)) _ (r.value, rest) (told_again origin (length front) item r.value rest h.result h.told)
 
-record_parts : (key : Key) (mark : Mark) (edges : List ℕ) (v : Value) → item_bytes (record { key = key; mark = mark }) ++ rest_bytes edges v ≡ record_bytes (record { key = key; mark = mark; edges = edges; value = v })
+record_parts : (form : Form) (key : Key) (mark : Mark) (edges : List ℕ) (v : Value) → item_bytes (record { key = key; mark = mark }) ++ rest_bytes form mark edges v ≡ record_bytes form (record { key = key; mark = mark; edges = edges; value = v })
 unfolding record_bytes
-record_parts key mark edges v = append_assoc (key_bytes key) (mark_number mark ∷ []) (rest_bytes edges v)
+record_parts form key mark edges v = append_assoc (key_bytes key) (mark_number mark ∷ []) (rest_bytes form mark edges v)
 
-pub record_takes : (front : List RecordValue) (bytes : List ℕ) (r : RecordValue) (rest : List ℕ) → AreRecords front → IsBytes bytes → record_at front bytes ≡ Ok (r, rest) → Takes bytes (record_bytes r) rest × FitsBehind front r
+-- a record that was read over the previous session
+abbrev pub IsReadOver : OriginValue → RecordValue → Type 0
+IsReadOver origin r = IsTold origin r.key r.mark r.value
+
+pub record RecordRead (origin : OriginValue) (front : List RecordValue) (bytes : List ℕ) (r : RecordValue) (rest : List ℕ) : Type 0 where
+  pub takes : Takes bytes (record_bytes origin.form r) rest
+  pub fits : FitsBehind front r
+  pub told : IsReadOver origin r
+
+pub record_takes : (origin : OriginValue) (front : List RecordValue) (bytes : List ℕ) (r : RecordValue) (rest : List ℕ) → IfSome origin.past IsSession → AreRecords front → IsBytes bytes → record_at origin front bytes ≡ Ok (r, rest) → RecordRead origin front bytes r rest
 unfolding record_at behind_item
-record_takes front bytes r rest are fits e =
+record_takes origin front bytes r rest before are fits e =
     let a = bind_ok (item_at (length front) bytes) _ (r, rest) e in
-    let b = bind_ok (behind_item front a.0.0 a.0.1) _ (r, rest) a.2 in
+    let b = bind_ok (behind_item origin front a.0.0 a.0.1) _ (r, rest) a.2 in
     let p = bind_ok (check_place front a.0.0) _ b.0 b.1 in
     let ta = item_takes (length front) bytes a.0.0 a.0.1 fits a.1 in
     let tp = placed_ok front a.0.0 p.0 are p.1 in
-    let tb = rest_takes front a.0.0.key a.0.1 b.0.0 b.0.1 ta.0.rest_fits p.2 in
-    let all = Takes-then bytes (item_bytes a.0.0) a.0.1 (rest_bytes b.0.0.edges b.0.0.value) b.0.1 ta.0 tb.0 in
-    subst (λ (x : RecordValue × List ℕ). Takes bytes (record_bytes x.0) x.1 × FitsBehind front x.0) (ok_is (record { key = a.0.0.key; mark = a.0.0.mark; edges = b.0.0.edges; value = b.0.0.value }, b.0.1) (r, rest) b.2) (
-      subst (λ (xs : List ℕ). Takes bytes xs b.0.1) (record_parts a.0.0.key a.0.0.mark b.0.0.edges b.0.0.value) all,
-      record {
+    let tb = rest_takes origin front a.0.0 a.0.1 b.0.0 b.0.1 before ta.0.rest_fits p.2 in
+    let all = Takes-then bytes (item_bytes a.0.0) a.0.1 (rest_bytes origin.form a.0.0.mark b.0.0.edges b.0.0.value) b.0.1 ta.0 tb.0 in
+    subst (λ (x : RecordValue × List ℕ). RecordRead origin front bytes x.0 x.1) (ok_is (record { key = a.0.0.key; mark = a.0.0.mark; edges = b.0.0.edges; value = b.0.0.value }, b.0.1) (r, rest) b.2) (record {
+      takes = subst (λ (xs : List ℕ). Takes bytes xs b.0.1) (record_parts origin.form a.0.0.key a.0.0.mark b.0.0.edges b.0.0.value) all;
+      fits = record {
         above = tp.above;
         marked = tp.marked;
         edges = tb.1.edges.0;
         once = tb.1.edges.1;
         kind = tb.1.result.kind;
         kept = record { names = ta.1; value = tb.1.result.value; size = tb.1.result.size; few = tb.1.few };
-      },
-    )
+      };
+      told = tb.1.told;
+    })
 
-pub record_again : (front : List RecordValue) (r : RecordValue) (rest : List ℕ) → length front < 2 ^ 64 → AreRecords front → FitsBehind front r → record_at front (record_bytes r ++ rest) ≡ Ok (r, rest)
+pub record_again : (origin : OriginValue) (front : List RecordValue) (r : RecordValue) (rest : List ℕ) → length front < 2 ^ 64 → AreRecords front → FitsBehind front r → IsReadOver origin r → record_at origin front (record_bytes origin.form r ++ rest) ≡ Ok (r, rest)
 unfolding record_at behind_item
-record_again front r rest few are h =
+record_again origin front r rest few are h told =
     let item : ItemValue = record { key = r.key; mark = r.mark } in
     let tail : RestValue = record { edges = r.edges; value = r.value } in
-    let regrouped : record_bytes r ++ rest ≡ item_bytes item ++ (rest_bytes r.edges r.value ++ rest) = ap (λ (xs : List ℕ). xs ++ rest) (sym (record_parts r.key r.mark r.edges r.value)) ∙ append_assoc (item_bytes item) (rest_bytes r.edges r.value) rest in
-    ap (record_at front) regrouped
-    ∙ bind_is (item_at (length front) (item_bytes item ++ (rest_bytes r.edges r.value ++ rest))) _ (item, rest_bytes r.edges r.value ++ rest) (item_again (length front) item (rest_bytes r.edges r.value ++ rest) h.kept.names)
-    ∙ bind_is (behind_item front item (rest_bytes r.edges r.value ++ rest)) _ (tail, rest) (
+    let tail_bytes = rest_bytes origin.form r.mark r.edges r.value in
+    let regrouped : record_bytes origin.form r ++ rest ≡ item_bytes item ++ (tail_bytes ++ rest) = ap (λ (xs : List ℕ). xs ++ rest) (sym (record_parts origin.form r.key r.mark r.edges r.value)) ∙ append_assoc (item_bytes item) tail_bytes rest in
+    ap (record_at origin front) regrouped
+    ∙ bind_is (item_at (length front) (item_bytes item ++ (tail_bytes ++ rest))) _ (item, tail_bytes ++ rest) (item_again (length front) item (tail_bytes ++ rest) h.kept.names)
+    ∙ bind_is (behind_item origin front item (tail_bytes ++ rest)) _ (tail, rest) (
     bind_is (check_place front item) _ tt (placed_is front item are (record { above = h.above; marked = h.marked }))
-    ∙ rest_again front r.key tail rest few (record { edges = (h.edges, h.once); few = h.kept.few; result = record { value = h.kept.value; kind = h.kind; size = h.kept.size } })
+    ∙ rest_again origin front item tail rest few (record { edges = (h.edges, h.once); few = h.kept.few; result = record { value = h.kept.value; kind = h.kind; size = h.kept.size }; told = told })
     )

@@ -1,7 +1,7 @@
 -- The parts of a file, read from a feed one behind the other.
-use Rattle.std.proofs.Common.{◌≡◌, ℕ, ◌<◌, ◌≤◌, Bool, true, false, ltb, List, [], ◌++◌, length, take, Some, None, Result, Ok, Err, refl, sym, ap, subst, ◌∙◌, append_assoc, arith}
-use Rattle.std.specs.Prelude.{bytes_eq}
-use Rattle.std.proofs.lemmas.Bool.{le-ltb, lt-ltb, le-leb, lt-leb, ne_eqb, eq-eqb}
+use Rattle.std.proofs.Common.{◌≡◌, ℕ, ◌<◌, ◌≤◌, Bool, true, false, ltb, List, [], ◌++◌, length, take, Option, Some, None, Result, Ok, Err, refl, sym, ap, subst, ◌∙◌, append_assoc, arith}
+use Rattle.std.specs.Prelude.{bytes_eq, IfSome}
+use Rattle.std.proofs.lemmas.Bool.{le-ltb, lt-ltb, le-leb, lt-leb}
 use Rattle.std.proofs.lemmas.List.{take_at, append-nil, length-append}
 use Rattle.std.proofs.lemmas.Slice.Eq.{bytes_eq-Decides}
 use Rattle.byte_readers.specs.Lawful.{IsBytes}
@@ -12,14 +12,16 @@ use Rattle.item_ids.specs.Keys.{kind_of}
 use Rattle.byte_readers.specs.Reading.{byte_at, two_at, four_at, eight_at}
 use Rattle.result_bytes.specs.declared.value.Value.{Value}
 use Rattle.result_bytes.specs.Values.{decoding}
-use Rattle.sessions.specs.Sessions.{RecordValue, SessionValue, IsSession}
+use Rattle.sessions.specs.declared.terms.Terms.{Terms}
+use Rattle.sessions.specs.Terms.{terms_with, ends_with_print}
+use Rattle.sessions.specs.Sessions.{RecordValue, SessionValue, IsSession, IsTakenFrom}
 use Rattle.sessions.specs.Spelling.{file_of, digest_of}
 use Rattle.session_file.specs.declared.fault.FileFault.{FileFault}
-use Rattle.session_file.specs.declared.fault.FileFault.TheVariants.{BadMagic, Version, Truncated, BadDigest, KeyOrder, BadEdge, Result as BadResult, InputKind, Trailing, Device, BadKey, Number, OutOfMemory}
-use Rattle.session_file.specs.declared.hashing.HashingSink.{HashingSink}
+use Rattle.session_file.specs.declared.fault.FileFault.TheVariants.{BadMagic, Version, Truncated, BadDigest, KeyOrder, BadEdge, Result as BadResult, InputKind, Trailing, Device, BadKey, Number, NoPastResult, OutOfMemory}
+use Rattle.devices.specs.declared.hashing.HashingSink.{HashingSink}
 use Rattle.session_file.specs.declared.stop.Stop.{Stop}
 use Rattle.session_file.specs.Keys.{key_with, mark_with}
-use Rattle.session_file.specs.Reading.{◌>>=◌, magic, Parser, whole, bytes_at, text_at, ItemValue, item_with, item_at, check_place, edges_at, edges_from, value_with_print, result_at, RestValue, rest_at, behind_item, record_at, records_from, HeadValue, start_at, magic_at, head_at, end_at, front_at, session_at, file_at, IsUnlessMemory, IsUnlessStopped}
+use Rattle.session_file.specs.Reading.{◌>>=◌, magic, Parser, whole, bytes_at, text_at, ItemValue, item_with, item_at, check_place, edges_at, edges_from, value_with_print, result_at, OriginValue, past_value, past_with_print, taken_at, told_at, RestValue, rest_at, behind_item, record_at, records_from, HeadValue, start_at, magic_at, head_at, end_at, session_of, front_after, session_after, file_after, IsUnlessMemory, IsUnlessStopped}
 use Rattle.session_file.specs.Feeding.{Given, IsShort, Moved, Took, Breaks, Halts, TookFront, Feeds, CountsIf, is_device}
 use Rattle.session_file.proofs.ReadLaws.{done, ok_is}
 use Rattle.session_file.proofs.FeedLaws.{At, moved_then, took_at, stops_by}
@@ -135,6 +137,31 @@ result_took i kind print n text v p q r is = record {
       let regrouped : (p.part ++ (q.part ++ r.part)) ++ rest ≡ p.part ++ (q.part ++ (r.part ++ rest)) = simp append_assoc in
       rw (regrouped, p.reads (q.part ++ (r.part ++ rest)), q.reads (r.part ++ rest), r.reads rest, is) refl;
 }
+    -- ---- a result of the previous session
+
+pub taken_halts : (a : List ℕ → Type 0) (i : ℕ) (had : Option Value) (stop : Stop) → Halts a stop (bytes_at 32) → Halts a stop (taken_at i had)
+unfolding taken_at
+taken_halts a i had stop f = stops_by stop f (λ fault s. record { breach = λ bytes has. rw (s.breach bytes has) refl })
+
+pub taken_breaks : {a b : List ℕ → Type 0} {g h : HashingSink} (i : ℕ) (had : Option Value) (print : List ℕ) → Took a b g h (bytes_at 32) print → past_with_print print had ≡ None → Breaks a (taken_at i had) (NoPastResult i)
+unfolding taken_at
+taken_breaks i had print p none = record {
+  breach = λ bytes has.
+      let x = took_at p bytes has in
+      rw (x.is, none) refl;
+}
+
+pub taken_took : {a b : List ℕ → Type 0} {g h : HashingSink} (i : ℕ) (had : Option Value) (print : List ℕ) (v : Value) → Took a b g h (bytes_at 32) print → past_with_print print had ≡ Some v → Took a b g h (taken_at i had) v
+unfolding taken_at
+taken_took i had print v p is = record { part = p.part; moved = p.moved; reads = λ rest. rw (p.reads rest, is) refl }
+
+pub told_by_print : {X : Type 0} (a b : List ℕ → Type 0) (g h : HashingSink) (view : X → Value) (r : Result X Stop) (origin : OriginValue) (i : ℕ) (item : ItemValue) → ends_with_print origin.form item.mark ≡ true → Feeds a b g h view r (taken_at i (past_value origin.past item.key)) → Feeds a b g h view r (told_at origin i item)
+unfolding told_at
+told_by_print a b g h view r origin i item ends f = rw ends f
+
+pub told_by_result : {X : Type 0} (a b : List ℕ → Type 0) (g h : HashingSink) (view : X → Value) (r : Result X Stop) (origin : OriginValue) (i : ℕ) (item : ItemValue) → ends_with_print origin.form item.mark ≡ false → Feeds a b g h view r (result_at i (kind_of item.key)) → Feeds a b g h view r (told_at origin i item)
+unfolding told_at
+told_by_result a b g h view r origin i item other f = rw other f
     -- ---- edges, and what stands behind a key
 
 pub edges_halt_count : (a : List ℕ → Type 0) (front : List RecordValue) (key : Key) (stop : Stop) → Halts a stop eight → Halts a stop (edges_at front key)
@@ -157,51 +184,51 @@ edges_took front key n edges p q = record {
   reads = λ rest. rw (append_assoc p.part q.part rest, p.reads (q.part ++ rest)) (q.reads rest);
 }
 
-pub rest_halts_edges : (a : List ℕ → Type 0) (front : List RecordValue) (key : Key) (stop : Stop) → Halts a stop (edges_at front key) → Halts a stop (rest_at front key)
+pub rest_halts_edges : (a : List ℕ → Type 0) (origin : OriginValue) (front : List RecordValue) (item : ItemValue) (stop : Stop) → Halts a stop (edges_at front item.key) → Halts a stop (rest_at origin front item)
 unfolding rest_at
-rest_halts_edges a front key stop f = stops_by stop f (λ fault s. record { breach = λ bytes has. rw (s.breach bytes has) refl })
+rest_halts_edges a origin front item stop f = stops_by stop f (λ fault s. record { breach = λ bytes has. rw (s.breach bytes has) refl })
 
-pub rest_halts : {a b : List ℕ → Type 0} {g h : HashingSink} (front : List RecordValue) (key : Key) (edges : List ℕ) (stop : Stop) → Took a b g h (edges_at front key) edges → Halts b stop (result_at (length front) (kind_of key)) → Halts a stop (rest_at front key)
+pub rest_halts : {a b : List ℕ → Type 0} {g h : HashingSink} (origin : OriginValue) (front : List RecordValue) (item : ItemValue) (edges : List ℕ) (stop : Stop) → Took a b g h (edges_at front item.key) edges → Halts b stop (told_at origin (length front) item) → Halts a stop (rest_at origin front item)
 unfolding rest_at
-rest_halts front key edges stop p f = stops_by stop f (λ fault s. record {
+rest_halts origin front item edges stop p f = stops_by stop f (λ fault s. record {
   breach = λ bytes has.
       let x = took_at p bytes has in
       rw (x.is, s.breach x.rest x.holds) refl;
 })
 
-pub rest_took : {a b c : List ℕ → Type 0} {g h k : HashingSink} (front : List RecordValue) (key : Key) (edges : List ℕ) (v : Value) → Took a b g h (edges_at front key) edges → Took b c h k (result_at (length front) (kind_of key)) v → Took a c g k (rest_at front key) (record { edges = edges; value = v })
+pub rest_took : {a b c : List ℕ → Type 0} {g h k : HashingSink} (origin : OriginValue) (front : List RecordValue) (item : ItemValue) (edges : List ℕ) (v : Value) → Took a b g h (edges_at front item.key) edges → Took b c h k (told_at origin (length front) item) v → Took a c g k (rest_at origin front item) (record { edges = edges; value = v })
 unfolding rest_at
-rest_took front key edges v p q = record {
+rest_took origin front item edges v p q = record {
   part = p.part ++ q.part;
   moved = moved_then p.moved q.moved;
   reads = λ rest. rw (append_assoc p.part q.part rest, p.reads (q.part ++ rest), q.reads rest) refl;
 }
     -- ---- a record
 
-pub record_halts_item : (a : List ℕ → Type 0) (front : List RecordValue) (stop : Stop) → Halts a stop (item_at (length front)) → Halts a stop (record_at front)
+pub record_halts_item : (a : List ℕ → Type 0) (origin : OriginValue) (front : List RecordValue) (stop : Stop) → Halts a stop (item_at (length front)) → Halts a stop (record_at origin front)
 unfolding record_at
-record_halts_item a front stop f = stops_by stop f (λ fault s. record { breach = λ bytes has. rw (s.breach bytes has) refl })
+record_halts_item a origin front stop f = stops_by stop f (λ fault s. record { breach = λ bytes has. rw (s.breach bytes has) refl })
 
-pub behind_breaks : (a : List ℕ → Type 0) (front : List RecordValue) (item : ItemValue) (fault : FileFault) → check_place front item ≡ Err fault → Breaks a (behind_item front item) fault
+pub behind_breaks : (a : List ℕ → Type 0) (origin : OriginValue) (front : List RecordValue) (item : ItemValue) (fault : FileFault) → check_place front item ≡ Err fault → Breaks a (behind_item origin front item) fault
 unfolding behind_item
-behind_breaks a front item fault f = record { breach = λ bytes has. rw f refl }
+behind_breaks a origin front item fault f = record { breach = λ bytes has. rw f refl }
 
-pub behind_feeds : {X : Type 0} (a b : List ℕ → Type 0) (g h : HashingSink) (front : List RecordValue) (item : ItemValue) (view : X → RestValue) (r : Result X Stop) → check_place front item ≡ Ok tt → Feeds a b g h view r (rest_at front item.key) → Feeds a b g h view r (behind_item front item)
+pub behind_feeds : {X : Type 0} (a b : List ℕ → Type 0) (g h : HashingSink) (origin : OriginValue) (front : List RecordValue) (item : ItemValue) (view : X → RestValue) (r : Result X Stop) → check_place front item ≡ Ok tt → Feeds a b g h view r (rest_at origin front item) → Feeds a b g h view r (behind_item origin front item)
 unfolding behind_item
-behind_feeds a b g h front item view (Ok x) placed q = record { part = q.part; moved = q.moved; reads = λ rest. rw placed (q.reads rest) }
-behind_feeds a b g h front item view (Err stop) placed f = stops_by stop f (λ fault s. record { breach = λ bytes has. rw placed (s.breach bytes has) })
+behind_feeds a b g h origin front item view (Ok x) placed q = record { part = q.part; moved = q.moved; reads = λ rest. rw placed (q.reads rest) }
+behind_feeds a b g h origin front item view (Err stop) placed f = stops_by stop f (λ fault s. record { breach = λ bytes has. rw placed (s.breach bytes has) })
 
-pub record_halts : {a b : List ℕ → Type 0} {g h : HashingSink} (front : List RecordValue) (item : ItemValue) (stop : Stop) → Took a b g h (item_at (length front)) item → Halts b stop (behind_item front item) → Halts a stop (record_at front)
+pub record_halts : {a b : List ℕ → Type 0} {g h : HashingSink} (origin : OriginValue) (front : List RecordValue) (item : ItemValue) (stop : Stop) → Took a b g h (item_at (length front)) item → Halts b stop (behind_item origin front item) → Halts a stop (record_at origin front)
 unfolding record_at
-record_halts front item stop p f = stops_by stop f (λ fault s. record {
+record_halts origin front item stop p f = stops_by stop f (λ fault s. record {
   breach = λ bytes has.
       let x = took_at p bytes has in
       rw (x.is, s.breach x.rest x.holds) refl;
 })
 
-pub record_took : {a b c : List ℕ → Type 0} {g h k : HashingSink} (front : List RecordValue) (item : ItemValue) (r : RestValue) → Took a b g h (item_at (length front)) item → Took b c h k (behind_item front item) r → Took a c g k (record_at front) (record { key = item.key; mark = item.mark; edges = r.edges; value = r.value })
+pub record_took : {a b c : List ℕ → Type 0} {g h k : HashingSink} (origin : OriginValue) (front : List RecordValue) (item : ItemValue) (r : RestValue) → Took a b g h (item_at (length front)) item → Took b c h k (behind_item origin front item) r → Took a c g k (record_at origin front) (record { key = item.key; mark = item.mark; edges = r.edges; value = r.value })
 unfolding record_at
-record_took front item r p q = record {
+record_took origin front item r p q = record {
   part = p.part ++ q.part;
   moved = moved_then p.moved q.moved;
   reads = λ rest. rw (append_assoc p.part q.part rest, p.reads (q.part ++ rest), q.reads rest) refl;
@@ -259,58 +286,58 @@ head_halts_version stop p x = stops_by stop x (λ fault s. record {
       rw (start_is (magic_at bytes) u.rest tt u.is, s.breach u.rest u.holds) refl;
 })
 
-pub head_other_version : {a b c : List ℕ → Type 0} {g h k : HashingSink} (version : ℕ) → Took a b g h start_at tt → Took b c h k two version → (version ≡ 1 → ⊥) → Breaks a head_at Version
+pub head_other_version : {a b c : List ℕ → Type 0} {g h k : HashingSink} (version : ℕ) → Took a b g h start_at tt → Took b c h k two version → terms_with version ≡ None → Breaks a head_at Version
 unfolding head_at
 head_other_version version p q other = record {
   breach = λ bytes has.
       let u = took_at p bytes has in
       let v = took_at q u.rest u.holds in
-      rw (start_is (magic_at bytes) u.rest tt u.is, v.is, ne_eqb version 1 other) refl;
+      rw (start_is (magic_at bytes) u.rest tt u.is, v.is, other) refl;
 }
 
-pub head_halts_number : {a b c : List ℕ → Type 0} {g h k : HashingSink} (version : ℕ) (stop : Stop) → Took a b g h start_at tt → Took b c h k two version → version ≡ 1 → Halts c stop four → Halts a stop head_at
+pub head_halts_number : {a b c : List ℕ → Type 0} {g h k : HashingSink} (version : ℕ) (terms : Terms) (stop : Stop) → Took a b g h start_at tt → Took b c h k two version → terms_with version ≡ Some terms → Halts c stop four → Halts a stop head_at
 unfolding head_at
-head_halts_number version stop p q known x = stops_by stop x (λ fault s. record {
+head_halts_number version terms stop p q known x = stops_by stop x (λ fault s. record {
   breach = λ bytes has.
       let u = took_at p bytes has in
       let v = took_at q u.rest u.holds in
-      rw (start_is (magic_at bytes) u.rest tt u.is, v.is, eq-eqb version 1 known, s.breach v.rest v.holds) refl;
+      rw (start_is (magic_at bytes) u.rest tt u.is, v.is, known, s.breach v.rest v.holds) refl;
 })
 
-pub head_other_number : {a b c d : List ℕ → Type 0} {g h k l : HashingSink} (version : ℕ) (number : ℕ) → Took a b g h start_at tt → Took b c h k two version → version ≡ 1 → Took c d k l four number → 9999 < number → Breaks a head_at Number
+pub head_other_number : {a b c d : List ℕ → Type 0} {g h k l : HashingSink} (version : ℕ) (terms : Terms) (number : ℕ) → Took a b g h start_at tt → Took b c h k two version → terms_with version ≡ Some terms → Took c d k l four number → 9999 < number → Breaks a head_at Number
 unfolding head_at
-head_other_number version number p q known r large = record {
+head_other_number version terms number p q known r large = record {
   breach = λ bytes has.
       let u = took_at p bytes has in
       let v = took_at q u.rest u.holds in
       let w = took_at r v.rest v.holds in
-      rw (start_is (magic_at bytes) u.rest tt u.is, v.is, eq-eqb version 1 known, w.is, lt-leb number 9999 large) refl;
+      rw (start_is (magic_at bytes) u.rest tt u.is, v.is, known, w.is, lt-leb number 9999 large) refl;
 }
 
-pub head_halts_link : {a b c d : List ℕ → Type 0} {g h k l : HashingSink} (version : ℕ) (number : ℕ) (stop : Stop) → Took a b g h start_at tt → Took b c h k two version → version ≡ 1 → Took c d k l four number → number ≤ 9999 → Halts d stop (bytes_at 32) → Halts a stop head_at
+pub head_halts_link : {a b c d : List ℕ → Type 0} {g h k l : HashingSink} (version : ℕ) (terms : Terms) (number : ℕ) (stop : Stop) → Took a b g h start_at tt → Took b c h k two version → terms_with version ≡ Some terms → Took c d k l four number → number ≤ 9999 → Halts d stop (bytes_at 32) → Halts a stop head_at
 unfolding head_at
-head_halts_link version number stop p q known r small x = stops_by stop x (λ fault s. record {
+head_halts_link version terms number stop p q known r small x = stops_by stop x (λ fault s. record {
   breach = λ bytes has.
       let u = took_at p bytes has in
       let v = took_at q u.rest u.holds in
       let w = took_at r v.rest v.holds in
-      rw (start_is (magic_at bytes) u.rest tt u.is, v.is, eq-eqb version 1 known, w.is, le-leb number 9999 small, s.breach w.rest w.holds) refl;
+      rw (start_is (magic_at bytes) u.rest tt u.is, v.is, known, w.is, le-leb number 9999 small, s.breach w.rest w.holds) refl;
 })
 
-pub head_halts_count : {a b c d e : List ℕ → Type 0} {g h k l m : HashingSink} (version : ℕ) (number : ℕ) (link : List ℕ) (stop : Stop) → Took a b g h start_at tt → Took b c h k two version → version ≡ 1 → Took c d k l four number → number ≤ 9999 → Took d e l m (bytes_at 32) link → Halts e stop eight → Halts a stop head_at
+pub head_halts_count : {a b c d e : List ℕ → Type 0} {g h k l m : HashingSink} (version : ℕ) (terms : Terms) (number : ℕ) (link : List ℕ) (stop : Stop) → Took a b g h start_at tt → Took b c h k two version → terms_with version ≡ Some terms → Took c d k l four number → number ≤ 9999 → Took d e l m (bytes_at 32) link → Halts e stop eight → Halts a stop head_at
 unfolding head_at
-head_halts_count version number link stop p q known r small t x = stops_by stop x (λ fault s. record {
+head_halts_count version terms number link stop p q known r small t x = stops_by stop x (λ fault s. record {
   breach = λ bytes has.
       let u = took_at p bytes has in
       let v = took_at q u.rest u.holds in
       let w = took_at r v.rest v.holds in
       let z = took_at t w.rest w.holds in
-      rw (start_is (magic_at bytes) u.rest tt u.is, v.is, eq-eqb version 1 known, w.is, le-leb number 9999 small, z.is, s.breach z.rest z.holds) refl;
+      rw (start_is (magic_at bytes) u.rest tt u.is, v.is, known, w.is, le-leb number 9999 small, z.is, s.breach z.rest z.holds) refl;
 })
 
-pub head_took : {a b c d e f : List ℕ → Type 0} {g h k l m o : HashingSink} (version : ℕ) (number : ℕ) (link : List ℕ) (count : ℕ) → Took a b g h start_at tt → Took b c h k two version → version ≡ 1 → Took c d k l four number → number ≤ 9999 → Took d e l m (bytes_at 32) link → Took e f m o eight count → Took a f g o head_at (record { number = number; link = link; count = count })
+pub head_took : {a b c d e f : List ℕ → Type 0} {g h k l m o : HashingSink} (version : ℕ) (terms : Terms) (number : ℕ) (link : List ℕ) (count : ℕ) → Took a b g h start_at tt → Took b c h k two version → terms_with version ≡ Some terms → Took c d k l four number → number ≤ 9999 → Took d e l m (bytes_at 32) link → Took e f m o eight count → Took a f g o head_at (record { terms = terms; number = number; link = link; count = count })
 unfolding head_at
-head_took version number link count p q known r small t y = record {
+head_took version terms number link count p q known r small t y = record {
   part = p.part ++ (q.part ++ (r.part ++ (t.part ++ y.part)));
   moved = moved_then p.moved (moved_then q.moved (moved_then r.moved (moved_then t.moved y.moved)));
   reads = λ rest.
@@ -319,7 +346,7 @@ head_took version number link count p q known r small t y = record {
       let e2 = r.part ++ e3 in
       let e1 = q.part ++ e2 in
       let regrouped : (p.part ++ (q.part ++ (r.part ++ (t.part ++ y.part)))) ++ rest ≡ p.part ++ (q.part ++ (r.part ++ (t.part ++ (y.part ++ rest)))) = simp append_assoc in
-      ap head_at regrouped ∙ rw (start_is (magic_at (p.part ++ e1)) e1 tt (p.reads e1), q.reads e2, eq-eqb version 1 known, r.reads e3, le-leb number 9999 small, t.reads e4, y.reads rest) refl;
+      ap head_at regrouped ∙ rw (start_is (magic_at (p.part ++ e1)) e1 tt (p.reads e1), q.reads e2, known, r.reads e3, le-leb number 9999 small, t.reads e4, y.reads rest) refl;
 }
 
 -- ---- the digest of all before it
@@ -345,57 +372,61 @@ end_took body digest p is =
 
 -- ---- the file
 
-pub front_halts_head : (a : List ℕ → Type 0) (stop : Stop) → Halts a stop head_at → Halts a stop front_at
-unfolding front_at
-front_halts_head a stop f = stops_by stop f (λ fault s. record { breach = λ bytes has. rw (s.breach bytes has) refl })
+abbrev over : Option SessionValue → HeadValue → OriginValue
+over past head = record { past = past; form = head.terms.form }
 
-pub front_halts_records : {a b : List ℕ → Type 0} {g h : HashingSink} (head : HeadValue) (stop : Stop) → Took a b g h head_at head → Halts b stop (records_from [] head.count) → Halts a stop front_at
-unfolding front_at
-front_halts_records head stop p f = stops_by stop f (λ fault s. record {
+pub front_halts_head : (past : Option SessionValue) (a : List ℕ → Type 0) (stop : Stop) → Halts a stop head_at → Halts a stop (front_after past)
+unfolding front_after
+front_halts_head past a stop f = stops_by stop f (λ fault s. record { breach = λ bytes has. rw (s.breach bytes has) refl })
+
+pub front_halts_records : {a b : List ℕ → Type 0} {g h : HashingSink} (past : Option SessionValue) (head : HeadValue) (stop : Stop) → Took a b g h head_at head → Halts b stop (records_from (over past head) [] head.count) → Halts a stop (front_after past)
+unfolding front_after
+front_halts_records past head stop p f = stops_by stop f (λ fault s. record {
   breach = λ bytes has.
       let x = took_at p bytes has in
       rw (x.is, s.breach x.rest x.holds) refl;
 })
 
-pub front_halts_end : {a b c : List ℕ → Type 0} {g h k : HashingSink} (head : HeadValue) (records : List RecordValue) (stop : Stop) (p : Took a b g h head_at head) (q : Took b c h k (records_from [] head.count) records) → Halts c stop (end_at (p.part ++ q.part)) → Halts a stop front_at
-unfolding front_at
-front_halts_end head records stop p q f = stops_by stop f (λ fault s. record {
+pub front_halts_end : {a b c : List ℕ → Type 0} {g h k : HashingSink} (past : Option SessionValue) (head : HeadValue) (records : List RecordValue) (stop : Stop) (p : Took a b g h head_at head) (q : Took b c h k (records_from (over past head) [] head.count) records) → Halts c stop (end_at (p.part ++ q.part)) → Halts a stop (front_after past)
+unfolding front_after
+front_halts_end past head records stop p q f = stops_by stop f (λ fault s. record {
   breach = λ bytes has.
       let x = p.moved.given.left bytes has in
       let y = q.moved.given.left x.rest x.holds in
       let one : head_at bytes ≡ Ok (head, x.rest) = ap head_at x.whole ∙ p.reads x.rest in
-      let two : records_from [] head.count x.rest ≡ Ok (records, y.rest) = ap (records_from [] head.count) y.whole ∙ q.reads y.rest in
+      let two : records_from (over past head) [] head.count x.rest ≡ Ok (records, y.rest) = ap (records_from (over past head) [] head.count) y.whole ∙ q.reads y.rest in
       let all : bytes ≡ (p.part ++ q.part) ++ y.rest = x.whole ∙ ap (λ (xs : List ℕ). p.part ++ xs) y.whole ∙ sym (append_assoc p.part q.part y.rest) in
       rw (one, two, front_is bytes (p.part ++ q.part) y.rest all, s.breach y.rest y.holds) refl;
 })
 
-pub front_took : {a b c d : List ℕ → Type 0} {g h k l : HashingSink} (head : HeadValue) (records : List RecordValue) (p : Took a b g h head_at head) (q : Took b c h k (records_from [] head.count) records) → Took c d k l (end_at (p.part ++ q.part)) tt → Took a d g l front_at (record { number = head.number; link = head.link; records = records })
-unfolding front_at
-front_took head records p q r = record {
+pub front_took : {a b c d : List ℕ → Type 0} {g h k l : HashingSink} (past : Option SessionValue) (head : HeadValue) (records : List RecordValue) (p : Took a b g h head_at head) (q : Took b c h k (records_from (over past head) [] head.count) records) → Took c d k l (end_at (p.part ++ q.part)) tt → Took a d g l (front_after past) (session_of head records)
+unfolding front_after
+front_took past head records p q r = record {
   part = p.part ++ (q.part ++ r.part);
   moved = moved_then p.moved (moved_then q.moved r.moved);
   reads = λ rest.
       let regrouped : (p.part ++ (q.part ++ r.part)) ++ rest ≡ p.part ++ (q.part ++ (r.part ++ rest)) = simp append_assoc in
       let all : p.part ++ (q.part ++ (r.part ++ rest)) ≡ (p.part ++ q.part) ++ (r.part ++ rest) = sym (append_assoc p.part q.part (r.part ++ rest)) in
-      ap front_at regrouped ∙ rw (p.reads (q.part ++ (r.part ++ rest)), q.reads (r.part ++ rest), front_is (p.part ++ (q.part ++ (r.part ++ rest))) (p.part ++ q.part) (r.part ++ rest) all, r.reads rest) refl;
+      ap (front_after past) regrouped ∙ rw (p.reads (q.part ++ (r.part ++ rest)), q.reads (r.part ++ rest), front_is (p.part ++ (q.part ++ (r.part ++ rest))) (p.part ++ q.part) (r.part ++ rest) all, r.reads rest) refl;
 }
 
-pub took_front : {a b : List ℕ → Type 0} {g h : HashingSink} {s : SessionValue} → Took a b g h front_at s → TookFront a b front_at s
-took_front t = record { part = t.part; fits = t.moved.fits; given = t.moved.given; reads = t.reads }
+pub took_front : (past : Option SessionValue) {a b : List ℕ → Type 0} {g h : HashingSink} {s : SessionValue} → Took a b g h (front_after past) s → TookFront a b (front_after past) s
+took_front past t = record { part = t.part; fits = t.moved.fits; given = t.moved.given; reads = t.reads }
 
--- what was taken is the file of a session
-pub record IsFile (part : List ℕ) (s : SessionValue) : Type 0 where
+-- what was taken is the file of a session over the previous one
+pub record IsFile (past : Option SessionValue) (part : List ℕ) (s : SessionValue) : Type 0 where
   pub session : IsSession s
+  pub taken : IsTakenFrom past s
   pub spelled : part ≡ file_of s
   pub digest : sha256 part ≡ digest_of s
 
-pub front_is_file : (part : List ℕ) (s : SessionValue) → IsBytes part → ((rest : List ℕ) → front_at (part ++ rest) ≡ Ok (s, rest)) → IsFile part s
+pub front_is_file : (past : Option SessionValue) (part : List ℕ) (s : SessionValue) → IfSome past IsSession → IsBytes part → ((rest : List ℕ) → front_after past (part ++ rest) ≡ Ok (s, rest)) → IsFile past part s
 unfolding digest_of
-front_is_file part s fits reads =
-    let none : front_at part ≡ Ok (s, []) = ap front_at (sym (append-nil part)) ∙ reads [] in
-    let t = front_takes part s [] fits none in
-    let spelled : part ≡ file_of s = t.1 ∙ append-nil (file_of s) in
-    record { session = t.0; spelled = spelled; digest = ap sha256 spelled }
+front_is_file past part s before fits reads =
+    let none : front_after past part ≡ Ok (s, []) = ap (front_after past) (sym (append-nil part)) ∙ reads [] in
+    let t = front_takes past part s [] before fits none in
+    let spelled : part ≡ file_of s = t.2 ∙ append-nil (file_of s) in
+    record { session = t.0; taken = t.1; spelled = spelled; digest = ap sha256 spelled }
 
 pub edges_feed : {X : Type 0} {a b : List ℕ → Type 0} (c : List ℕ → Type 0) {g h : HashingSink} (k : HashingSink) (view : X → List ℕ) (front : List RecordValue) (key : Key) (n : ℕ) (result : Result X Stop) → Took a b g h eight n → Feeds b c h k view result (edges_from front key [] n) → Feeds a c g k view result (edges_at front key)
 edges_feed c k view front key n (Ok x) p f = edges_took front key n (view x) p f
@@ -409,24 +440,28 @@ never fault x e = absurd cc
 pub counts_other : (fault : FileFault) (old new : ℕ) → (is_device fault ≡ false) × (new ≡ old) → CountsIf (is_device fault) old new
 counts_other fault old new h = subst (λ (b : Bool). CountsIf b old new) (sym h.0) h.1
 
-module _ {a b : List ℕ → Type 0} {t : SessionValue} where
-  pub front_found : TookFront a b front_at t → IsSession t × Given a b (file_of t)
-  front_found f = let is = front_is_file f.part t f.fits f.reads in (is.session, subst (Given a b) is.spelled f.given)
+module _ (past : Option SessionValue) (before : IfSome past IsSession) where
+  module _ {a b : List ℕ → Type 0} {t : SessionValue} where
+    pub front_file : (f : TookFront a b (front_after past) t) → IsFile past f.part t
+    front_file f = front_is_file past f.part t before f.fits f.reads
 
-  -- what the bytes are that were held
-  pub front_left : TookFront a b front_at t → (bytes : List ℕ) → a bytes → At b front_at t bytes
-  front_left f bytes has =
-      let l = f.given.left bytes has in
-      record { rest = l.rest; is = ap front_at l.whole ∙ f.reads l.rest; holds = l.holds }
+    pub front_given : TookFront a b (front_after past) t → Given a b (file_of t)
+    front_given f = subst (Given a b) (front_file f).spelled f.given
 
-  pub front_only : TookFront a b front_at t → (s : SessionValue) (rest : List ℕ) → IsSession s → a (file_of s ++ rest) → done t ≡ Ok s
-  front_only f s rest h has =
-      let x = front_left f (file_of s ++ rest) has in
-      ap (λ (y : SessionValue × List ℕ). done y.0) (ok_is (t, x.rest) (s, rest) (sym x.is ∙ front_again s rest h))
+    -- what the bytes are that were held
+    pub front_left : TookFront a b (front_after past) t → (bytes : List ℕ) → a bytes → At b (front_after past) t bytes
+    front_left f bytes has =
+        let l = f.given.left bytes has in
+        record { rest = l.rest; is = ap (front_after past) l.whole ∙ f.reads l.rest; holds = l.holds }
 
-pub front_not : {a : List ℕ → Type 0} {fault : FileFault} → Breaks a front_at fault → (s : SessionValue) (rest : List ℕ) → IsSession s → a (file_of s ++ rest) → ⊥
-front_not {a} {fault} f s rest h has =
-    never fault (s, rest) (sym (f.breach (file_of s ++ rest) has) ∙ front_again s rest h)
+    pub front_only : TookFront a b (front_after past) t → (s : SessionValue) (rest : List ℕ) → IsSession s → IsTakenFrom past s → a (file_of s ++ rest) → done t ≡ Ok s
+    front_only f s rest h taken has =
+        let x = front_left f (file_of s ++ rest) has in
+        ap (λ (y : SessionValue × List ℕ). done y.0) (ok_is (t, x.rest) (s, rest) (sym x.is ∙ front_again past s rest h taken))
+
+  pub front_not : {a : List ℕ → Type 0} {fault : FileFault} → Breaks a (front_after past) fault → (s : SessionValue) (rest : List ℕ) → IsSession s → IsTakenFrom past s → a (file_of s ++ rest) → ⊥
+  front_not {a} {fault} f s rest h taken has =
+      never fault (s, rest) (sym (f.breach (file_of s ++ rest) has) ∙ front_again past s rest h taken)
 
 -- ---- a feed of bytes that are in memory
 
@@ -435,24 +470,25 @@ pub record IsWhole (t s : SessionValue) (rest : List ℕ) : Type 0 where
   pub same : t ≡ s
   pub none : rest ≡ []
 
-pub front_whole : (bytes : List ℕ) (t : SessionValue) (rest : List ℕ) (s : SessionValue) → IsSession t → bytes ≡ file_of t ++ rest → IsSession s → bytes ≡ file_of s → IsWhole t s rest
-front_whole bytes t rest s h e k f =
-    let one : front_at bytes ≡ Ok (t, rest) = ap front_at e ∙ front_again t rest h in
-    let two : front_at bytes ≡ Ok (s, []) = ap front_at (f ∙ sym (append-nil (file_of s))) ∙ front_again s [] k in
+pub front_whole : (past : Option SessionValue) (bytes : List ℕ) (t : SessionValue) (rest : List ℕ) (s : SessionValue) → IsSession t → IsTakenFrom past t → bytes ≡ file_of t ++ rest → IsSession s → IsTakenFrom past s → bytes ≡ file_of s → IsWhole t s rest
+front_whole past bytes t rest s h th e k tk f =
+    let one : front_after past bytes ≡ Ok (t, rest) = ap (front_after past) e ∙ front_again past t rest h th in
+    let two : front_after past bytes ≡ Ok (s, []) = ap (front_after past) (f ∙ sym (append-nil (file_of s))) ∙ front_again past s [] k tk in
     let both = ok_is (t, rest) (s, []) (sym one ∙ two) in
     record { same = ap (λ (y : SessionValue × List ℕ). y.0) both; none = ap (λ (y : SessionValue × List ℕ). y.1) both }
 
-pub memory_breach : (bytes : List ℕ) (fault : FileFault) → CountsIf (is_device fault) 0 0 → IsUnlessStopped {A = SessionValue} (Err fault) (session_at bytes) → IsUnlessMemory {A = SessionValue} (Err fault) (file_at bytes)
-memory_breach bytes BadMagic c e = sym (file_breaks bytes BadMagic (sym e))
-memory_breach bytes Version c e = sym (file_breaks bytes Version (sym e))
-memory_breach bytes Truncated c e = sym (file_breaks bytes Truncated (sym e))
-memory_breach bytes BadDigest c e = sym (file_breaks bytes BadDigest (sym e))
-memory_breach bytes (KeyOrder i) c e = sym (file_breaks bytes (KeyOrder i) (sym e))
-memory_breach bytes (BadEdge i j) c e = sym (file_breaks bytes (BadEdge i j) (sym e))
-memory_breach bytes (BadResult i) c e = sym (file_breaks bytes (BadResult i) (sym e))
-memory_breach bytes (InputKind i) c e = sym (file_breaks bytes (InputKind i) (sym e))
-memory_breach bytes Trailing c e = sym (file_breaks bytes Trailing (sym e))
-memory_breach bytes Device c e = absurd (omega (arith, c))
-memory_breach bytes (BadKey i) c e = sym (file_breaks bytes (BadKey i) (sym e))
-memory_breach bytes Number c e = sym (file_breaks bytes Number (sym e))
-memory_breach bytes OutOfMemory c e = tt
+pub memory_breach : (past : Option SessionValue) (bytes : List ℕ) (fault : FileFault) → CountsIf (is_device fault) 0 0 → IsUnlessStopped {A = SessionValue} (Err fault) (session_after past bytes) → IsUnlessMemory {A = SessionValue} (Err fault) (file_after past bytes)
+memory_breach past bytes BadMagic c e = sym (file_breaks past bytes BadMagic (sym e))
+memory_breach past bytes Version c e = sym (file_breaks past bytes Version (sym e))
+memory_breach past bytes Truncated c e = sym (file_breaks past bytes Truncated (sym e))
+memory_breach past bytes BadDigest c e = sym (file_breaks past bytes BadDigest (sym e))
+memory_breach past bytes (KeyOrder i) c e = sym (file_breaks past bytes (KeyOrder i) (sym e))
+memory_breach past bytes (BadEdge i j) c e = sym (file_breaks past bytes (BadEdge i j) (sym e))
+memory_breach past bytes (BadResult i) c e = sym (file_breaks past bytes (BadResult i) (sym e))
+memory_breach past bytes (InputKind i) c e = sym (file_breaks past bytes (InputKind i) (sym e))
+memory_breach past bytes Trailing c e = sym (file_breaks past bytes Trailing (sym e))
+memory_breach past bytes Device c e = absurd (omega (arith, c))
+memory_breach past bytes (BadKey i) c e = sym (file_breaks past bytes (BadKey i) (sym e))
+memory_breach past bytes Number c e = sym (file_breaks past bytes Number (sym e))
+memory_breach past bytes (NoPastResult i) c e = sym (file_breaks past bytes (NoPastResult i) (sym e))
+memory_breach past bytes OutOfMemory c e = tt

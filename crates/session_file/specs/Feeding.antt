@@ -2,11 +2,11 @@
 use Rattle.std.specs.Prelude.{◌≡◌, ℕ, ◌<◌, Bool, true, false, List, ◌++◌, length, Result, Ok, Err}
 use Rattle.sha2.specs.Hashers.{Holds256}
 use Rattle.byte_readers.specs.Lawful.{IsBytes}
-use Rattle.session_file.specs.Devices.{one_more}
+use Rattle.devices.specs.Devices.{one_more}
 use Rattle.session_file.specs.Reading.{Parser}
 use Rattle.session_file.specs.declared.fault.FileFault.{FileFault}
 use Rattle.session_file.specs.declared.fault.FileFault.TheVariants.{Device, Truncated}
-use Rattle.session_file.specs.declared.hashing.HashingSink.{HashingSink}
+use Rattle.devices.specs.declared.hashing.HashingSink.{HashingSink}
 use Rattle.session_file.specs.declared.stop.Stop.{Stop}
 use Rattle.session_file.specs.declared.stop.Stop.TheVariants as stops
 

@@ -1,4 +1,3 @@
-pub mod Devices
 pub mod Parts
 pub mod Keys
 pub mod Reading

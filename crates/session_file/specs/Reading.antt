@@ -1,5 +1,5 @@
 -- Reading a session's file from left to right, with the first breach that is met.
-use Rattle.std.specs.Prelude.{◌≡◌, ℕ, zero, suc, ◌-◌, Bool, true, false, not, ◌&&◌, ◌||◌, List, [], ◌∷◌, ◌++◌, length, take, drop, slice_get, Option, Some, None, Result, Ok, Err, nat_lt, nat_le, bytes_eq, ◌==◌, if◌then◌else◌}
+use Rattle.std.specs.Prelude.{◌≡◌, ℕ, zero, suc, ◌-◌, Bool, true, false, not, ◌&&◌, ◌||◌, List, [], ◌∷◌, ◌++◌, length, take, drop, slice_get, Option, Some, None, option_map, Result, Ok, Err, nat_lt, nat_le, bytes_eq, ◌==◌, if◌then◌else◌}
 use Rattle.std.specs.Ordering.{is_lt}
 use Rattle.sha2.specs.Sha256.{sha256}
 use Rattle.item_ids.specs.declared.kind.Kind.{Kind}
@@ -12,10 +12,13 @@ use Rattle.result_bytes.specs.declared.value.Value.{Value}
 use Rattle.result_bytes.specs.Values.{decoding}
 use Rattle.fingerprint.specs.Prints.{print_of}
 use Rattle.sessions.specs.declared.mark.Mark.{Mark}
+use Rattle.sessions.specs.declared.terms.Form.{Form}
+use Rattle.sessions.specs.declared.terms.Terms.{Terms}
 use Rattle.sessions.specs.Marks.{is_input, is_input_mark}
-use Rattle.sessions.specs.Sessions.{most_number, RecordValue, SessionValue, rank, key_at}
+use Rattle.sessions.specs.Terms.{terms_with, ends_with_print}
+use Rattle.sessions.specs.Sessions.{most_number, RecordValue, SessionValue, Entry, rank, key_at, past_entry}
 use Rattle.session_file.specs.declared.fault.FileFault.{FileFault}
-use Rattle.session_file.specs.declared.fault.FileFault.TheVariants.{BadMagic, Version, Truncated, BadDigest, KeyOrder, BadEdge, Result as BadResult, InputKind, Trailing, Device, BadKey, Number, OutOfMemory}
+use Rattle.session_file.specs.declared.fault.FileFault.TheVariants.{BadMagic, Version, Truncated, BadDigest, KeyOrder, BadEdge, Result as BadResult, InputKind, Trailing, Device, BadKey, Number, NoPastResult, OutOfMemory}
 use Rattle.session_file.specs.Keys.{same, key_with, mark_with}
 
 infixl 10 ◌>>=◌
@@ -119,8 +122,12 @@ edges_at front key bytes = do
   n ← whole (eight_at bytes)
   edges_from front key [] n.0 n.1
 
+-- the value, where it has this fingerprint
+abbrev pub with_print : List ℕ → Value → Option Value
+with_print print v = if bytes_eq print (print_of v) then Some v else None
+
 abbrev pub value_with_print : List ℕ → Result Value Refusal → Option Value
-value_with_print print (Ok v) = if bytes_eq print (print_of v) then Some v else None
+value_with_print print (Ok v) = with_print print v
 value_with_print print (Err refusal) = None
 
 -- a value of a kind that has the fingerprint in front of it
@@ -131,27 +138,52 @@ result_at i kind bytes = do
   text ← bytes_at n.0 n.1
   there (BadResult i) (value_with_print print.0 (decoding kind text.0)) text.1
 
+-- What records are read over: the previous session, where there is one, and the form of the file.
+pub record OriginValue : Type 0 where
+  pub past : Option SessionValue
+  pub form : Form
+
+-- the result that the previous session has of a key
+abbrev pub past_value : Option SessionValue → Key → Option Value
+past_value past key = option_map (λ (r : Entry). r.value) (past_entry past key)
+
+abbrev pub past_with_print : List ℕ → Option Value → Option Value
+past_with_print print (Some v) = with_print print v
+past_with_print print None = None
+
+-- a fingerprint, which is that of the previous session's result
+unfoldable pub taken_at : ℕ → Option Value → Parser Value
+taken_at i had bytes = do
+  print ← bytes_at 32 bytes
+  there (NoPastResult i) (past_with_print print.0 had) print.1
+
+-- what a record ends with
+unfoldable pub told_at : OriginValue → ℕ → ItemValue → Parser Value
+told_at origin i item =
+    if ends_with_print origin.form item.mark then taken_at i (past_value origin.past item.key)
+    else result_at i (kind_of item.key)
+
 pub record RestValue : Type 0 where
   pub edges : List ℕ
   pub value : Value
 
 -- what follows a key and its mark
-unfoldable pub rest_at : List RecordValue → Key → Parser RestValue
-rest_at front key bytes = do
-  edges ← edges_at front key bytes
-  value ← result_at (length front) (kind_of key) edges.1
+unfoldable pub rest_at : OriginValue → List RecordValue → ItemValue → Parser RestValue
+rest_at origin front item bytes = do
+  edges ← edges_at front item.key bytes
+  value ← told_at origin (length front) item edges.1
   Ok (record { edges = edges.0; value = value.0 }, value.1)
 
 -- what follows a key and its mark, where these may follow the records in front
-unfoldable pub behind_item : List RecordValue → ItemValue → Parser RestValue
-behind_item front item bytes = do
+unfoldable pub behind_item : OriginValue → List RecordValue → ItemValue → Parser RestValue
+behind_item origin front item bytes = do
   place ← check_place front item
-  rest_at front item.key bytes
+  rest_at origin front item bytes
 
-unfoldable pub record_at : List RecordValue → Parser RecordValue
-record_at front bytes = do
+unfoldable pub record_at : OriginValue → List RecordValue → Parser RecordValue
+record_at origin front bytes = do
   item ← item_at (length front) bytes
-  rest ← behind_item front item.0 item.1
+  rest ← behind_item origin front item.0 item.1
   Ok (
     record { key = item.0.key; mark = item.0.mark; edges = rest.0.edges; value = rest.0.value },
     rest.1,
@@ -160,14 +192,15 @@ record_at front bytes = do
 -- ---- the file
 
 -- so many records, behind those in front of them
-unfoldable pub records_from : List RecordValue → ℕ → Parser (List RecordValue)
-records_from front zero bytes = Ok (front, bytes)
-records_from front (suc n) bytes = do
-  r ← record_at front bytes
-  records_from (front ++ r.0 ∷ []) n r.1
+unfoldable pub records_from : OriginValue → List RecordValue → ℕ → Parser (List RecordValue)
+records_from origin front zero bytes = Ok (front, bytes)
+records_from origin front (suc n) bytes = do
+  r ← record_at origin front bytes
+  records_from origin (front ++ r.0 ∷ []) n r.1
 
 -- what stands before the records
 pub record HeadValue : Type 0 where
+  pub terms : Terms
   pub number : ℕ
   pub link : List ℕ
   pub count : ℕ
@@ -191,12 +224,15 @@ unfoldable pub head_at : Parser HeadValue
 head_at bytes = do
   rest ← magic_at bytes
   version ← whole (two_at rest)
-  known ← demand (version.0 == 1) Version
-  number ← whole (four_at version.1)
+  terms ← there Version (terms_with version.0) version.1
+  number ← whole (four_at terms.1)
   small ← demand (nat_le number.0 most_number) Number
   link ← bytes_at 32 number.1
   count ← whole (eight_at link.1)
-  Ok (record { number = number.0; link = link.0; count = count.0 }, count.1)
+  Ok (
+    record { terms = terms.0; number = number.0; link = link.0; count = count.0 },
+    count.1,
+  )
 
 -- the digest of all before it
 unfoldable pub end_at : List ℕ → Parser (Unit {0})
@@ -205,22 +241,42 @@ end_at body bytes = do
   right ← demand (bytes_eq digest.0 (sha256 body)) BadDigest
   Ok (tt, digest.1)
 
--- the session with whose file the bytes begin, or the first breach
-unfoldable pub front_at : Parser SessionValue
-front_at bytes = do
-  head ← head_at bytes
-  records ← records_from [] head.0.count head.1
-  end ← end_at (take (length bytes - length records.1) bytes) records.1
-  Ok (record { number = head.0.number; link = head.0.link; records = records.0 }, end.1)
+-- the session that a head and records make
+abbrev pub session_of : HeadValue → List RecordValue → SessionValue
+session_of head records = record {
+  terms = head.terms;
+  number = head.number;
+  link = head.link;
+  records = records;
+}
 
-abbrev pub session_at : List ℕ → Result SessionValue FileFault
-session_at bytes = do
-  s ← front_at bytes
+-- the session over the previous one with whose file the bytes begin, or the first breach
+unfoldable pub front_after : Option SessionValue → Parser SessionValue
+front_after past bytes = do
+  head ← head_at bytes
+  records ← records_from (record { past = past; form = head.0.terms.form }) [] head.0.count head.1
+  end ← end_at (take (length bytes - length records.1) bytes) records.1
+  Ok (session_of head.0 records.0, end.1)
+
+abbrev pub session_after : Option SessionValue → List ℕ → Result SessionValue FileFault
+session_after past bytes = do
+  s ← front_after past bytes
   Ok s.0
 
--- the session whose file the bytes are, or the first breach; nothing follows the file
-unfoldable pub file_at : List ℕ → Result SessionValue FileFault
-file_at bytes = do
-  s ← front_at bytes
+-- the session over the previous one whose file the bytes are, or the first breach; nothing follows
+-- the file
+unfoldable pub file_after : Option SessionValue → List ℕ → Result SessionValue FileFault
+file_after past bytes = do
+  s ← front_after past bytes
   none ← demand (length s.1 == 0) Trailing
   Ok s.0
+
+-- the same where there is no previous session
+abbrev pub front_at : Parser SessionValue
+front_at = front_after None
+
+abbrev pub session_at : List ℕ → Result SessionValue FileFault
+session_at = session_after None
+
+abbrev pub file_at : List ℕ → Result SessionValue FileFault
+file_at = file_after None

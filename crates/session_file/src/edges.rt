@@ -4,11 +4,10 @@ ghost use Rattle.std.specs.List.{AllByRecursion};
 ghost use Rattle.session_file.specs.Reading.{edges_at, edges_from};
 ghost use Rattle.session_file.specs.Feeding.{CountsStop, Feeds};
 
-use crate::device::Feed;
 use crate::fault::FileFault;
-use crate::hashing::HashingSink;
 use crate::parts::eight;
 use crate::stop::Stop;
+use devices::{Feed, HashingSink};
 use item_ids::Key;
 use sessions::{Record, SeenEdges};
 use std::alloc::Global;
@@ -29,10 +28,8 @@ pub(crate) fn read_edges<F: Feed>(
     ensures counted { CountsStop result (F.failed feed.old) (F.failed feed.new) }
     ensures length { length seen.new ≡ length seen.old }
 {
-    match eight(feed, hash) {
-        Ok(count) => read_items(alloc, feed, hash, seen, front, key, count),
-        Err(stop) => Err(stop),
-    }
+    let count = eight(feed, hash)?;
+    read_items(alloc, feed, hash, seen, front, key, count)
 }
 
 /// Reads this many edges. Memory is only taken for edges that were there.
@@ -54,18 +51,12 @@ fn read_items<F: Feed>(
 {
     let mut edges = Vec::new(alloc);
     for _ in 0..count {
-        let edge = match eight(feed, hash) {
-            Ok(edge) => edge as usize,
-            Err(stop) => return Err(stop),
-        };
+        let edge = eight(feed, hash)? as usize;
         let admitted = seen.admit(front, key, edge);
         if !admitted {
             return Err(Stop::Breach(FileFault::BadEdge(front.len(), edges.len())));
         }
-        match edges.push(edge) {
-            Ok(()) => {}
-            Err(_) => return Err(Stop::Memory),
-        }
+        edges.push(edge)?;
     }
     Ok(edges)
 }

@@ -42,6 +42,9 @@ pub enum FileFault {
     /// The session's number is over 9,999.
     #[error("11.12 Number")]
     Number,
+    /// The previous session has no result of the key of this record with the fingerprint that stands for it.
+    #[error("11.13 NoPastResult({0})")]
+    NoPastResult(usize),
     /// Memory ran out.
     #[error("out of memory")]
     OutOfMemory,

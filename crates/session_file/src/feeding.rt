@@ -1,10 +1,9 @@
 //! Taking pieces of a file from a feed, and hashing them.
 ghost use Rattle.session_file.specs.Feeding.{CountsStop, Fills, Pulls};
 
-use crate::device::Feed;
 use crate::fault::FileFault;
-use crate::hashing::HashingSink;
 use crate::stop::Stop;
+use devices::{Feed, HashingSink};
 
 /// Fills the room with what the feed holds. Where that is less, it is a breach.
 fn fill<F: Feed>(feed: &mut F, room: &mut [u8]) -> Result<(), Stop>
@@ -32,11 +31,7 @@ pub(crate) fn pull<F: Feed>(
         result }
     ensures counted { CountsStop result (F.failed feed.old) (F.failed feed.new) }
 {
-    match fill(feed, room) {
-        Ok(()) => {
-            hash.add(room);
-            Ok(())
-        }
-        Err(stop) => Err(stop),
-    }
+    fill(feed, room)?;
+    hash.add(room);
+    Ok(())
 }

@@ -1,21 +1,24 @@
 //! Sessions from files.
-ghost use Rattle.std.specs.Prelude.{◌≡◌, ◌++◌, List, ℕ, [], Ok, IfOk};
+ghost use Rattle.std.specs.Prelude.{◌≡◌, ◌≢◌, ◌++◌, List, ℕ, [], None, Ok, IfOk, IfSome, IfNone};
+ghost use Rattle.std.specs.Option.{option_copied};
 ghost use Rattle.sha2.specs.Sha256.{sha256};
 ghost use Rattle.sha2.specs.Hashers.{Holds256};
-ghost use Rattle.sessions.specs.Sessions.{SessionValue, IsSession};
-ghost use Rattle.sessions.specs.Spelling.{file_of};
-ghost use Rattle.session_file.specs.Reading.{IsUnlessMemory, IsUnlessStopped, end_at, file_at, front_at, head_at, session_at, start_at};
+ghost use Rattle.sessions.specs.Sessions.{SessionValue, IsSession, IsTakenFrom};
+ghost use Rattle.sessions.specs.declared.terms.Terms.{Terms as TermsValue};
+ghost use Rattle.sessions.specs.Spelling.{file_of, start};
+ghost use Rattle.session_file.specs.Reading.{IsUnlessMemory, IsUnlessStopped, end_at, file_after, file_at, front_after, head_at, session_after, session_at, start_at};
 ghost use Rattle.session_file.specs.Feeding.{CountsDevice, CountsStop, Feeds, FeedsFront, Given};
 
-use crate::device::Feed;
 use crate::fault::FileFault;
 use crate::feeding::pull;
-use crate::hashing::HashingSink;
-use crate::memory::MemoryFeed;
+use crate::origin::{Origin, check_past};
 use crate::parts::{eight, four, thirty_two, two};
 use crate::records::read_records;
 use crate::stop::Stop;
-use sessions::Session;
+use crate::writing::start_of;
+use byteorder::{BigEndian, ByteOrder};
+use devices::{Feed, HashingSink, MemoryFeed};
+use sessions::{Session, Terms};
 use std::alloc::Global;
 
 /// What each session's file begins with.
@@ -24,23 +27,56 @@ const MAGIC: [u8; 4] = *b"MJRG";
 /// What stands before the records.
 #[derive(Clone, Copy)]
 struct Head {
+    terms: Terms,
     number: u32,
     link: [u8; 32],
     count: u64,
 }
 
-/// The session whose file the bytes are, or the first breach from the left.
+/// The terms of the files that begin so, or `None` where none do.
+pub fn terms_of_start(bytes: &[u8; 6]) -> Option<Terms>
+    ensures found { IfSome result (λ terms. bytes.now ≡ start terms) }
+    ensures none { IfNone result ((terms : TermsValue) → bytes.now ≢ start terms) }
+{
+    let version = [bytes[4], bytes[5]];
+    let terms = Terms::of_version(BigEndian::read_u16(&version))?;
+    if *bytes == start_of(terms) {
+        Some(terms)
+    } else {
+        None
+    }
+}
+
+/// The session whose file the bytes are, or the first breach from the left, where there is no previous session.
 pub fn read(alloc: Global, bytes: &[u8]) -> Result<Session, FileFault>
     // What is read is a session, and the bytes are its file.
     ensures found { IfOk result (λ s. IsSession s × (bytes.now ≡ file_of s)) }
-    // The file of a session is read, unless memory runs out.
-    ensures only { (s : SessionValue) → IsSession s → bytes.now ≡ file_of s
+    // In form 2 it has no green record.
+    ensures taken { IfOk result (IsTakenFrom None) }
+    // The file of such a session is read, unless memory runs out.
+    ensures only { (s : SessionValue) → IsSession s → IsTakenFrom None s → bytes.now ≡ file_of s
         → IsUnlessMemory result (Ok s) }
     // Which breach it is.
     ensures exact { IsUnlessMemory result (file_at bytes.now) }
 {
+    read_after(alloc, None, bytes)
+}
+
+/// The session over the previous one whose file the bytes are, or the first breach from the left.
+pub fn read_after(alloc: Global, past: Option<&Session>, bytes: &[u8]) -> Result<Session, FileFault>
+    // What is read is a session, and the bytes are its file.
+    ensures found { IfOk result (λ s. IsSession s × (bytes.now ≡ file_of s)) }
+    // In form 2 its green records stand in the previous session, with the same results.
+    ensures taken { IfOk result (IsTakenFrom (option_copied past.entry)) }
+    // The file of such a session is read, unless memory runs out.
+    ensures only { (s : SessionValue) → IsSession s → IsTakenFrom (option_copied past.entry) s
+        → bytes.now ≡ file_of s
+        → IsUnlessMemory result (Ok s) }
+    // Which breach it is.
+    ensures exact { IsUnlessMemory result (file_after (option_copied past.entry) bytes.now) }
+{
     let mut feed = MemoryFeed::new(bytes);
-    match read_from(alloc, &mut feed) {
+    match read_from_after(alloc, past, &mut feed) {
         Ok(session) => {
             if feed.rest().is_empty() {
                 Ok(session)
@@ -52,15 +88,18 @@ pub fn read(alloc: Global, bytes: &[u8]) -> Result<Session, FileFault>
     }
 }
 
-/// The session whose file the feed begins with, or the first breach from the left. Just that file is taken. Memory is
-/// only taken for bytes that were there. After a refusal the feed stands somewhere in the file.
+/// The session whose file the feed begins with, or the first breach from the left, where there is no previous session.
+/// Just that file is taken. Memory is only taken for bytes that were there. After a refusal the feed stands somewhere in
+/// the file.
 pub fn read_from<F: Feed>(alloc: Global, feed: &mut F) -> Result<Session, FileFault>
     // What is read is a session.
     ensures session { IfOk result IsSession }
+    // In form 2 it has no green record.
+    ensures taken { IfOk result (IsTakenFrom None) }
     // Its file was taken from what the feed held, and the rest is left, where the feed tells its bytes.
     ensures found { IfOk result (λ s. Given (F.holds feed.old) (F.holds feed.new) (file_of s)) }
-    // The file of a session is read, whatever follows it, unless memory runs out or the device fails.
-    ensures only { (s : SessionValue) (rest : List ℕ) → IsSession s
+    // The file of such a session is read, whatever follows it, unless memory runs out or the device fails.
+    ensures only { (s : SessionValue) (rest : List ℕ) → IsSession s → IsTakenFrom None s
         → F.holds feed.old (file_of s ++ rest)
         → IsUnlessStopped result (Ok s) }
     // Which breach it is.
@@ -69,7 +108,36 @@ pub fn read_from<F: Feed>(alloc: Global, feed: &mut F) -> Result<Session, FileFa
     // A failure of the device is answered exactly where it was counted.
     ensures counted { CountsDevice result (F.failed feed.old) (F.failed feed.new) }
 {
-    match read_session(alloc, feed) {
+    read_from_after(alloc, None, feed)
+}
+
+/// The session over the previous one whose file the feed begins with, or the first breach from the left. It shares the
+/// results that the previous session has, too. Just its file is taken. Memory is only taken for bytes that were there.
+/// After a refusal the feed stands somewhere in the file.
+pub fn read_from_after<F: Feed>(
+    alloc: Global,
+    past: Option<&Session>,
+    feed: &mut F,
+) -> Result<Session, FileFault>
+    // What is read is a session.
+    ensures session { IfOk result IsSession }
+    // In form 2 its green records stand in the previous session, with the same results.
+    ensures taken { IfOk result (IsTakenFrom (option_copied past.entry)) }
+    // Its file was taken from what the feed held, and the rest is left, where the feed tells its bytes.
+    ensures found { IfOk result (λ s. Given (F.holds feed.old) (F.holds feed.new) (file_of s)) }
+    // The file of such a session is read, whatever follows it, unless memory runs out or the device fails.
+    ensures only { (s : SessionValue) (rest : List ℕ) → IsSession s
+        → IsTakenFrom (option_copied past.entry) s
+        → F.holds feed.old (file_of s ++ rest)
+        → IsUnlessStopped result (Ok s) }
+    // Which breach it is.
+    ensures exact { (bytes : List ℕ) → F.holds feed.old bytes
+        → IsUnlessStopped result (session_after (option_copied past.entry) bytes) }
+    // A failure of the device is answered exactly where it was counted.
+    ensures counted { CountsDevice result (F.failed feed.old) (F.failed feed.new) }
+{
+    check_past(past);
+    match read_session(alloc, past, feed) {
         Ok(session) => Ok(session),
         Err(Stop::Memory) => Err(FileFault::OutOfMemory),
         Err(Stop::Device) => Err(FileFault::Device),
@@ -78,61 +146,49 @@ pub fn read_from<F: Feed>(alloc: Global, feed: &mut F) -> Result<Session, FileFa
 }
 
 /// Reads the file. The session keeps its SHA-256, for which each byte is hashed once.
-fn read_session<F: Feed>(alloc: Global, feed: &mut F) -> Result<Session, Stop>
-    ensures value { FeedsFront (F.holds feed.old) (F.holds feed.new) (λ x. x) result front_at }
+fn read_session<F: Feed>(
+    alloc: Global,
+    past: Option<&Session>,
+    feed: &mut F,
+) -> Result<Session, Stop>
+    requires { IfSome (option_copied past) IsSession }
+    ensures value { FeedsFront (F.holds feed.old) (F.holds feed.new) (λ x. x) result
+        (front_after (option_copied past.entry)) }
     ensures counted { CountsStop result (F.failed feed.old) (F.failed feed.new) }
 {
     let mut hash = HashingSink::new();
-    let head = match read_head(feed, &mut hash) {
-        Ok(head) => head,
-        Err(stop) => return Err(stop),
-    };
-    let records = match read_records(alloc, feed, &mut hash, head.count) {
-        Ok(records) => records,
-        Err(stop) => return Err(stop),
-    };
-    match read_end(feed, &mut hash) {
-        Ok(()) => Ok(Session::of(head.number, head.link, records).with_digest(hash.digest())),
-        Err(stop) => Err(stop),
-    }
+    let head = read_head(feed, &mut hash)?;
+    let mut origin = Origin::new(past, head.terms.form);
+    let records = read_records(alloc, feed, &mut hash, &mut origin, head.count)?;
+    read_end(feed, &mut hash)?;
+    let session = Session::of_as(head.terms, head.number, head.link, records);
+    Ok(session.with_digest(hash.digest()))
 }
 
 /// Reads what stands before the records.
 fn read_head<F: Feed>(feed: &mut F, hash: &mut HashingSink) -> Result<Head, Stop>
     ensures value { Feeds (F.holds feed.old) (F.holds feed.new) hash.old hash.new
-        (λ x. record { number = x.number; link = x.link; count = x.count }) result head_at }
+        (λ x. record { terms = x.terms; number = x.number; link = x.link; count = x.count }) result
+        head_at }
     ensures counted { CountsStop result (F.failed feed.old) (F.failed feed.new) }
 {
-    match read_start(feed, hash) {
-        Ok(()) => {}
-        Err(stop) => return Err(stop),
-    }
-    let version = match two(feed, hash) {
-        Ok(version) => version,
-        Err(stop) => return Err(stop),
-    };
-    if version != 1 {
+    read_start(feed, hash)?;
+    let version = two(feed, hash)?;
+    let Some(terms) = Terms::of_version(version) else {
         return Err(Stop::Breach(FileFault::Version));
-    }
-    let number = match four(feed, hash) {
-        Ok(number) => number,
-        Err(stop) => return Err(stop),
     };
+    let number = four(feed, hash)?;
     if number > Session::MOST {
         return Err(Stop::Breach(FileFault::Number));
     }
-    let link = match thirty_two(feed, hash) {
-        Ok(link) => link,
-        Err(stop) => return Err(stop),
-    };
-    match eight(feed, hash) {
-        Ok(count) => Ok(Head {
-            number,
-            link,
-            count,
-        }),
-        Err(stop) => Err(stop),
-    }
+    let link = thirty_two(feed, hash)?;
+    let count = eight(feed, hash)?;
+    Ok(Head {
+        terms,
+        number,
+        link,
+        count,
+    })
 }
 
 /// Reads the first four bytes, which begin each file.
@@ -161,14 +217,10 @@ fn read_end<F: Feed>(feed: &mut F, hash: &mut HashingSink) -> Result<(), Stop>
     ensures counted { CountsStop result (F.failed feed.old) (F.failed feed.new) }
 {
     let end = hash.so_far();
-    match thirty_two(feed, hash) {
-        Ok(digest) => {
-            if digest == end {
-                Ok(())
-            } else {
-                Err(Stop::Breach(FileFault::BadDigest))
-            }
-        }
-        Err(stop) => Err(stop),
+    let digest = thirty_two(feed, hash)?;
+    if digest == end {
+        Ok(())
+    } else {
+        Err(Stop::Breach(FileFault::BadDigest))
     }
 }

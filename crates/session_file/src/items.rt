@@ -7,11 +7,10 @@ ghost use Rattle.session_file.specs.Keys.{key_of_kind, key_with, mark_with};
 ghost use Rattle.session_file.specs.Reading.{item_at, item_with};
 ghost use Rattle.session_file.specs.Feeding.{CountsStop, Feeds};
 
-use crate::device::Feed;
 use crate::fault::FileFault;
-use crate::hashing::HashingSink;
 use crate::parts::{byte, text};
 use crate::stop::Stop;
+use devices::{Feed, HashingSink};
 use item_ids::{Key, Kind};
 use mj_lexer::Name;
 use sessions::Mark;
@@ -46,22 +45,11 @@ pub(crate) fn read_item<F: Feed>(
 {
     let mut class_room = [0; 255];
     let mut member_room = [0; 255];
-    let kind = match byte(feed, hash) {
-        Ok(kind) => kind,
-        Err(stop) => return Err(stop),
-    };
-    let class = match text(feed, hash, &mut class_room) {
-        Ok(count) => &class_room[..count],
-        Err(stop) => return Err(stop),
-    };
-    let member = match text(feed, hash, &mut member_room) {
-        Ok(count) => &member_room[..count],
-        Err(stop) => return Err(stop),
-    };
-    let mark = match byte(feed, hash) {
-        Ok(mark) => mark,
-        Err(stop) => return Err(stop),
-    };
+    let kind = byte(feed, hash)?;
+    let class_len = text(feed, hash, &mut class_room)?;
+    let member_len = text(feed, hash, &mut member_room)?;
+    let mark = byte(feed, hash)?;
+    let (class, member) = (&class_room[..class_len], &member_room[..member_len]);
     match item_of(alloc, kind, class, member, mark) {
         Ok(Some(item)) => Ok(item),
         Ok(None) => Err(Stop::Breach(FileFault::BadKey(index))),

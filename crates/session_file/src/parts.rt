@@ -5,11 +5,10 @@ ghost use Rattle.session_file.specs.Reading.{bytes_at, text_at, whole};
 ghost use Rattle.mj_lexer.specs.Bytes.{most_name_bytes};
 ghost use Rattle.session_file.specs.Feeding.{Appends, CountsStop, Feeds};
 
-use crate::device::Feed;
 use crate::feeding::pull;
-use crate::hashing::HashingSink;
 use crate::stop::Stop;
 use byteorder::{BigEndian, ByteOrder};
+use devices::{Feed, HashingSink};
 use std::alloc::Global;
 
 /// A number of eight bytes.
@@ -19,10 +18,8 @@ pub(crate) fn eight<F: Feed>(feed: &mut F, hash: &mut HashingSink) -> Result<u64
     ensures counted { CountsStop result (F.failed feed.old) (F.failed feed.new) }
 {
     let mut room = [0; 8];
-    match pull(feed, hash, &mut room) {
-        Ok(()) => Ok(BigEndian::read_u64(&room)),
-        Err(stop) => Err(stop),
-    }
+    pull(feed, hash, &mut room)?;
+    Ok(BigEndian::read_u64(&room))
 }
 
 /// A number of four bytes.
@@ -32,10 +29,8 @@ pub(crate) fn four<F: Feed>(feed: &mut F, hash: &mut HashingSink) -> Result<u32,
     ensures counted { CountsStop result (F.failed feed.old) (F.failed feed.new) }
 {
     let mut room = [0; 4];
-    match pull(feed, hash, &mut room) {
-        Ok(()) => Ok(BigEndian::read_u32(&room)),
-        Err(stop) => Err(stop),
-    }
+    pull(feed, hash, &mut room)?;
+    Ok(BigEndian::read_u32(&room))
 }
 
 /// A number of two bytes.
@@ -45,10 +40,8 @@ pub(crate) fn two<F: Feed>(feed: &mut F, hash: &mut HashingSink) -> Result<u16, 
     ensures counted { CountsStop result (F.failed feed.old) (F.failed feed.new) }
 {
     let mut room = [0; 2];
-    match pull(feed, hash, &mut room) {
-        Ok(()) => Ok(BigEndian::read_u16(&room)),
-        Err(stop) => Err(stop),
-    }
+    pull(feed, hash, &mut room)?;
+    Ok(BigEndian::read_u16(&room))
 }
 
 /// One byte.
@@ -58,10 +51,8 @@ pub(crate) fn byte<F: Feed>(feed: &mut F, hash: &mut HashingSink) -> Result<u8, 
     ensures counted { CountsStop result (F.failed feed.old) (F.failed feed.new) }
 {
     let mut room = [0; 1];
-    match pull(feed, hash, &mut room) {
-        Ok(()) => Ok(room[0]),
-        Err(stop) => Err(stop),
-    }
+    pull(feed, hash, &mut room)?;
+    Ok(room[0])
 }
 
 /// The bytes of a digest.
@@ -71,10 +62,8 @@ pub(crate) fn thirty_two<F: Feed>(feed: &mut F, hash: &mut HashingSink) -> Resul
     ensures counted { CountsStop result (F.failed feed.old) (F.failed feed.new) }
 {
     let mut room = [0; 32];
-    match pull(feed, hash, &mut room) {
-        Ok(()) => Ok(room),
-        Err(stop) => Err(stop),
-    }
+    pull(feed, hash, &mut room)?;
+    Ok(room)
 }
 
 /// One byte of length, and so many bytes, which are moved to the front of the room. Answers how many there are.
@@ -88,16 +77,9 @@ pub(crate) fn text<F: Feed>(
     ensures short { IfOk result (λ count. count ≤ most_name_bytes) }
     ensures counted { CountsStop result (F.failed feed.old) (F.failed feed.new) }
 {
-    match byte(feed, hash) {
-        Ok(count) => {
-            let count = count as usize;
-            match pull(feed, hash, &mut room[..count]) {
-                Ok(()) => Ok(count),
-                Err(stop) => Err(stop),
-            }
-        }
-        Err(stop) => Err(stop),
-    }
+    let count = byte(feed, hash)? as usize;
+    pull(feed, hash, &mut room[..count])?;
+    Ok(count)
 }
 
 /// The greatest number of bytes that are taken at a time.
@@ -118,10 +100,8 @@ pub(crate) fn bytes<F: Feed>(
     let mut left = count;
     while left > 0 {
         let step = left.min(PIECE as u64);
-        match piece(feed, hash, &mut text, step as usize) {
-            Ok(()) => left -= step,
-            Err(stop) => return Err(stop),
-        }
+        piece(feed, hash, &mut text, step as usize)?;
+        left -= step;
     }
     Ok(text)
 }
@@ -139,11 +119,7 @@ fn piece<F: Feed>(
     ensures counted { CountsStop result (F.failed feed.old) (F.failed feed.new) }
 {
     let mut room = [0; PIECE];
-    match pull(feed, hash, &mut room[..count]) {
-        Ok(()) => {
-            text.extend_from_slice(&room[..count])?;
-            Ok(())
-        }
-        Err(stop) => Err(stop),
-    }
+    pull(feed, hash, &mut room[..count])?;
+    text.extend_from_slice(&room[..count])?;
+    Ok(())
 }

@@ -3,17 +3,17 @@ ghost use Rattle.std.specs.Prelude.{◌≡◌, false, [], length, IfErr, OnOk};
 ghost use Rattle.std.specs.Arc.{arc_value};
 ghost use Rattle.std.specs.List.{AllByRecursion};
 ghost use Rattle.std.specs.Option.{option_copied};
-ghost use Rattle.session_file.specs.Reading.{behind_item, is_behind, check_place, record_at, records_from, rest_at};
+ghost use Rattle.session_file.specs.Reading.{behind_item, is_behind, check_place, record_at, records_from, rest_at, told_at};
 ghost use Rattle.session_file.specs.Feeding.{CountsStop, Feeds, is_device};
 ghost use Rattle.session_file.specs.Records.{AppendsRecord};
 
-use crate::device::Feed;
 use crate::edges::read_edges;
 use crate::fault::FileFault;
-use crate::hashing::HashingSink;
 use crate::items::{Item, read_item};
-use crate::results::read_result;
+use crate::origin::Origin;
+use crate::results::{read_result, take_result};
 use crate::stop::Stop;
+use devices::{Feed, HashingSink};
 use fingerprint::Sealed;
 use item_ids::Key;
 use sessions::{Record, SeenEdges, is_marked};
@@ -32,19 +32,17 @@ pub(crate) fn read_records<F: Feed>(
     alloc: Global,
     feed: &mut F,
     hash: &mut HashingSink,
+    origin: &mut Origin<'_>,
     count: u64,
 ) -> Result<Vec<Record>, Stop>
     ensures value { Feeds (F.holds feed.old) (F.holds feed.new) hash.old hash.new (λ x. x.items)
-        result (records_from [] count) }
+        result (records_from origin.old [] count) }
     ensures counted { CountsStop result (F.failed feed.old) (F.failed feed.new) }
 {
     let mut seen = SeenEdges::new(alloc);
     let mut records = Vec::new(alloc);
     for _ in 0..count {
-        match next_record(alloc, feed, hash, &mut seen, &mut records) {
-            Ok(()) => {}
-            Err(stop) => return Err(stop),
-        }
+        next_record(alloc, feed, hash, origin, &mut seen, &mut records)?;
     }
     Ok(records)
 }
@@ -54,25 +52,23 @@ fn next_record<F: Feed>(
     alloc: Global,
     feed: &mut F,
     hash: &mut HashingSink,
+    origin: &mut Origin<'_>,
     seen: &mut SeenEdges,
     records: &mut Vec<Record>,
 ) -> Result<(), Stop>
     requires length { length seen.old ≡ length records.old.items }
     requires unseen { AllByRecursion (λ b. b ≡ false) seen.old }
-    ensures value { AppendsRecord (F.holds feed.old) (F.holds feed.new) hash.old hash.new
+    ensures value { AppendsRecord (F.holds feed.old) (F.holds feed.new) hash.old hash.new origin.old
         records.old.items records.new.items result }
+    ensures same { origin.new ≡ origin.old }
     ensures counted { CountsStop result (F.failed feed.old) (F.failed feed.new) }
     ensures length { OnOk result (length seen.new ≡ length records.new.items) }
     ensures unseen { OnOk result (AllByRecursion (λ b. b ≡ false) seen.new) }
 {
-    match read_record(alloc, feed, hash, seen, records) {
-        Ok(next) => {
-            records.push(next)?;
-            seen.next()?;
-            Ok(())
-        }
-        Err(stop) => Err(stop),
-    }
+    let next = read_record(alloc, feed, hash, origin, seen, records)?;
+    records.push(next)?;
+    seen.next()?;
+    Ok(())
 }
 
 /// Reads the record behind those in front.
@@ -80,26 +76,21 @@ fn read_record<F: Feed>(
     alloc: Global,
     feed: &mut F,
     hash: &mut HashingSink,
+    origin: &mut Origin<'_>,
     seen: &mut SeenEdges,
     front: &[Record],
 ) -> Result<Record, Stop>
     requires length { length seen.old ≡ length front.now }
     requires unseen { AllByRecursion (λ b. b ≡ false) seen.old }
     ensures value { Feeds (F.holds feed.old) (F.holds feed.new) hash.old hash.new (λ x. x) result
-        (record_at front.now) }
+        (record_at origin.old front.now) }
+    ensures same { origin.new ≡ origin.old }
     ensures counted { CountsStop result (F.failed feed.old) (F.failed feed.new) }
     ensures length { length seen.new ≡ length seen.old }
 {
-    match read_item(alloc, feed, hash, front.len()) {
-        Ok(item) => match read_behind(alloc, feed, hash, seen, front, &item) {
-            Ok(rest) => Ok(Record::new(item.key, item.mark, rest.edges, rest.sealed)),
-            Err(stop) => {
-                drop(item);
-                Err(stop)
-            }
-        },
-        Err(stop) => Err(stop),
-    }
+    let item = read_item(alloc, feed, hash, front.len())?;
+    let rest = read_behind(alloc, feed, hash, origin, seen, front, &item)?;
+    Ok(Record::new(item.key, item.mark, rest.edges, rest.sealed))
 }
 
 /// Reads what follows a key and its mark, where these may follow the records in front.
@@ -107,6 +98,7 @@ fn read_behind<F: Feed>(
     alloc: Global,
     feed: &mut F,
     hash: &mut HashingSink,
+    origin: &mut Origin<'_>,
     seen: &mut SeenEdges,
     front: &[Record],
     item: &Item,
@@ -115,12 +107,13 @@ fn read_behind<F: Feed>(
     requires unseen { AllByRecursion (λ b. b ≡ false) seen.old }
     ensures value { Feeds (F.holds feed.old) (F.holds feed.new) hash.old hash.new
         (λ x. record { edges = x.edges.items; value = arc_value x.sealed }) result
-        (behind_item front.now item.now) }
+        (behind_item origin.old front.now item.now) }
+    ensures same { origin.new ≡ origin.old }
     ensures counted { CountsStop result (F.failed feed.old) (F.failed feed.new) }
     ensures length { length seen.new ≡ length seen.old }
 {
     match check_place(front, item) {
-        Ok(()) => read_rest(alloc, feed, hash, seen, front, &item.key),
+        Ok(()) => read_rest(alloc, feed, hash, origin, seen, front, item),
         Err(fault) => Err(Stop::Breach(fault)),
     }
 }
@@ -155,24 +148,43 @@ fn read_rest<F: Feed>(
     alloc: Global,
     feed: &mut F,
     hash: &mut HashingSink,
+    origin: &mut Origin<'_>,
     seen: &mut SeenEdges,
     front: &[Record],
-    key: &Key,
+    item: &Item,
 ) -> Result<Rest, Stop>
     requires length { length seen.old ≡ length front.now }
     requires unseen { AllByRecursion (λ b. b ≡ false) seen.old }
     ensures value { Feeds (F.holds feed.old) (F.holds feed.new) hash.old hash.new
         (λ x. record { edges = x.edges.items; value = arc_value x.sealed }) result
-        (rest_at front.now key.now) }
+        (rest_at origin.old front.now item.now) }
+    ensures same { origin.new ≡ origin.old }
     ensures counted { CountsStop result (F.failed feed.old) (F.failed feed.new) }
     ensures length { length seen.new ≡ length seen.old }
 {
-    let edges = match read_edges(alloc, feed, hash, seen, front, key) {
-        Ok(edges) => edges,
-        Err(stop) => return Err(stop),
-    };
-    match read_result(alloc, feed, hash, front.len(), key.kind()) {
-        Ok(sealed) => Ok(Rest { edges, sealed }),
-        Err(stop) => Err(stop),
+    let edges = read_edges(alloc, feed, hash, seen, front, &item.key)?;
+    let sealed = read_told(alloc, feed, hash, origin, front.len(), item)?;
+    Ok(Rest { edges, sealed })
+}
+
+/// Reads what the record at an index ends with.
+fn read_told<F: Feed>(
+    alloc: Global,
+    feed: &mut F,
+    hash: &mut HashingSink,
+    origin: &mut Origin<'_>,
+    index: usize,
+    item: &Item,
+) -> Result<Arc<Sealed>, Stop>
+    ensures value { Feeds (F.holds feed.old) (F.holds feed.new) hash.old hash.new (λ x. arc_value x)
+        result (told_at origin.old index item.now) }
+    ensures same { origin.new ≡ origin.old }
+    ensures counted { CountsStop result (F.failed feed.old) (F.failed feed.new) }
+{
+    let had = origin.result_of(&item.key);
+    if origin.ends_with_print(item.mark) {
+        take_result(feed, hash, had, index)
+    } else {
+        read_result(alloc, feed, hash, had, index, item.key.kind())
     }
 }

@@ -6,7 +6,7 @@ use crate::fault::FileFault;
 use std::alloc::{AllocError, AllocFailed};
 
 /// Why nothing was read.
-#[derive(Drop)]
+#[derive(Clone, Copy)]
 pub enum Stop {
     /// Memory ran out.
     Memory,

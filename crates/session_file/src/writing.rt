@@ -6,22 +6,17 @@ ghost use Rattle.sha2.specs.Sha256.{sha256};
 ghost use Rattle.item_ids.specs.Kinds.{text_of};
 ghost use Rattle.mj_lexer.specs.Bytes.{most_name_bytes};
 ghost use Rattle.byte_readers.specs.Spelling.{eight};
-ghost use Rattle.sessions.specs.Spelling.{body_bytes, digest_of, file_of, head_bytes, record_bytes, result_bytes};
-ghost use Rattle.session_file.specs.Devices.{Counts, Puts};
+ghost use Rattle.sessions.specs.Spelling.{body_bytes, digest_of, file_of, head_bytes, record_bytes, result_bytes, start, told_bytes};
+ghost use Rattle.devices.specs.Devices.{Counts, Puts};
 ghost use Rattle.session_file.specs.Parts.{front_bytes};
 
-use crate::device::{DeviceFault, Sink};
 use crate::fault::FileFault;
-use crate::hashing::HashingSink;
-use crate::putting::{put_all, put_parts};
 use byte_readers::{eight_bytes, four_bytes};
+use devices::{DeviceFault, HashingSink, Sink, put_all, put_parts};
 use fingerprint::Sealed;
 use mj_lexer::Name;
-use sessions::{Record, Session};
+use sessions::{Form, Mark, Record, Session, Terms};
 use std::thread::{Threads, join};
-
-/// What each session's file begins with: `MJRG`, and version 1.
-const START: [u8; 6] = [0x4d, 0x4a, 0x52, 0x47, 0, 1];
 
 /// Appends the session's file; where the sink fails it has a beginning of the file. Only the sink takes memory.
 pub fn write<W: Sink>(session: &Session, sink: &mut W) -> Result<(), FileFault>
@@ -140,7 +135,7 @@ fn put_body<W: Sink>(sink: &mut W, session: &Session) -> Result<(), DeviceFault>
     ensures counted { Counts result (W.failed sink.old) (W.failed sink.new) }
 {
     match put_head(sink, session) {
-        Ok(()) => put_records(sink, session.records()),
+        Ok(()) => put_records(sink, session.terms().form, session.records()),
         Err(fault) => Err(fault),
     }
 }
@@ -150,12 +145,13 @@ fn put_head<W: Sink>(sink: &mut W, session: &Session) -> Result<(), DeviceFault>
     ensures holds { Puts (W.holds sink.old) (W.holds sink.new) (head_bytes session.now) result }
     ensures counted { Counts result (W.failed sink.old) (W.failed sink.new) }
 {
+    let start = start_of(session.terms());
     let number = four_bytes(session.number());
     let count = eight_bytes(session.records().len() as u64);
     put_parts(
         sink,
         &[
-            START.as_slice(),
+            start.as_slice(),
             number.as_slice(),
             session.link().as_slice(),
             count.as_slice(),
@@ -163,14 +159,23 @@ fn put_head<W: Sink>(sink: &mut W, session: &Session) -> Result<(), DeviceFault>
     )
 }
 
+/// What a file of these terms begins with: `MJRG`, and the two bytes of the version.
+pub(crate) fn start_of(terms: Terms) -> [u8; 6]
+    ensures { result ≡ start terms }
+{
+    let form = terms.form.number();
+    let profile = terms.profile.number();
+    [0x4d, 0x4a, 0x52, 0x47, form, profile]
+}
+
 /// Appends the records.
-fn put_records<W: Sink>(sink: &mut W, records: &[Record]) -> Result<(), DeviceFault>
+fn put_records<W: Sink>(sink: &mut W, form: Form, records: &[Record]) -> Result<(), DeviceFault>
     ensures holds { Puts (W.holds sink.old) (W.holds sink.new)
-        (flat_map record_bytes records.now) result }
+        (flat_map (record_bytes form) records.now) result }
     ensures counted { Counts result (W.failed sink.old) (W.failed sink.new) }
 {
     for item in records {
-        match put_record(sink, item) {
+        match put_record(sink, form, item) {
             Ok(()) => {}
             Err(fault) => return Err(fault),
         }
@@ -179,12 +184,12 @@ fn put_records<W: Sink>(sink: &mut W, records: &[Record]) -> Result<(), DeviceFa
 }
 
 /// Appends a record.
-fn put_record<W: Sink>(sink: &mut W, item: &Record) -> Result<(), DeviceFault>
-    ensures holds { Puts (W.holds sink.old) (W.holds sink.new) (record_bytes item.now) result }
+fn put_record<W: Sink>(sink: &mut W, form: Form, item: &Record) -> Result<(), DeviceFault>
+    ensures holds { Puts (W.holds sink.old) (W.holds sink.new) (record_bytes form item.now) result }
     ensures counted { Counts result (W.failed sink.old) (W.failed sink.new) }
 {
     match put_front(sink, item) {
-        Ok(()) => put_rest(sink, item),
+        Ok(()) => put_rest(sink, form, item),
         Err(fault) => Err(fault),
     }
 }
@@ -222,15 +227,34 @@ fn text(name: Option<&Name>) -> &[u8]
     }
 }
 
-/// Appends the edges and the result.
-fn put_rest<W: Sink>(sink: &mut W, item: &Record) -> Result<(), DeviceFault>
+/// Appends the edges, and what the record ends with.
+fn put_rest<W: Sink>(sink: &mut W, form: Form, item: &Record) -> Result<(), DeviceFault>
     ensures holds { Puts (W.holds sink.old) (W.holds sink.new)
-        (flat_map eight item.now.edges ++ result_bytes item.now.value) result }
+        (flat_map eight item.now.edges ++ told_bytes form item.now.mark item.now.value) result }
     ensures counted { Counts result (W.failed sink.old) (W.failed sink.new) }
 {
     match put_edges(sink, item.edges()) {
-        Ok(()) => put_result(sink, item.sealed()),
+        Ok(()) => put_told(sink, form, item.mark(), item.sealed()),
         Err(fault) => Err(fault),
+    }
+}
+
+/// Appends what a record of this mark ends with.
+#[tactic(auto, unfolding(sessions::specs::Spelling::told_bytes))]
+fn put_told<W: Sink>(
+    sink: &mut W,
+    form: Form,
+    mark: Mark,
+    sealed: &Sealed,
+) -> Result<(), DeviceFault>
+    ensures holds { Puts (W.holds sink.old) (W.holds sink.new) (told_bytes form mark sealed.now)
+        result }
+    ensures counted { Counts result (W.failed sink.old) (W.failed sink.new) }
+{
+    if form.ends_with_print(mark) {
+        put_all(sink, sealed.print().0.as_slice())
+    } else {
+        put_result(sink, sealed)
     }
 }
 

@@ -1,5 +1,5 @@
 -- The text of a session.
-use Rattle.std.specs.Prelude.{◌≡◌, ℕ, ◌+◌, List, [], ◌∷◌, ◌++◌, length, Option, Some, None, Err, codes, decimal, flat_map}
+use Rattle.std.specs.Prelude.{ℕ, ◌+◌, List, [], ◌∷◌, ◌++◌, length, Option, Some, None, codes, decimal, flat_map}
 use Rattle.hex.specs.Hex.{encode_lower}
 use Rattle.item_ids.specs.declared.key.Key.{Key}
 use Rattle.item_ids.specs.declared.kind.Kind.{Kind}
@@ -8,11 +8,8 @@ use Rattle.item_ids.specs.Keys.{kind_of, class_of, member_of}
 use Rattle.fingerprint.specs.Prints.{print_of}
 use Rattle.sessions.specs.declared.mark.Mark.{Mark}
 use Rattle.sessions.specs.declared.mark.Mark.TheVariants.{Input, Executed, Green}
-use Rattle.sessions.specs.Sessions.{RecordValue, SessionValue, IsSession}
-use Rattle.sessions.specs.Spelling.{file_of}
-use Rattle.session_file.specs.Reading.{file_at}
-use Rattle.session_file.specs.declared.fault.FileFault.{FileFault}
-use Rattle.session_file.specs.declared.fault.FileFault.TheVariants.{OutOfMemory}
+use Rattle.sessions.specs.Sessions.{RecordValue, SessionValue}
+use Rattle.sessions.specs.Terms.{version_of}
 
 abbrev pub kind_word : Kind → List ℕ
 kind_word kinds.Files = codes "Files"
@@ -64,17 +61,5 @@ lines_from i (r ∷ rs) = record_line i r ++ lines_from (i + 1) rs
 -- session 0 version 1 records 12, and then the records
 abbrev pub text_of : SessionValue → List ℕ
 text_of s =
-    codes "session " ++ decimal s.number ++ codes " version 1 records "
-    ++ decimal (length s.records) ++ codes "\n" ++ lines_from 0 s.records
-
--- the bytes are the file of a session, which has this text
-pub record IsTextOfFile (bytes text : List ℕ) : Type 0 where
-  pub session : SessionValue
-  pub kept : IsSession session
-  pub spelled : bytes ≡ file_of session
-  pub shown : text ≡ text_of session
-
--- the bytes are the file of no session, for this reason, or memory ran out
-abbrev pub RefusesFile : List ℕ → FileFault → Type 0
-RefusesFile bytes OutOfMemory = Unit {0}
-RefusesFile bytes fault = file_at bytes ≡ Err fault
+    codes "session " ++ decimal s.number ++ codes " version " ++ decimal (version_of s.terms)
+    ++ codes " records " ++ decimal (length s.records) ++ codes "\n" ++ lines_from 0 s.records

@@ -26,6 +26,7 @@ pub fn write_fault(text: &mut String, fault: FileFault) -> Result<(), AllocError
         FileFault::Device => text.push_str("11.10 Device"),
         FileFault::BadKey(n) => write!(text, "11.11 BadKey({n})"),
         FileFault::Number => text.push_str("11.12 Number"),
+        FileFault::NoPastResult(n) => write!(text, "11.13 NoPastResult({n})"),
         FileFault::OutOfMemory => Err(AllocError),
     }
 }

@@ -3,10 +3,8 @@
 #![tactic(auto)]
 
 mod faults;
-mod file;
 mod text;
 mod words;
 
 pub use faults::write_fault;
-pub use file::file_text;
 pub use text::session_text;

@@ -15,8 +15,8 @@ pub fn session_text(alloc: Global, session: &Session) -> Result<String, AllocErr
     ensures { IfOk result (λ text. string_bytes text ≡ text_of session.now) }
 {
     let records = session.records();
-    let (number, count) = (session.number(), records.len());
-    let mut text = format!(in alloc; "session {number} version 1 records {count}\n")?;
+    let (number, version, count) = (session.number(), session.terms().version(), records.len());
+    let mut text = format!(in alloc; "session {number} version {version} records {count}\n")?;
     write_records(alloc, &mut text, records)?;
     Ok(text)
 }

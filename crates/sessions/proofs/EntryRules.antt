@@ -1,5 +1,5 @@
 -- What a session says about a key, by its records.
-use Rattle.std.proofs.Common.{◌≡◌, ◌≢◌, ℕ, suc, zero, ◌<◌, ◌≤◌, Bool, true, false, cond, List, [], ◌∷◌, map, take, length, get_or, find, Option, Some, None, option_map, All, inl, inr, refl, sym, ap, ◌∙◌, subst, arith}
+use Rattle.std.proofs.Common.{◌≡◌, ◌≢◌, ℕ, suc, zero, ◌<◌, ◌≤◌, ◌^◌, Bool, true, false, cond, List, [], ◌∷◌, map, take, length, get_or, find, Option, Some, None, option_map, All, inl, inr, refl, sym, ap, ◌∙◌, subst, arith}
 use Rattle.std.specs.Prelude.{Contains, HoldsAt}
 use Rattle.std.specs.List.Sorted.{IsNonDecreasingBy, IsPartitionPoint}
 use Rattle.std.specs.List.{AllByRecursion}
@@ -13,7 +13,7 @@ use Rattle.item_ids.specs.declared.key.Key.{Key}
 use Rattle.item_ids.specs.declared.key.Key.TheVariants.{Files}
 use Rattle.item_ids.specs.Keys.{key_cmp, key_total, kind_of}
 use Rattle.item_ids.proofs.Apart.{key_exact, key_itself}
-use Rattle.result_bytes.specs.Values.{kind_of_value}
+use Rattle.result_bytes.specs.Values.{IsValue, canon, kind_of_value}
 use Rattle.sessions.specs.Sessions.{RecordValue, SessionValue, IsSession, FitsBehind, AreRecords, IsEdge, IsAbove, AreInside, AreBelow, AreOnce, AreDistinct, rank, key_at, entry_of, entry_at, Entry}
 
 -- ---- look-ups
@@ -85,7 +85,7 @@ equal_from Equal h = refl
 equal_from Greater h = absurd cc
 
 -- what is found passes
-found_yes : {X : Type 0} (p : X → Bool) (xs : List X) (x : X) → find p xs ≡ Some x → p x ≡ true
+pub found_yes : {X : Type 0} (p : X → Bool) (xs : List X) (x : X) → find p xs ≡ Some x → p x ≡ true
 found_yes p [] x e = absurd (none-some x e)
 found_yes {X} p (y ∷ ys) x e =
     (elim (p y) as (λ b. p y ≡ b → cond b (Some y) (find p ys) ≡ Some x → p x ≡ true) [
@@ -93,7 +93,7 @@ found_yes {X} p (y ∷ ys) x e =
       | false ↦ λ fail h. found_yes p ys x h
     ]) refl e
 
-some_map : {A B : Type 0} (f : A → B) (o : Option A) (y : B) → option_map f o ≡ Some y → (x : A) × (o ≡ Some x) × (f x ≡ y)
+pub some_map : {A B : Type 0} (f : A → B) (o : Option A) (y : B) → option_map f o ≡ Some y → (x : A) × (o ≡ Some x) × (f x ≡ y)
 some_map f None y e = absurd (none-some y e)
 some_map f (Some x) y e = (x, refl, same_Some (f x) y e)
 
@@ -143,6 +143,16 @@ module _ (s : SessionValue) (session : IsSession s) (q : Key) (r : Entry) (has :
 
   same_record_key : found.0.key ≡ q
   same_record_key = key_exact found.0.key q (equal_from (key_cmp found.0.key q) (found_yes (λ x. is_eq (key_cmp x.key q)) s.records found.0 found.1))
+
+  -- the record that tells it
+  pub has_record : (x : RecordValue) × (i : ℕ) × (i < length s.records) × (get_or s.records i x ≡ x) × (entry_of s.records x ≡ r)
+  has_record = (found.0, place.0, place.1, place.2, found.2)
+
+  pub has_value : IsValue r.value
+  has_value = subst (λ (x : Entry). IsValue x.value) found.2 fits.kept.value
+
+  pub has_size : length (canon r.value) < 2 ^ 64
+  has_size = subst (λ (x : Entry). length (canon x.value) < 2 ^ 64) found.2 fits.kept.size
 
   pub has_key : r.key ≡ q
   has_key = ap (λ (x : Entry). x.key) (sym found.2) ∙ same_record_key

@@ -2,3 +2,4 @@ pub mod Lists
 pub mod EdgeLaws
 pub mod RecordLaws
 pub mod EntryRules
+pub mod TermLaws

@@ -1,4 +1,5 @@
 pub mod Marks
+pub mod Terms
 pub mod Sessions
 pub mod Edges
 pub mod Refusals

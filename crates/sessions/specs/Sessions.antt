@@ -13,6 +13,9 @@ use Rattle.item_ids.specs.Keys.{kind_of, key_cmp, IsKey}
 use Rattle.result_bytes.specs.declared.value.Value.{Value}
 use Rattle.result_bytes.specs.Values.{IsValue, canon, kind_of_value}
 use Rattle.sessions.specs.declared.mark.Mark.{Mark}
+use Rattle.sessions.specs.declared.mark.Mark.TheVariants.{Green}
+use Rattle.sessions.specs.declared.terms.Form.TheVariants.{Two}
+use Rattle.sessions.specs.declared.terms.Terms.{Terms}
 use Rattle.sessions.specs.Marks.{is_input, is_input_mark}
 
 -- a key, how it became done, the indices of the records of the keys that it read, in order, and its
@@ -23,8 +26,9 @@ pub record RecordValue : Type 0 where
   pub edges : List ℕ
   pub value : Value
 
--- the number in its chain, the SHA-256 of the file before it, and the records
+-- its terms, the number in its chain, the SHA-256 of the file before it, and the records
 pub record SessionValue : Type 0 where
+  pub terms : Terms
   pub number : ℕ
   pub link : List ℕ
   pub records : List RecordValue
@@ -129,6 +133,17 @@ AreOnce (key ∷ keys) = AllByRecursion (λ e. e ≢ key) keys × AreOnce keys
 abbrev pub past_entry : Option SessionValue → Key → Option Entry
 past_entry None key = None
 past_entry (Some s) key = entry_at s key
+
+-- In form 2 each green record of the session stands in the past, with the same result.
+abbrev pub IsTakenFrom : Option SessionValue → SessionValue → Type 0
+IsTakenFrom past s =
+    s.terms.form ≡ Two → (q : Key) (r : Entry) → entry_at s q ≡ Some r → r.mark ≡ Green
+    → (had : Entry) × (past_entry past q ≡ Some had) × (had.value ≡ r.value)
+
+-- each of the sessions is taken from the one before it
+abbrev pub AreTaken : Option SessionValue → List SessionValue → Type 0
+AreTaken past [] = Unit {0}
+AreTaken past (s ∷ ss) = IsTakenFrom past s × AreTaken (Some s) ss
 
 -- the session behind an owner
 abbrev pub session_in : Option (Arc SessionValue Global) → Option SessionValue

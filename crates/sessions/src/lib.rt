@@ -9,6 +9,7 @@ mod mark;
 mod record;
 mod seen;
 mod session;
+mod terms;
 
 pub use checks::{check_kept, check_key, is_above, is_marked};
 pub use fault::SessionFault;
@@ -18,3 +19,4 @@ pub use mark::Mark;
 pub use record::Record;
 pub use seen::SeenEdges;
 pub use session::Session;
+pub use terms::{Form, Terms};

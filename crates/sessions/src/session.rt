@@ -3,17 +3,21 @@ ghost use Rattle.std.specs.Prelude.{◌≡◌, ◌≢◌, ◌≤◌, ◌<◌, So
 ghost use Rattle.sessions.specs.Sessions.{most_number, AreRecords, AreInside, IsSession, entry_at, entry_of};
 ghost use Rattle.sessions.specs.Refusals.{IsRefused};
 ghost use Rattle.sessions.specs.Spelling.{digest_of};
+ghost use Rattle.sessions.specs.Terms.{first_terms};
 
 use crate::checks::check_records;
 use crate::fault::SessionFault;
 use crate::record::Record;
+use crate::terms::Terms;
 use item_ids::Key;
 use std::alloc::Global;
 use std::marker::Model;
 
-/// A session: its number in its chain, its link, which is the SHA-256 of the previous session's file (zeros where there
-/// is none), and its records. Where the SHA-256 of its own file is known, it keeps that too; contracts don't see it.
+/// A session: its terms, its number in its chain, its link, which is the SHA-256 of the previous session's file (zeros
+/// where there is none), and its records. Where the SHA-256 of its own file is known, it keeps that too; contracts don't
+/// see it.
 pub struct Session {
+    terms: Terms,
     number: u32,
     link: [u8; 32],
     records: Vec<Record>,
@@ -23,6 +27,7 @@ pub struct Session {
 impl Drop for Session {
     fn drop(self) {
         let Session {
+            terms: _,
             number: _,
             link: _,
             records: _,
@@ -40,19 +45,28 @@ impl Model for Session {
 
     ghost coded = { Prim.hlevel (codes, value_contracts.the_row.coded) };
 
-    ghost view = { λ s. record { number = s.number; link = s.link; records = s.records.items } };
+    ghost view = { λ s. record {
+      terms = s.terms;
+      number = s.number;
+      link = s.link;
+      records = s.records.items;
+    } };
 
     ghost use Rattle.sessions.specs.Spelling.{Keeps};
 
-    ghost invariant = { λ s. Keeps
-        (record { number = s.number; link = s.link; records = s.records.items }) s.digest };
+    ghost invariant = { λ s. Keeps (record {
+      terms = s.terms;
+      number = s.number;
+      link = s.link;
+      records = s.records.items;
+    }) s.digest };
 }
 
 impl Session {
     /// The greatest number of a session.
     pub const MOST: u32 = 9999;
 
-    /// The session of this number, link and records, or the first fault of these.
+    /// The session of the first terms with this number, link and records, or the first fault of these.
     pub fn new(
         alloc: Global,
         number: u32,
@@ -60,8 +74,34 @@ impl Session {
         records: Vec<Record>,
     ) -> Result<Session, SessionFault>
         // It keeps just what was handed in.
-        ensures made { IfOk result
-            (λ s. s ≡ record { number = number; link = link; records = records.items }) }
+        ensures made { IfOk result (λ s. s ≡ record {
+          terms = first_terms;
+          number = number;
+          link = link;
+          records = records.items;
+        }) }
+        ensures session { IfOk result IsSession }
+        // Which fault it is.
+        ensures refused { IfErr result (IsRefused number records.items) }
+    {
+        Session::new_as(alloc, Terms::first(), number, link, records)
+    }
+
+    /// The session of these terms, this number, link and records, or the first fault of these.
+    pub fn new_as(
+        alloc: Global,
+        terms: Terms,
+        number: u32,
+        link: [u8; 32],
+        records: Vec<Record>,
+    ) -> Result<Session, SessionFault>
+        // It keeps just what was handed in.
+        ensures made { IfOk result (λ s. s ≡ record {
+          terms = terms;
+          number = number;
+          link = link;
+          records = records.items;
+        }) }
         ensures session { IfOk result IsSession }
         // Which fault it is.
         ensures refused { IfErr result (IsRefused number records.items) }
@@ -70,20 +110,40 @@ impl Session {
             return Err(SessionFault::Number);
         }
         match check_records(alloc, &records) {
-            Ok(()) => Ok(Session::of(number, link, records)),
+            Ok(()) => Ok(Session::of_as(terms, number, link, records)),
             Err(fault) => Err(fault),
         }
     }
 
-    /// The session of this number, link and records, for a caller who knows that they make one.
+    /// The session of the first terms with this number, link and records, for a caller who knows that they make one.
     pub fn of(number: u32, link: [u8; 32], records: Vec<Record>) -> Session
         requires number { number ≤ most_number }
         requires records { AreRecords records.items }
-        ensures { result ≡ record { number = number; link = link; records = records.items } }
+        ensures { result ≡ record {
+          terms = first_terms;
+          number = number;
+          link = link;
+          records = records.items;
+        } }
+    {
+        Session::of_as(Terms::first(), number, link, records)
+    }
+
+    /// The session of these terms, this number, link and records, for a caller who knows that they make one.
+    pub fn of_as(terms: Terms, number: u32, link: [u8; 32], records: Vec<Record>) -> Session
+        requires number { number ≤ most_number }
+        requires records { AreRecords records.items }
+        ensures { result ≡ record {
+          terms = terms;
+          number = number;
+          link = link;
+          records = records.items;
+        } }
     {
         // A vector has fewer than 2^64 items.
         let _few = records.len();
         Session {
+            terms,
             number,
             link,
             records,
@@ -105,6 +165,13 @@ impl Session {
         ensures { IfSome result (λ digest. digest ≡ digest_of self.now) }
     {
         self.digest
+    }
+
+    /// The terms.
+    pub fn terms(&self) -> Terms
+        ensures { result ≡ self.now.terms }
+    {
+        self.terms
     }
 
     /// The number in its chain, from 0.

@@ -1,11 +1,11 @@
 use Rattle.std.proofs.Common.{◌≡◌, ◌+◌, ◌≤◌, length, arith}
-use Rattle.session_file.proofs.FeedLaws.{bytes_took, bytes_stop_behind}
+use Rattle.session_file.proofs.FeedLaws.{handed_on, bytes_took, bytes_stop_behind}
 use Rattle.session_file.proofs.parts.bytes.Goals as goal
 
-pub returns-in-Err-clause-value : goal.returns-in-Err-clause-value
-returns-in-Err-clause-value g c =
+pub returns-in_err-piece-clause-value : goal.returns-in_err-piece-clause-value
+returns-in_err-piece-clause-value g c =
     let le : length c.loop-left.text.items + c.min-step.result ≤ c.args.count = omega arith in
-    bytes_stop_behind c.args.count c.min-step.result c.in-Err.stop c.loop-left.invariant.moved le c.in-Err.ensures.value
+    rw (handed_on c.from_residual.result _ c.from_residual.ensures.1) (bytes_stop_behind c.args.count c.min-step.result c.in_err-piece.field-0.0 c.loop-left.invariant.moved le c.in_err-piece.ensures.value)
 
 pub returns-clause-value : goal.returns-clause-value
 returns-clause-value g c =

@@ -1,8 +1,8 @@
-use Rattle.session_file.proofs.FeedLaws.{bytes_took, bytes_stops}
+use Rattle.session_file.proofs.FeedLaws.{handed_on, bytes_took, bytes_stops}
 use Rattle.session_file.proofs.parts.thirty_two.Goals as goal
 
-pub returns-in-Ok-clause-value : goal.returns-in-Ok-clause-value
-returns-in-Ok-clause-value g c = bytes_took 32 c.in-Ok.ensures.pulled.1 c.in-Ok.ensures.pulled.0
+pub returns-clause-value : goal.returns-clause-value
+returns-clause-value g c = bytes_took 32 c.in_ok-pull.ensures.pulled.1 c.in_ok-pull.ensures.pulled.0
 
-pub returns-in-Err-clause-value : goal.returns-in-Err-clause-value
-returns-in-Err-clause-value g c = bytes_stops _ 32 c.in-Err.stop c.in-Err.ensures.pulled
+pub returns-in_err-pull-clause-value : goal.returns-in_err-pull-clause-value
+returns-in_err-pull-clause-value g c = rw (handed_on c.from_residual.result _ c.from_residual.ensures.1) (bytes_stops _ 32 c.in_err-pull.field-0.0 c.in_err-pull.ensures.pulled)

@@ -7,7 +7,8 @@ use Rattle.session_file.proofs.records.read_records.Given as goal
 abbrev pub invariant-loop : goal.invariant-loop
 invariant-loop g l = record {
   length : length l.seen ≡ length l.records.items;
+  same : l.origin ≡ l.initial.origin;
   unseen : AllByRecursion (λ b. b ≡ false) l.seen;
-  lead : Leads (g.F.Feed.holds l.initial.feed) (g.F.Feed.holds l.feed) l.initial.hash l.hash (records_from [] l.count) (records_from l.records.items (l.count - l.counter));
+  lead : Leads (g.F.Feed.holds l.initial.feed) (g.F.Feed.holds l.feed) l.initial.hash l.hash (records_from l.initial.origin [] l.count) (records_from l.initial.origin l.records.items (l.count - l.counter));
   failed : g.F.Feed.failed l.feed ≡ g.F.Feed.failed l.initial.feed;
 }

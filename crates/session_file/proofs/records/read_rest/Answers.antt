@@ -1,11 +1,19 @@
+use Rattle.std.proofs.Common.{◌≡◌}
+use Rattle.session_file.proofs.FeedLaws.{handed_on}
 use Rattle.session_file.proofs.StepLaws.{rest_halts_edges, rest_halts, rest_took}
 use Rattle.session_file.proofs.records.read_rest.Goals as goal
 
-pub returns-in-Err-clause-value : goal.returns-in-Err-clause-value
-returns-in-Err-clause-value g c = rest_halts_edges _ c.args.front.now c.args.key.now c.in-Err.stop c.in-Err.ensures.value
+pub returns-in_err-edges-clause-value : goal.returns-in_err-edges-clause-value
+returns-in_err-edges-clause-value g c =
+    let k : c.item.inside.key ≡ c.args.item.now.key = cc in
+    rw (handed_on c.from_residual.result _ c.from_residual.ensures.1) (rest_halts_edges _ c.args.origin.now c.args.front.now c.args.item.now c.in_err-edges.field-0.0 (rw k at c.in_err-edges.ensures.value))
 
-pub returns-in-Ok-read_result-clause-value : goal.returns-in-Ok-read_result-clause-value
-returns-in-Ok-read_result-clause-value g c = rest_took c.args.front.now c.args.key.now c.in-Ok.edges.items _ c.in-Ok.ensures.value (rw c.kind.ensures at c.in-Ok-read_result.ensures.value)
+pub returns-in_err-sealed-clause-value : goal.returns-in_err-sealed-clause-value
+returns-in_err-sealed-clause-value g c =
+    let k : c.item.inside.key ≡ c.args.item.now.key = cc in
+    rw (handed_on c.from_residual-in_err-sealed.result _ c.from_residual-in_err-sealed.ensures.1) (rest_halts c.args.origin.now c.args.front.now c.args.item.now c.in_ok-edges.edges.items c.in_err-sealed.field-0.0 (rw k at c.in_ok-edges.ensures.value) c.in_err-sealed.ensures.value)
 
-pub returns-in-Err-read_result-clause-value : goal.returns-in-Err-read_result-clause-value
-returns-in-Err-read_result-clause-value g c = rest_halts c.args.front.now c.args.key.now c.in-Ok.edges.items c.in-Err-read_result.stop c.in-Ok.ensures.value (rw c.kind.ensures at c.in-Err-read_result.ensures.value)
+pub returns-clause-value : goal.returns-clause-value
+returns-clause-value g c =
+    let k : c.item.inside.key ≡ c.args.item.now.key = cc in
+    rest_took c.args.origin.now c.args.front.now c.args.item.now c.in_ok-edges.edges.items _ (rw k at c.in_ok-edges.ensures.value) c.in_ok-sealed.ensures.value

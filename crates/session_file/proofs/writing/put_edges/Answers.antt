@@ -1,7 +1,7 @@
 use Rattle.std.proofs.Common.{rules, ◌≡◌, ◌<◌, List, ℕ, length, ◌++◌, take, flat_map, get_or, arith, refl, subst, ◌∙◌}
 use Rattle.byte_readers.specs.Spelling.{eight}
-use Rattle.session_file.specs.Devices.{Begins}
-use Rattle.session_file.proofs.PutLaws.{items_more, items_end}
+use Rattle.devices.specs.Devices.{Begins}
+use Rattle.devices.proofs.PutLaws.{items_more, items_end}
 use Rattle.session_file.proofs.writing.put_edges.Goals as goal
 
 pub returns-in-Err-clause-holds : goal.returns-in-Err-clause-holds

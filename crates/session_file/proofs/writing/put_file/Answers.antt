@@ -1,5 +1,5 @@
 use Rattle.sessions.specs.Spelling.{body_bytes}
-use Rattle.session_file.proofs.PutLaws.{puts_then}
+use Rattle.devices.proofs.PutLaws.{puts_then}
 use Rattle.session_file.proofs.writing.put_file.Goals as goal
 
 pub returns-in-Ok-clause-holds : goal.returns-in-Ok-clause-holds

@@ -1,5 +1,5 @@
 use Rattle.std.proofs.Common.{rules, List, ℕ, subst}
-use Rattle.session_file.specs.Devices.{Puts}
+use Rattle.devices.specs.Devices.{Puts}
 use Rattle.session_file.proofs.PartLaws.{result_is}
 use Rattle.session_file.proofs.writing.put_result.Goals as goal
 

@@ -1,6 +1,6 @@
 use Rattle.std.proofs.Common.{List, ℕ, ◌++◌, subst}
 use Rattle.sessions.specs.Spelling.{body_bytes}
-use Rattle.session_file.specs.Devices.{Begins}
+use Rattle.devices.specs.Devices.{Begins}
 use Rattle.session_file.proofs.PartLaws.{file_is}
 use Rattle.session_file.proofs.writing.write.Goals as goal
 

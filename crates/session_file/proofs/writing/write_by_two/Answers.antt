@@ -1,8 +1,8 @@
 use Rattle.std.proofs.Common.{List, ℕ, subst, refl}
 use Rattle.sha2.specs.Sha256.{sha256}
 use Rattle.sessions.specs.Spelling.{body_bytes}
-use Rattle.session_file.specs.Devices.{Begins, Puts}
-use Rattle.session_file.proofs.PutLaws.{begins_more, puts_then}
+use Rattle.devices.specs.Devices.{Begins, Puts}
+use Rattle.devices.proofs.PutLaws.{begins_more, puts_then}
 use Rattle.session_file.proofs.PartLaws.{file_is}
 use Rattle.session_file.proofs.writing.write_by_two.Goals as goal
 
