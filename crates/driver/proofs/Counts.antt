@@ -14,7 +14,7 @@ use Rattle.sessions.specs.declared.mark.Mark.TheVariants.{Executed}
 use Rattle.sessions.specs.Sessions.{AreOnce, Entry, RecordValue, SessionValue, entries, entry_of}
 use Rattle.graph_rules.specs.Graphs.{AreAscending, AreClosed, IsEntryOf, KeyBefore}
 use Rattle.graph_rules.specs.Keys.{same_key, input_of}
-use Rattle.graph_rules.specs.Pasts.{Past}
+use Rattle.graph_rules.specs.Settings.{Setting, kept}
 use Rattle.graph_rules.specs.Steps.{Status, Unknown, Claimed, Running, Done, State, Event, Claim, MarkGreen, Begin, Finish, Fail, at_opening, opening, with_status, green, MayStep, AreSteps, Legal, after, after_all, state_after}
 use Rattle.graph_rules.proofs.KeyRules.{same_is}
 use Rattle.graph_rules.proofs.NextRules.{all_from}
@@ -65,30 +65,30 @@ green_further : (r : Option Entry) → events_at (green r) ≤ 2
 green_further None = omega arith
 green_further (Some r) = omega arith
 
-step_further : (past : Past) (s : State) (e : Event) → MayStep past s e → (ks : List Key) → AreOnce ks
-    → events_of (after past s e) ks ≤ events_of s ks + 1
-step_further past s (Claim w q) may ks once = one_further s q (Claimed w) (omega arith) ks once
-step_further past s (MarkGreen w q) may ks once =
+step_further : (over : Setting) (s : State) (e : Event) → MayStep over s e → (ks : List Key) → AreOnce ks
+    → events_of (after over s e) ks ≤ events_of s ks + 1
+step_further over s (Claim w q) may ks once = one_further s q (Claimed w) (omega arith) ks once
+step_further over s (MarkGreen w q) may ks once =
     let was : events_at (s.at q) ≡ 1 = ap events_at may.1 in
-    let is : events_at (green (past q)) ≤ 2 = green_further (past q) in
-    one_further s q (green (past q)) (omega (arith, was, is)) ks once
-step_further past s (Begin w q) may ks once =
+    let is : events_at (green (kept over q)) ≤ 2 = green_further (kept over q) in
+    one_further s q (green (kept over q)) (omega (arith, was, is)) ks once
+step_further over s (Begin w q) may ks once =
     let was : events_at (s.at q) ≡ 1 = ap events_at may.1 in
     one_further s q (Running w) (omega (arith, was)) ks once
-step_further past s (Finish w o) may ks once =
+step_further over s (Finish w o) may ks once =
     let was : events_at (s.at o.key) ≡ 2 = ap events_at may.1 in
     one_further s o.key (Done o.value (keys o.told) Executed) (omega (arith, was)) ks once
-step_further past s (Fail w) may ks once = omega arith
+step_further over s (Fail w) may ks once = omega arith
 
 -- ---- a whole history
 
-steps_further : (past : Past) (s : State) (h : List Event) → AreSteps past s h → (ks : List Key) → AreOnce ks
-    → events_of (after_all past s h) ks ≤ events_of s ks + length h
-steps_further past s [] steps ks once = omega arith
-steps_further past s (e ∷ h) steps ks once =
-    let first : events_of (after past s e) ks ≤ events_of s ks + 1 = step_further past s e steps.0 ks once in
-    let rest : events_of (after_all past (after past s e) h) ks ≤ events_of (after past s e) ks + length h =
-    steps_further past (after past s e) h steps.1 ks once in
+steps_further : (over : Setting) (s : State) (h : List Event) → AreSteps over s h → (ks : List Key) → AreOnce ks
+    → events_of (after_all over s h) ks ≤ events_of s ks + length h
+steps_further over s [] steps ks once = omega arith
+steps_further over s (e ∷ h) steps ks once =
+    let first : events_of (after over s e) ks ≤ events_of s ks + 1 = step_further over s e steps.0 ks once in
+    let rest : events_of (after_all over (after over s e) h) ks ≤ events_of (after over s e) ks + length h =
+    steps_further over (after over s e) h steps.1 ks once in
     omega (arith, first, rest)
 
 none_at_opening : (v : Option Value) → events_at (at_opening v) ≡ 0
@@ -103,11 +103,11 @@ none_of_opening p (k ∷ ks) =
     omega (arith, here, rest)
 
 -- however its keys stand at its end, a history has the events that led there
-history_suffices : (past : Past) (p : Project) (h : List Event) → Legal past p h → (ks : List Key) → AreOnce ks
-    → events_of (state_after past p h) ks ≤ length h
-history_suffices past p h legal ks once =
-    let all : events_of (state_after past p h) ks ≤ events_of (opening p) ks + length h =
-    steps_further past (opening p) h legal ks once in
+history_suffices : (over : Setting) (p : Project) (h : List Event) → Legal over p h → (ks : List Key) → AreOnce ks
+    → events_of (state_after over p h) ks ≤ length h
+history_suffices over p h legal ks once =
+    let all : events_of (state_after over p h) ks ≤ events_of (opening p) ks + length h =
+    steps_further over (opening p) h legal ks once in
     let none : events_of (opening p) ks ≡ 0 = none_of_opening p ks in
     omega (arith, all, none)
 
@@ -145,14 +145,14 @@ records_need s all (r ∷ rs) h =
     let both : events_needed (r ∷ rs) ≡ events_for r.mark + events_needed rs = sum_by-cons (λ x. events_for x.mark) r rs in
     omega (arith, here, rest, both)
 
-pub closed_suffices : (past : Past) (p : Project) (h : List Event) (s : SessionValue) → Legal past p h
-    → AreClosed p (state_after past p h) (entries s) → events_needed s.records ≤ length h
-closed_suffices past p h s legal closed =
+pub closed_suffices : (over : Setting) (p : Project) (h : List Event) (s : SessionValue) → Legal over p h
+    → AreClosed p (state_after over p h) (entries s) → events_needed s.records ≤ length h
+closed_suffices over p h s legal closed =
     let once : AreOnce (map (λ r. r.key) s.records) = keys_once s.records s.records closed.ascending in
-    let each : AllByRecursion (IsEntryOf (state_after past p h)) (entries s) =
-    all_from (IsEntryOf (state_after past p h)) (entries s) (λ r has. (closed.each r has).1) in
-    let need : events_needed s.records ≡ events_of (state_after past p h) (map (λ r. r.key) s.records) =
-    records_need (state_after past p h) s.records s.records each in
-    let enough : events_of (state_after past p h) (map (λ r. r.key) s.records) ≤ length h =
-    history_suffices past p h legal (map (λ r. r.key) s.records) once in
+    let each : AllByRecursion (IsEntryOf (state_after over p h)) (entries s) =
+    all_from (IsEntryOf (state_after over p h)) (entries s) (λ r has. (closed.each r has).1) in
+    let need : events_needed s.records ≡ events_of (state_after over p h) (map (λ r. r.key) s.records) =
+    records_need (state_after over p h) s.records s.records each in
+    let enough : events_of (state_after over p h) (map (λ r. r.key) s.records) ≤ length h =
+    history_suffices over p h legal (map (λ r. r.key) s.records) once in
     omega (arith, need, enough)

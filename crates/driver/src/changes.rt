@@ -1,19 +1,25 @@
-//! Whether a project has changed since the previous session.
+//! Whether anything has changed since the previous session.
 
 use item_ids::Key;
 use mj_lexer::Name;
 use mj_project::Project;
+use profiles::Profile;
 use project_inputs::same_source;
 use result_bytes::Value;
 use sessions::Session;
 use std::alloc::{AllocError, Global};
 
-/// Whether the previous session has just the files of the project. Then nothing is run, and there is no work to share.
+/// Whether the previous session is of this profile, and has just the files of the project. As a rule nothing is run
+/// then, so that there is no work to share.
 pub(crate) fn has_files(
     alloc: Global,
     past: &Session,
+    profile: Profile,
     project: &Project,
 ) -> Result<bool, AllocError> {
+    if !past.terms().profile.is(profile) {
+        return Ok(false);
+    }
     let files = project.files();
     let names = names_in(past);
     if names.len() != files.len() {

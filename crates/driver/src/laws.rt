@@ -2,57 +2,59 @@
 ghost use Rattle.std.specs.Prelude.{◌≡◌, ◌↔◌, ℕ, List, Option, Some, Result, Err, MatchResult, IfSome};
 ghost use Rattle.mj_project.specs.Projects.{IsProject};
 ghost use Rattle.recorder.specs.Projects.{Project};
-ghost use Rattle.recorder.specs.Backed.{Meaning, ReadLists, RunnerLaws};
+ghost use Rattle.recorder.specs.Backed.{Queries, AreLawful};
+ghost use Rattle.sessions.specs.declared.terms.Terms.{Terms};
 ghost use Rattle.sessions.specs.Sessions.{SessionValue, IsSession, most_number};
 ghost use Rattle.sessions.specs.Spelling.{file_of};
 ghost use Rattle.graph_rules.specs.Steps.{Event};
 ghost use Rattle.key_states.specs.Closing.{IsFull};
 ghost use Rattle.driver.specs.declared.reports.Reports.{Reports};
-ghost use Rattle.next_sessions.specs.Nexts.{DecidesNext, IsNextSession};
+ghost use Rattle.next_sessions.specs.Nexts.{StandsApart, IsNextSession};
 ghost use Rattle.driver.specs.Sessions.{IsCrew, AreEventsOf, IsSessionOf, DriveGives};
 ghost use Rattle.driver.specs.declared.fault.DriveFault.{DriveFault};
 ghost use Rattle.driver.specs.declared.fault.DriveFault.TheVariants as fault;
 
-use graph_rules::histories_are_sound;
-
-/// Where the previous session and the project decide the next one, a legal history closes with that, whatever the
-/// events were and whoever made them.
+/// A legal history closes with the next session, whatever the events were and whoever made them, if what it closes
+/// with, or the next session, stands apart from the previous one.
 pub fn sessions_are_next()
-    ensures { (mean : Meaning) (reads : ReadLists) → RunnerLaws mean reads
-        → (past : Option SessionValue) (p : Project) (history : List Event) (s : SessionValue)
-        → IsProject p → IfSome past IsSession → IsSession s → DecidesNext mean reads past p
-        → AreEventsOf mean reads past p history s → IsNextSession mean reads past p s }
-{
-    histories_are_sound();
-}
+    ensures made { (queries : Queries) → AreLawful queries
+        → (terms : Terms) (past : Option SessionValue) (p : Project) (history : List Event)
+        (s : SessionValue) → IsProject p → IfSome past IsSession → IsSession s
+        → AreEventsOf queries terms past p history s → StandsApart queries past s
+        → IsNextSession queries terms past p s }
+    ensures next { (queries : Queries) → AreLawful queries
+        → (terms : Terms) (past : Option SessionValue) (p : Project) (history : List Event)
+        (s next : SessionValue) → IsProject p → IfSome past IsSession → IsSession s
+        → AreEventsOf queries terms past p history s
+        → IsNextSession queries terms past p next → StandsApart queries past next → s ≡ next }
+{}
 
-/// Where the previous session and the project decide the next one, any two sessions that are made of the project over
-/// the previous session are equal, with one file, however many workers made each and whatever each worker did.
+/// Any two sessions that are made of the project, of the same terms over the same previous session, are equal, with one
+/// file, however many workers made each and whatever each worker did, if one of them stands apart from the previous
+/// session.
 pub fn made_sessions_are_one()
-    ensures { (mean : Meaning) (reads : ReadLists) → RunnerLaws mean reads
-        → (past : Option SessionValue) (p : Project)
-        → IsProject p → IfSome past IsSession → DecidesNext mean reads past p
+    ensures { (queries : Queries) → AreLawful queries
+        → (terms : Terms) (past : Option SessionValue) (p : Project)
+        → IsProject p → IfSome past IsSession
         → (v w : ℕ) (a b : SessionValue) (r t : Reports) → IsSession a → IsSession b
-        → IsSessionOf mean reads past p v a r → IsSessionOf mean reads past p w b t
-        → (a ≡ b) × (file_of a ≡ file_of b) }
-{
-    histories_are_sound();
-}
+        → IsSessionOf queries terms past p v a r → IsSessionOf queries terms past p w b t
+        → StandsApart queries past a → (a ≡ b) × (file_of a ≡ file_of b) }
+{}
 
 /// No session is made because of its workers exactly where they aren't 1 to 64; else because of its previous session
 /// exactly where that is the last one that a chain can have; else only because memory runs out.
 pub fn refusals_are_exact()
-    ensures workers { (mean : Meaning) (reads : ReadLists) (past : Option SessionValue)
+    ensures workers { (queries : Queries) (terms : Terms) (past : Option SessionValue)
         (p : Project) (workers : ℕ) (result : Result (SessionValue × Reports) DriveFault)
-        → DriveGives mean reads past p workers result
+        → DriveGives queries terms past p workers result
         → (result ≡ Err fault.Workers) ↔ ¬ IsCrew workers }
-    ensures full { (mean : Meaning) (reads : ReadLists) (past : Option SessionValue)
+    ensures full { (queries : Queries) (terms : Terms) (past : Option SessionValue)
         (p : Project) (workers : ℕ) (result : Result (SessionValue × Reports) DriveFault)
-        → DriveGives mean reads past p workers result → IsCrew workers
+        → DriveGives queries terms past p workers result → IsCrew workers
         → (result ≡ Err fault.ChainFull) ↔ IsFull past }
-    ensures memory { (mean : Meaning) (reads : ReadLists) (past : Option SessionValue)
+    ensures memory { (queries : Queries) (terms : Terms) (past : Option SessionValue)
         (p : Project) (workers : ℕ) (result : Result (SessionValue × Reports) DriveFault)
-        → DriveGives mean reads past p workers result → IsCrew workers → ¬ IsFull past
+        → DriveGives queries terms past p workers result → IsCrew workers → ¬ IsFull past
         → MatchResult result (λ _. Unit {0}) (λ why. why ≡ fault.OutOfMemory) }
     ensures last { (s : SessionValue) → IsSession s
         → IsFull (Some s) ↔ (s.number ≡ most_number) }

@@ -4,9 +4,10 @@ ghost use Rattle.item_ids.specs.declared.key.Key.TheVariants.{Answer};
 ghost use Rattle.job_table.specs.Tables.{state_of};
 ghost use Rattle.key_states.specs.Closing.{IsClosing};
 ghost use Rattle.job_table.specs.Closes.{MayClose};
-ghost use Rattle.recorder.specs.Backed.{RunnerLaws};
+ghost use Rattle.recorder.specs.Backed.{AreLawful};
+ghost use Rattle.sessions.specs.Terms.{first_terms};
 ghost use Rattle.sessions.specs.Sessions.{IsSession, session_in};
-ghost use Rattle.next_sessions.specs.Nexts.{DecidesNext, IsNextSession};
+ghost use Rattle.next_sessions.specs.Nexts.{StandsApart, IsNextSession};
 ghost use Rattle.driver.specs.Sessions.{IsCrew, DriveGives, IsSessionOf};
 
 use crate::changes::has_files;
@@ -19,7 +20,7 @@ use job_table::{CloseFault, OpenFault, Table};
 use known_list::Opened;
 use mj_project::Project;
 use recorder::{Read, Runner};
-use sessions::Session;
+use sessions::{Session, Terms};
 use shared_table::{Counted, Gate, Naming};
 use std::alloc::{AllocError, Global};
 use std::marker::Brand;
@@ -27,8 +28,7 @@ use std::sync::ledger::{Blank, Share};
 use std::sync::{Arc, Wait};
 use std::thread::Threads;
 
-/// Makes one session of a project over the previous session, by a crew of workers at one table. For each of them a
-/// runner is made. The gate is called around each run.
+/// Makes one session of a project, of the first terms, as `drive_as` does.
 pub fn drive<
     R: Runner + Drop + Send + Sync,
     F: Fn() -> R,
@@ -44,10 +44,36 @@ pub fn drive<
     gate: &G,
 ) -> Result<(Session, Reports), DriveFault>
     requires { F.IsAlwaysCallable make.now }
-    ensures gives { DriveGives R.mean R.reads (session_in prev) project.now crew.workers result }
-    // Where the previous session and the project decide the next one, the session is that.
-    ensures next { IfOk result (λ done. DecidesNext R.mean R.reads (session_in prev) project.now
-        → IsNextSession R.mean R.reads (session_in prev) project.now done.0) }
+    ensures gives { DriveGives R.queries first_terms (session_in prev) project.now crew.workers
+        result }
+    ensures next { IfOk result (λ done. StandsApart R.queries (session_in prev) done.0
+        → IsNextSession R.queries first_terms (session_in prev) project.now done.0) }
+{
+    drive_as(rt, alloc, make, prev, project, Terms::first(), crew, gate)
+}
+
+/// Makes one session of a project, of these terms, over the previous session, by a crew of workers at one table. For
+/// each of them a runner is made. The gate is called around each run.
+pub fn drive_as<
+    R: Runner + Drop + Send + Sync,
+    F: Fn() -> R,
+    G: Gate + Sync,
+    T: Threads + Wait + Sync,
+>(
+    rt: &T,
+    alloc: Global,
+    make: &F,
+    prev: Option<Arc<Session>>,
+    project: &Project,
+    terms: Terms,
+    crew: Crew,
+    gate: &G,
+) -> Result<(Session, Reports), DriveFault>
+    requires { F.IsAlwaysCallable make.now }
+    ensures gives { DriveGives R.queries terms (session_in prev) project.now crew.workers result }
+    // A session that stands apart from the previous one is the next session.
+    ensures next { IfOk result (λ done. StandsApart R.queries (session_in prev) done.0
+        → IsNextSession R.queries terms (session_in prev) project.now done.0) }
 {
     let Crew { workers, step } = crew;
     if !is_crew(workers) {
@@ -58,7 +84,7 @@ pub fn drive<
     past_is_session(&prev);
     keeps_laws::<R>();
     sessions_are_next();
-    match Table::open_by(rt, alloc, prev, project, workers) {
+    match Table::open_by(rt, alloc, prev, project, terms, workers) {
         Ok(table) => {
             let alone = workers == 1 || is_unchanged(alloc, &table, project)?;
             let done = drive_table::<Brand, R, F, G, T>(
@@ -85,7 +111,7 @@ pub fn drive<
 
 /// A runner keeps the laws by its type.
 fn keeps_laws<R: Runner>()
-    ensures { RunnerLaws R.mean R.reads }
+    ensures { AreLawful R.queries }
 {}
 
 /// The previous session, where there is one, is a session.
@@ -130,11 +156,10 @@ fn drive_table<
     requires list { list.seen.book ≡ J.book }
     requires workers { blank.parts ≡ workers }
     requires crew { IsCrew workers }
-    requires past { table.past ≡ J.past }
-    requires project { table.project ≡ J.project }
-    requires opened { table.history ≡ [] }
-    ensures { IfOk result (λ done.
-        IsSessionOf R.mean R.reads J.past J.project workers done.0 done.1) }
+    requires opened { table ≡ J.opened }
+    requires first { table.history ≡ [] }
+    ensures { IfOk result (λ done. IsSessionOf R.queries J.opened.terms J.opened.past
+        J.opened.project workers done.0 done.1) }
 {
     let (book, mut all) = blank.open::<J>();
     let mut team = hire::<J, R, F>(alloc, &mut all, workers, make)?;
@@ -152,8 +177,8 @@ fn end<J: Naming, R: Runner + Drop>(
 ) -> Result<(Session, Reports), AllocError>
     requires parts { all.parts + vec_len team ≡ J.parts }
     requires none { all.amount ≡ 0 }
-    ensures { IfOk result (λ done.
-        IsSessionOf R.mean R.reads J.past J.project (vec_len team) done.0 done.1) }
+    ensures { IfOk result (λ done. IsSessionOf R.queries J.opened.terms J.opened.past
+        J.opened.project (vec_len team) done.0 done.1) }
 {
     let mut all = all;
     let events = pay(alloc, &mut all, team)?;
@@ -167,8 +192,8 @@ fn session_of<R: Runner>(
     events: Vec<usize>,
 ) -> Result<(Session, Reports), AllocError>
     requires counted { sum events.items ≡ length table.now.history }
-    ensures { IfOk result (λ done. IsSessionOf R.mean R.reads
-        table.now.past table.now.project (vec_len events) done.0 done.1) }
+    ensures { IfOk result (λ done. IsSessionOf R.queries table.now.terms table.now.past
+        table.now.project (vec_len events) done.0 done.1) }
 {
     // A table's history is legal, by its type.
     table.laws();
@@ -176,14 +201,14 @@ fn session_of<R: Runner>(
     Ok((close(table)?, Reports { events, history }))
 }
 
-/// Whether the session before a table has just the files of the project.
+/// Whether the session before a table is of the same profile, and has just the files of the project.
 fn is_unchanged<R: Runner>(
     alloc: Global,
     table: &Table<R>,
     project: &Project,
 ) -> Result<bool, AllocError> {
     match table.past()? {
-        Some(past) => has_files(alloc, &past, project),
+        Some(past) => has_files(alloc, &past, table.terms().profile, project),
         None => Ok(false),
     }
 }
@@ -193,7 +218,7 @@ fn is_unchanged<R: Runner>(
 fn close<R: Runner>(table: &Table<R>) -> Result<Session, AllocError>
     ensures may_close { IfOk result (λ _. MayClose (state_of table.now)) }
     ensures closing { IfOk result
-        (IsClosing table.now.past table.now.project (state_of table.now)) }
+        (IsClosing table.now.terms table.now.past table.now.project (state_of table.now)) }
 {
     match table.close() {
         Ok(session) => Ok(session),

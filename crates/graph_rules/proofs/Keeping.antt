@@ -4,17 +4,21 @@ use Rattle.std.specs.Prelude.{if◌then◌else◌}
 use Rattle.std.specs.List.{AllByRecursion}
 use Rattle.item_ids.specs.declared.key.Key.{Key}
 use Rattle.result_bytes.specs.declared.value.Value.{Value}
+use Rattle.profiles.specs.declared.profile.Profile.{Profile}
 use Rattle.recorder.specs.Projects.{Project}
+use Rattle.recorder.specs.Runs.{IsOutcome}
 use Rattle.recorder.specs.Backed.{Meaning, ReadLists, ReadValue, rank, keys, IsOfKind, AreLower, NoneTwice}
 use Rattle.sessions.specs.declared.mark.Mark.{Mark}
 use Rattle.sessions.specs.declared.mark.Mark.TheVariants.{Input, Green, Executed}
 use Rattle.sessions.specs.Sessions.{Entry}
 use Rattle.graph_rules.specs.Keys.{same_key, input_of}
 use Rattle.graph_rules.specs.Pasts.{Past, IsGraph, print_in}
+use Rattle.graph_rules.specs.Settings.{Setting, kept}
 use Rattle.graph_rules.specs.Steps.{Status, Unknown, Claimed, Running, Done, State, Event, Claim, MarkGreen, Begin, Finish, Fail, at_opening, opening, with_status, IsDone, IsDoneWith, EdgeState, Open, Unchanged, Changed, edge_at, edge_of, Walk, AllUnchanged, OpenAt, ChangedAt, later, walk_on, walk, past_walk, MayRun, AreHeld, MayStep, green, after, after_all, AreSteps, Legal, state_after}
 use Rattle.graph_rules.specs.Sound.{IsBacked, AreBacked, IsSoundAt, IsSound, IsInOrderAt, IsInOrder}
 use Rattle.graph_rules.specs.Histories.{Keeps}
 use Rattle.graph_rules.proofs.KeyRules.{same_is, above, input_kind, marked_input, marked_other}
+use Rattle.graph_rules.proofs.SettingRules.{kept_held}
 
 -- the edge is open, or stays as it is
 edge_keeps : (pr : Option (List ℕ)) (x y : Status) → ((v : Value) (es : List Key) (m : Mark) → x ≡ Done v es m → y ≡ Done v es m)
@@ -68,8 +72,8 @@ may_keeps_at : (past : Past) (s t : State) → Keeps s t → (r : Option Entry)
 may_keeps_at past s t keeps None m = tt
 may_keeps_at past s t keeps (Some r) m = rw (walk_keeps past s t keeps r.reads (may_settled _ m)) m
 
-pub may_keeps : (past : Past) (s t : State) (q : Key) → Keeps s t → MayRun (past_walk past s q) → MayRun (past_walk past t q)
-may_keeps past s t q keeps m = may_keeps_at past s t keeps (past q) m
+pub may_keeps : (over : Setting) (s t : State) (q : Key) → Keeps s t → MayRun (past_walk over s q) → MayRun (past_walk over t q)
+may_keeps over s t q keeps m = may_keeps_at over.held s t keeps (kept over q) m
 
 keeps_with : (s : State) (q : Key) (x : Status) → ((v : Value) (es : List Key) (m : Mark) → s.at q ≡ Done v es m → ⊥) → Keeps s (with_status s q x)
 keeps_with s q x fresh = λ k v es m is.
@@ -78,24 +82,24 @@ keeps_with s q x fresh = λ k v es m is.
       | false ↦ λ here. is
     ]) refl
 
-pub keeps_step : (past : Past) (s : State) (e : Event) → MayStep past s e → Keeps s (after past s e)
-keeps_step past s (Claim w q) may = keeps_with s q (Claimed w) (λ v es m is. let e = sym may.1 ∙ is in absurd (cc))
-keeps_step past s (MarkGreen w q) may = keeps_with s q (green (past q)) (λ v es m is. let e = sym may.1 ∙ is in absurd (cc))
-keeps_step past s (Begin w q) may = keeps_with s q (Running w) (λ v es m is. let e = sym may.1 ∙ is in absurd (cc))
-keeps_step past s (Finish w o) may = keeps_with s o.key (Done o.value (keys o.told) Executed) (λ v es m is. let e = sym may.1 ∙ is in absurd (cc))
-keeps_step past s (Fail w) may = λ k v es m is. is
+pub keeps_step : (over : Setting) (s : State) (e : Event) → MayStep over s e → Keeps s (after over s e)
+keeps_step over s (Claim w q) may = keeps_with s q (Claimed w) (λ v es m is. let e = sym may.1 ∙ is in absurd (cc))
+keeps_step over s (MarkGreen w q) may = keeps_with s q (green (kept over q)) (λ v es m is. let e = sym may.1 ∙ is in absurd (cc))
+keeps_step over s (Begin w q) may = keeps_with s q (Running w) (λ v es m is. let e = sym may.1 ∙ is in absurd (cc))
+keeps_step over s (Finish w o) may = keeps_with s o.key (Done o.value (keys o.told) Executed) (λ v es m is. let e = sym may.1 ∙ is in absurd (cc))
+keeps_step over s (Fail w) may = λ k v es m is. is
 
-pub keeps_all : (past : Past) (s : State) (h : List Event) → AreSteps past s h → Keeps s (after_all past s h)
-keeps_all past s [] steps = λ k v es m is. is
-keeps_all past s (e ∷ h) steps = λ k v es m is. keeps_all past (after past s e) h steps.1 k v es m (keeps_step past s e steps.0 k v es m is)
+pub keeps_all : (over : Setting) (s : State) (h : List Event) → AreSteps over s h → Keeps s (after_all over s h)
+keeps_all over s [] steps = λ k v es m is. is
+keeps_all over s (e ∷ h) steps = λ k v es m is. keeps_all over (after over s e) h steps.1 k v es m (keeps_step over s e steps.0 k v es m is)
 
 -- ---- soundness
 
-module _ (mean : Meaning) (reads : ReadLists) (past : Past) (p : Project) where
-  sound_keeps : (s t : State) → Keeps s t → (k : Key) (x : Status) → IsSoundAt mean reads past p s k x → IsSoundAt mean reads past p t k x
+module _ (mean : Meaning) (reads : ReadLists) (over : Setting) (p : Project) where
+  sound_keeps : (s t : State) → Keeps s t → (k : Key) (x : Status) → IsSoundAt mean reads over p s k x → IsSoundAt mean reads over p t k x
   sound_keeps s t keeps k Unknown h = h
   sound_keeps s t keeps k (Claimed w) h = h
-  sound_keeps s t keeps k (Running w) h = (h.0, may_keeps past s t k keeps h.1)
+  sound_keeps s t keeps k (Running w) h = (h.0, may_keeps over s t k keeps h.1)
   sound_keeps s t keeps k (Done v es Input) h = h
   sound_keeps s t keeps k (Done v es Green) h = (
     h.0,
@@ -104,7 +108,7 @@ module _ (mean : Meaning) (reads : ReadLists) (past : Past) (p : Project) where
       past_has = h.1.past_has;
       value = h.1.value;
       edges = h.1.edges;
-      unchanged = walk_keeps past s t keeps es (rw h.1.unchanged tt) ∙ h.1.unchanged;
+      unchanged = walk_keeps over.held s t keeps es (rw h.1.unchanged tt) ∙ h.1.unchanged;
     },
   )
   sound_keeps s t keeps k (Done v es Executed) h = (
@@ -114,64 +118,64 @@ module _ (mean : Meaning) (reads : ReadLists) (past : Past) (p : Project) where
       outcome = h.1.outcome;
       edges = h.1.edges;
       held = held_keeps s t keeps h.1.told h.1.held;
-      needed = may_keeps past s t k keeps h.1.needed;
+      needed = may_keeps over s t k keeps h.1.needed;
     },
   )
 
-  sound_with : (s : State) (q : Key) (x : Status) → IsSound mean reads past p s → Keeps s (with_status s q x)
-      → IsSoundAt mean reads past p (with_status s q x) q x → IsSound mean reads past p (with_status s q x)
+  sound_with : (s : State) (q : Key) (x : Status) → IsSound mean reads over p s → Keeps s (with_status s q x)
+      → IsSoundAt mean reads over p (with_status s q x) q x → IsSound mean reads over p (with_status s q x)
   sound_with s q x sound keeps here = λ k.
-      (elim (same_key q k) as (λ b. same_key q k ≡ b → IsSoundAt mean reads past p (with_status s q x) k (if b then x else s.at k)) [
-        | true ↦ λ is. subst (λ (v : Key). IsSoundAt mean reads past p (with_status s q x) v x) (same_is q k is) here
+      (elim (same_key q k) as (λ b. same_key q k ≡ b → IsSoundAt mean reads over p (with_status s q x) k (if b then x else s.at k)) [
+        | true ↦ λ is. subst (λ (v : Key). IsSoundAt mean reads over p (with_status s q x) v x) (same_is q k is) here
         | false ↦ λ is. sound_keeps s (with_status s q x) keeps k (s.at k) (sound k)
       ]) refl
 
-  at_status : (s : State) → IsSound mean reads past p s → (q : Key) (x : Status) → s.at q ≡ x → IsSoundAt mean reads past p s q x
-  at_status s sound q x is = subst (λ (y : Status). IsSoundAt mean reads past p s q y) is (sound q)
+  at_status : (s : State) → IsSound mean reads over p s → (q : Key) (x : Status) → s.at q ≡ x → IsSoundAt mean reads over p s q x
+  at_status s sound q x is = subst (λ (y : Status). IsSoundAt mean reads over p s q y) is (sound q)
 
-  marked_at : (s t : State) (q : Key) → Keeps s t → 0 < rank q → (r : Option Entry) → past q ≡ r
-      → option_map (λ x. walk past s x.reads) r ≡ Some AllUnchanged
-      → IsSoundAt mean reads past p t q (green r)
+  marked_at : (s t : State) (q : Key) → Keeps s t → 0 < rank q → (r : Option Entry) → kept over q ≡ r
+      → option_map (λ x. walk over.held s x.reads) r ≡ Some AllUnchanged
+      → IsSoundAt mean reads over p t q (green r)
   marked_at s t q keeps nin None is all = nin
   marked_at s t q keeps nin (Some r) is all =
-      let a : walk past s r.reads ≡ AllUnchanged = cc in
-      (nin, record { had = r; past_has = is; value = refl; edges = refl; unchanged = walk_keeps past s t keeps r.reads (rw a tt) ∙ a })
+      let a : walk over.held s r.reads ≡ AllUnchanged = cc in
+      (nin, record { had = r; past_has = is; value = refl; edges = refl; unchanged = walk_keeps over.held s t keeps r.reads (rw a tt) ∙ a })
 
-  pub sound_step : (s : State) (e : Event) → IsSound mean reads past p s → MayStep past s e → IsBacked mean reads e → IsSound mean reads past p (after past s e)
+  pub sound_step : (s : State) (e : Event) → IsSound mean reads over p s → MayStep over s e → IsBacked mean reads e → IsSound mean reads over p (after over s e)
   sound_step s (Claim w q) sound may back =
-      sound_with s q (Claimed w) sound (keeps_step past s (Claim w q) may) (at_status s sound q Unknown may.1)
+      sound_with s q (Claimed w) sound (keeps_step over s (Claim w q) may) (at_status s sound q Unknown may.1)
   sound_step s (MarkGreen w q) sound may back =
-      let x = green (past q) in
-      let keeps = keeps_step past s (MarkGreen w q) may in
-      sound_with s q x sound keeps (marked_at s (with_status s q x) q keeps (at_status s sound q (Claimed w) may.1) (past q) refl may.2)
+      let x = green (kept over q) in
+      let keeps = keeps_step over s (MarkGreen w q) may in
+      sound_with s q x sound keeps (marked_at s (with_status s q x) q keeps (at_status s sound q (Claimed w) may.1) (kept over q) refl may.2)
   sound_step s (Begin w q) sound may back =
-      let keeps = keeps_step past s (Begin w q) may in
-      sound_with s q (Running w) sound keeps (at_status s sound q (Claimed w) may.1, may_keeps past s (with_status s q (Running w)) q keeps may.2)
+      let keeps = keeps_step over s (Begin w q) may in
+      sound_with s q (Running w) sound keeps (at_status s sound q (Claimed w) may.1, may_keeps over s (with_status s q (Running w)) q keeps may.2)
   sound_step s (Finish w o) sound may back =
       let x = Done o.value (keys o.told) Executed in
-      let keeps = keeps_step past s (Finish w o) may in
+      let keeps = keeps_step over s (Finish w o) may in
       let run = at_status s sound o.key (Running w) may.1 in
       sound_with s o.key x sound keeps (
         run.0,
         record {
           told = o.told;
-          outcome = back;
+          outcome = subst (λ (a : Profile). IsOutcome mean reads (record { profile = a; key = o.key; told = o.told; value = o.value })) may.3 back;
           edges = refl;
           held = held_keeps s (with_status s o.key x) keeps o.told may.2;
-          needed = may_keeps past s (with_status s o.key x) o.key keeps run.1;
+          needed = may_keeps over s (with_status s o.key x) o.key keeps run.1;
         },
       )
-  sound_step s (Fail w) sound may back = λ k. sound_keeps s (after past s (Fail w)) (λ k v es m is. is) k (s.at k) (sound k)
+  sound_step s (Fail w) sound may back = λ k. sound_keeps s (after over s (Fail w)) (λ k v es m is. is) k (s.at k) (sound k)
 
-  pub sound_all : (s : State) (h : List Event) → IsSound mean reads past p s → AreSteps past s h → AreBacked mean reads h → IsSound mean reads past p (after_all past s h)
+  pub sound_all : (s : State) (h : List Event) → IsSound mean reads over p s → AreSteps over s h → AreBacked mean reads h → IsSound mean reads over p (after_all over s h)
   sound_all s [] sound steps back = sound
-  sound_all s (e ∷ h) sound steps back = sound_all (after past s e) h (sound_step s e sound steps.0 back.0) steps.1 back.1
+  sound_all s (e ∷ h) sound steps back = sound_all (after over s e) h (sound_step s e sound steps.0 back.0) steps.1 back.1
 
-  opened_at : (q : Key) (o : Option Value) → input_of p q ≡ o → IsSoundAt mean reads past p (opening p) q (at_opening o)
+  opened_at : (q : Key) (o : Option Value) → input_of p q ≡ o → IsSoundAt mean reads over p (opening p) q (at_opening o)
   opened_at q (Some v) is = (is, refl)
   opened_at q None is = above p q is
 
-  pub sound_history : (h : List Event) → Legal past p h → AreBacked mean reads h → IsSound mean reads past p (state_after past p h)
+  pub sound_history : (h : List Event) → Legal over p h → AreBacked mean reads h → IsSound mean reads over p (state_after over p h)
   sound_history h legal back = sound_all (opening p) h (λ q. opened_at q (input_of p q) refl) legal back
 
 -- ---- order
@@ -222,8 +226,8 @@ once_keys : (told : List ReadValue) → NoneTwice (λ t. t.key) told → NoneTwi
 once_keys [] h = tt
 once_keys (t ∷ told) h = (others_read t.key told h.0, once_keys told h.1)
 
-module _ (mean : Meaning) (reads : ReadLists) (past : Past) (p : Project) (graph : IsGraph past) (s : State) where
-  in_order_at : (q : Key) (x : Status) → IsSoundAt mean reads past p s q x → IsInOrderAt s q x
+module _ (mean : Meaning) (reads : ReadLists) (over : Setting) (p : Project) (graph : IsGraph over.held) (s : State) where
+  in_order_at : (q : Key) (x : Status) → IsSoundAt mean reads over p s q x → IsInOrderAt s q x
   in_order_at q Unknown so = tt
   in_order_at q (Claimed w) so = tt
   in_order_at q (Running w) so = tt
@@ -237,11 +241,11 @@ module _ (mean : Meaning) (reads : ReadLists) (past : Past) (p : Project) (graph
   in_order_at q (Done v es Green) so =
       let g = so.1 in
       record {
-        kind = subst (IsOfKind q) g.value (graph.kind q g.had g.past_has);
+        kind = subst (IsOfKind q) g.value (graph.kind q g.had (kept_held over q g.had g.past_has));
         marked = marked_other q so.0;
-        lower = subst (AreLower q) g.edges (graph.lower q g.had g.past_has);
-        once = subst (NoneTwice (λ k. k)) g.edges (graph.once q g.had g.past_has);
-        done = walked_done past s es g.unchanged;
+        lower = subst (AreLower q) g.edges (graph.lower q g.had (kept_held over q g.had g.past_has));
+        once = subst (NoneTwice (λ k. k)) g.edges (graph.once q g.had (kept_held over q g.had g.past_has));
+        done = walked_done over.held s es g.unchanged;
       }
   in_order_at q (Done v es Executed) so =
       let x = so.1 in
@@ -253,5 +257,5 @@ module _ (mean : Meaning) (reads : ReadLists) (past : Past) (p : Project) (graph
         done = subst (AllByRecursion (λ e. IsDone (s.at e))) x.edges (held_done s x.told x.held);
       }
 
-  pub in_order : IsSound mean reads past p s → IsInOrder s
+  pub in_order : IsSound mean reads over p s → IsInOrder s
   in_order sound = λ q. in_order_at q (s.at q) (sound q)

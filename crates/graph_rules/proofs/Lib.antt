@@ -1,7 +1,9 @@
 pub mod KeyRules
+pub mod SettingRules
 pub mod Keeping
 pub mod Orders
 pub mod NextRules
+pub mod KnownRules
 pub mod OneNext
 pub mod SessionRules
 pub mod KeySets

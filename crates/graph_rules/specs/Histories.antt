@@ -5,7 +5,7 @@ use Rattle.item_ids.specs.declared.key.Key.{Key}
 use Rattle.result_bytes.specs.declared.value.Value.{Value}
 use Rattle.recorder.specs.Projects.{Project}
 use Rattle.sessions.specs.declared.mark.Mark.{Mark}
-use Rattle.graph_rules.specs.Pasts.{Past}
+use Rattle.graph_rules.specs.Settings.{Setting}
 use Rattle.graph_rules.specs.Steps.{Status, Done, State, Event, MarkGreen, Finish, IsDone, IsNotDone, after, state_after}
 
 -- what is done stays done as it is
@@ -25,11 +25,11 @@ HasEdgesDone s (Done v es m) = AllByRecursion (λ e. IsDone (s.at e)) es
 HasEdgesDone s _ = ⊥
 
 -- No key becomes done twice, and none before its edges.
-pub record IsOrderly (past : Past) (p : Project) (history : List Event) : Type 0 where
+pub record IsOrderly (over : Setting) (p : Project) (history : List Event) : Type 0 where
   pub stays : (front rest : List Event) → front ++ rest ≡ history
-      → Keeps (state_after past p front) (state_after past p history)
+      → Keeps (state_after over p front) (state_after over p history)
   pub once : (front : List Event) (e : Event) (rest : List Event) (q : Key)
-      → front ++ e ∷ rest ≡ history → MakesDone e q → IsNotDone ((state_after past p front).at q)
+      → front ++ e ∷ rest ≡ history → MakesDone e q → IsNotDone ((state_after over p front).at q)
   pub edges_first : (front : List Event) (e : Event) (rest : List Event) (q : Key)
       → front ++ e ∷ rest ≡ history → MakesDone e q
-      → HasEdgesDone (state_after past p front) ((after past (state_after past p front) e).at q)
+      → HasEdgesDone (state_after over p front) ((after over (state_after over p front) e).at q)

@@ -1,5 +1,7 @@
 pub mod Keys
 pub mod Pasts
+pub mod Settings
+pub mod Apart
 pub mod Steps
 pub mod Sound
 pub mod Histories

@@ -12,6 +12,7 @@ use Rattle.sessions.specs.declared.mark.Mark.TheVariants.{Input, Green, Executed
 use Rattle.sessions.specs.Sessions.{Entry}
 use Rattle.graph_rules.specs.Keys.{same_key, input_of}
 use Rattle.graph_rules.specs.Pasts.{Past, print_in}
+use Rattle.graph_rules.specs.Settings.{Setting, kept}
 
 -- A key is unknown, claimed by a worker, running by a worker, or done with a value, the keys read
 -- for it, and a mark.
@@ -106,9 +107,9 @@ abbrev pub walk : Past → State → List Key → Walk
 walk past s [] = AllUnchanged
 walk past s (e ∷ es) = walk_on (edge_of past s e) (walk past s es)
 
--- the walk over the previous edges of a key, where the previous session has it
-abbrev pub past_walk : Past → State → Key → Option Walk
-past_walk past s q = option_map (λ r. walk past s r.reads) (past q)
+-- the walk over the previous edges of a key, where it may be taken over from the previous session
+abbrev pub past_walk : Setting → State → Key → Option Walk
+past_walk over s q = option_map (λ r. walk over.held s r.reads) (kept over q)
 
 -- ---- events
 
@@ -116,8 +117,14 @@ past_walk past s q = option_map (λ r. walk past s r.reads) (past q)
 abbrev pub IsBelow : State → ℕ → Key → Type 0
 IsBelow s w q = (k : Key) → IsHeldBy w (s.at k) → rank q < rank k
 
--- A key may run if the previous session lacks it, or if the first of its previous edges that isn't
--- unchanged is changed.
+-- w has claimed or runs a key whose rank isn't above this one's
+pub record IsOwn (s : State) (w : ℕ) (q : Key) : Type 0 where
+  pub key : Key
+  pub held : IsHeldBy w (s.at key)
+  pub not_above : ¬ (rank q < rank key)
+
+-- A key may run if there is nothing to take over from the previous session, or if the first of its
+-- previous edges that isn't unchanged is changed.
 abbrev pub MayRun : Option Walk → Type 0
 MayRun None = Unit {0}
 MayRun (Some (ChangedAt i)) = Unit {0}
@@ -127,14 +134,15 @@ MayRun (Some _) = ⊥
 abbrev pub AreHeld : State → List ReadValue → Type 0
 AreHeld s told = AllByRecursion (λ t. IsDoneWith t.value (s.at t.key)) told
 
--- the event is a step in the state
-abbrev pub MayStep : Past → State → Event → Type 0
-MayStep past s (Claim w q) = (s.failed ≡ false) × (s.at q ≡ Unknown) × IsBelow s w q
-MayStep past s (MarkGreen w q) =
-    (s.failed ≡ false) × (s.at q ≡ Claimed w) × (past_walk past s q ≡ Some AllUnchanged)
-MayStep past s (Begin w q) = (s.failed ≡ false) × (s.at q ≡ Claimed w) × MayRun (past_walk past s q)
-MayStep past s (Finish w o) = (s.failed ≡ false) × (s.at o.key ≡ Running w) × AreHeld s o.told
-MayStep past s (Fail w) = s.failed ≡ false
+-- the event is a step in the state; the outcome of a run is one of the session's profile
+abbrev pub MayStep : Setting → State → Event → Type 0
+MayStep over s (Claim w q) = (s.failed ≡ false) × (s.at q ≡ Unknown) × IsBelow s w q
+MayStep over s (MarkGreen w q) =
+    (s.failed ≡ false) × (s.at q ≡ Claimed w) × (past_walk over s q ≡ Some AllUnchanged)
+MayStep over s (Begin w q) = (s.failed ≡ false) × (s.at q ≡ Claimed w) × MayRun (past_walk over s q)
+MayStep over s (Finish w o) =
+    (s.failed ≡ false) × (s.at o.key ≡ Running w) × AreHeld s o.told × (o.profile ≡ over.profile)
+MayStep over s (Fail w) = s.failed ≡ false
 
 -- done with the previous session's value and edges
 abbrev pub green : Option Entry → Status
@@ -142,26 +150,26 @@ green (Some r) = Done r.value r.reads Green
 green None = Unknown
 
 -- the state after a step
-abbrev pub after : Past → State → Event → State
-after past s (Claim w q) = with_status s q (Claimed w)
-after past s (MarkGreen w q) = with_status s q (green (past q))
-after past s (Begin w q) = with_status s q (Running w)
-after past s (Finish w o) = with_status s o.key (Done o.value (keys o.told) Executed)
-after past s (Fail w) = record { at = s.at; failed = true }
+abbrev pub after : Setting → State → Event → State
+after over s (Claim w q) = with_status s q (Claimed w)
+after over s (MarkGreen w q) = with_status s q (green (kept over q))
+after over s (Begin w q) = with_status s q (Running w)
+after over s (Finish w o) = with_status s o.key (Done o.value (keys o.told) Executed)
+after over s (Fail w) = record { at = s.at; failed = true }
 
-abbrev pub after_all : Past → State → List Event → State
-after_all past s [] = s
-after_all past s (e ∷ es) = after_all past (after past s e) es
+abbrev pub after_all : Setting → State → List Event → State
+after_all over s [] = s
+after_all over s (e ∷ es) = after_all over (after over s e) es
 
 -- each event is a step in its turn
-abbrev pub AreSteps : Past → State → List Event → Type 0
-AreSteps past s [] = Unit {0}
-AreSteps past s (e ∷ es) = MayStep past s e × AreSteps past (after past s e) es
+abbrev pub AreSteps : Setting → State → List Event → Type 0
+AreSteps over s [] = Unit {0}
+AreSteps over s (e ∷ es) = MayStep over s e × AreSteps over (after over s e) es
 
 -- from the opening each event is a step
-abbrev pub Legal : Past → Project → List Event → Type 0
-Legal past p history = AreSteps past (opening p) history
+abbrev pub Legal : Setting → Project → List Event → Type 0
+Legal over p history = AreSteps over (opening p) history
 
 -- the state that a history leads to
-abbrev pub state_after : Past → Project → List Event → State
-state_after past p history = after_all past (opening p) history
+abbrev pub state_after : Setting → Project → List Event → State
+state_after over p history = after_all over (opening p) history

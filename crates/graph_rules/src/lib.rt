@@ -4,6 +4,6 @@
 mod laws;
 
 pub use laws::{
-    closed_is_next, histories_are_orderly, histories_are_sound, inputs_apart, keys_apart, one_next,
-    sessions_are_graphs, sound_is_in_order,
+    apart_sessions_have_no_clash, closed_is_next, histories_are_orderly, histories_are_sound,
+    inputs_apart, keys_apart, one_next, sessions_are_graphs, sound_is_in_order,
 };

@@ -7,9 +7,11 @@ use Rattle.item_ids.specs.declared.key.Key.TheVariants.{Answer}
 use Rattle.result_bytes.specs.declared.value.Value.{Value}
 use Rattle.recorder.specs.Projects.{Project}
 use Rattle.recorder.specs.Backed.{Meaning, ReadLists}
-use Rattle.sessions.specs.Sessions.{SessionValue, past_entry}
+use Rattle.sessions.specs.declared.terms.Terms.{Terms}
+use Rattle.sessions.specs.Sessions.{SessionValue}
 use Rattle.graph_rules.specs.Keys.{same_key, input_of}
-use Rattle.graph_rules.specs.Pasts.{Past, IsGraph}
+use Rattle.graph_rules.specs.Pasts.{IsGraph}
+use Rattle.graph_rules.specs.Settings.{Setting}
 use Rattle.graph_rules.specs.Steps.{Status, Unknown, Claimed, Running, Done, State, Event, IsDone, IsNotDone, IsDoneWith, state_after}
 use Rattle.graph_rules.specs.Sound.{AreBacked, IsInOrderAt, IsInOrder}
 use Rattle.graph_rules.specs.Graphs.{IsReached, edge}
@@ -19,11 +21,12 @@ use Rattle.graph_rules.proofs.Keeping.{sound_history, in_order}
 use Rattle.job_table.specs.declared.fault.CloseFault.TheVariants as fault
 use Rattle.key_states.specs.Nodes.{Node, IsInputIn, status_of, status_in, status_at, unless_input, state_of_nodes, has_key, KeysStandOnce}
 use Rattle.job_table.specs.Kept.{IsKept}
-use Rattle.job_table.specs.Tables.{TableValue}
+use Rattle.job_table.specs.Tables.{TableValue, past_of, state_of}
 use Rattle.key_states.specs.Closing.{IsQuiet, IsClosing}
-use Rattle.job_table.specs.Closes.{AreQuiet, CloseGives}
+use Rattle.job_table.specs.Closes.{AreQuiet, IsAtWork, CloseGives}
 use Rattle.key_states.specs.Reached.{AllQuiet}
-use Rattle.job_table.proofs.StepRules.{is_not_done}
+use Rattle.key_states.proofs.NodeRules.{held_in}
+use Rattle.job_table.proofs.StepRules.{is_not_done, is_held}
 
 -- ---- quiet
 
@@ -31,35 +34,9 @@ quiet_at : (ns : List Node) (q : Key) → AllQuiet ns → IsQuiet (status_in ns 
 quiet_at [] q a = tt
 quiet_at (n ∷ ns) q a = elim (same_key n.0 q) as (λ b. IsQuiet (if b then status_of n.1 else status_in ns q)) [ true ↦ a.0 | false ↦ quiet_at ns q a.1 ]
 
-absent_unknown : (ns : List Node) (q : Key) → has_key q ns ≡ false → status_in ns q ≡ Unknown
-absent_unknown [] q e = refl
-absent_unknown (m ∷ ns) q e =
-    (elim (same_key m.0 q) as (λ b. (if b then true else has_key q ns) ≡ false → (if b then status_of m.1 else status_in ns q) ≡ Unknown) [
-      | true ↦ λ h. absurd (cc)
-      | false ↦ λ h. absent_unknown ns q h
-    ]) e
-
-quiet_rest : (ns : List Node) (n : Node) (q : Key) → has_key n.0 ns ≡ false → IsQuiet (status_in (n ∷ ns) q) → IsQuiet (status_in ns q)
-quiet_rest ns n q absent h =
-    (elim (same_key n.0 q) as (λ b. same_key n.0 q ≡ b → IsQuiet (if b then status_of n.1 else status_in ns q) → IsQuiet (status_in ns q)) [
-      | true ↦ λ is k. let e : status_in ns q ≡ Unknown = absent_unknown ns q (subst (λ (x : Key). has_key x ns ≡ false) (same_is n.0 q is) absent) in rw e tt
-      | false ↦ λ is k. k
-    ]) refl h
-
-all_quiet : (ns : List Node) → KeysStandOnce ns → ((q : Key) → IsQuiet (status_in ns q)) → AllQuiet ns
-all_quiet [] apart h = tt
-all_quiet (n ∷ ns) apart h = (rw (same_refl n.0) at (h n.0), all_quiet ns apart.1 (λ q. quiet_rest ns n q apart.0 (h q)))
-
 quiet_out : (o : Option Value) (x : Status) → IsQuiet x → IsQuiet (unless_input o x)
 quiet_out (Some v) x h = tt
 quiet_out None x h = h
-
-quiet_in : (o : Option Value) (x : Status) → ((v : Value) → o ≡ Some v → IsInputIn v x) → IsQuiet (unless_input o x) → IsQuiet x
-quiet_in (Some v) x inner h = elim (inner v refl) [
-  | inl unknown ↦ rw unknown tt
-  | inr done ↦ rw done tt
-]
-quiet_in None x inner h = h
 
 -- ---- states that agree
 
@@ -67,8 +44,9 @@ reached_same : (p : Project) (s t : State) → ((k : Key) → s.at k ≡ t.at k)
 reached_same p s t same q (starts _ r) = starts q r
 reached_same p s t same _ (edge q v es m e reached is has) = edge q v es m e (reached_same p s t same q reached) (sym (same q) ∙ is) has
 
-closing_same : (past : Option SessionValue) (p : Project) (s t : State) (session : SessionValue) → ((k : Key) → s.at k ≡ t.at k) → IsClosing past p s session → IsClosing past p t session
-closing_same past p s t session same c = record {
+closing_same : (terms : Terms) (past : Option SessionValue) (p : Project) (s t : State) (session : SessionValue) → ((k : Key) → s.at k ≡ t.at k) → IsClosing terms past p s session → IsClosing terms past p t session
+closing_same terms past p s t session same c = record {
+  terms_are = c.terms_are;
   number = c.number;
   link = c.link;
   closed = record {
@@ -106,30 +84,33 @@ done_of v (Done u es m) d = tt
 -- ---- close, where the table is this
 
 -- the state that the nodes stand for is in order
-pub held_in_order : (mean : Meaning) (reads : ReadLists) (past : Past) (p : Project) (ns : List Node) (b c : Bool) (h : List Event)
-    → IsKept past p ns b h → AreBacked mean reads h → IsGraph past → IsInOrder (state_of_nodes p ns c)
-held_in_order mean reads past p ns b c h kept backed graph =
-    order_same (state_after past p h) (state_of_nodes p ns c) (λ k. sym (kept.status k))
-    (in_order mean reads past p graph (state_after past p h) (sound_history mean reads past p h kept.legal backed))
+pub held_in_order : (mean : Meaning) (reads : ReadLists) (over : Setting) (p : Project) (ns : List Node) (b c : Bool) (h : List Event)
+    → IsKept over p ns b h → AreBacked mean reads h → IsGraph over.held → IsInOrder (state_of_nodes p ns c)
+held_in_order mean reads over p ns b c h kept backed graph =
+    order_same (state_after over p h) (state_of_nodes p ns c) (λ k. sym (kept.status k))
+    (in_order mean reads over p graph (state_after over p h) (sound_history mean reads over p h kept.legal backed))
 
-module _ (so : Option SessionValue) (p : Project) (ns : List Node) (b : Bool) (h : List Event) (kept : IsKept (past_entry so) p ns b h) (nf : b ≡ false) (t : TableValue) (is : record { past = so; project = p; history = h } ≡ t) where
-  quiet : AllQuiet ns → AreQuiet (state_after (past_entry so) p h)
-  quiet all q = subst IsQuiet (kept.status q) (quiet_out (input_of p q) (status_in ns q) (quiet_at ns q all))
+module _ (v t : TableValue) (is : v ≡ t) (ns : List Node) (b : Bool) (kept : IsKept (past_of v) v.project ns b v.history) (nf : b ≡ false) where
+  quiet : AllQuiet ns → AreQuiet (state_of v)
+  quiet all q = subst IsQuiet (kept.status q) (quiet_out (input_of v.project q) (status_in ns q) (quiet_at ns q all))
+
+  at_work : (AllQuiet ns → ⊥) → IsAtWork (state_of v)
+  at_work busy = let h = held_in ns kept.apart busy in record { key = h.0; worker = h.1; held = is_held (past_of v) v.project ns b v.history kept h.1 h.0 h.2 }
 
   pub gives_running : (AllQuiet ns → ⊥) → CloseGives t (Err fault.StillRunning)
   gives_running busy = subst (λ (u : TableValue). CloseGives u (Err fault.StillRunning)) is (
     sym kept.failed_is ∙ nf,
-    (λ all. busy (all_quiet ns kept.apart (λ q. quiet_in (input_of p q) (status_in ns q) (kept.inner q) (subst IsQuiet (sym (kept.status q)) (all q))))),
+    at_work busy,
   )
 
-  pub gives_no_answer : AllQuiet ns → IsNotDone (status_at p ns Answer) → CloseGives t (Err fault.NoAnswer)
-  gives_no_answer all nd = subst (λ (u : TableValue). CloseGives u (Err fault.NoAnswer)) is (sym kept.failed_is ∙ nf, quiet all, is_not_done (past_entry so) p ns b h kept Answer nd)
+  pub gives_no_answer : AllQuiet ns → IsNotDone (status_at v.project ns Answer) → CloseGives t (Err fault.NoAnswer)
+  gives_no_answer all nd = subst (λ (u : TableValue). CloseGives u (Err fault.NoAnswer)) is (sym kept.failed_is ∙ nf, quiet all, is_not_done (past_of v) v.project ns b v.history kept Answer nd)
 
-  pub gives_memory : AllQuiet ns → (v : Value) → IsDoneWith v (status_at p ns Answer) → CloseGives t (Err fault.OutOfMemory)
-  gives_memory all v d = subst (λ (u : TableValue). CloseGives u (Err fault.OutOfMemory)) is (sym kept.failed_is ∙ nf, quiet all, subst IsDone (kept.status Answer) (done_of v (status_at p ns Answer) d))
+  pub gives_memory : AllQuiet ns → (x : Value) → IsDoneWith x (status_at v.project ns Answer) → CloseGives t (Err fault.OutOfMemory)
+  gives_memory all x d = subst (λ (u : TableValue). CloseGives u (Err fault.OutOfMemory)) is (sym kept.failed_is ∙ nf, quiet all, subst IsDone (kept.status Answer) (done_of x (status_at v.project ns Answer) d))
 
-  pub gives_session : AllQuiet ns → (v : Value) → IsDoneWith v (status_at p ns Answer) → (c : Bool) (session : SessionValue) → IsClosing so p (state_of_nodes p ns c) session → CloseGives t (Ok session)
-  gives_session all v d c session closing = subst (λ (u : TableValue). CloseGives u (Ok session)) is (
-    (sym kept.failed_is ∙ nf, quiet all, subst IsDone (kept.status Answer) (done_of v (status_at p ns Answer) d)),
-    closing_same so p (state_of_nodes p ns c) (state_after (past_entry so) p h) session kept.status closing,
+  pub gives_session : AllQuiet ns → (x : Value) → IsDoneWith x (status_at v.project ns Answer) → (c : Bool) (session : SessionValue) → IsClosing v.terms v.past v.project (state_of_nodes v.project ns c) session → CloseGives t (Ok session)
+  gives_session all x d c session closing = subst (λ (u : TableValue). CloseGives u (Ok session)) is (
+    (sym kept.failed_is ∙ nf, quiet all, subst IsDone (kept.status Answer) (done_of x (status_at v.project ns Answer) d)),
+    closing_same v.terms v.past v.project (state_of_nodes v.project ns c) (state_of v) session kept.status closing,
   )

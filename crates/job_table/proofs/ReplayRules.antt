@@ -7,10 +7,8 @@ use Rattle.std.specs.declared.sync.Arc.{Arc}
 use Rattle.std.specs.Arc.{arc_value}
 use Rattle.item_ids.specs.declared.key.Key.{Key}
 use Rattle.result_bytes.specs.declared.value.Value.{Value}
-use Rattle.recorder.specs.Projects.{Project}
 use Rattle.recorder.specs.Backed.{ReadValue}
 use Rattle.recorder.specs.Runs.{OutcomeValue}
-use Rattle.sessions.specs.Sessions.{SessionValue, past_entry}
 use Rattle.graph_rules.specs.Steps.{Status, State, Event, Claim, MarkGreen, Begin, Finish, Fail, Walk, AllUnchanged, OpenAt, ChangedAt, IsDoneWith, MayRun, AreHeld, Legal}
 use Rattle.job_table.specs.declared.event.Event.{Event as StoredEvent}
 use Rattle.job_table.specs.declared.fault.Asked.{Asked}
@@ -18,10 +16,12 @@ use Rattle.job_table.specs.declared.fault.Asked.TheVariants as asked
 use Rattle.job_table.specs.declared.fault.TableFault.{TableFault}
 use Rattle.job_table.specs.declared.fault.TableFault.TheVariants as fault
 use Rattle.job_table.specs.Kept.{event_of}
-use Rattle.job_table.specs.Tables.{TableValue, state_of, IsStep, adds}
+use Rattle.job_table.specs.Tables.{TableValue, past_of, state_of, IsStep, with_history, adds}
 use Rattle.job_table.specs.Calls.{AskGives, MarkGives, BeginGives, FinishGives, FailGives, IsFirstStale}
 use Rattle.job_table.proofs.EventRules.{events_last}
 use Rattle.job_table.proofs.StepRules.{legal_last}
+use Rattle.graph_rules.proofs.SettingRules.{kept_none, kept_across}
+use Rattle.job_table.proofs.CallRules.{walk_none}
 use Rattle.job_table.specs.Replays.{StepGives, step_of_ask, step_of_mark, step_of_call, IsFirstIllegal}
 
 -- a list of events is those before a place, the one there, and the others
@@ -44,23 +44,20 @@ events_front {R} es i e lt is = sym (ap (map event_of) front ∙ events_last (ta
     front : take (i + 1) es ≡ take i es ++ e ∷ []
     front = take_more es i e lt ∙ ap (λ (y : StoredEvent R). take i es ++ y ∷ []) (sym is)
 
-abbrev pub table_of : Option SessionValue → Project → List Event → TableValue
-table_of so p h = record { past = so; project = p; history = h }
+-- the table v behind one more event, which is a step
+module _ {R : Type 0} (v : TableValue) (es : List (StoredEvent R)) (i : ℕ) (e : StoredEvent R) (t : TableValue) (lt : i < length es) (is : e ≡ get_or es i e) (te : t ≡ with_history v (map event_of (take i es))) where
+  pub table_after : (u : TableValue) → u ≡ adds t (event_of e) → u ≡ with_history v (map event_of (take (i + 1) es))
+  table_after u ue = ue ∙ (ap (λ (x : TableValue). adds x (event_of e)) te ∙ ap (with_history v) (events_front es i e lt is))
 
--- the table behind one more event, which is a step
-module _ {R : Type 0} (so : Option SessionValue) (p : Project) (es : List (StoredEvent R)) (i : ℕ) (e : StoredEvent R) (t : TableValue) (lt : i < length es) (is : e ≡ get_or es i e) (te : t ≡ record { past = so; project = p; history = map event_of (take i es) }) where
-  pub table_after : (u : TableValue) → u ≡ adds t (event_of e) → u ≡ record { past = so; project = p; history = map event_of (take (i + 1) es) }
-  table_after u ue = ue ∙ (ap (λ (x : TableValue). adds x (event_of e)) te ∙ ap (table_of so p) (events_front es i e lt is))
-
-  pub legal_after : Legal (past_entry so) p (map event_of (take i es)) → IsStep t (event_of e) → Legal (past_entry so) p (map event_of (take (i + 1) es))
-  legal_after legal step = subst (λ (h : List Event). Legal (past_entry so) p h) (events_front es i e lt is)
-      (legal_last (past_entry so) p (map event_of (take i es)) (event_of e) legal (subst (λ (x : TableValue). IsStep x (event_of e)) te step))
+  pub legal_after : Legal (past_of v) v.project (map event_of (take i es)) → IsStep t (event_of e) → Legal (past_of v) v.project (map event_of (take (i + 1) es))
+  legal_after legal step = subst (λ (h : List Event). Legal (past_of v) v.project h) (events_front es i e lt is)
+      (legal_last (past_of v) v.project (map event_of (take i es)) (event_of e) legal (subst (λ (x : TableValue). IsStep x (event_of e)) te step))
 
 -- the event behind a legal front that is no step is the first one
-pub first_illegal : (so : Option SessionValue) (p : Project) (events front : List Event) (e : Event) (rest : List Event) (i : ℕ) (t : TableValue)
-    → events ≡ front ++ e ∷ rest → length front ≡ i → t ≡ record { past = so; project = p; history = front } → Legal (past_entry so) p front
-    → (IsStep t e → ⊥) → IsFirstIllegal (past_entry so) p events i
-first_illegal so p events front e rest i t whole place te legal stuck = record {
+pub first_illegal : (v : TableValue) (events front : List Event) (e : Event) (rest : List Event) (i : ℕ) (t : TableValue)
+    → events ≡ front ++ e ∷ rest → length front ≡ i → t ≡ with_history v front → Legal (past_of v) v.project front
+    → (IsStep t e → ⊥) → IsFirstIllegal (past_of v) v.project events i
+first_illegal v events front e rest i t whole place te legal stuck = record {
   front = front;
   event = e;
   rest = rest;
@@ -84,7 +81,7 @@ ask_step t u w q (Ok asked.Yours) h = h
 ask_step t u w q (Ok (asked.Done v)) h = ((λ m. subst (λ (x : Status). IsDoneWith (arc_value v) x) m.1 h.1), h.2)
 ask_step t u w q (Ok asked.Busy) h = ((λ m. h.2 m.1), h.3)
 ask_step t u w q (Ok asked.Stopped) h = ((λ m. not_both _ h.0 m.0), h.1)
-ask_step t u w q (Err fault.OutOfRank) h = ((λ m. h.1 m.2), h.2)
+ask_step t u w q (Err fault.OutOfRank) h = ((λ m. h.1.not_above (m.2 h.1.key h.1.held)), h.2)
 ask_step t u w q (Err fault.OutOfMemory) h = h.2
 ask_step t u w q (Err fault.NotYours) h = absurd h
 ask_step t u w q (Err fault.NotInPast) h = absurd h
@@ -93,6 +90,8 @@ ask_step t u w q (Err fault.Failed) h = absurd h
 ask_step t u w q (Err (fault.EdgeOpen i)) h = absurd h
 ask_step t u w q (Err (fault.EdgeChanged i)) h = absurd h
 ask_step t u w q (Err (fault.StaleRead i)) h = absurd h
+ask_step t u w q (Err fault.AcrossProfiles) h = absurd h
+ask_step t u w q (Err fault.OtherProfile) h = absurd h
 
 none_not : (o : Option Walk) → o ≡ None → o ≡ Some AllUnchanged → ⊥
 none_not o n a = cc
@@ -108,13 +107,15 @@ pub mark_step : (t u : TableValue) (w : ℕ) (q : Key) (r : Result (Arc Value Gl
 mark_step t u w q (Ok v) h = (h.0, h.1)
 mark_step t u w q (Err fault.Failed) h = ((λ m. not_both _ h.0 m.0), h.1)
 mark_step t u w q (Err fault.NotYours) h = ((λ m. h.1 m.1), h.2)
-mark_step t u w q (Err fault.NotInPast) h = ((λ m. none_not _ h.1 m.2), h.2)
+mark_step t u w q (Err fault.NotInPast) h = ((λ m. none_not _ (walk_none (past_of t) (state_of t) q (kept_none (past_of t) q h.1)) m.2), h.2)
+mark_step t u w q (Err fault.AcrossProfiles) h = ((λ m. none_not _ (walk_none (past_of t) (state_of t) q (kept_across (past_of t) q h.2)) m.2), h.3)
 mark_step t u w q (Err (fault.EdgeOpen i)) h = ((λ m. open_not _ i h.1 m.2), h.2)
 mark_step t u w q (Err (fault.EdgeChanged i)) h = ((λ m. changed_not _ i h.1 m.2), h.2)
 mark_step t u w q (Err fault.OutOfMemory) h = h.1
 mark_step t u w q (Err fault.OutOfRank) h = absurd h
 mark_step t u w q (Err fault.NothingChanged) h = absurd h
 mark_step t u w q (Err (fault.StaleRead i)) h = absurd h
+mark_step t u w q (Err fault.OtherProfile) h = absurd h
 
 -- what an answer of begin_run says of its event
 pub begin_step : (t u : TableValue) (w : ℕ) (q : Key) (r : Result (Unit {0}) TableFault) → BeginGives t w q r u → StepGives t (Begin w q) (step_of_call r) u
@@ -128,19 +129,23 @@ begin_step t u w q (Err fault.OutOfRank) h = absurd h
 begin_step t u w q (Err fault.NotInPast) h = absurd h
 begin_step t u w q (Err (fault.EdgeChanged i)) h = absurd h
 begin_step t u w q (Err (fault.StaleRead i)) h = absurd h
+begin_step t u w q (Err fault.AcrossProfiles) h = absurd h
+begin_step t u w q (Err fault.OtherProfile) h = absurd h
 
 -- what an answer of finish says of its event
 pub finish_step : (t u : TableValue) (w : ℕ) (o : OutcomeValue) (r : Result (Unit {0}) TableFault) → FinishGives t w o r u → StepGives t (Finish w o) (step_of_call r) u
 finish_step t u w o (Ok x) h = h
 finish_step t u w o (Err fault.Failed) h = ((λ m. not_both _ h.0 m.0), h.1)
 finish_step t u w o (Err fault.NotYours) h = ((λ m. h.1 m.1), h.2)
-finish_step t u w o (Err (fault.StaleRead i)) h = ((λ m. stale_not (state_of t) o.told i h.1 m.2), h.2)
+finish_step t u w o (Err fault.OtherProfile) h = ((λ m. h.1 m.3), h.2)
+finish_step t u w o (Err (fault.StaleRead i)) h = ((λ m. stale_not (state_of t) o.told i h.2 m.2), h.3)
 finish_step t u w o (Err fault.OutOfMemory) h = h.1
 finish_step t u w o (Err fault.OutOfRank) h = absurd h
 finish_step t u w o (Err fault.NotInPast) h = absurd h
 finish_step t u w o (Err fault.NothingChanged) h = absurd h
 finish_step t u w o (Err (fault.EdgeOpen i)) h = absurd h
 finish_step t u w o (Err (fault.EdgeChanged i)) h = absurd h
+finish_step t u w o (Err fault.AcrossProfiles) h = absurd h
 
 -- what an answer of fail says of its event
 pub fail_step : (t u : TableValue) (w : ℕ) (r : Result (Unit {0}) TableFault) → FailGives t w r u → StepGives t (Fail w) (step_of_call r) u
@@ -153,4 +158,6 @@ fail_step t u w (Err fault.NothingChanged) h = absurd h
 fail_step t u w (Err (fault.EdgeOpen i)) h = absurd h
 fail_step t u w (Err (fault.EdgeChanged i)) h = absurd h
 fail_step t u w (Err (fault.StaleRead i)) h = absurd h
+fail_step t u w (Err fault.AcrossProfiles) h = absurd h
+fail_step t u w (Err fault.OtherProfile) h = absurd h
 fail_step t u w (Err fault.OutOfMemory) h = absurd h

@@ -1,14 +1,20 @@
 -- Walks over previous edges, from a place on.
-use Rattle.std.proofs.Common.{◌≡◌, ◌≢◌, ℕ, suc, ◌+◌, ◌<◌, List, ◌∷◌, map, drop, length, get_or, refl, sym, ap, ◌∙◌, true, false, Option, Some, bytes_eq, arith}
-use Rattle.std.specs.Prelude.{if◌then◌else◌}
+use Rattle.std.proofs.Common.{◌≡◌, ◌≢◌, ◌↔◌, ℕ, Bool, suc, ◌+◌, ◌<◌, List, ◌∷◌, map, drop, length, get_or, refl, sym, ap, ◌∙◌, true, false, Option, Some, bytes_eq, arith}
+use Rattle.std.specs.Prelude.{if◌then◌else◌, IsTrue}
 use Rattle.std.proofs.Math.Seq.{drop-cons}
 use Rattle.std.proofs.lemmas.Slice.Eq.{bytes_eq-Decides}
+use Rattle.profiles.specs.declared.profile.Profile.{Profile}
+use Rattle.profiles.specs.declared.profile.Profile.TheVariants.{One, Two}
+use Rattle.profiles.specs.Profiles.{same_profile}
+use Rattle.item_ids.specs.declared.kind.Kind.{Kind}
 use Rattle.item_ids.specs.declared.key.Key.{Key}
 use Rattle.result_bytes.specs.declared.value.Value.{Value}
 use Rattle.fingerprint.specs.Prints.{print_of}
 use Rattle.sessions.specs.Sessions.{SessionValue, RecordValue, IsSession, key_at, past_entry}
 use Rattle.sessions.proofs.EntryRules.{key_of_place}
 use Rattle.graph_rules.specs.Pasts.{Past, print_in}
+use Rattle.graph_rules.specs.Settings.{has_kind, crossing_kinds}
+use Rattle.graph_rules.proofs.SettingRules.{crosses_is}
 use Rattle.graph_rules.proofs.SessionRules.{print_of_place}
 use Rattle.graph_rules.specs.Steps.{Status, Unknown, Claimed, Running, Done, State, IsDoneWith, IsNotDone, EdgeState, Open, Unchanged, Changed, edge_at, edge_of, Walk, AllUnchanged, OpenAt, ChangedAt, later, walk_on, walk}
 

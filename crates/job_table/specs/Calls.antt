@@ -1,16 +1,20 @@
 -- What each call answers, decided by the state before it, and what becomes of the table.
-use Rattle.std.specs.Prelude.{◌≡◌, ℕ, true, false, Result, Ok, Err, Option, Some, None, List, [], ◌∷◌}
+use Rattle.std.specs.Prelude.{◌≡◌, ◌≢◌, ℕ, Bool, true, false, Result, Ok, Err, Option, Some, None, List, [], ◌∷◌}
 use Rattle.std.proofs.Common.{zero, suc}
 use Rattle.std.specs.declared.alloc.Global.{Global}
 use Rattle.std.specs.declared.sync.Arc.{Arc}
 use Rattle.std.specs.Arc.{arc_value}
+use Rattle.item_ids.specs.declared.kind.Kind.{Kind}
 use Rattle.item_ids.specs.declared.key.Key.{Key}
+use Rattle.item_ids.specs.Keys.{kind_of}
 use Rattle.result_bytes.specs.declared.value.Value.{Value}
 use Rattle.recorder.specs.Projects.{Project}
 use Rattle.recorder.specs.Backed.{ReadValue}
 use Rattle.recorder.specs.Runs.{OutcomeValue}
-use Rattle.sessions.specs.Sessions.{SessionValue}
-use Rattle.graph_rules.specs.Steps.{Unknown, Claimed, Running, Claim, MarkGreen, Begin, Finish, Fail, State, Walk, AllUnchanged, OpenAt, ChangedAt, IsDoneWith, IsNotDone, IsBelow, past_walk}
+use Rattle.sessions.specs.declared.terms.Terms.{Terms}
+use Rattle.sessions.specs.Sessions.{Entry, SessionValue, past_entry}
+use Rattle.graph_rules.specs.Settings.{has_kind, crossing_kinds}
+use Rattle.graph_rules.specs.Steps.{Unknown, Claimed, Running, Claim, MarkGreen, Begin, Finish, Fail, State, Walk, AllUnchanged, OpenAt, ChangedAt, IsDoneWith, IsNotDone, IsBelow, IsOwn, past_walk}
 use Rattle.key_states.specs.Closing.{IsFull}
 use Rattle.job_table.specs.Tables.{TableValue, past_of, state_of, IsStep, adds}
 use Rattle.job_table.specs.declared.fault.Asked.{Asked}
@@ -20,11 +24,22 @@ use Rattle.job_table.specs.declared.fault.TableFault.TheVariants as fault
 use Rattle.job_table.specs.declared.fault.OpenFault.{OpenFault}
 use Rattle.job_table.specs.declared.fault.OpenFault.TheVariants as opens
 
+-- a table without events
+abbrev pub opened : (Kind → Bool) → Terms → Option SessionValue → Project → TableValue
+opened by_profile terms past p = record {
+  terms = terms;
+  past = past;
+  crossing = crossing_kinds by_profile terms.profile past;
+  project = p;
+  history = [];
+}
+
 -- open: a table without events, unless no session can follow the previous session
-abbrev pub OpenGives : Option SessionValue → Project → Result TableValue OpenFault → Type 0
-OpenGives past p (Ok t) = ¬ IsFull past × (t ≡ record { past = past; project = p; history = [] })
-OpenGives past p (Err opens.ChainFull) = IsFull past
-OpenGives past p (Err opens.OutOfMemory) = ¬ IsFull past
+abbrev pub OpenGives
+    : (Kind → Bool) → Terms → Option SessionValue → Project → Result TableValue OpenFault → Type 0
+OpenGives by_profile terms past p (Ok t) = ¬ IsFull past × (t ≡ opened by_profile terms past p)
+OpenGives by_profile terms past p (Err opens.ChainFull) = IsFull past
+OpenGives by_profile terms past p (Err opens.OutOfMemory) = ¬ IsFull past
 
 -- no worker failed, and the key isn't done
 abbrev pub IsWanted : TableValue → Key → Type 0
@@ -44,7 +59,7 @@ abbrev pub AskGives : TableValue → ℕ → Key → Result Asked TableFault →
 AskGives t w q (Ok asked.Stopped) u = ((state_of t).failed ≡ true) × (u ≡ t)
 AskGives t w q (Ok (asked.Done v)) u =
     ((state_of t).failed ≡ false) × IsDoneWith (arc_value v) ((state_of t).at q) × (u ≡ t)
-AskGives t w q (Err fault.OutOfRank) u = IsWanted t q × ¬ IsBelow (state_of t) w q × (u ≡ t)
+AskGives t w q (Err fault.OutOfRank) u = IsWanted t q × IsOwn (state_of t) w q × (u ≡ t)
 AskGives t w q (Ok asked.Busy) u =
     IsWanted t q × IsBelow (state_of t) w q × ((state_of t).at q ≡ Unknown → ⊥) × (u ≡ t)
 AskGives t w q (Ok asked.Yours) u = IsStep t (Claim w q) × (u ≡ adds t (Claim w q))
@@ -52,7 +67,7 @@ AskGives t w q (Err fault.OutOfMemory) u =
     ((state_of t).failed ≡ false) × (IsNotDone ((state_of t).at q) → IsStep t (Claim w q)) × (u ≡ t)
 AskGives t w q (Err _) u = ⊥
 
--- how the walk over the key's previous edges ends, where the previous session has the key
+-- how the walk over the key's previous edges ends, where it may be taken over
 abbrev pub walk_in : TableValue → Key → Option Walk
 walk_in t q = past_walk (past_of t) (state_of t) q
 
@@ -65,7 +80,10 @@ MarkGives t w q (Ok v) u =
 MarkGives t w q (Err fault.Failed) u = ((state_of t).failed ≡ true) × (u ≡ t)
 MarkGives t w q (Err fault.NotYours) u =
     ((state_of t).failed ≡ false) × ((state_of t).at q ≡ Claimed w → ⊥) × (u ≡ t)
-MarkGives t w q (Err fault.NotInPast) u = IsClaimed t w q × (walk_in t q ≡ None) × (u ≡ t)
+MarkGives t w q (Err fault.NotInPast) u = IsClaimed t w q × (past_entry t.past q ≡ None) × (u ≡ t)
+MarkGives t w q (Err fault.AcrossProfiles) u =
+    IsClaimed t w q × ((had : Entry) × (past_entry t.past q ≡ Some had))
+    × (has_kind t.crossing (kind_of q) ≡ true) × (u ≡ t)
 MarkGives t w q (Err (fault.EdgeOpen i)) u =
     IsClaimed t w q × (walk_in t q ≡ Some (OpenAt i)) × (u ≡ t)
 MarkGives t w q (Err (fault.EdgeChanged i)) u =
@@ -99,8 +117,10 @@ FinishGives t w o (Ok _) u = IsStep t (Finish w o) × (u ≡ adds t (Finish w o)
 FinishGives t w o (Err fault.Failed) u = ((state_of t).failed ≡ true) × (u ≡ t)
 FinishGives t w o (Err fault.NotYours) u =
     ((state_of t).failed ≡ false) × ((state_of t).at o.key ≡ Running w → ⊥) × (u ≡ t)
+FinishGives t w o (Err fault.OtherProfile) u =
+    IsRunning t w o.key × (o.profile ≢ t.terms.profile) × (u ≡ t)
 FinishGives t w o (Err (fault.StaleRead i)) u =
-    IsRunning t w o.key × IsFirstStale (state_of t) o.told i × (u ≡ t)
+    IsRunning t w o.key × (o.profile ≡ t.terms.profile) × IsFirstStale (state_of t) o.told i × (u ≡ t)
 FinishGives t w o (Err fault.OutOfMemory) u = IsStep t (Finish w o) × (u ≡ t)
 FinishGives t w o (Err _) u = ⊥
 

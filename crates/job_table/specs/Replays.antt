@@ -1,14 +1,17 @@
 -- What a replay answers.
-use Rattle.std.specs.Prelude.{◌≡◌, ℕ, Result, Ok, Err, Option, List, ◌∷◌, ◌++◌, length}
+use Rattle.std.specs.Prelude.{◌≡◌, ℕ, Bool, Result, Ok, Err, Option, List, ◌∷◌, ◌++◌, length}
 use Rattle.std.specs.declared.alloc.Global.{Global}
 use Rattle.std.specs.declared.sync.Arc.{Arc}
+use Rattle.item_ids.specs.declared.kind.Kind.{Kind}
 use Rattle.result_bytes.specs.declared.value.Value.{Value}
 use Rattle.recorder.specs.Projects.{Project}
-use Rattle.sessions.specs.Sessions.{SessionValue, past_entry}
-use Rattle.graph_rules.specs.Pasts.{Past}
+use Rattle.sessions.specs.declared.terms.Terms.{Terms}
+use Rattle.sessions.specs.Sessions.{SessionValue}
+use Rattle.graph_rules.specs.Settings.{Setting, setting_of}
 use Rattle.graph_rules.specs.Steps.{Event, MayStep, Legal, state_after}
 use Rattle.key_states.specs.Closing.{IsFull}
-use Rattle.job_table.specs.Tables.{TableValue, past_of, IsStep, adds}
+use Rattle.job_table.specs.Calls.{opened}
+use Rattle.job_table.specs.Tables.{TableValue, past_of, IsStep, with_history, adds}
 use Rattle.job_table.specs.declared.fault.Asked.{Asked}
 use Rattle.job_table.specs.declared.fault.Asked.TheVariants as asked
 use Rattle.job_table.specs.declared.fault.TableFault.{TableFault}
@@ -43,32 +46,32 @@ StepGives t e (Err step.NoStep) u = ¬ IsStep t e × (u ≡ t)
 StepGives t e (Err step.OutOfMemory) u = u ≡ t
 
 -- the event at this place is the first that is no step
-pub record IsFirstIllegal (past : Past) (p : Project) (events : List Event) (i : ℕ) : Type 0 where
+pub record IsFirstIllegal (over : Setting) (p : Project) (events : List Event) (i : ℕ) : Type 0 where
   pub front : List Event
   pub event : Event
   pub rest : List Event
   pub whole : events ≡ front ++ event ∷ rest
   pub place : length front ≡ i
-  pub legal : Legal past p front
-  pub illegal : ¬ MayStep past (state_after past p front) event
+  pub legal : Legal over p front
+  pub illegal : ¬ MayStep over (state_after over p front) event
 
 -- events in turn, in a table that has none: all of them where they are legal, else those before the first that is
 -- no step
 abbrev pub StepsGive : TableValue → List Event → Result (Unit {0}) ReplayFault → TableValue → Type 0
 StepsGive t events (Ok _) u =
     Legal (past_of t) t.project events
-    × (u ≡ record { past = t.past; project = t.project; history = events })
+    × (u ≡ with_history t events)
 StepsGive t events (Err (replay.Illegal i)) u = IsFirstIllegal (past_of t) t.project events i
 StepsGive t events (Err replay.ChainFull) u = ⊥
 StepsGive t events (Err replay.OutOfMemory) u = Unit {0}
 
 -- replay: a table of just these events where they are legal, else the first that is no step
-abbrev pub ReplayGives : Option SessionValue → Project → List Event → Result TableValue ReplayFault
-    → Type 0
-ReplayGives past p events (Ok t) =
-    ¬ IsFull past × Legal (past_entry past) p events
-    × (t ≡ record { past = past; project = p; history = events })
-ReplayGives past p events (Err (replay.Illegal i)) =
-    ¬ IsFull past × IsFirstIllegal (past_entry past) p events i
-ReplayGives past p events (Err replay.ChainFull) = IsFull past
-ReplayGives past p events (Err replay.OutOfMemory) = ¬ IsFull past
+abbrev pub ReplayGives : (Kind → Bool) → Terms → Option SessionValue → Project → List Event
+    → Result TableValue ReplayFault → Type 0
+ReplayGives by_profile terms past p events (Ok t) =
+    ¬ IsFull past × Legal (setting_of by_profile terms.profile past) p events
+    × (t ≡ with_history (opened by_profile terms past p) events)
+ReplayGives by_profile terms past p events (Err (replay.Illegal i)) =
+    ¬ IsFull past × IsFirstIllegal (setting_of by_profile terms.profile past) p events i
+ReplayGives by_profile terms past p events (Err replay.ChainFull) = IsFull past
+ReplayGives by_profile terms past p events (Err replay.OutOfMemory) = ¬ IsFull past

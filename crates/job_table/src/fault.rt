@@ -45,6 +45,12 @@ pub enum TableFault {
     /// A worker failed.
     #[error("9.8 Failed")]
     Failed,
+    /// The previous session has the key, but another profile, and the key goes by the profile.
+    #[error("9.13 AcrossProfiles")]
+    AcrossProfiles,
+    /// The outcome is of another profile.
+    #[error("9.14 OtherProfile")]
+    OtherProfile,
     /// Memory ran out.
     #[error("out of memory")]
     OutOfMemory,

@@ -1,5 +1,6 @@
 //! Tables from their events.
 ghost use Rattle.std.specs.Prelude.{◌≡◌, [], map};
+ghost use Rattle.sessions.specs.Terms.{first_terms};
 ghost use Rattle.sessions.specs.Sessions.{session_in};
 ghost use Rattle.job_table.specs.Kept.{event_of};
 ghost use Rattle.job_table.specs.Replays.{step_of_ask, step_of_mark, step_of_call, refusal_of};
@@ -10,23 +11,38 @@ use crate::table::Table;
 use fingerprint::Sealed;
 use mj_project::Project;
 use recorder::Runner;
-use sessions::Session;
+use sessions::{Session, Terms};
 use std::alloc::Global;
 use std::sync::Arc;
 
 impl<R: Runner> Table<R> {
     ghost use Rattle.job_table.specs.Replays.{StepGives, StepsGive, ReplayGives};
 
-    /// The table that these events lead to, or the first of them that is no step.
+    /// The table of the first terms that these events lead to, or the first of them that is no step.
     pub fn replay(
         alloc: Global,
         past: Option<Arc<Session>>,
         project: &Project,
         events: &[Event<R>],
     ) -> Result<Self, ReplayFault>
-        ensures { ReplayGives (session_in past) project.now (map event_of events.now) result }
+        ensures { ReplayGives R.queries.by_profile first_terms (session_in past) project.now
+            (map event_of events.now) result }
     {
-        let mut table: Table<R> = match Table::open(alloc, past, project) {
+        Table::replay_as(alloc, past, project, events, Terms::first())
+    }
+
+    /// The table of these terms that the events lead to, or the first of them that is no step.
+    pub fn replay_as(
+        alloc: Global,
+        past: Option<Arc<Session>>,
+        project: &Project,
+        events: &[Event<R>],
+        terms: Terms,
+    ) -> Result<Self, ReplayFault>
+        ensures { ReplayGives R.queries.by_profile terms (session_in past) project.now
+            (map event_of events.now) result }
+    {
+        let mut table: Table<R> = match Table::open_as(alloc, past, project, terms) {
             Ok(table) => table,
             Err(OpenFault::ChainFull) => return Err(ReplayFault::ChainFull),
             Err(OpenFault::OutOfMemory) => return Err(ReplayFault::OutOfMemory),

@@ -227,7 +227,8 @@ pub fn room_for_finish<R: Runner>(
         × (vec_capacity history.old ≤ vec_capacity history.new) }
     ensures edges { IfSome result (λ parts. parts.edges ≡ keys outcome.now.told) }
     ensures value { IfSome result (λ parts. arc_value parts.sealed ≡ outcome.now.value) }
-    ensures outcome { IsOutcome R.mean R.reads outcome.now }
+    ensures outcome { IsOutcome (R.queries.mean outcome.now.profile)
+        (R.queries.reads outcome.now.profile) outcome.now }
     ensures room { IfSome result (λ _. vec_len history.new + 1 < vec_capacity history.new) }
 {
     // An outcome follows from its reads, by its type.

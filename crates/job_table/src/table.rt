@@ -1,6 +1,7 @@
 //! Tables.
 ghost use Rattle.std.specs.Prelude.{◌≡◌, ◌↔◌, map, IfOk, IsTrue};
 ghost use Rattle.std.specs.Arc.{arc_value};
+ghost use Rattle.sessions.specs.Terms.{first_terms};
 ghost use Rattle.sessions.specs.Sessions.{session_in};
 ghost use Rattle.key_states.specs.Closing.{IsFull};
 ghost use Rattle.job_table.specs.Kept.{event_of};
@@ -11,8 +12,9 @@ use crate::reads::first_stale;
 use crate::room::{
     FinishParts, claim, note, note_begin, put_mark, room_at_opening, room_for_finish, room_for_mark,
 };
-use crate::walks::{WalkEnd, walk_edges, why_not};
+use crate::walks::{WalkEnd, crosses, walk_edges, why_not};
 use fingerprint::Sealed;
+use graph_rules::{histories_are_orderly, histories_are_sound, sound_is_in_order};
 use item_ids::Key;
 use key_states::{
     Known, NodeMap, Standing, check_past, find_claimed, find_running, known_of, result_of,
@@ -21,16 +23,17 @@ use key_states::{
 use mj_project::Project;
 use project_inputs::Inputs;
 use recorder::{Outcome, Runner};
-use sessions::{Finder, Mark, Session};
+use sessions::{Finder, Mark, Session, Terms};
 use std::alloc::{AllocError, Global};
 use std::marker::Model;
 use std::sync::Arc;
 use std::thread::Threads;
 
-/// The table of one session over a previous session and a project, and the events that led to its state. The contract
-/// of each call speaks of the table before and after it; a call that is refused leaves it as it was.
+/// The table of one session of these terms over a previous session and a project, and the events that led to its state.
+/// The contract of each call speaks of the table before and after it; a call that is refused leaves it as it was.
 pub struct Table<R: Runner> {
     alloc: Global,
+    terms: Terms,
     past: Option<Arc<Session>>,
     inputs: Inputs,
     nodes: NodeMap,
@@ -43,6 +46,7 @@ impl<R: Runner> Drop for Table<R> {
     fn drop(self) {
         let Table {
             alloc: _,
+            terms: _,
             past: _,
             inputs: _,
             nodes: _,
@@ -57,7 +61,8 @@ impl<R: Runner> Model for Table<R> {
     ghost use Rattle.std.specs.Prelude.{◌≡◌, ◌<◌, false, map, vec_len, vec_capacity};
     ghost use Rattle.std.specs.Coded.{codes};
     ghost use Rattle.result_bytes.specs.contracts.value.Value as value_contracts;
-    ghost use Rattle.sessions.specs.Sessions.{past_entry, session_in};
+    ghost use Rattle.sessions.specs.Sessions.{session_in};
+    ghost use Rattle.graph_rules.specs.Settings.{crossing_kinds, setting_of};
     ghost use Rattle.graph_rules.specs.Sound.{AreBacked};
     ghost use Rattle.key_states.specs.Closing.{IsFull};
     ghost use Rattle.job_table.specs.Tables.{TableValue};
@@ -68,59 +73,78 @@ impl<R: Runner> Model for Table<R> {
     ghost coded = { Prim.hlevel (codes, value_contracts.the_row.coded) };
 
     ghost view = { λ t. record {
+      terms = t.terms;
       past = session_in t.past;
+      crossing = crossing_kinds R.queries.by_profile t.terms.profile (session_in t.past);
       project = t.inputs;
       history = map
           event_of t.history.items;
     } };
 
-    ghost invariant = { λ t. IsKept (past_entry (session_in t.past)) t.inputs t.nodes
+    ghost invariant = { λ t. IsKept
+        (setting_of R.queries.by_profile t.terms.profile (session_in t.past)) t.inputs t.nodes
         t.failed (map event_of t.history.items)
-        × AreBacked R.mean R.reads (map event_of t.history.items)
+        × AreBacked (R.queries.mean t.terms.profile) (R.queries.reads t.terms.profile)
+        (map event_of t.history.items)
         × (t.failed ≡ false → vec_len t.history < vec_capacity t.history)
         × ¬ IsFull (session_in t.past) };
 }
 
 impl<R: Runner> Table<R> {
     ghost use Rattle.graph_rules.specs.Steps.{Legal, AreHeld};
-    ghost use Rattle.graph_rules.specs.Sound.{AreBacked};
+    ghost use Rattle.graph_rules.specs.Settings.{crossing_kinds};
+    ghost use Rattle.graph_rules.specs.Sound.{AreBacked, IsSound, IsInOrder};
+    ghost use Rattle.graph_rules.specs.Histories.{IsOrderly};
     ghost use Rattle.mj_project.specs.Projects.{IsProject};
     ghost use Rattle.job_table.specs.Tables.{past_of, state_of};
     ghost use Rattle.job_table.specs.Calls.{OpenGives, AskGives, MarkGives, BeginGives, FinishGives, FailGives};
     ghost use Rattle.job_table.specs.Closes.{CloseGives};
 
-    /// Opens the table of a session of the project, over the previous session.
+    /// Opens the table of a session of the project, of the first terms, over the previous session.
     pub fn open(
         alloc: Global,
         past: Option<Arc<Session>>,
         project: &Project,
     ) -> Result<Self, OpenFault>
-        ensures { OpenGives (session_in past) project.now result }
+        ensures { OpenGives R.queries.by_profile first_terms (session_in past) project.now result }
+    {
+        Table::open_as(alloc, past, project, Terms::first())
+    }
+
+    /// Opens the table of a session of the project, of these terms, over the previous session.
+    pub fn open_as(
+        alloc: Global,
+        past: Option<Arc<Session>>,
+        project: &Project,
+        terms: Terms,
+    ) -> Result<Self, OpenFault>
+        ensures { OpenGives R.queries.by_profile terms (session_in past) project.now result }
     {
         if is_full(&past) {
             return Err(OpenFault::ChainFull);
         }
         match Inputs::new(alloc, &past, project) {
-            Ok(inputs) => Table::of_inputs(alloc, past, inputs),
+            Ok(inputs) => Table::of_inputs(alloc, terms, past, inputs),
             Err(_) => Err(OpenFault::OutOfMemory),
         }
     }
 
-    /// Opens the table as `open` does. So many threads, up to four, seal the project's sources.
+    /// Opens the table as `open_as` does. So many threads, up to four, seal the project's sources.
     pub fn open_by<T: Threads + Sync>(
         rt: &T,
         alloc: Global,
         past: Option<Arc<Session>>,
         project: &Project,
+        terms: Terms,
         workers: usize,
     ) -> Result<Self, OpenFault>
-        ensures { OpenGives (session_in past) project.now result }
+        ensures { OpenGives R.queries.by_profile terms (session_in past) project.now result }
     {
         if is_full(&past) {
             return Err(OpenFault::ChainFull);
         }
         match Inputs::by_workers(rt, alloc, &past, project, workers) {
-            Ok(inputs) => Table::of_inputs(alloc, past, inputs),
+            Ok(inputs) => Table::of_inputs(alloc, terms, past, inputs),
             Err(_) => Err(OpenFault::OutOfMemory),
         }
     }
@@ -128,11 +152,12 @@ impl<R: Runner> Table<R> {
     /// The table of a project's inputs, over the previous session.
     fn of_inputs(
         alloc: Global,
+        terms: Terms,
         past: Option<Arc<Session>>,
         inputs: Inputs,
     ) -> Result<Self, OpenFault>
         requires { ¬ IsFull (session_in past) }
-        ensures { OpenGives (session_in past) inputs result }
+        ensures { OpenGives R.queries.by_profile terms (session_in past) inputs result }
     {
         // Inputs are those of a project, by their type.
         inputs.project();
@@ -141,6 +166,7 @@ impl<R: Runner> Table<R> {
         };
         Ok(Table {
             alloc,
+            terms,
             past,
             inputs,
             nodes,
@@ -178,7 +204,7 @@ impl<R: Runner> Table<R> {
     }
 
     /// Takes over the previous session's result for a key that the worker has claimed, if all its previous edges are
-    /// unchanged.
+    /// unchanged. Of a key that goes by the profile nothing is taken over from a session of another profile.
     pub fn mark(&mut self, w: u32, key: &Key) -> Result<Arc<Sealed>, TableFault>
         ensures { MarkGives self.old w key.now result self.new }
     {
@@ -194,6 +220,9 @@ impl<R: Runner> Table<R> {
         let Some((index, record)) = self.finder.find(past, key) else {
             return Err(TableFault::NotInPast);
         };
+        if crosses::<R>(past, self.terms.profile, key.kind()) {
+            return Err(TableFault::AcrossProfiles);
+        }
         match walk_edges(&self.inputs, &self.nodes, past, record.edges()) {
             WalkEnd::Open(i) => return Err(TableFault::EdgeOpen(i)),
             WalkEnd::Changed(i) => return Err(TableFault::EdgeChanged(i)),
@@ -206,8 +235,8 @@ impl<R: Runner> Table<R> {
         Ok(put_mark(&mut self.nodes, &mut self.history, at, w, parts))
     }
 
-    /// Begins the run of a key that the worker has claimed, where the previous session lacks the key or a previous edge
-    /// is changed.
+    /// Begins the run of a key that the worker has claimed, where the previous session lacks the key, a previous edge
+    /// is changed, or the key may not be taken over since it goes by the profile.
     pub fn begin_run(&mut self, w: u32, key: &Key) -> Result<(), TableFault>
         ensures { BeginGives self.old w key.now result self.new }
     {
@@ -217,7 +246,14 @@ impl<R: Runner> Table<R> {
         let Some(at) = find_claimed(&self.nodes, w, key) else {
             return Err(TableFault::NotYours);
         };
-        if let Some(fault) = why_not(&self.inputs, &self.nodes, &self.past, &mut self.finder, key) {
+        if let Some(fault) = why_not::<R>(
+            &self.inputs,
+            &self.nodes,
+            &self.past,
+            self.terms.profile,
+            &mut self.finder,
+            key,
+        ) {
             return Err(fault);
         }
         let Ok(()) = note_begin(self.alloc, &mut self.history, w, key) else {
@@ -227,7 +263,8 @@ impl<R: Runner> Table<R> {
         Ok(())
     }
 
-    /// Ends the run of a key with its outcome, where all that it read still stands in the table.
+    /// Ends the run of a key with its outcome, where that is of the session's profile, and all that it read still
+    /// stands in the table.
     pub fn finish(&mut self, w: u32, outcome: Arc<Outcome<R>>) -> Result<(), TableFault>
         ensures { FinishGives self.old w (arc_value outcome) result self.new }
     {
@@ -237,6 +274,9 @@ impl<R: Runner> Table<R> {
         let Some(_) = find_running(&self.nodes, w, outcome.key()) else {
             return Err(TableFault::NotYours);
         };
+        if !outcome.profile().is(self.terms.profile) {
+            return Err(TableFault::OtherProfile);
+        }
         if let Some(i) = first_stale(&self.inputs, &self.nodes, outcome.reads()) {
             return Err(TableFault::StaleRead(i));
         }
@@ -256,6 +296,9 @@ impl<R: Runner> Table<R> {
         let Some(at) = find_running(&self.nodes, w, outcome.key()) else {
             return Err(TableFault::NotYours);
         };
+        if !outcome.profile().is(self.terms.profile) {
+            return Err(TableFault::OtherProfile);
+        }
         let Some(FinishParts { edges, sealed }) = room_for_finish(
             self.alloc,
             &mut self.history,
@@ -296,10 +339,23 @@ impl<R: Runner> Table<R> {
         };
         // A past is a graph, by its type.
         check_past(&self.past);
-        match session_of(self.alloc, &self.past, &self.inputs, &self.nodes) {
+        match session_of(
+            self.alloc,
+            self.terms,
+            &self.past,
+            &self.inputs,
+            &self.nodes,
+        ) {
             Ok(session) => Ok(session),
             Err(_) => Err(CloseFault::OutOfMemory),
         }
+    }
+
+    /// The terms, as they were handed in.
+    pub fn terms(&self) -> Terms
+        ensures { result ≡ self.now.terms }
+    {
+        self.terms
     }
 
     /// The previous session, as it was handed in.
@@ -320,12 +376,28 @@ impl<R: Runner> Table<R> {
     }
 
     /// What the type keeps: the project is one, the history is legal, and each outcome in it follows from its reads.
+    /// Nothing is taken over of the kinds that go by the profile, from a session of another one.
     pub fn laws(&self)
         ensures project { IsProject self.now.project }
         ensures legal { Legal (past_of self.now) self.now.project self.now.history }
-        ensures backed { AreBacked R.mean R.reads self.now.history }
+        ensures backed { AreBacked (R.queries.mean self.now.terms.profile)
+            (R.queries.reads self.now.terms.profile) self.now.history }
+        ensures crossing { self.now.crossing ≡ crossing_kinds R.queries.by_profile
+            self.now.terms.profile self.now.past }
+        // So every key is as its status says: none was marked over a changed or open edge, none was run where it
+        // could be marked, and each executed value follows from values in the state.
+        ensures sound { IsSound (R.queries.mean self.now.terms.profile)
+            (R.queries.reads self.now.terms.profile) (past_of self.now) self.now.project
+            (state_of self.now) }
+        // A done key's edges are done and of lower rank.
+        ensures order { IsInOrder (state_of self.now) }
+        // No key became done twice, and none before its edges.
+        ensures orderly { IsOrderly (past_of self.now) self.now.project self.now.history }
     {
-        let _failed = &self.failed;
+        check_past(&self.past);
+        histories_are_sound();
+        sound_is_in_order();
+        histories_are_orderly();
     }
 }
 

@@ -1,15 +1,18 @@
 //! Walks over previous edges.
 ghost use Rattle.std.specs.Prelude.{◌≡◌, ◌<◌, Some, false, map, length, option_map};
 ghost use Rattle.sessions.specs.Sessions.{AreInside, key_at, past_entry, session_in};
+ghost use Rattle.graph_rules.specs.Settings.{has_kind, crossing_kinds, setting_of};
 ghost use Rattle.graph_rules.specs.Pasts.{print_in};
 ghost use Rattle.graph_rules.specs.Steps.{edge_at, walk, past_walk, AllUnchanged};
 ghost use Rattle.key_states.specs.Nodes.{status_at, state_of_nodes, AreInputs};
 ghost use Rattle.job_table.specs.Walks.{edge_state_of, walk_of, IsWhyNot};
 
 use crate::fault::TableFault;
-use item_ids::Key;
+use item_ids::{Key, Kind};
 use key_states::{NodeMap, result_of};
+use profiles::Profile;
 use project_inputs::Inputs;
+use recorder::Runner;
 use sessions::{Finder, Session};
 use std::sync::Arc;
 
@@ -66,22 +69,35 @@ pub fn walk_edges(inputs: &Inputs, nodes: &NodeMap, past: &Session, edges: &[usi
     WalkEnd::AllUnchanged
 }
 
-/// How the walk over a key's previous edges ends, where the previous session has the key.
-fn walk_past(
+/// Whether nothing of this kind is taken over from the previous session, since the kind goes by the profile and the
+/// session that is worked over it has another one.
+pub fn crosses<R: Runner>(past: &Session, profile: Profile, kind: Kind) -> bool
+    ensures { result ≡ has_kind
+        (crossing_kinds R.queries.by_profile profile (Some past.now)) kind }
+{
+    !past.terms().profile.is(profile) && R::by_profile(kind)
+}
+
+/// How the walk over a key's previous edges ends, where it may be taken over by a session of this profile.
+fn walk_past<R: Runner>(
     inputs: &Inputs,
     nodes: &NodeMap,
     past: &Option<Arc<Session>>,
+    profile: Profile,
     finder: &mut Finder,
     key: &Key,
 ) -> Option<WalkEnd>
     requires { AreInputs inputs.now nodes.now }
     ensures { option_map walk_of result
-        ≡ past_walk (past_entry (session_in past.now))
+        ≡ past_walk (setting_of R.queries.by_profile profile (session_in past.now))
         (state_of_nodes inputs.now nodes.now false) key.now }
 {
     let Some(past) = past else {
         return None;
     };
+    if crosses::<R>(past, profile, key.kind()) {
+        return None;
+    }
     let Some((_, record)) = finder.find(past, key) else {
         return None;
     };
@@ -89,18 +105,20 @@ fn walk_past(
 }
 
 /// Why a key that the worker has claimed may not be run.
-pub fn why_not(
+pub fn why_not<R: Runner>(
     inputs: &Inputs,
     nodes: &NodeMap,
     past: &Option<Arc<Session>>,
+    profile: Profile,
     finder: &mut Finder,
     key: &Key,
 ) -> Option<TableFault>
     requires { AreInputs inputs.now nodes.now }
-    ensures { IsWhyNot (past_walk (past_entry (session_in past.now))
+    ensures { IsWhyNot (past_walk
+        (setting_of R.queries.by_profile profile (session_in past.now))
         (state_of_nodes inputs.now nodes.now false) key.now) result }
 {
-    match walk_past(inputs, nodes, past, finder, key) {
+    match walk_past::<R>(inputs, nodes, past, profile, finder, key) {
         Some(WalkEnd::Open(i)) => Some(TableFault::EdgeOpen(i)),
         Some(WalkEnd::AllUnchanged) => Some(TableFault::NothingChanged),
         Some(WalkEnd::Changed(_)) => None,

@@ -4,9 +4,10 @@ use Rattle.std.proofs.lemmas.Option.{none-some, same_Some}
 use Rattle.item_ids.specs.Keys.{key_cmp}
 use Rattle.key_states.specs.declared.nodes.Standing.{Standing}
 use Rattle.key_states.specs.declared.nodes.Standing.TheVariants as standing
-use Rattle.std.proofs.Common.{◌≡◌, inl, inr, ℕ, suc, zero, ◌+◌, ◌<◌, Bool, true, false, not, cond, List, [], ◌∷◌, ◌++◌, length, position, refl, sym, ap, ◌∙◌, subst, Option, Some, None, arith}
+use Rattle.std.proofs.Common.{◌≡◌, ◌⊎◌, ◌==◌, inl, inr, ℕ, suc, zero, ◌+◌, ◌<◌, Bool, true, false, not, cond, List, [], ◌∷◌, ◌++◌, length, position, refl, sym, ap, ◌∙◌, subst, Option, Some, None, arith}
 use Rattle.std.specs.Prelude.{if◌then◌else◌, nat_lt, Result, Ok, Err, OnOk}
-use Rattle.std.proofs.lemmas.Bool.{ltb-true}
+use Rattle.std.proofs.lemmas.Bool.{ltb-true, eqb-true, eq-eqb}
+use Rattle.std.proofs.Math.Decide.{dec_lt}
 use Rattle.item_ids.specs.declared.key.Key.{Key}
 use Rattle.result_bytes.specs.declared.value.Value.{Value}
 use Rattle.recorder.specs.Projects.{Project}
@@ -15,8 +16,10 @@ use Rattle.sessions.specs.declared.mark.Mark.TheVariants.{Input}
 use Rattle.recorder.specs.Backed.{rank}
 use Rattle.graph_rules.specs.Keys.{same_key, input_of}
 use Rattle.graph_rules.proofs.KeyRules.{same_refl, same_is, same_sym}
-use Rattle.graph_rules.specs.Steps.{Status, Unknown, Done, IsHeldBy, IsNotDone, IsDoneWith, at_opening}
+use Rattle.graph_rules.specs.Steps.{Status, Unknown, Claimed, Running, Done, IsHeldBy, IsNotDone, IsDoneWith, at_opening}
 use Rattle.key_states.specs.Nodes.{Node, IsInputIn, AreInputs, AreOpened, status_of, status_in, status_at, unless_input, has_key, KeysStandOnce, IsFirst, AllAbove}
+use Rattle.key_states.specs.Closing.{IsQuiet}
+use Rattle.key_states.specs.Reached.{AllQuiet}
 use Rattle.std.specs.Ordering.{eq_by_cmp}
 use Rattle.std.specs.Map.{keys_of, lookup}
 use Rattle.indexmap.specs.Layout.{set_value_at}
@@ -120,12 +123,58 @@ not_here ns w m k absent held =
       | false ↦ λ is. refl
     ]) refl
 
-pub held_above : (ns : List Node) (w r : ℕ) → KeysStandOnce ns → ((k : Key) → IsHeldBy w (status_in ns k) → r < rank k) → AllAbove w r ns
-held_above [] w r apart h = tt
-held_above (m ∷ ns) w r apart h = (
-  (λ held. h m.0 (rw (same_refl m.0) held)),
-  held_above ns w r apart.1 (λ k held. h k (rw (not_here ns w m.0 k apart.0 held) held)),
-)
+-- ---- which key is in the way
+
+false_true : false ≡ true → ⊥
+false_true e = cc
+
+same_or_not : (u w : ℕ) → (u ≡ w) ⊎ (u ≡ w → ⊥)
+same_or_not u w =
+    (elim (u == w) as (λ b. (u == w) ≡ b → (u ≡ w) ⊎ (u ≡ w → ⊥)) [
+      | true ↦ λ is. inl (eqb-true u w is)
+      | false ↦ λ isnt. inr (λ is. false_true (sym isnt ∙ eq-eqb u w is))
+    ]) refl
+
+held_or_free : (w : ℕ) (x : Status) → IsHeldBy w x ⊎ (IsHeldBy w x → ⊥)
+held_or_free w Unknown = inr (λ h. h)
+held_or_free w (Claimed u) = same_or_not u w
+held_or_free w (Running u) = same_or_not u w
+held_or_free w (Done v es m) = inr (λ h. h)
+
+-- w has this node's key, which isn't above the rank; or else it doesn't, or it is
+own_or_above : (w r : ℕ) (n : Node) → (IsHeldBy w (status_of n.1) × ¬ (r < rank n.0)) ⊎ (IsHeldBy w (status_of n.1) → r < rank n.0)
+own_or_above w r n = elim (held_or_free w (status_of n.1)) [
+  | inl held ↦ elim (dec_lt r (rank n.0)) [ yes above ↦ inr (λ _. above) | no not_above ↦ inl (held, not_above) ]
+  | inr free ↦ inr (λ held. absurd (free held))
+]
+
+-- where not all keys that w has are above the rank, this is one of the others
+pub own_in : (ns : List Node) (w r : ℕ) → KeysStandOnce ns → (AllAbove w r ns → ⊥) → (k : Key) × IsHeldBy w (status_in ns k) × ¬ (r < rank k)
+own_in [] w r apart none = absurd (none tt)
+own_in (m ∷ ns) w r apart none = elim (own_or_above w r m) [
+  | inl own ↦ (m.0, rw (same_refl m.0) own.0, own.1)
+  | inr above ↦ (
+      let own = own_in ns w r apart.1 (λ all. none (above, all)) in
+      (own.0, rw (not_here ns w m.0 own.0 apart.0 own.1) own.1, own.2)
+      )
+]
+
+quiet_or_held : (x : Status) → IsQuiet x ⊎ ((w : ℕ) × IsHeldBy w x)
+quiet_or_held Unknown = inl tt
+quiet_or_held (Claimed w) = inr (w, refl)
+quiet_or_held (Running w) = inr (w, refl)
+quiet_or_held (Done v es m) = inl tt
+
+-- where not all keys are quiet, a worker has one of them
+pub held_in : (ns : List Node) → KeysStandOnce ns → (AllQuiet ns → ⊥) → (k : Key) × (w : ℕ) × IsHeldBy w (status_in ns k)
+held_in [] apart none = absurd (none tt)
+held_in (m ∷ ns) apart none = elim (quiet_or_held (status_of m.1)) [
+  | inl quiet ↦ (
+      let h = held_in ns apart.1 (λ all. none (quiet, all)) in
+      (h.0, h.1, rw (not_here ns h.1 m.0 h.0 apart.0 h.2) h.2)
+      )
+  | inr h ↦ (m.0, h.0, rw (same_refl m.0) h.1)
+]
 
 pub status_not_input : (p : Project) (ns : List Node) (q : Key) → input_of p q ≡ None → status_at p ns q ≡ status_in ns q
 status_not_input p ns q none = ap (λ o. unless_input o (status_in ns q)) none

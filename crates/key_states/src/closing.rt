@@ -19,13 +19,14 @@ use crate::rows::{Row, rows_of};
 use item_ids::ranks_in_order;
 use project_inputs::Inputs;
 use session_file::digest;
-use sessions::Session;
+use sessions::{Session, Terms};
 use std::alloc::{AllocError, Global};
 use std::sync::Arc;
 
-/// The session after the previous one, with the keys that the inputs and Answer lead to.
+/// The session of these terms after the previous one, with the keys that the inputs and Answer lead to.
 pub fn session_of(
     alloc: Global,
+    terms: Terms,
     past: &Option<Arc<Session>>,
     inputs: &Inputs,
     nodes: &NodeMap,
@@ -34,7 +35,7 @@ pub fn session_of(
     requires room { ¬ IsFull (session_in past.now) }
     requires order { IsInOrder (state_of_nodes inputs.now nodes.now false) }
     requires answer { IsDone (status_at inputs.now nodes.now Answer) }
-    ensures { IfOk result (IsClosing (session_in past.now) inputs.now
+    ensures { IfOk result (IsClosing terms (session_in past.now) inputs.now
         (state_of_nodes inputs.now nodes.now false)) }
 {
     let none = EdgeKeys::none(alloc);
@@ -42,7 +43,7 @@ pub fn session_of(
     // A key of lower rank is a lesser key, so that each edge leads to a record in front.
     ranks_in_order();
     let records = records_of(alloc, rows.as_slice(), found.as_slice())?;
-    Ok(Session::of(number_behind(past), link_behind(past), records))
+    Ok(Session::of_as(terms, number_behind(past), link_behind(past), records))
 }
 
 /// The keys that the inputs and Answer lead to, in order, and how each is done.

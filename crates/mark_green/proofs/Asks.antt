@@ -8,7 +8,7 @@ use Rattle.item_ids.specs.declared.key.Key.{Key}
 use Rattle.result_bytes.specs.declared.value.Value.{Value}
 use Rattle.recorder.specs.Projects.{Project}
 use Rattle.recorder.specs.Backed.{Meaning, ReadLists, rank}
-use Rattle.graph_rules.specs.Pasts.{Past}
+use Rattle.graph_rules.specs.Settings.{Setting}
 use Rattle.graph_rules.specs.Steps.{State, Unknown, Legal}
 use Rattle.graph_rules.specs.Sound.{AreBacked, IsSound, IsSoundAt}
 use Rattle.graph_rules.proofs.Keeping.{sound_history}
@@ -52,8 +52,8 @@ module _ (w : ℕ) (q : Key) (a b : Option TableValue) where
   asked_refused r lt f h = (tt, tells_map _ _ (reads_refused w r q f lt) a b h)
 
 -- a key that nobody has is no input
-unknown_rank : (mean : Meaning) (reads : ReadLists) (past : Past) (p : Project) (s : State) (q : Key) → IsSound mean reads past p s → s.at q ≡ Unknown → 0 < rank q
-unknown_rank mean reads past p s q sound is = (let h : IsSoundAt mean reads past p s q Unknown = subst (IsSoundAt mean reads past p s q) is (sound q) in h)
+unknown_rank : (mean : Meaning) (reads : ReadLists) (over : Setting) (p : Project) (s : State) (q : Key) → IsSound mean reads over p s → s.at q ≡ Unknown → 0 < rank q
+unknown_rank mean reads over p s q sound is = (let h : IsSoundAt mean reads over p s q Unknown = subst (IsSoundAt mean reads over p s q) is (sound q) in h)
 
 pub claims_no_input : (mean : Meaning) (reads : ReadLists) (w : ℕ) (q : Key) (t u : TableValue) (r : Result Asked TableFault) → Legal (past_of t) t.project t.history → AreBacked mean reads t.history → AskGives t w q r u → ClaimsNoInput q r
 claims_no_input mean reads w q t u r legal backed a is =

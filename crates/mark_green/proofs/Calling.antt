@@ -1,25 +1,30 @@
 -- The effect of calls, by their answers.
 use Rattle.std.proofs.Common.{◌≡◌, ℕ, zero, suc, ◌<◌, List, [], ◌∷◌, refl, sym, ap, ◌∙◌, subst, Bool, true, false, Option, Some, None, arith, inl, inr}
-use Rattle.std.specs.Prelude.{Result, Ok, Err}
+use Rattle.std.specs.Prelude.{Result, Ok, Err, if◌then◌else◌, option_map}
 use Rattle.std.specs.declared.alloc.Global.{Global}
 use Rattle.std.specs.declared.sync.Arc.{Arc}
 use Rattle.std.specs.Arc.{arc_value}
 use Rattle.item_ids.specs.declared.key.Key.{Key}
+use Rattle.item_ids.specs.Keys.{kind_of}
 use Rattle.result_bytes.specs.declared.value.Value.{Value}
 use Rattle.sessions.specs.declared.mark.Mark.TheVariants.{Executed}
 use Rattle.recorder.specs.Backed.{ReadValue, rank, keys}
 use Rattle.recorder.specs.Runs.{OutcomeValue}
+use Rattle.sessions.specs.Sessions.{SessionValue, Entry, past_entry}
+use Rattle.graph_rules.specs.Settings.{has_kind, kept}
 use Rattle.graph_rules.proofs.Orders.{after_all_append}
-use Rattle.graph_rules.specs.Steps.{Status, Unknown, Claimed, Running, Done, State, Walk, AllUnchanged, OpenAt, ChangedAt, MayRun, Claim, MarkGreen, Begin, Finish, Fail, opening, IsHeldBy, IsBelow, IsDoneWith, IsNotDone, AreHeld, green}
+use Rattle.graph_rules.specs.Steps.{Status, Unknown, Claimed, Running, Done, State, Walk, AllUnchanged, OpenAt, ChangedAt, walk, MayRun, Claim, MarkGreen, Begin, Finish, Fail, opening, IsHeldBy, IsBelow, IsDoneWith, IsNotDone, AreHeld, green}
 use Rattle.job_table.specs.Tables.{TableValue, past_of, state_of, IsStep, adds}
 use Rattle.job_table.specs.Calls.{AskGives, MarkGives, BeginGives, FinishGives, FailGives, IsFirstStale, walk_in}
 use Rattle.job_table.specs.declared.fault.Asked.TheVariants as asked
 use Rattle.job_table.specs.declared.fault.TableFault.{TableFault}
 use Rattle.job_table.specs.declared.fault.TableFault.TheVariants as table
+use Rattle.graph_rules.proofs.SettingRules.{kept_none, kept_across}
+use Rattle.job_table.proofs.CallRules.{walk_none}
 use Rattle.mark_green.specs.declared.fault.Fault.{Fault}
 use Rattle.mark_green.specs.declared.fault.Fault.TheVariants as fault
 use Rattle.mark_green.specs.Leaves.{Stops, Stays, GivesUp, IsOthers, HasStatus}
-use Rattle.mark_green.specs.Ensures.{EnsureGives, IsGivenUp, WorkGives, IsFaultOf, IsOfEdges}
+use Rattle.mark_green.specs.Ensures.{EnsureGives, IsGivenUp, WorkGives, IsFaultOf, IsOfPast, IsOfEdges}
 use Rattle.mark_green.proofs.GoingOn.{on_none, on_one, on_then, stops_then, stays_up, stays_same, Changes, changes_by, changed_work, changed_others, changed_leaves, changed_stays, changed_done, changed_stands, leaves_none}
 
 not_both : (b : Bool) → b ≡ true → b ≡ false → ⊥
@@ -52,6 +57,8 @@ fail_stops w (Err (table.EdgeChanged i)) t u f = absurd f
 fail_stops w (Err table.NotInPast) t u f = absurd f
 fail_stops w (Err table.NothingChanged) t u f = absurd f
 fail_stops w (Err (table.StaleRead i)) t u f = absurd f
+fail_stops w (Err table.AcrossProfiles) t u f = absurd f
+fail_stops w (Err table.OtherProfile) t u f = absurd f
 fail_stops w (Err table.OutOfMemory) t u f = absurd f
 
 -- ---- ask
@@ -126,6 +133,8 @@ ask_refused w q (table.EdgeChanged i) g is t u v a s = absurd a
 ask_refused w q table.NotInPast g is t u v a s = absurd a
 ask_refused w q table.NothingChanged g is t u v a s = absurd a
 ask_refused w q (table.StaleRead i) g is t u v a s = absurd a
+ask_refused w q table.AcrossProfiles g is t u v a s = absurd a
+ask_refused w q table.OtherProfile g is t u v a s = absurd a
 ask_refused w q table.Failed g is t u v a s = absurd a
 
 -- out of memory in the midst of work
@@ -136,12 +145,12 @@ memory_gives t u v w q g is e s = subst (λ (x : Fault). WorkGives t w q (Err x)
 
 pub mark_done : (w : ℕ) (q : Key) (v : Arc Value Global) (t u : TableValue) → MarkGives t w q (Ok v) u → WorkGives t w q (Ok v) u
 mark_done w q v t u m =
-    let c : Changes q (green (past_of t q)) t (adds t (MarkGreen w q)) = changes_by t (MarkGreen w q) q (green (past_of t q)) m.0 refl in
+    let c : Changes q (green (kept (past_of t) q)) t (adds t (MarkGreen w q)) = changes_by t (MarkGreen w q) q (green (kept (past_of t) q)) m.0 refl in
     let d : IsDoneWith (arc_value v) ((state_of (adds t (MarkGreen w q))).at q) = subst (λ (x : TableValue). IsDoneWith (arc_value v) ((state_of x).at q)) m.1 m.2 in
-    subst (λ (x : TableValue). WorkGives t w q (Ok v) x) (sym m.1) (changed_done t (adds t (MarkGreen w q)) w q (green (past_of t q)) c (arc_value v) d, d)
+    subst (λ (x : TableValue). WorkGives t w q (Ok v) x) (sym m.1) (changed_done t (adds t (MarkGreen w q)) w q (green (kept (past_of t) q)) c (arc_value v) d, d)
 
-walk_none : (o : Option Walk) (x : Walk) → o ≡ Some x → o ≡ None → ⊥
-walk_none o x s n = let e : Some x ≡ None = sym s ∙ n in cc
+some_none : (o : Option Walk) (x : Walk) → o ≡ Some x → o ≡ None → ⊥
+some_none o x s n = let e : Some x ≡ None = sym s ∙ n in cc
 
 walk_open : (o : Option Walk) (i : ℕ) → o ≡ Some AllUnchanged → o ≡ Some (OpenAt i) → ⊥
 walk_open o i s n = let e : Some AllUnchanged ≡ Some (OpenAt i) = sym s ∙ n in cc
@@ -153,39 +162,68 @@ pub mark_refused : (w : ℕ) (q : Key) (f : TableFault) (g : Fault) → IsFaultO
 mark_refused w q table.OutOfMemory g is t u v st all m s = memory_gives t u v w q g is m.1 s
 mark_refused w q table.Failed g is t u v st all m s = absurd (not_both (state_of t).failed m.0 st.failed)
 mark_refused w q table.NotYours g is t u v st all m s = absurd (m.1 st.at)
-mark_refused w q table.NotInPast g is t u v st all m s = absurd (walk_none (walk_in t q) AllUnchanged all m.1)
+mark_refused w q table.NotInPast g is t u v st all m s = absurd (some_none (walk_in t q) AllUnchanged all (walk_none (past_of t) (state_of t) q (kept_none (past_of t) q m.1)))
+mark_refused w q table.AcrossProfiles g is t u v st all m s = absurd (some_none (walk_in t q) AllUnchanged all (walk_none (past_of t) (state_of t) q (kept_across (past_of t) q m.2)))
 mark_refused w q (table.EdgeOpen i) g is t u v st all m s = absurd (walk_open (walk_in t q) i all m.1)
 mark_refused w q (table.EdgeChanged i) g is t u v st all m s = absurd (walk_changed (walk_in t q) i all m.1)
 mark_refused w q table.OutOfRank g is t u v st all m s = absurd m
 mark_refused w q table.NothingChanged g is t u v st all m s = absurd m
 mark_refused w q (table.StaleRead i) g is t u v st all m s = absurd m
+mark_refused w q table.OtherProfile g is t u v st all m s = absurd m
 
--- ---- mark, where a key may have to wait for its edges
+-- ---- mark, where a key may have to wait for its edges, or to run
 
-pub try_done : (w : ℕ) (q : Key) (v : Arc Value Global) (t u : TableValue) → MarkGives t w q (Ok v) u → HasStatus (Claimed w) w q t → WorkGives t w q (Ok v) u
-try_done w q v t u m st = mark_done w q v t u m
+pub try_done : (w : ℕ) (q : Key) (v : Arc Value Global) (past : Option SessionValue) (t u : TableValue) → MarkGives t w q (Ok v) u → past ≡ t.past → HasStatus (Claimed w) w q t → WorkGives t w q (Ok v) u
+try_done w q v past t u m has st = mark_done w q v t u m
 
-pub try_kept : (w : ℕ) (q : Key) (f : TableFault) → IsOfEdges f → (t u : TableValue) → MarkGives t w q (Err f) u → HasStatus (Claimed w) w q t → u ≡ t
-try_kept w q table.NotInPast of t u m st = m.2
-try_kept w q (table.EdgeOpen i) of t u m st = m.2
-try_kept w q (table.EdgeChanged i) of t u m st = m.2
-try_kept w q table.OutOfMemory of t u m st = absurd of
-try_kept w q table.Failed of t u m st = absurd of
-try_kept w q table.NotYours of t u m st = absurd of
-try_kept w q table.OutOfRank of t u m st = absurd of
-try_kept w q table.NothingChanged of t u m st = absurd of
-try_kept w q (table.StaleRead i) of t u m st = absurd of
+-- nothing may be taken over
+pub try_runs : (w : ℕ) (q : Key) (f : TableFault) → IsOfPast f → (t u : TableValue) → MarkGives t w q (Err f) u → (u ≡ t) × (walk_in t q ≡ None)
+try_runs w q table.NotInPast of t u m = (m.2, walk_none (past_of t) (state_of t) q (kept_none (past_of t) q m.1))
+try_runs w q table.AcrossProfiles of t u m = (m.3, walk_none (past_of t) (state_of t) q (kept_across (past_of t) q m.2))
+try_runs w q (table.EdgeOpen i) of t u m = absurd of
+try_runs w q (table.EdgeChanged i) of t u m = absurd of
+try_runs w q table.OutOfMemory of t u m = absurd of
+try_runs w q table.Failed of t u m = absurd of
+try_runs w q table.NotYours of t u m = absurd of
+try_runs w q table.OutOfRank of t u m = absurd of
+try_runs w q table.NothingChanged of t u m = absurd of
+try_runs w q (table.StaleRead i) of t u m = absurd of
+try_runs w q table.OtherProfile of t u m = absurd of
 
-pub try_refused : (w : ℕ) (q : Key) (f : TableFault) (g : Fault) → (IsOfEdges f → ⊥) → IsFaultOf f g → (t u v : TableValue) → MarkGives t w q (Err f) u → GivesUp u v → HasStatus (Claimed w) w q t → WorkGives t w q (Err g) v
-try_refused w q table.OutOfMemory g not is t u v m s st = memory_gives t u v w q g is m.1 s
-try_refused w q table.Failed g not is t u v m s st = absurd (not_both (state_of t).failed m.0 st.failed)
-try_refused w q table.NotYours g not is t u v m s st = absurd (m.1 st.at)
-try_refused w q table.NotInPast g not is t u v m s st = absurd (not tt)
-try_refused w q (table.EdgeOpen i) g not is t u v m s st = absurd (not tt)
-try_refused w q (table.EdgeChanged i) g not is t u v m s st = absurd (not tt)
-try_refused w q table.OutOfRank g not is t u v m s st = absurd m
-try_refused w q table.NothingChanged g not is t u v m s st = absurd m
-try_refused w q (table.StaleRead i) g not is t u v m s st = absurd m
+-- a key with a walk is of a kind that doesn't cross
+not_crossing : (t : TableValue) (q : Key) (x : Walk) → walk_in t q ≡ Some x → has_kind t.crossing (kind_of q) ≡ false
+not_crossing t q x is =
+    (elim (has_kind t.crossing (kind_of q)) as (λ b. option_map (λ (r : Entry). walk (past_entry t.past) (state_of t) r.reads) (if b then None else past_entry t.past q) ≡ Some x → b ≡ false) [
+      | true ↦ λ e. absurd (cc)
+      | false ↦ λ e. refl
+    ]) is
+
+-- it may be, and its edges are to be evaluated
+pub try_edges : (w : ℕ) (q : Key) (f : TableFault) → IsOfEdges f → (t u : TableValue) → MarkGives t w q (Err f) u → (u ≡ t) × (has_kind t.crossing (kind_of q) ≡ false)
+try_edges w q (table.EdgeOpen i) of t u m = (m.2, not_crossing t q (OpenAt i) m.1)
+try_edges w q (table.EdgeChanged i) of t u m = (m.2, not_crossing t q (ChangedAt i) m.1)
+try_edges w q table.NotInPast of t u m = absurd of
+try_edges w q table.AcrossProfiles of t u m = absurd of
+try_edges w q table.OutOfMemory of t u m = absurd of
+try_edges w q table.Failed of t u m = absurd of
+try_edges w q table.NotYours of t u m = absurd of
+try_edges w q table.OutOfRank of t u m = absurd of
+try_edges w q table.NothingChanged of t u m = absurd of
+try_edges w q (table.StaleRead i) of t u m = absurd of
+try_edges w q table.OtherProfile of t u m = absurd of
+
+pub try_refused : (w : ℕ) (q : Key) (f : TableFault) (g : Fault) → (IsOfPast f → ⊥) → (IsOfEdges f → ⊥) → IsFaultOf f g → (t u v : TableValue) → MarkGives t w q (Err f) u → GivesUp u v → HasStatus (Claimed w) w q t → WorkGives t w q (Err g) v
+try_refused w q table.OutOfMemory g no_past no_edges is t u v m s st = memory_gives t u v w q g is m.1 s
+try_refused w q table.Failed g no_past no_edges is t u v m s st = absurd (not_both (state_of t).failed m.0 st.failed)
+try_refused w q table.NotYours g no_past no_edges is t u v m s st = absurd (m.1 st.at)
+try_refused w q table.NotInPast g no_past no_edges is t u v m s st = absurd (no_past tt)
+try_refused w q table.AcrossProfiles g no_past no_edges is t u v m s st = absurd (no_past tt)
+try_refused w q (table.EdgeOpen i) g no_past no_edges is t u v m s st = absurd (no_edges tt)
+try_refused w q (table.EdgeChanged i) g no_past no_edges is t u v m s st = absurd (no_edges tt)
+try_refused w q table.OutOfRank g no_past no_edges is t u v m s st = absurd m
+try_refused w q table.NothingChanged g no_past no_edges is t u v m s st = absurd m
+try_refused w q (table.StaleRead i) g no_past no_edges is t u v m s st = absurd m
+try_refused w q table.OtherProfile g no_past no_edges is t u v m s st = absurd m
 
 -- ---- begin_run
 
@@ -225,6 +263,8 @@ begin_refused w q table.OutOfRank g is t u v st may b s = absurd b
 begin_refused w q (table.EdgeChanged i) g is t u v st may b s = absurd b
 begin_refused w q table.NotInPast g is t u v st may b s = absurd b
 begin_refused w q (table.StaleRead i) g is t u v st may b s = absurd b
+begin_refused w q table.AcrossProfiles g is t u v st may b s = absurd b
+begin_refused w q table.OtherProfile g is t u v st may b s = absurd b
 
 -- ---- finish
 
@@ -245,16 +285,18 @@ not_stale s [] i h f = f
 not_stale s (r ∷ rs) zero h f = f h.0
 not_stale s (r ∷ rs) (suc i) h f = not_stale s rs i h.1 f.1
 
-pub finish_refused : (w : ℕ) (q : Key) (o : OutcomeValue) (f : TableFault) (g : Fault) → o.key ≡ q → IsFaultOf f g → (t u v : TableValue) → AreHeld (state_of t) o.told → HasStatus (Running w) w q t → FinishGives t w o (Err f) u → GivesUp u v → WorkGives t w q (Err g) v
-finish_refused w q o table.OutOfMemory g key is t u v held st b s = memory_gives t u v w q g is b.1 s
-finish_refused w q o table.Failed g key is t u v held st b s = absurd (not_both (state_of t).failed b.0 st.failed)
-finish_refused w q o table.NotYours g key is t u v held st b s = absurd (b.1 (ap (state_of t).at key ∙ st.at))
-finish_refused w q o (table.StaleRead i) g key is t u v held st b s = absurd (not_stale (state_of t) o.told i held b.1)
-finish_refused w q o (table.EdgeOpen i) g key is t u v held st b s = absurd b
-finish_refused w q o table.NothingChanged g key is t u v held st b s = absurd b
-finish_refused w q o table.OutOfRank g key is t u v held st b s = absurd b
-finish_refused w q o (table.EdgeChanged i) g key is t u v held st b s = absurd b
-finish_refused w q o table.NotInPast g key is t u v held st b s = absurd b
+pub finish_refused : (w : ℕ) (q : Key) (o : OutcomeValue) (f : TableFault) (g : Fault) → o.key ≡ q → IsFaultOf f g → (t u v : TableValue) → o.profile ≡ t.terms.profile → AreHeld (state_of t) o.told → HasStatus (Running w) w q t → FinishGives t w o (Err f) u → GivesUp u v → WorkGives t w q (Err g) v
+finish_refused w q o table.OutOfMemory g key is t u v own held st b s = memory_gives t u v w q g is b.1 s
+finish_refused w q o table.Failed g key is t u v own held st b s = absurd (not_both (state_of t).failed b.0 st.failed)
+finish_refused w q o table.NotYours g key is t u v own held st b s = absurd (b.1 (ap (state_of t).at key ∙ st.at))
+finish_refused w q o (table.StaleRead i) g key is t u v own held st b s = absurd (not_stale (state_of t) o.told i held b.2)
+finish_refused w q o table.OtherProfile g key is t u v own held st b s = absurd (b.1 own)
+finish_refused w q o (table.EdgeOpen i) g key is t u v own held st b s = absurd b
+finish_refused w q o table.NothingChanged g key is t u v own held st b s = absurd b
+finish_refused w q o table.OutOfRank g key is t u v own held st b s = absurd b
+finish_refused w q o (table.EdgeChanged i) g key is t u v own held st b s = absurd b
+finish_refused w q o table.NotInPast g key is t u v own held st b s = absurd b
+finish_refused w q o table.AcrossProfiles g key is t u v own held st b s = absurd b
 
 -- ---- a previous edge
 
@@ -267,7 +309,7 @@ below_it x w q e t st lt = λ k h. elim (st.above k h) [
 pub edge_gives_up : (x : Status) (w : ℕ) (q e : Key) (f : Fault) (t u : TableValue) → HasStatus x w q t → rank e < rank q → EnsureGives t w e (Err f) u → IsGivenUp t w f u × Stays t u
 edge_gives_up x w q e fault.Stopped t u st lt h = elim h.2 [
   | inl failed ↦ absurd (not_both (state_of t).failed failed st.failed)
-  | inr isnt ↦ absurd (isnt (below_it x w q e t st lt))
+  | inr own ↦ absurd (own.not_above (below_it x w q e t st lt own.key own.held))
 ]
 edge_gives_up x w q e fault.OutOfMemory t u st lt h = (h.0, h.1)
 edge_gives_up x w q e fault.Busy t u st lt h = ((h.0, h.2, h.3), h.1)
@@ -283,8 +325,8 @@ mark_ended w q f g is t u v m s st all = mark_refused w q f g is t u v st all m 
 pub finish_ok : (w : ℕ) (q : Key) (a : Arc Value Global) (o p : OutcomeValue) (x : Unit {0}) → p ≡ o → o.key ≡ q → arc_value a ≡ o.value → (t u : TableValue) → FinishGives t w p (Ok x) u → HasStatus (Running w) w q t → AreHeld (state_of t) o.told → WorkGives t w q (Ok a) u
 finish_ok w q a o p x same key is t u f st held = finish_done w q a o x key is t u (subst (λ (y : OutcomeValue). FinishGives t w y (Ok x) u) same f)
 
-pub finish_ended : (w : ℕ) (q : Key) (o p : OutcomeValue) (f : TableFault) (g : Fault) → p ≡ o → o.key ≡ q → IsFaultOf f g → (t u v : TableValue) → FinishGives t w p (Err f) u → GivesUp u v → HasStatus (Running w) w q t → AreHeld (state_of t) o.told → WorkGives t w q (Err g) v
-finish_ended w q o p f g same key is t u v b s st held = finish_refused w q o f g key is t u v held st (subst (λ (y : OutcomeValue). FinishGives t w y (Err f) u) same b) s
+pub finish_ended : (w : ℕ) (q : Key) (o p : OutcomeValue) (f : TableFault) (g : Fault) → p ≡ o → o.key ≡ q → IsFaultOf f g → (t u v : TableValue) → o.profile ≡ t.terms.profile → FinishGives t w p (Err f) u → GivesUp u v → HasStatus (Running w) w q t → AreHeld (state_of t) o.told → WorkGives t w q (Err g) v
+finish_ended w q o p f g same key is t u v own b s st held = finish_refused w q o f g key is t u v own held st (subst (λ (y : OutcomeValue). FinishGives t w y (Err f) u) same b) s
 
 pub stopped_early : (w : ℕ) (q : Key) (told : List ReadValue) (g : Fault) → g ≡ fault.OutOfMemory → (t v : TableValue) → GivesUp t v → HasStatus (Running w) w q t → AreHeld (state_of t) told → WorkGives t w q (Err g) v
 stopped_early w q told g is t v s st held = memory_gives t t v w q g is refl s

@@ -7,10 +7,9 @@ use Rattle.std.specs.declared.sync.Arc.{Arc}
 use Rattle.std.specs.Arc.{arc_value}
 use Rattle.item_ids.specs.declared.key.Key.{Key}
 use Rattle.result_bytes.specs.declared.value.Value.{Value}
-use Rattle.sessions.specs.Sessions.{past_entry}
 use Rattle.recorder.specs.Backed.{ReadValue, rank}
 use Rattle.graph_rules.specs.Keys.{same_key}
-use Rattle.graph_rules.specs.Pasts.{Past}
+use Rattle.graph_rules.specs.Settings.{Setting}
 use Rattle.graph_rules.specs.Steps.{Status, Unknown, Claimed, Running, Done, State, Event, AreSteps, after, with_status, opening, IsHeldBy, IsDoneWith, AreHeld}
 use Rattle.graph_rules.proofs.KeyRules.{same_refl, same_is}
 use Rattle.graph_rules.proofs.Orders.{steps_append, after_all_append}
@@ -55,22 +54,28 @@ knows_map K L f (Some t) k = f t k
 
 -- ---- histories
 
+-- it is worked over the same
+pub past_on : (t u : TableValue) → GoesOn t u → past_of u ≡ past_of t
+past_on t u g = rw (g.past, g.crossing, g.terms) refl
+
 pub on_none : (t : TableValue) → GoesOn t t
-on_none t = record { past = refl; project = refl; more = []; history = sym (append-nil t.history); steps = tt }
+on_none t = record { terms = refl; past = refl; crossing = refl; project = refl; more = []; history = sym (append-nil t.history); steps = tt }
 
 pub on_one : (t : TableValue) (e : Event) → IsStep t e → GoesOn t (adds t e)
-on_one t e may = record { past = refl; project = refl; more = e ∷ []; history = refl; steps = (may, tt) }
+on_one t e may = record { terms = refl; past = refl; crossing = refl; project = refl; more = e ∷ []; history = refl; steps = (may, tt) }
 
 pub on_then : (t u v : TableValue) → GoesOn t u → GoesOn u v → GoesOn t v
 on_then t u v g h =
-    let pasts : past_of u ≡ past_of t = ap past_entry g.past in
+    let pasts : past_of u ≡ past_of t = past_on t u g in
     record {
+      terms = h.terms ∙ g.terms;
       past = h.past ∙ g.past;
+      crossing = h.crossing ∙ g.crossing;
       project = h.project ∙ g.project;
       more = g.more ++ h.more;
       history = h.history ∙ (ap (λ xs. xs ++ h.more) g.history ∙ append_assoc t.history g.more h.more);
       steps = steps_append (past_of t) (state_of t) g.more h.more g.steps
-          (subst (λ (s : State). AreSteps (past_of t) s h.more) (state_on t u g) (subst (λ (p : Past). AreSteps p (state_of u) h.more) pasts h.steps));
+          (subst (λ (s : State). AreSteps (past_of t) s h.more) (state_on t u g) (subst (λ (over : Setting). AreSteps over (state_of u) h.more) pasts h.steps));
     }
 
 pub stops_then : (t u v : TableValue) → GoesOn t u → Stops u v → Stops t v

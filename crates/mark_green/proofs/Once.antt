@@ -1,5 +1,5 @@
 -- The effect of one run.
-use Rattle.std.proofs.Common.{◌≡◌, ℕ, ◌<◌, List, [], ◌∷◌, ◌∙◌, sym, subst, Option, Some, None, inl, inr, ◌⊎◌, Contains}
+use Rattle.std.proofs.Common.{◌≡◌, ℕ, ◌<◌, List, [], ◌∷◌, ap, ◌∙◌, sym, subst, Option, Some, None, inl, inr, ◌⊎◌, Contains}
 use Rattle.std.specs.Prelude.{Result, Ok, Err, IfOk, IfErr, IfSome, option_map, option_and_then}
 use Rattle.std.specs.List.{AllByRecursion}
 use Rattle.item_ids.specs.declared.key.Key.{Key}
@@ -12,12 +12,14 @@ use Rattle.recorder.specs.declared.reader.ReadFault.TheVariants as read
 use Rattle.recorder.specs.Runs.{OutcomeValue, TellsFault, IsNextRefused}
 use Rattle.recorder.specs.declared.runner.RunFault.{RunFault}
 use Rattle.recorder.specs.declared.runner.RunFault.TheVariants as run
+use Rattle.sessions.specs.declared.terms.Terms.{Terms}
 use Rattle.graph_rules.specs.Steps.{AreHeld}
 use Rattle.job_table.specs.Tables.{TableValue, state_of}
 use Rattle.mark_green.specs.declared.asking.Stop.{Stop}
 use Rattle.mark_green.specs.declared.asking.Stop.TheVariants as stop
 use Rattle.mark_green.specs.Leaves.{Knows}
 use Rattle.mark_green.specs.Moves.{IsDoneIn, Halts, Moves, IsUnanswered, IsWantOfMemory}
+use Rattle.mark_green.proofs.GoingOn.{knows_map}
 use Rattle.mark_green.proofs.Running.{run_same, run_halts, run_memory, told_knows}
 
 -- each read is done in the table and was told by the store, or is held
@@ -49,6 +51,15 @@ told_of_run made (Err x) q w r last a b held reads by ok of_run m answered = tt
 told_of_run made (Ok o) q w r last a b held reads by ok of_run m answered =
     let made_is : (o.key ≡ q) × (o.told ≡ reads) = subst (λ (x : Result OutcomeValue RunFault). IfOk x (λ y. (y.key ≡ q) × (y.told ≡ reads))) ok.0 of_run in
     told_where w r last a b held reads o.told by ok.1 made_is.1 m answered
+
+-- the outcome is of the session's profile
+pub profile_of_run : (made : Result OutcomeValue RunFault) (given : Result OutcomeValue Stop) (terms : Terms) (last : Option Stop) (a : Option TableValue)
+    → IfOk given (λ o. (made ≡ Ok o) × (last ≡ None)) → IfOk made (λ o. o.profile ≡ terms.profile) → Knows (λ t. terms ≡ t.terms) a
+    → IfOk given (λ o. Knows (λ t. o.profile ≡ t.terms.profile) a)
+profile_of_run made (Err x) terms last a ok of_run known = tt
+profile_of_run made (Ok o) terms last a ok of_run known =
+    let own : o.profile ≡ terms.profile = subst (λ (x : Result OutcomeValue RunFault). IfOk x (λ y. y.profile ≡ terms.profile)) ok.0 of_run in
+    knows_map (λ t. terms ≡ t.terms) (λ t. o.profile ≡ t.terms.profile) (λ t is. own ∙ ap (λ (x : Terms). x.profile) is) a known
 
 halts_where : (w r : ℕ) (x : Stop) (last : Option Stop) (a b : Option TableValue) → (last ≡ Some x) ⊎ ((last ≡ None) × (x ≡ stop.OutOfMemory)) → Moves w r None last a b → Halts w r x a b
 halts_where w r x last a b (inl is) m = run_halts w r x a b (subst (λ (y : Option Stop). Moves w r None y a b) is m)

@@ -95,6 +95,8 @@ refused_same w q (table.EdgeChanged i) t u a = absurd a
 refused_same w q table.NotInPast t u a = absurd a
 refused_same w q table.NothingChanged t u a = absurd a
 refused_same w q (table.StaleRead i) t u a = absurd a
+refused_same w q table.AcrossProfiles t u a = absurd a
+refused_same w q table.OtherProfile t u a = absurd a
 refused_same w q table.Failed t u a = absurd a
 
 pub reads_refused : (w r : ℕ) (q : Key) (f : TableFault) → rank q < r → (t u : TableValue) → AskGives t w q (Err f) u → GoesOn t u × StopGives t w r (stop.Refused f) u
@@ -158,13 +160,15 @@ below_run w q k t st lt = λ j h. elim (st.above j h) [
 
 refused_gives_up : (w : ℕ) (q k : Key) (f : TableFault) (g : Fault) → IsFaultOf f g → (t u v : TableValue) → HasStatus (Running w) w q t → rank k < rank q → AskGives t w k (Err f) u → GoesOn t u → GivesUp u v → IsGivenUp t w g v × Stays t v
 refused_gives_up w q k table.OutOfMemory g is t u v st lt a on s = (subst (λ (x : Fault). IsGivenUp t w x v) (sym is) (stops_then t u v on s.stops), stays_up t u v (stays_same t u a.2) s)
-refused_gives_up w q k table.OutOfRank g is t u v st lt a on s = absurd (a.1 (below_run w q k t st lt))
+refused_gives_up w q k table.OutOfRank g is t u v st lt a on s = absurd (a.1.not_above (below_run w q k t st lt a.1.key a.1.held))
 refused_gives_up w q k table.NotYours g is t u v st lt a on s = absurd a
 refused_gives_up w q k (table.EdgeOpen i) g is t u v st lt a on s = absurd a
 refused_gives_up w q k (table.EdgeChanged i) g is t u v st lt a on s = absurd a
 refused_gives_up w q k table.NotInPast g is t u v st lt a on s = absurd a
 refused_gives_up w q k table.NothingChanged g is t u v st lt a on s = absurd a
 refused_gives_up w q k (table.StaleRead i) g is t u v st lt a on s = absurd a
+refused_gives_up w q k table.AcrossProfiles g is t u v st lt a on s = absurd a
+refused_gives_up w q k table.OtherProfile g is t u v st lt a on s = absurd a
 refused_gives_up w q k table.Failed g is t u v st lt a on s = absurd a
 
 busy_gives_up : (w : ℕ) (k : Key) (g : Fault) → g ≡ fault.Busy → (t u v : TableValue) → AskGives t w k (Ok asked.Busy) u → v ≡ u → IsGivenUp t w g v × Stays t v

@@ -1,5 +1,5 @@
 -- Walks over previous edges, while keys become done.
-use Rattle.std.proofs.Common.{◌≡◌, ℕ, suc, ◌+◌, ◌<◌, List, [], ◌∷◌, ◌++◌, map, take, drop, length, get_or, refl, sym, ap, ◌∙◌, subst, Bool, true, false, Option, Some, None, option_map, arith}
+use Rattle.std.proofs.Common.{◌≡◌, ℕ, suc, ◌+◌, ◌<◌, List, [], ◌∷◌, ◌++◌, map, take, drop, length, get_or, refl, sym, ap, ◌∙◌, subst, Bool, true, false, Option, Some, None, arith}
 use Rattle.std.specs.Prelude.{Ok, Err}
 use Rattle.std.specs.declared.alloc.Global.{Global}
 use Rattle.std.specs.declared.sync.Arc.{Arc}
@@ -7,16 +7,20 @@ use Rattle.std.specs.Arc.{arc_value}
 use Rattle.std.proofs.lemmas.List.{take_more, take_all, take-append-drop, map-append}
 use Rattle.std.proofs.Math.Seq.{drop-cons}
 use Rattle.item_ids.specs.declared.key.Key.{Key}
+use Rattle.item_ids.specs.Keys.{kind_of}
 use Rattle.result_bytes.specs.declared.value.Value.{Value}
 use Rattle.fingerprint.specs.Prints.{print_of}
-use Rattle.sessions.specs.Sessions.{SessionValue, RecordValue, Entry, IsSession, key_at, entry_at, past_entry}
+use Rattle.sessions.specs.Sessions.{SessionValue, RecordValue, IsSession, key_at, entry_at, past_entry}
 use Rattle.recorder.specs.Backed.{rank}
 use Rattle.graph_rules.specs.Pasts.{Past}
+use Rattle.graph_rules.specs.Settings.{has_kind}
 use Rattle.graph_rules.specs.Steps.{State, Claimed, EdgeState, Open, Unchanged, Changed, edge_at, edge_of, Walk, AllUnchanged, OpenAt, ChangedAt, later, walk_on, walk, MayRun}
 use Rattle.graph_rules.proofs.Keeping.{walk_keeps}
 use Rattle.job_table.specs.Tables.{TableValue, past_of, state_of}
 use Rattle.job_table.specs.Calls.{walk_in}
 use Rattle.job_table.proofs.WalkRules.{edge_with, edge_same, edge_other}
+use Rattle.graph_rules.proofs.SettingRules.{kept_none, kept_some}
+use Rattle.job_table.proofs.CallRules.{walk_none, walk_some}
 use Rattle.mark_green.specs.declared.fault.Fault.{Fault}
 use Rattle.mark_green.specs.Leaves.{GoesOn, Leaves, HasStatus}
 use Rattle.mark_green.specs.Ensures.{EnsureGives, EdgeGives, WalkGives, walk_over, PastHasEdges}
@@ -56,9 +60,8 @@ module _ (past : Past) (s : State) where
 
 pub walk_stays : (t u : TableValue) (es : List Key) → GoesOn t u → walk_over t es ≡ AllUnchanged → walk_over u es ≡ AllUnchanged
 walk_stays t u es g all =
-    let pasts : past_of u ≡ past_of t = ap past_entry g.past in
-    ap (λ (p : Past). walk p (state_of u) es) pasts
-    ∙ (walk_keeps (past_of t) (state_of t) (state_of u) (keeps_on t u g) es (rw all tt) ∙ all)
+    ap (λ (o : Option SessionValue). walk (past_entry o) (state_of u) es) g.past
+    ∙ (walk_keeps (past_entry t.past) (state_of t) (state_of u) (keeps_on t u g) es (rw all tt) ∙ all)
 
 -- ---- the first edges
 
@@ -87,7 +90,7 @@ module _ (records : List RecordValue) (edges : List ℕ) (i w : ℕ) (q : Key) w
       let before = so st in (
         leaves_then t u v before.0 e.0,
         subst (λ (xs : List Key). walk_over v xs ≡ AllUnchanged) (sym (front_more records edges i lt))
-            (walk_last (past_of v) (state_of v) (front_of records i edges) (key_at records (get_or edges i 0)) (walk_stays u v (front_of records i edges) e.0.goes_on before.1) e.1),
+            (walk_last (past_entry v.past) (state_of v) (front_of records i edges) (key_at records (get_or edges i 0)) (walk_stays u v (front_of records i edges) e.0.goes_on before.1) e.1),
       )
 
   pub walked_changed : i < length edges → (t u v : TableValue) → (HasStatus (Claimed w) w q t → Walked records edges i t u) → EdgeGives u w (key_at records (get_or edges i 0)) (Ok false) v → HasStatus (Claimed w) w q t → WalkGives t w (map (key_at records) edges) (Ok false) v
@@ -95,7 +98,7 @@ module _ (records : List RecordValue) (edges : List ℕ) (i w : ℕ) (q : Key) w
       let before = so st in (
         leaves_then t u v before.0 e.0,
         subst (λ (xs : List Key). MayRun (Some (walk_over v xs))) (sym (front_rest records edges i lt))
-            (walk_ends (past_of v) (state_of v) (front_of records i edges) (key_at records (get_or edges i 0)) (map (key_at records) (drop (suc i) edges)) (walk_stays u v (front_of records i edges) e.0.goes_on before.1) e.1),
+            (walk_ends (past_entry v.past) (state_of v) (front_of records i edges) (key_at records (get_or edges i 0)) (map (key_at records) (drop (suc i) edges)) (walk_stays u v (front_of records i edges) e.0.goes_on before.1) e.1),
       )
 
   pub walked_up : (f : Fault) (e : Key) → rank e < rank q → (t u v : TableValue) → (HasStatus (Claimed w) w q t → Walked records edges i t u) → EdgeGives u w e (Err f) v → HasStatus (Claimed w) w q t → WalkGives t w (map (key_at records) edges) (Err f) v
@@ -115,7 +118,7 @@ not_both : (b : Bool) → b ≡ true → b ≡ false → ⊥
 not_both b t f = cc
 
 module _ (s : SessionValue) (session : IsSession s) (at : ℕ) (r : RecordValue) (lt : at < length s.records) (is : r ≡ get_or s.records at r) (w : ℕ) (v : Arc Value Global) where
-  edge_in : (u : TableValue) → u.past ≡ Some s → (x : EdgeState) → edge_at (Some (print_of r.value)) ((state_of u).at r.key) ≡ x → edge_of (past_of u) (state_of u) (key_at s.records at) ≡ x
+  edge_in : (u : TableValue) → u.past ≡ Some s → (x : EdgeState) → edge_at (Some (print_of r.value)) ((state_of u).at r.key) ≡ x → edge_of (past_entry u.past) (state_of u) (key_at s.records at) ≡ x
   edge_in u has x e =
       ap (λ (o : Option SessionValue). edge_of (past_entry o) (state_of u) (key_at s.records at)) has
       ∙ sym (edge_with s session at r lt is (state_of u).at x e)
@@ -128,10 +131,9 @@ module _ (s : SessionValue) (session : IsSession s) (at : ℕ) (r : RecordValue)
 
 module _ (s : SessionValue) (q : Key) (t : TableValue) (has : t.past ≡ Some s) where
   pub walk_absent : entry_at s q ≡ None → walk_in t q ≡ None
-  walk_absent none =
-      ap (option_map (λ (r : Entry). walk (past_of t) (state_of t) r.reads)) (ap (λ (o : Option SessionValue). past_entry o q) has ∙ none)
+  walk_absent none = walk_none (past_of t) (state_of t) q (kept_none (past_of t) q (ap (λ (o : Option SessionValue). past_entry o q) has ∙ none))
 
-  pub walk_found : (edges : List ℕ) → PastHasEdges s q edges → walk_in t q ≡ Some (walk_over t (map (key_at s.records) edges))
-  walk_found edges h =
-      ap (option_map (λ (r : Entry). walk (past_of t) (state_of t) r.reads)) (ap (λ (o : Option SessionValue). past_entry o q) has ∙ h.1)
+  pub walk_found : has_kind t.crossing (kind_of q) ≡ false → (edges : List ℕ) → PastHasEdges s q edges → walk_in t q ≡ Some (walk_over t (map (key_at s.records) edges))
+  walk_found no_crossing edges h =
+      walk_some (past_of t) (state_of t) q h.0 (walk_over t h.0.reads) (kept_some (past_of t) q h.0 no_crossing (ap (λ (o : Option SessionValue). past_entry o q) has ∙ h.1)) refl
       ∙ ap (λ (es : List Key). Some (walk_over t es)) h.2

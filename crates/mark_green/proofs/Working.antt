@@ -1,25 +1,32 @@
 -- The effect of walks over previous edges, and of what follows them.
-use Rattle.std.proofs.Common.{◌≡◌, ℕ, zero, suc, arith, ◌+◌, ◌<◌, List, [], ◌∷◌, map, length, get_or, sym, ap, ◌∙◌, subst, Bool, true, false, Option, Some, None, option_map}
+use Rattle.std.proofs.Common.{◌≡◌, ℕ, zero, suc, refl, arith, ◌+◌, ◌<◌, List, [], ◌∷◌, map, length, get_or, sym, ap, ◌∙◌, subst, Bool, true, false, Option, Some, None}
 use Rattle.std.specs.Prelude.{Result, Ok, Err}
 use Rattle.std.specs.List.{AllByRecursion}
 use Rattle.std.specs.declared.alloc.Global.{Global}
 use Rattle.std.specs.declared.sync.Arc.{Arc}
 use Rattle.std.specs.Arc.{arc_value}
+use Rattle.item_ids.specs.declared.kind.Kind.{Kind}
 use Rattle.item_ids.specs.declared.key.Key.{Key}
+use Rattle.item_ids.specs.Keys.{kind_of}
 use Rattle.result_bytes.specs.declared.value.Value.{Value}
 use Rattle.fingerprint.specs.Prints.{print_of}
-use Rattle.sessions.specs.Sessions.{SessionValue, RecordValue, Entry, IsSession, AreInside, AreBelow, key_at, entry_at, past_entry, session_in}
+use Rattle.sessions.specs.Sessions.{SessionValue, RecordValue, IsSession, AreInside, AreBelow, key_at, entry_at, past_entry, session_in}
 use Rattle.sessions.proofs.EntryRules.{key_of_place}
-use Rattle.graph_rules.specs.Steps.{Claimed, AllUnchanged, MayRun, walk}
+use Rattle.graph_rules.specs.Steps.{Claimed, AllUnchanged, MayRun}
+use Rattle.graph_rules.specs.Settings.{has_kind}
 use Rattle.job_table.specs.Tables.{TableValue, past_of, state_of}
+use Rattle.graph_rules.proofs.SettingRules.{kept_none}
+use Rattle.job_table.proofs.CallRules.{walk_none}
 use Rattle.job_table.specs.Calls.{AskGives, walk_in}
 use Rattle.job_table.specs.declared.fault.Asked.{Asked}
 use Rattle.job_table.specs.declared.fault.Asked.TheVariants as asked
 use Rattle.job_table.specs.declared.fault.TableFault.{TableFault}
 use Rattle.mark_green.specs.declared.fault.Fault.{Fault}
 use Rattle.mark_green.specs.declared.fault.Fault.TheVariants as fault
-use Rattle.mark_green.specs.Leaves.{Knows, Tells, GivesUp, HasStatus}
-use Rattle.mark_green.specs.Ensures.{EnsureGives, WorkGives, EdgeGives, WalkGives, TryGives, PastHasEdges, IsRecordUnder, IsFaultOf}
+use Rattle.mark_green.specs.declared.steps.Tried.{Tried}
+use Rattle.mark_green.specs.declared.steps.Tried.TheVariants as tried
+use Rattle.mark_green.specs.Leaves.{Knows, Tells, GoesOn, GivesUp, HasStatus}
+use Rattle.mark_green.specs.Ensures.{EnsureGives, WorkGives, EdgeGives, WalkGives, TryGives, walk_over, PastHasEdges, IsRecordUnder, IsFaultOf}
 use Rattle.mark_green.proofs.GoingOn.{leaves_work, stands_on, tells_map, tells_then, tells_here, tells_with}
 use Rattle.mark_green.proofs.Calling.{work_memory, ask_work, ask_done, ask_stopped, ask_busy, ask_refused}
 use Rattle.mark_green.proofs.Turning.{Works, Starts}
@@ -83,28 +90,35 @@ module _ (s : SessionValue) (w : ℕ) (q : Key) (edges : List ℕ) where
 abbrev pub Overs : Option SessionValue → ℕ → Key → Result (Arc Value Global) Fault → Option TableValue → Option TableValue → Type 0
 Overs past w q r a b = Tells (λ t u. past ≡ t.past → HasStatus (Claimed w) w q t → WorkGives t w q r u) a b
 
+-- the same of one that may be taken over
+abbrev pub OverEdges : Option SessionValue → ℕ → Key → Result (Arc Value Global) Fault → Option TableValue → Option TableValue → Type 0
+OverEdges past w q r a b = Tells (λ t u. past ≡ t.past → has_kind t.crossing (kind_of q) ≡ false → HasStatus (Claimed w) w q t → WorkGives t w q r u) a b
+
 first_walk : (t : TableValue) (q : Key) → t.past ≡ None → walk_in t q ≡ None
-first_walk t q none = ap (option_map (λ (r : Entry). walk (past_of t) (state_of t) r.reads)) (ap (λ (o : Option SessionValue). past_entry o q) none)
+first_walk t q none = walk_none (past_of t) (state_of t) q (kept_none (past_of t) q (ap (λ (o : Option SessionValue). past_entry o q) none))
 
 module _ (w : ℕ) (q : Key) (r : Result (Arc Value Global) Fault) where
-  pub over_none : (a b : Option TableValue) → Starts w q r a b → Overs None w q r a b
-  over_none a b h = tells_map _ _ (λ t u go has st. go st (subst MayRun (sym (first_walk t q (sym has))) tt)) a b h
+  pub over_none : (a b : Option TableValue) → Starts w q r a b → OverEdges None w q r a b
+  over_none a b h = tells_map _ _ (λ t u go has stays st. go st (subst MayRun (sym (first_walk t q (sym has))) tt)) a b h
 
   module _ (s : SessionValue) where
-    pub over_absent : entry_at s q ≡ None → (a b : Option TableValue) → Starts w q r a b → Overs (Some s) w q r a b
-    over_absent none a b h = tells_map _ _ (λ t u go has st. go st (subst MayRun (sym (walk_absent s q t (sym has) none)) tt)) a b h
+    pub over_absent : entry_at s q ≡ None → (a b : Option TableValue) → Starts w q r a b → OverEdges (Some s) w q r a b
+    over_absent none a b h = tells_map _ _ (λ t u go has stays st. go st (subst MayRun (sym (walk_absent s q t (sym has) none)) tt)) a b h
 
     module _ (edges : List ℕ) (found : PastHasEdges s q edges) (a b c : Option TableValue) where
-      pub over_marked : Walks s w q edges (Ok true) a b → Tells (λ t u. HasStatus (Claimed w) w q t → walk_in t q ≡ Some AllUnchanged → WorkGives t w q r u) b c → Overs (Some s) w q r a c
-      over_marked walks marks = tells_then _ _ _ (λ t u v h m has st. (
+      walk_is : (t u : TableValue) → Some s ≡ t.past → has_kind t.crossing (kind_of q) ≡ false → GoesOn t u → walk_in u q ≡ Some (walk_over u (map (key_at s.records) edges))
+      walk_is t u has stays g = walk_found s q u (g.past ∙ sym has) (ap (λ (ks : List Kind). has_kind ks (kind_of q)) g.crossing ∙ stays) edges found
+
+      pub over_marked : Walks s w q edges (Ok true) a b → Tells (λ t u. HasStatus (Claimed w) w q t → walk_in t q ≡ Some AllUnchanged → WorkGives t w q r u) b c → OverEdges (Some s) w q r a c
+      over_marked walks marks = tells_then _ _ _ (λ t u v h m has stays st. (
           let l = h (sym has) st in
-          leaves_work t u v w q r l.0 (m (stands_on (Claimed w) w q t u l.0 st) (walk_found s q u (l.0.goes_on.past ∙ sym has) edges found ∙ ap Some l.1))
+          leaves_work t u v w q r l.0 (m (stands_on (Claimed w) w q t u l.0 st) (walk_is t u has stays l.0.goes_on ∙ ap Some l.1))
           )) a b c walks marks
 
-      pub over_run : Walks s w q edges (Ok false) a b → Starts w q r b c → Overs (Some s) w q r a c
-      over_run walks starts = tells_then _ _ _ (λ t u v h m has st. (
+      pub over_run : Walks s w q edges (Ok false) a b → Starts w q r b c → OverEdges (Some s) w q r a c
+      over_run walks starts = tells_then _ _ _ (λ t u v h m has stays st. (
           let l = h (sym has) st in
-          leaves_work t u v w q r l.0 (m (stands_on (Claimed w) w q t u l.0 st) (subst MayRun (sym (walk_found s q u (l.0.goes_on.past ∙ sym has) edges found)) l.1))
+          leaves_work t u v w q r l.0 (m (stands_on (Claimed w) w q t u l.0 st) (subst MayRun (sym (walk_is t u has stays l.0.goes_on)) l.1))
           )) a b c walks starts
 
 -- the same, of the previous session as a table hands it out
@@ -113,41 +127,53 @@ module _ (w : ℕ) (q : Key) (r : Result (Arc Value Global) Fault) (past : Optio
     there : PastHasEdges z q edges
     there = subst (λ (y : SessionValue). PastHasEdges y q edges) (s_is ∙ sym z_is) found
 
-    of_past : Overs (Some z) w q r a c → Overs (session_in past) w q r a c
-    of_past h = subst (λ (o : Option SessionValue). Overs o w q r a c) (ap Some z_is ∙ sym (ap session_in is)) h
+    of_past : OverEdges (Some z) w q r a c → OverEdges (session_in past) w q r a c
+    of_past h = subst (λ (o : Option SessionValue). OverEdges o w q r a c) (ap Some z_is ∙ sym (ap session_in is)) h
 
-    pub over_marked_at : x ≡ Ok true → Tells (λ t u. HasStatus (Claimed w) w q t → walk_in t q ≡ Some AllUnchanged → WorkGives t w q r u) b c → Overs (session_in past) w q r a c
+    pub over_marked_at : x ≡ Ok true → Tells (λ t u. HasStatus (Claimed w) w q t → walk_in t q ≡ Some AllUnchanged → WorkGives t w q r u) b c → OverEdges (session_in past) w q r a c
     over_marked_at x_is marks = of_past (over_marked w q r z edges there a b c (subst (λ (y : Result Bool Fault). Walks z w q edges y a b) x_is walks) marks)
 
-    pub over_run_at : x ≡ Ok false → Starts w q r b c → Overs (session_in past) w q r a c
+    pub over_run_at : x ≡ Ok false → Starts w q r b c → OverEdges (session_in past) w q r a c
     over_run_at x_is starts = of_past (over_run w q r z edges there a b c (subst (λ (y : Result Bool Fault). Walks z w q edges y a b) x_is walks) starts)
 
-pub over_up : (w : ℕ) (q : Key) (s : SessionValue) (edges : List ℕ) (f : Fault) (a b : Option TableValue) → Walks s w q edges (Err f) a b → Overs (Some s) w q (Err f) a b
-over_up w q s edges f a b h = tells_map _ _ (λ t u go has st. (let e = go (sym has) st in (e.0, λ k a n is. e.1 k a is))) a b h
+pub over_up : (w : ℕ) (q : Key) (s : SessionValue) (edges : List ℕ) (f : Fault) (a b : Option TableValue) → Walks s w q edges (Err f) a b → OverEdges (Some s) w q (Err f) a b
+over_up w q s edges f a b h = tells_map _ _ (λ t u go has stays st. (let e = go (sym has) st in (e.0, λ k a n is. e.1 k a is))) a b h
 
-pub over_up_at : (w : ℕ) (q : Key) (past : Option (Arc SessionValue Global)) (p : Arc SessionValue Global) → past ≡ Some p → (z : SessionValue) → z ≡ arc_value p → (edges : List ℕ) (x : Result Bool Fault) (f : Fault) → x ≡ Err f → (a b : Option TableValue) → Walks z w q edges x a b → Overs (session_in past) w q (Err f) a b
+pub over_up_at : (w : ℕ) (q : Key) (past : Option (Arc SessionValue Global)) (p : Arc SessionValue Global) → past ≡ Some p → (z : SessionValue) → z ≡ arc_value p → (edges : List ℕ) (x : Result Bool Fault) (f : Fault) → x ≡ Err f → (a b : Option TableValue) → Walks z w q edges x a b → OverEdges (session_in past) w q (Err f) a b
 over_up_at w q past p is z z_is edges x f x_is a b walks =
-    subst (λ (o : Option SessionValue). Overs o w q (Err f) a b) (ap Some z_is ∙ sym (ap session_in is))
+    subst (λ (o : Option SessionValue). OverEdges o w q (Err f) a b) (ap Some z_is ∙ sym (ap session_in is))
     (over_up w q z edges f a b (subst (λ (y : Result Bool Fault). Walks z w q edges y a b) x_is walks))
 
 -- ---- a key that may be marked at once
 
-abbrev pub Tries : ℕ → Key → Result (Option (Arc Value Global)) Fault → Option TableValue → Option TableValue → Type 0
-Tries w q r a b = Tells (λ t u. HasStatus (Claimed w) w q t → TryGives t w q r u) a b
+abbrev pub Tries : ℕ → Key → Option SessionValue → Result Tried Fault → Option TableValue → Option TableValue → Type 0
+Tries w q past r a b = Tells (λ t u. past ≡ t.past → HasStatus (Claimed w) w q t → TryGives t w q r u) a b
 
 module _ (w : ℕ) (q : Key) (past : Option SessionValue) where
-  pub over_once : (v : Arc Value Global) (a b : Option TableValue) → Tries w q (Ok (Some v)) a b → Overs past w q (Ok v) a b
-  over_once v a b h = tells_map _ _ (λ t u go has st. go st) a b h
+  -- nothing is changed, and nothing may be taken over from no previous session
+  pub tries_none : past ≡ None → (a : Option TableValue) → Tries w q past (Ok tried.Runs) a a
+  tries_none none a = tells_here _ (λ t has st. (refl, first_walk t q (sym has ∙ none))) a
 
-  pub over_once_up : (f : Fault) (a b : Option TableValue) → Tries w q (Err f) a b → Overs past w q (Err f) a b
-  over_once_up f a b h = tells_map _ _ (λ t u go has st. go st) a b h
+  pub over_once : (v : Arc Value Global) (a b : Option TableValue) → Tries w q past (Ok (tried.Marked v)) a b → Overs past w q (Ok v) a b
+  over_once v a b h = tells_map _ _ (λ t u go has st. go has st) a b h
 
-  later : (r : Result (Arc Value Global) Fault) (t u v : TableValue) → u ≡ t → (past ≡ u.past → HasStatus (Claimed w) w q u → WorkGives u w q r v) → past ≡ t.past → HasStatus (Claimed w) w q t → WorkGives t w q r v
-  later r t u v e go has st =
-      subst (λ (y : TableValue). WorkGives y w q r v) e (go (has ∙ sym (ap (λ (y : TableValue). y.past) e)) (subst (λ (y : TableValue). HasStatus (Claimed w) w q y) (sym e) st))
+  pub over_once_up : (f : Fault) (a b : Option TableValue) → Tries w q past (Err f) a b → Overs past w q (Err f) a b
+  over_once_up f a b h = tells_map _ _ (λ t u go has st. go has st) a b h
 
-  pub over_later : (r : Result (Arc Value Global) Fault) (a b c : Option TableValue) → Tries w q (Ok None) a b → Overs past w q r b c → Overs past w q r a c
-  over_later r a b c h o = tells_then _ _ _ (λ t u v same go has st. later r t u v (same st) go has st) a b c h o
+  later : (r : Result (Arc Value Global) Fault) (t u v : TableValue) → (u ≡ t) × (has_kind t.crossing (kind_of q) ≡ false)
+      → (past ≡ u.past → has_kind u.crossing (kind_of q) ≡ false → HasStatus (Claimed w) w q u → WorkGives u w q r v) → past ≡ t.past → HasStatus (Claimed w) w q t → WorkGives t w q r v
+  later r t u v h go has st =
+      subst (λ (y : TableValue). past ≡ y.past → has_kind y.crossing (kind_of q) ≡ false → HasStatus (Claimed w) w q y → WorkGives y w q r v) h.0 go has h.1 st
+
+  pub over_later : (r : Result (Arc Value Global) Fault) (a b c : Option TableValue) → Tries w q past (Ok tried.ByEdges) a b → OverEdges past w q r b c → Overs past w q r a c
+  over_later r a b c h o = tells_then _ _ _ (λ t u v same go has st. later r t u v (same has st) go has st) a b c h o
+
+  runs : (r : Result (Arc Value Global) Fault) (t u v : TableValue) → (u ≡ t) × (walk_in t q ≡ None) → (HasStatus (Claimed w) w q u → MayRun (walk_in u q) → WorkGives u w q r v) → HasStatus (Claimed w) w q t → WorkGives t w q r v
+  runs r t u v h go st =
+      subst (λ (y : TableValue). HasStatus (Claimed w) w q y → MayRun (walk_in y q) → WorkGives y w q r v) h.0 go st (subst MayRun (sym h.1) tt)
+
+  pub over_runs : (r : Result (Arc Value Global) Fault) (a b c : Option TableValue) → Tries w q past (Ok tried.Runs) a b → Starts w q r b c → Overs past w q r a c
+  over_runs r a b c h o = tells_then _ _ _ (λ t u v same go has st. runs r t u v (same has st) go st) a b c h o
 
 -- ---- a claimed key
 

@@ -4,16 +4,21 @@ use Rattle.std.specs.declared.alloc.Global.{Global}
 use Rattle.std.specs.declared.sync.Arc.{Arc}
 use Rattle.std.specs.Arc.{arc_value}
 use Rattle.item_ids.specs.declared.key.Key.{Key}
+use Rattle.item_ids.specs.Keys.{kind_of}
 use Rattle.result_bytes.specs.declared.value.Value.{Value}
 use Rattle.recorder.specs.Backed.{ReadValue, rank}
 use Rattle.recorder.specs.Runs.{OutcomeValue}
-use Rattle.graph_rules.specs.Steps.{Unchanged, Changed, AllUnchanged, Walk, walk, edge_of, MayRun, IsDoneWith, IsBelow, AreHeld}
-use Rattle.job_table.specs.Tables.{TableValue, past_of, state_of}
-use Rattle.sessions.specs.Sessions.{SessionValue, RecordValue, Entry, key_at, entry_at}
+use Rattle.graph_rules.specs.Steps.{Unchanged, Changed, AllUnchanged, Walk, walk, edge_of, MayRun, IsDoneWith, IsOwn, AreHeld}
+use Rattle.graph_rules.specs.Settings.{has_kind}
+use Rattle.job_table.specs.Tables.{TableValue, state_of}
+use Rattle.job_table.specs.Calls.{walk_in}
+use Rattle.sessions.specs.Sessions.{SessionValue, RecordValue, Entry, key_at, entry_at, past_entry}
 use Rattle.job_table.specs.declared.fault.TableFault.{TableFault}
 use Rattle.job_table.specs.declared.fault.TableFault.TheVariants as table
 use Rattle.mark_green.specs.declared.fault.Fault.{Fault}
 use Rattle.mark_green.specs.declared.fault.Fault.TheVariants as fault
+use Rattle.mark_green.specs.declared.steps.Tried.{Tried}
+use Rattle.mark_green.specs.declared.steps.Tried.TheVariants as tried
 use Rattle.mark_green.specs.declared.asking.Stop.{Stop}
 use Rattle.mark_green.specs.declared.asking.Stop.TheVariants as stop
 use Rattle.mark_green.specs.Leaves.{GoesOn, Stops, Stays, StaysBut, GivesUp, Leaves, LeavesBut, IsOthers}
@@ -25,7 +30,7 @@ abbrev pub EnsureGives : TableValue → ℕ → Key → Result (Arc Value Global
     → Type 0
 EnsureGives t w q (Ok v) u = Leaves t u × IsDoneWith (arc_value v) ((state_of u).at q)
 EnsureGives t w q (Err fault.Stopped) u =
-    Stops t u × Stays t u × (((state_of t).failed ≡ true) ⊎ ¬ IsBelow (state_of t) w q)
+    Stops t u × Stays t u × (((state_of t).failed ≡ true) ⊎ IsOwn (state_of t) w q)
 EnsureGives t w q (Err fault.OutOfMemory) u =
     Stops t u × Stays t u × ((state_of t).failed ≡ false)
 EnsureGives t w q (Err fault.Busy) u =
@@ -42,30 +47,41 @@ abbrev pub WorkGives : TableValue → ℕ → Key → Result (Arc Value Global) 
 WorkGives t w q (Ok v) u = LeavesBut q t u × IsDoneWith (arc_value v) ((state_of u).at q)
 WorkGives t w q (Err f) u = IsGivenUp t w f u × StaysBut q t u
 
--- why a key isn't marked at once: the previous session lacks it, or one of its edges isn't done and
--- unchanged
+-- why there is nothing to take over of a key: the previous session lacks it, or is of another profile,
+-- by which the key goes
+abbrev pub IsOfPast : TableFault → Type 0
+IsOfPast table.NotInPast = Unit {0}
+IsOfPast table.AcrossProfiles = Unit {0}
+IsOfPast _ = ⊥
+
+-- why a key isn't marked at once: one of its previous edges isn't done and unchanged
 abbrev pub IsOfEdges : TableFault → Type 0
-IsOfEdges table.NotInPast = Unit {0}
 IsOfEdges (table.EdgeOpen i) = Unit {0}
 IsOfEdges (table.EdgeChanged i) = Unit {0}
 IsOfEdges _ = ⊥
 
--- marking a key that w has claimed, unless it is to wait for its edges: then nothing changes
-abbrev pub TryGives : TableValue → ℕ → Key → Result (Option (Arc Value Global)) Fault → TableValue
-    → Type 0
-TryGives t w q (Ok (Some v)) u = WorkGives t w q (Ok v) u
-TryGives t w q (Ok None) u = u ≡ t
+-- marking a key that w has claimed, unless it is to wait for its edges, or nothing of it may be taken
+-- over: then nothing changes
+abbrev pub TryGives : TableValue → ℕ → Key → Result Tried Fault → TableValue → Type 0
+TryGives t w q (Ok (tried.Marked v)) u = WorkGives t w q (Ok v) u
+TryGives t w q (Ok tried.ByEdges) u = (u ≡ t) × (has_kind t.crossing (kind_of q) ≡ false)
+TryGives t w q (Ok tried.Runs) u = (u ≡ t) × (walk_in t q ≡ None)
 TryGives t w q (Err f) u = WorkGives t w q (Err f) u
+
+-- the result by which a key was marked is told
+abbrev pub TellsTried : (Key → Value → Type 0) → Key → Tried → Type 0
+TellsTried told q (tried.Marked v) = told q (arc_value v)
+TellsTried told q _ = Unit {0}
 
 -- evaluating a previous edge e, and whether it is unchanged then
 abbrev pub EdgeGives : TableValue → ℕ → Key → Result Bool Fault → TableValue → Type 0
-EdgeGives t w e (Ok true) u = Leaves t u × (edge_of (past_of u) (state_of u) e ≡ Unchanged)
-EdgeGives t w e (Ok false) u = Leaves t u × (edge_of (past_of u) (state_of u) e ≡ Changed)
+EdgeGives t w e (Ok true) u = Leaves t u × (edge_of (past_entry u.past) (state_of u) e ≡ Unchanged)
+EdgeGives t w e (Ok false) u = Leaves t u × (edge_of (past_entry u.past) (state_of u) e ≡ Changed)
 EdgeGives t w e (Err f) u = EnsureGives t w e (Err f) u
 
 -- the walk over previous edges in a table
 abbrev pub walk_over : TableValue → List Key → Walk
-walk_over t es = walk (past_of t) (state_of t) es
+walk_over t es = walk (past_entry t.past) (state_of t) es
 
 -- evaluating previous edges, up to the first that is changed, and whether none is
 abbrev pub WalkGives : TableValue → ℕ → List Key → Result Bool Fault → TableValue → Type 0

@@ -43,7 +43,9 @@ AreTold told reads = AllByRecursion (λ r. told r.key r.value) reads
 
 -- the history continues by steps
 pub record GoesOn (t u : TableValue) : Type 0 where
+  pub terms : u.terms ≡ t.terms
   pub past : u.past ≡ t.past
+  pub crossing : u.crossing ≡ t.crossing
   pub project : u.project ≡ t.project
   pub more : List Event
   pub history : u.history ≡ t.history ++ more

@@ -13,7 +13,7 @@ use Rattle.graph_rules.specs.Steps.{Status, Unknown, Claimed, Running, Done, Sta
 use Rattle.graph_rules.specs.Histories.{Keeps}
 use Rattle.graph_rules.proofs.Orders.{after_all_append}
 use Rattle.graph_rules.proofs.Keeping.{keeps_all}
-use Rattle.job_table.specs.Tables.{TableValue, past_of, state_of}
+use Rattle.job_table.specs.Tables.{TableValue, past_of, state_of, with_history}
 use Rattle.job_table.specs.Calls.{AskGives}
 use Rattle.job_table.specs.declared.fault.Asked.TheVariants as asked
 use Rattle.job_table.specs.declared.fault.TableFault.TheVariants as table
@@ -77,8 +77,8 @@ state_on t u g =
     ap (λ (x : TableValue). state_of x) whole
     ∙ after_all_append (past_of t) (opening t.project) t.history g.more
   where
-    whole : u ≡ record { past = t.past; project = t.project; history = t.history ++ g.more }
-    whole = rw (sym g.past, sym g.project, sym g.history) refl
+    whole : u ≡ with_history t (t.history ++ g.more)
+    whole = rw (sym g.terms, sym g.past, sym g.crossing, sym g.project, sym g.history) refl
 
 pub keeps_on : (t u : TableValue) → GoesOn t u → Keeps (state_of t) (state_of u)
 keeps_on t u g =

@@ -1,5 +1,5 @@
 //! Evaluating keys: try-mark-green, and a run where an edge is red.
-ghost use Rattle.std.specs.Prelude.{◌≡◌, ◌<◌, [], Some, IfOk, IfSome, length, map};
+ghost use Rattle.std.specs.Prelude.{◌≡◌, ◌<◌, false, [], Some, IfOk, IfSome, length, map};
 ghost use Rattle.std.specs.List.{AllByRecursion};
 ghost use Rattle.std.specs.Arc.{arc_value};
 ghost use Rattle.recorder.specs.Backed.{rank as rank_of_key};
@@ -7,6 +7,8 @@ ghost use Rattle.sessions.specs.Sessions.{key_at, session_in};
 ghost use Rattle.graph_rules.specs.Steps.{Claimed, Running, MayRun, AreHeld};
 ghost use Rattle.job_table.specs.Tables.{state_of};
 ghost use Rattle.job_table.specs.Calls.{walk_in};
+ghost use Rattle.item_ids.specs.Keys.{kind_of};
+ghost use Rattle.graph_rules.specs.Settings.{has_kind};
 ghost use Rattle.mark_green.specs.Leaves.{Knows, Tells, StaysTold, AreTold, HasStatus};
 ghost use Rattle.mark_green.specs.Ensures.{EnsureGives, WorkGives, EdgeGives, WalkGives, FetchGives, TurnGives, RunGives, told_or, IsRecordUnder, ShowsOutcomes};
 
@@ -14,7 +16,7 @@ use crate::asking::Stop;
 use crate::edges::{is_same, past_edges};
 use crate::fault::Fault;
 use crate::runs::run_once;
-use crate::steps::hold;
+use crate::steps::{Tried, hold};
 use crate::store::Store;
 use crate::worker::Worker;
 use fingerprint::Sealed;
@@ -88,7 +90,8 @@ impl<S: Store<Out = Arc<Outcome<R>>>, R: Runner> Worker<'_, S, R> {
     }
 
     /// Evaluates a key that the worker has claimed, over this previous session. Where all previous edges are done and
-    /// unchanged the key is marked at once, and no edge is asked for.
+    /// unchanged the key is marked at once, and where nothing may be taken over it is run at once; no edge is asked for
+    /// then.
     #[cycle(ensure)]
     fn work_over(&mut self, key: &Key, past: &Option<Arc<Session>>) -> Result<Arc<Sealed>, Fault>
         requires shows { ShowsOutcomes S.outcome_in }
@@ -103,13 +106,15 @@ impl<S: Store<Out = Arc<Outcome<R>>>, R: Runner> Worker<'_, S, R> {
             (S.table self.old.store.now) (S.table self.new.store.now) }
     {
         match self.mark_at_once(key, past) {
-            Ok(Some(sealed)) => Ok(sealed),
-            Ok(None) => self.work_by_edges(key, past),
+            Ok(Tried::Marked(sealed)) => Ok(sealed),
+            Ok(Tried::ByEdges) => self.work_by_edges(key, past),
+            Ok(Tried::Runs) => self.start(key),
             Err(fault) => Err(fault),
         }
     }
 
-    /// Evaluates a key that the worker has claimed, over this previous session, by its previous edges.
+    /// Evaluates a key that the worker has claimed, over this previous session, by its previous edges, where it may be
+    /// taken over.
     #[cycle(ensure)]
     fn work_by_edges(
         &mut self,
@@ -123,6 +128,7 @@ impl<S: Store<Out = Arc<Outcome<R>>>, R: Runner> Worker<'_, S, R> {
         ensures stays { StaysTold (S.told self.old.store.now) (S.told self.new.store.now) }
         ensures told { IfOk result (λ a. S.told self.new.store.now key.now (arc_value a)) }
         ensures gives { Tells (λ t u. session_in past.now ≡ t.past
+            → has_kind t.crossing (kind_of key.now) ≡ false
             → HasStatus (Claimed self.old.id) self.old.id key.now t
             → WorkGives t self.old.id key.now result u)
             (S.table self.old.store.now) (S.table self.new.store.now) }
@@ -233,6 +239,8 @@ impl<S: Store<Out = Arc<Outcome<R>>>, R: Runner> Worker<'_, S, R> {
         ensures id { self.new.id ≡ self.old.id }
         ensures stays { StaysTold (S.told self.old.store.now) (S.told self.new.store.now) }
         ensures key { IfOk result (λ o. o.key ≡ key.now) }
+        ensures profile { IfOk result (λ o. Knows (λ t. o.profile ≡ t.terms.profile)
+            (S.table self.new.store.now)) }
         ensures held { IfOk result (λ o. Knows (λ t. AreHeld (state_of t) o.told)
             (S.table self.new.store.now)) }
         ensures told { IfOk result (λ o. AreTold (S.told self.new.store.now) o.told) }
@@ -257,6 +265,8 @@ impl<S: Store<Out = Arc<Outcome<R>>>, R: Runner> Worker<'_, S, R> {
         ensures id { self.new.id ≡ self.old.id }
         ensures stays { StaysTold (S.told self.old.store.now) (S.told self.new.store.now) }
         ensures key { IfOk result (λ ran. IfSome ran (λ o. o.key ≡ key.now)) }
+        ensures profile { IfOk result (λ ran. IfSome ran
+            (λ o. Knows (λ t. o.profile ≡ t.terms.profile) (S.table self.new.store.now))) }
         ensures held { IfOk result (λ ran. Knows (λ t. AreHeld (state_of t) held.old)
             (S.table self.old.store.now)
             → Knows (λ t. AreHeld (state_of t) (told_or ran held.new))

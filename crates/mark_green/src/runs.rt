@@ -13,7 +13,7 @@ use item_ids::{Key, rank};
 use recorder::{AnswerList, Outcome, ReadFault, Recorder, RunFault, Runner, record};
 use std::alloc::Global;
 
-/// One run of a key that isn't an input, with the results held.
+/// One run of a key that isn't an input, in the session's profile, with the results held.
 pub(crate) fn run_once<S: Store, R: Runner>(
     alloc: Global,
     store: &mut S,
@@ -24,6 +24,7 @@ pub(crate) fn run_once<S: Store, R: Runner>(
 ) -> Result<Outcome<R>, Stop>
     requires rank { 0 < rank_of_key key.now }
     ensures key { IfOk result (λ o. o.key ≡ key.now) }
+    ensures profile { IfOk result (λ o. Knows (λ t. o.profile ≡ t.terms.profile) (S.table store.old)) }
     ensures same { IfOk result (λ _. S.table store.new ≡ S.table store.old) }
     ensures held { IfOk result (λ o. Knows (λ t. AreHeld (state_of t) held.now) (S.table store.old)
         → Knows (λ t. AreHeld (state_of t) o.told) (S.table store.old)) }
@@ -33,6 +34,7 @@ pub(crate) fn run_once<S: Store, R: Runner>(
     ensures halts { IfErr result (λ x. Halts w (rank_of_key key.now) x (S.table store.old)
         (S.table store.new)) }
 {
+    let profile = store.terms().profile;
     let reader = Asking {
         alloc,
         store,
@@ -42,7 +44,7 @@ pub(crate) fn run_once<S: Store, R: Runner>(
         stop: None,
     };
     let mut recorder = Recorder::new(alloc, reader);
-    let outcome = record(alloc, runner, key, &mut recorder);
+    let outcome = record(alloc, runner, profile, key, &mut recorder);
     // What was read is answered by the reader, by the recorder's type.
     let _reads = recorder.reads();
     let Asking {

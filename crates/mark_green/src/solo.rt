@@ -12,7 +12,7 @@ use fingerprint::Sealed;
 use item_ids::Key;
 use job_table::{Asked, Table, TableFault};
 use recorder::{Outcome, Runner};
-use sessions::Session;
+use sessions::{Session, Terms};
 use std::alloc::{AllocError, Global};
 use std::sync::Arc;
 
@@ -86,6 +86,10 @@ impl<R: Runner> Store for Solo<R> {
 
     fn fail(&mut self, w: u32) -> Result<(), TableFault> {
         self.table.fail(w)
+    }
+
+    fn terms(&self) -> Terms {
+        self.table.terms()
     }
 
     fn past(&self) -> Result<Option<Arc<Session>>, AllocError> {

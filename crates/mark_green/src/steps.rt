@@ -1,11 +1,12 @@
 //! How a worker completes a key.
-ghost use Rattle.std.specs.Prelude.{◌≡◌, ◌↔◌, ◌++◌, [], ◌∷◌, Some, IfOk, IfSome, IsTrue};
+ghost use Rattle.std.specs.Prelude.{◌≡◌, ◌↔◌, ◌++◌, [], ◌∷◌, Some, IfOk, IsTrue};
 ghost use Rattle.std.specs.Arc.{arc_value};
 ghost use Rattle.graph_rules.specs.Steps.{Claimed, Running, AllUnchanged, AreHeld};
 ghost use Rattle.job_table.specs.Tables.{state_of};
 ghost use Rattle.job_table.specs.Calls.{walk_in};
+ghost use Rattle.sessions.specs.Sessions.{session_in};
 ghost use Rattle.mark_green.specs.Leaves.{Knows, Tells, StaysTold, AreTold, HasStatus};
-ghost use Rattle.mark_green.specs.Ensures.{WorkGives, TryGives, IsOfEdges, ShowsOutcomes};
+ghost use Rattle.mark_green.specs.Ensures.{WorkGives, TryGives, TellsTried, IsOfPast, IsOfEdges, ShowsOutcomes};
 
 use crate::fault::Fault;
 use crate::store::Store;
@@ -17,6 +18,17 @@ use recorder::{AnswerList, Outcome, Runner};
 use sessions::Session;
 use std::alloc::{AllocError, Global};
 use std::sync::Arc;
+
+/// What came of trying to mark a key at once.
+#[derive(Drop)]
+pub(crate) enum Tried {
+    /// It is marked, with this result.
+    Marked(Arc<Sealed>),
+    /// It is to be evaluated by its previous edges.
+    ByEdges,
+    /// Nothing may be taken over, so that it is to be run.
+    Runs,
+}
 
 impl<S: Store<Out = Arc<Outcome<R>>>, R: Runner> Worker<'_, S, R> {
     /// Marks a key that the worker has claimed, all of whose previous edges are unchanged.
@@ -36,27 +48,28 @@ impl<S: Store<Out = Arc<Outcome<R>>>, R: Runner> Worker<'_, S, R> {
     }
 
     /// Marks a key that the worker has claimed, if all its previous edges are done and unchanged already; else nothing
-    /// changes, and there is no result.
+    /// changes, and it is told how the key is completed.
     pub(crate) fn mark_at_once(
         &mut self,
         key: &Key,
         past: &Option<Arc<Session>>,
-    ) -> Result<Option<Arc<Sealed>>, Fault>
+    ) -> Result<Tried, Fault>
         ensures store { self.new.store.ghost_name ≡ self.old.store.ghost_name }
         ensures id { self.new.id ≡ self.old.id }
         ensures stays { StaysTold (S.told self.old.store.now) (S.told self.new.store.now) }
-        ensures told { IfOk result (λ marked. IfSome marked
-            (λ a. S.told self.new.store.now key.now (arc_value a))) }
-        ensures gives { Tells (λ t u. HasStatus (Claimed self.old.id) self.old.id key.now t
+        ensures told { IfOk result (TellsTried (S.told self.new.store.now) key.now) }
+        ensures gives { Tells (λ t u. session_in past.now ≡ t.past
+            → HasStatus (Claimed self.old.id) self.old.id key.now t
             → TryGives t self.old.id key.now result u)
             (S.table self.old.store.now) (S.table self.new.store.now) }
     {
         let Some(_) = past else {
-            return Ok(None);
+            return Ok(Tried::Runs);
         };
         match self.store.mark(self.id, key) {
-            Ok(sealed) => Ok(Some(sealed)),
-            Err(fault) if is_of_edges(&fault) => Ok(None),
+            Ok(sealed) => Ok(Tried::Marked(sealed)),
+            Err(fault) if is_of_past(&fault) => Ok(Tried::Runs),
+            Err(fault) if is_of_edges(&fault) => Ok(Tried::ByEdges),
             Err(fault) => Err(self.give_up(fault)),
         }
     }
@@ -68,6 +81,8 @@ impl<S: Store<Out = Arc<Outcome<R>>>, R: Runner> Worker<'_, S, R> {
         requires held { Knows (λ t. AreHeld (state_of t) outcome.told)
             (S.table self.old.store.now) }
         requires told { AreTold (S.told self.old.store.now) outcome.told }
+        requires profile { Knows (λ t. outcome.profile ≡ t.terms.profile)
+            (S.table self.old.store.now) }
         ensures store { self.new.store.ghost_name ≡ self.old.store.ghost_name }
         ensures id { self.new.id ≡ self.old.id }
         ensures stays { StaysTold (S.told self.old.store.now) (S.told self.new.store.now) }
@@ -86,12 +101,22 @@ impl<S: Store<Out = Arc<Outcome<R>>>, R: Runner> Worker<'_, S, R> {
     }
 }
 
-/// Whether a key isn't marked because the previous session lacks it, or one of its edges isn't done and unchanged.
+/// Whether a key isn't marked because there is nothing to take over from the previous session.
+fn is_of_past(fault: &TableFault) -> bool
+    ensures { IsTrue result ↔ IsOfPast fault.now }
+{
+    match fault {
+        TableFault::NotInPast | TableFault::AcrossProfiles => true,
+        _ => false,
+    }
+}
+
+/// Whether a key isn't marked because one of its previous edges isn't done and unchanged.
 fn is_of_edges(fault: &TableFault) -> bool
     ensures { IsTrue result ↔ IsOfEdges fault.now }
 {
     match fault {
-        TableFault::NotInPast | TableFault::EdgeOpen(_) | TableFault::EdgeChanged(_) => true,
+        TableFault::EdgeOpen(_) | TableFault::EdgeChanged(_) => true,
         _ => false,
     }
 }

@@ -12,7 +12,7 @@ ghost use Rattle.mark_green.specs.Leaves.{Knows, Tells, ClaimsNoInput, StaysTold
 use fingerprint::Sealed;
 use item_ids::Key;
 use job_table::{Asked, TableFault};
-use sessions::Session;
+use sessions::{Session, Terms};
 use std::alloc::AllocError;
 use std::sync::Arc;
 
@@ -71,6 +71,10 @@ pub trait Store {
     fn fail(&mut self, w: u32) -> Result<(), TableFault>
         ensures gives { Tells (λ t u. FailGives t w result u) (table self.old) (table self.new) }
         ensures stays { StaysTold (told self.old) (told self.new) };
+
+    /// The terms of the session at work. This takes no memory.
+    fn terms(&self) -> Terms
+        ensures { Knows (λ t. result ≡ t.terms) (table self.now) };
 
     /// The previous session.
     fn past(&self) -> Result<Option<Arc<Session>>, AllocError>

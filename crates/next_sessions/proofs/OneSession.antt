@@ -10,10 +10,12 @@ use Rattle.item_ids.specs.Keys.{key_cmp}
 use Rattle.item_ids.proofs.Apart.{key_itself}
 use Rattle.result_bytes.specs.declared.value.Value.{Value}
 use Rattle.sessions.specs.declared.mark.Mark.{Mark}
-use Rattle.sessions.specs.Sessions.{RecordValue, SessionValue, IsSession, FitsBehind, IsAbove, AreInside, Entry, entry_of, entries, key_at, past_entry}
+use Rattle.sessions.specs.declared.terms.Terms.{Terms}
+use Rattle.sessions.specs.Sessions.{RecordValue, SessionValue, IsSession, FitsBehind, IsAbove, AreInside, Entry, entry_of, entries, key_at}
 use Rattle.sessions.proofs.EntryRules.{edges_here}
 use Rattle.recorder.specs.Projects.{Project}
-use Rattle.recorder.specs.Backed.{Meaning, ReadLists}
+use Rattle.recorder.specs.Backed.{Queries}
+use Rattle.graph_rules.specs.Settings.{setting_of}
 use Rattle.graph_rules.proofs.NextRules.{all_from}
 use Rattle.graph_rules.proofs.OneNext.{next_is_one}
 use Rattle.next_sessions.specs.Nexts.{IsNextSession}
@@ -108,14 +110,18 @@ module _ (a b : SessionValue) (a_is : IsSession a) (b_is : IsSession b) (same : 
       let rest : map (entry_of a.records) xs ≡ map (entry_of b.records) ys = cc in
       ap (λ (z : RecordValue). z ∷ xs) (same_record x y first ia.0 ib.0) ∙ ap (λ (zs : List RecordValue). y ∷ zs) (same_records xs ys rest ia.1 ib.1)
 
-  abbrev session_by : ℕ → List ℕ → List RecordValue → SessionValue
-  session_by n l rs = record { number = n; link = l; records = rs }
+  abbrev session_by : Terms → ℕ → List ℕ → List RecordValue → SessionValue
+  session_by t n l rs = record { terms = t; number = n; link = l; records = rs }
 
-  pub one_session : a.number ≡ b.number → a.link ≡ b.link → a ≡ b
-  one_session n l =
+  pub one_session : a.terms ≡ b.terms → a.number ≡ b.number → a.link ≡ b.link → a ≡ b
+  one_session t n l =
       let rs : a.records ≡ b.records = same_records a.records b.records same (all_inside a a_is) (all_inside b b_is) in
-      ap (λ x. session_by x a.link a.records) n ∙ (ap (λ x. session_by b.number x a.records) l ∙ ap (session_by b.number b.link) rs)
+      ap (λ x. session_by x a.number a.link a.records) t
+      ∙ (ap (λ x. session_by b.terms x a.link a.records) n
+      ∙ (ap (λ x. session_by b.terms b.number x a.records) l ∙ ap (session_by b.terms b.number b.link) rs))
 
-pub one_next : (mean : Meaning) (reads : ReadLists) (past : Option SessionValue) (p : Project) (a b : SessionValue) → IsNextSession mean reads past p a → IsNextSession mean reads past p b → a ≡ b
-one_next mean reads past p a b h k =
-    one_session a b h.session k.session (next_is_one mean reads (past_entry past) p (entries a) (entries b) h.told k.told) (h.number ∙ sym k.number) (h.link ∙ sym k.link)
+pub one_next : (queries : Queries) (terms : Terms) (past : Option SessionValue) (p : Project) (a b : SessionValue) → IsNextSession queries terms past p a → IsNextSession queries terms past p b → a ≡ b
+one_next queries terms past p a b h k =
+    let over = setting_of queries.by_profile terms.profile past in
+    let same = next_is_one (queries.mean terms.profile) (queries.reads terms.profile) over p (entries a) (entries b) h.told k.told in
+    one_session a b h.session k.session same (h.terms_are ∙ sym k.terms_are) (h.number ∙ sym k.number) (h.link ∙ sym k.link)

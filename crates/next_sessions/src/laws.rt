@@ -2,34 +2,35 @@
 ghost use Rattle.std.specs.Prelude.{◌≡◌, Option, IfSome};
 ghost use Rattle.mj_project.specs.Projects.{IsProject};
 ghost use Rattle.recorder.specs.Projects.{Project};
-ghost use Rattle.recorder.specs.Backed.{Meaning, ReadLists, RunnerLaws};
-ghost use Rattle.sessions.specs.Sessions.{SessionValue, IsSession, entries, entry_at, past_entry};
+ghost use Rattle.recorder.specs.Backed.{Queries, AreLawful};
+ghost use Rattle.sessions.specs.declared.terms.Terms.{Terms};
+ghost use Rattle.sessions.specs.Sessions.{SessionValue, IsSession, entries};
 ghost use Rattle.sessions.specs.Spelling.{file_of};
-ghost use Rattle.graph_rules.specs.Next.{IsRight};
-ghost use Rattle.next_sessions.specs.Nexts.{DecidesNext, IsNextSession, ReadsOwnFiles};
+ghost use Rattle.graph_rules.specs.Next.{IsRightAfter};
+ghost use Rattle.next_sessions.specs.Nexts.{StandsApart, IsNextSession, ReadsOwnFiles};
 
-/// Two sessions with the same number, link and entries are equal.
+/// Two sessions with the same terms, number, link and entries are equal.
 pub fn entries_tell_all()
     ensures { (a b : SessionValue) → IsSession a → IsSession b
-        → a.number ≡ b.number → a.link ≡ b.link → entries a ≡ entries b → a ≡ b }
+        → a.terms ≡ b.terms → a.number ≡ b.number → a.link ≡ b.link → entries a ≡ entries b → a ≡ b }
 {}
 
 /// There is only one next session, and only one file of it.
 pub fn one_next_session()
-    ensures session { (mean : Meaning) (reads : ReadLists) (past : Option SessionValue)
+    ensures session { (queries : Queries) (terms : Terms) (past : Option SessionValue)
         (p : Project) (a b : SessionValue)
-        → IsNextSession mean reads past p a → IsNextSession mean reads past p b → a ≡ b }
-    ensures file { (mean : Meaning) (reads : ReadLists) (past : Option SessionValue)
+        → IsNextSession queries terms past p a → IsNextSession queries terms past p b → a ≡ b }
+    ensures file { (queries : Queries) (terms : Terms) (past : Option SessionValue)
         (p : Project) (a b : SessionValue)
-        → IsNextSession mean reads past p a → IsNextSession mean reads past p b
+        → IsNextSession queries terms past p a → IsNextSession queries terms past p b
         → file_of a ≡ file_of b }
 {}
 
-/// Where the previous session and the project decide the next one, that is right over the previous session.
+/// A next session that stands apart from the previous one is right over it.
 pub fn next_is_right()
-    ensures { (mean : Meaning) (reads : ReadLists) → RunnerLaws mean reads
-        → (past : Option SessionValue) (p : Project) (s : SessionValue) → IsProject p
-        → IfSome past IsSession → DecidesNext mean reads past p → ReadsOwnFiles reads p
-        → IsNextSession mean reads past p s
-        → IsRight mean reads (past_entry past) (entry_at s) }
+    ensures { (queries : Queries) → AreLawful queries
+        → (terms : Terms) (past : Option SessionValue) (p : Project) (s : SessionValue)
+        → IsProject p → IfSome past IsSession → StandsApart queries past s
+        → ReadsOwnFiles (queries.reads terms.profile) p
+        → IsNextSession queries terms past p s → IsRightAfter queries past s }
 {}

@@ -94,4 +94,4 @@ module _ (J R : RattleType) (g : naming.Ghosts J.Denot) (g' : ledger.Ghosts J.De
   pub shared_sync : IsSend R → IsSync R → IsSync (shared.the_row J R g l g'' g')
   shared_sync s y = let T = shared.the_type J R g l g'' g' in
       recorded_sync (shared.the_field J R g l g'' g').row _ _ T.to_one
-      (struct_sync (declared.shape T) (mutex.the_sync (desk.the_row J R l g g' g'') (desk_send s y), (condvar.the_field_sync, (search (session_send, session_sync, sealed_results) depth 60 fits 20000, (known_sync J read.the_row l, tt)))))
+      (struct_sync (declared.shape T) (mutex.the_sync (desk.the_row J R l g g' g'') (desk_send s y), (condvar.the_field_sync, (search sealed_results depth 60 fits 20000, (search (session_send, session_sync, sealed_results) depth 60 fits 20000, (known_sync J read.the_row l, tt))))))

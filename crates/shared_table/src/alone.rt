@@ -11,7 +11,7 @@ use item_ids::Key;
 use job_table::{Asked, Event, TableFault};
 use mark_green::Store;
 use recorder::{Outcome, Runner};
-use sessions::Session;
+use sessions::{Session, Terms};
 use std::alloc::AllocError;
 use std::sync::Arc;
 
@@ -66,7 +66,7 @@ impl<J: Naming, R: Runner, G: Gate> Store for Alone<'_, J, R, G> {
 
     fn finish(&mut self, w: u32, outcome: Arc<Outcome<R>>) -> Result<(), TableFault> {
         let answer = self.counted.finish_held(self.tally, w, outcome);
-        if let Some(Event::Finish(_, ended)) = self.counted.last() {
+        if let (Ok(()), Some(Event::Finish(_, ended))) = (&answer, self.counted.last()) {
             self.gate.after_run(w, ended.key());
         }
         answer
@@ -74,6 +74,10 @@ impl<J: Naming, R: Runner, G: Gate> Store for Alone<'_, J, R, G> {
 
     fn fail(&mut self, w: u32) -> Result<(), TableFault> {
         self.counted.fail(self.tally, w)
+    }
+
+    fn terms(&self) -> Terms {
+        self.counted.terms()
     }
 
     fn past(&self) -> Result<Option<Arc<Session>>, AllocError> {

@@ -1,13 +1,14 @@
 //! A table with the sum of its workers' events.
-ghost use Rattle.std.specs.Prelude.{◌≡◌, ◌-◌, IfOk, length, option_map, slice_get};
+ghost use Rattle.std.specs.Prelude.{◌≡◌, ◌-◌, [], IfOk, length, option_map, slice_get};
 ghost use Rattle.std.specs.Option.{option_copied};
 ghost use Rattle.std.specs.Arc.{arc_value};
 ghost use Rattle.graph_rules.specs.Steps.{AreHeld};
 ghost use Rattle.sessions.specs.Sessions.{session_in};
-ghost use Rattle.job_table.specs.Tables.{state_of};
+ghost use Rattle.job_table.specs.Tables.{state_of, with_history};
 ghost use Rattle.job_table.specs.Kept.{event_of};
 ghost use Rattle.job_table.specs.Calls.{AskGives, MarkGives, BeginGives, FinishGives, FailGives};
 ghost use Rattle.mark_green.specs.Leaves.{ClaimsNoInput};
+ghost use Rattle.shared_table.specs.Given.{IsOfSession};
 
 use crate::naming::Naming;
 use crate::tally::Tally;
@@ -16,7 +17,7 @@ use item_ids::Key;
 use job_table::{Asked, Event, Table, TableFault};
 use mark_green::ask_table;
 use recorder::{Outcome, Runner};
-use sessions::Session;
+use sessions::{Session, Terms};
 use std::alloc::{AllocError, Global};
 use std::marker::Model;
 use std::sync::Arc;
@@ -36,10 +37,10 @@ impl<J: Naming, R: Runner> Drop for Counted<J, R> {
 }
 
 impl<J: Naming, R: Runner> Model for Counted<J, R> {
-    ghost use Rattle.std.specs.Prelude.{◌≡◌, length};
+    ghost use Rattle.std.specs.Prelude.{◌≡◌, [], length};
     ghost use Rattle.std.specs.Coded.{codes};
     ghost use Rattle.result_bytes.specs.contracts.value.Value as value_contracts;
-    ghost use Rattle.job_table.specs.Tables.{TableValue};
+    ghost use Rattle.job_table.specs.Tables.{TableValue, with_history};
 
     ghost Value = { TableValue };
 
@@ -47,27 +48,25 @@ impl<J: Naming, R: Runner> Model for Counted<J, R> {
 
     ghost view = { λ c. c.table };
 
-    ghost invariant = { λ c. (c.table.past ≡ J.past) × (c.table.project ≡ J.project)
+    ghost invariant = { λ c. (with_history c.table [] ≡ J.opened)
         × (length c.table.history ≡ c.book.total) };
 }
 
 impl<J: Naming, R: Runner> Counted<J, R> {
     /// A table that was just opened.
     pub fn new(table: Table<R>, book: Book<J>) -> Self
-        requires past { table.past ≡ J.past }
-        requires project { table.project ≡ J.project }
+        requires opened { with_history table [] ≡ J.opened }
         requires events { length table.history ≡ book.total }
         ensures { result ≡ table }
     {
         Counted { table, book }
     }
 
-    /// Whose table it is, by its type.
-    pub(crate) fn check_name(&self)
-        ensures past { self.now.past ≡ J.past }
-        ensures project { self.now.project ≡ J.project }
+    /// What the type keeps: it is a table of the session that its name stands for.
+    pub(crate) fn laws(&self)
+        ensures { IsOfSession R.queries J.opened self.now }
     {
-        let _book = &self.book;
+        self.table.laws();
     }
 
     pub(crate) fn ask(
@@ -171,6 +170,13 @@ impl<J: Naming, R: Runner> Counted<J, R> {
         self.table.history().last()
     }
 
+    /// The terms of the session.
+    pub(crate) fn terms(&self) -> Terms
+        ensures { result ≡ self.now.terms }
+    {
+        self.table.terms()
+    }
+
     /// The previous session.
     pub(crate) fn past(&self) -> Result<Option<Arc<Session>>, AllocError>
         ensures { IfOk result (λ past. session_in past ≡ self.now.past) }
@@ -182,8 +188,7 @@ impl<J: Naming, R: Runner> Counted<J, R> {
     pub fn end(self, all: &mut Share<J>) -> Table<R>
         requires whole { all.old.parts ≡ J.parts }
         ensures table { result ≡ self }
-        ensures past { result.past ≡ J.past }
-        ensures project { result.project ≡ J.project }
+        ensures opened { with_history result [] ≡ J.opened }
         ensures counted { length result.history ≡ all.old.amount }
     {
         let Counted { table, mut book } = self;

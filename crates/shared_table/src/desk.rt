@@ -7,6 +7,7 @@ ghost use Rattle.job_table.specs.Tables.{state_of};
 ghost use Rattle.job_table.specs.Calls.{AskGives, BeginGives, FinishGives, FailGives};
 ghost use Rattle.mark_green.specs.Leaves.{ClaimsNoInput, TellsDone, AreTold};
 ghost use Rattle.shared_table.specs.Told.{is_told, MarkTells, FinishTells};
+ghost use Rattle.shared_table.specs.Given.{IsOfSession};
 
 use crate::counted::Counted;
 use crate::kept::Kept;
@@ -99,12 +100,11 @@ impl<J: Naming, R: Runner> Desk<J, R> {
         counted
     }
 
-    /// Whose table it is, by the type of the table.
-    pub(crate) fn check_name(&self)
-        ensures past { self.now.past ≡ J.past }
-        ensures project { self.now.project ≡ J.project }
+    /// What the type of the table keeps.
+    pub(crate) fn laws(&self)
+        ensures { IsOfSession R.queries J.opened self.now }
     {
-        self.counted.check_name();
+        self.counted.laws();
     }
 
     /// Asks for a key. A result that is there is told.

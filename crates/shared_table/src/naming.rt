@@ -4,26 +4,21 @@ use known_list::ListNaming;
 use std::marker::Brand;
 use std::sync::ledger::Ledger;
 
-/// The name of a session: its previous session, its project, the ledger of its workers' events, and the list of all that
-/// its workers are told. Whoever makes a
-/// session picks its name, so that contracts can say that the shared table and each worker's count belong to one
-/// session.
+/// The name of a session: its table as it was opened, the ledger of its workers' events, and the list of all that its
+/// workers are told. Whoever makes a session picks its name, so that contracts can say that the shared table and each
+/// worker's count belong to one session.
 pub trait Naming: Ledger + ListNaming {
-    ghost use Rattle.std.specs.Prelude.{Option};
-    ghost use Rattle.recorder.specs.Projects.{Project};
-    ghost use Rattle.sessions.specs.Sessions.{SessionValue};
+    ghost use Rattle.job_table.specs.Tables.{TableValue};
 
-    /// The previous session, where there is one.
-    ghost past: { Option SessionValue };
-
-    /// Its project.
-    ghost project: { Project };
+    /// Its table, as it was opened: its terms, its previous session, the kinds of which nothing is taken over from that,
+    /// and its project.
+    ghost opened: { TableValue };
 }
 
 impl Naming for Brand {
-    ghost use Rattle.std.specs.Prelude.{None, []};
+    ghost use Rattle.std.specs.Prelude.{None, [], false};
+    ghost use Rattle.sessions.specs.Terms.{first_terms};
+    ghost use Rattle.job_table.specs.Calls.{opened};
 
-    ghost past = { None };
-
-    ghost project = { [] };
+    ghost opened = { opened (λ _. false) first_terms None [] };
 }

@@ -20,7 +20,7 @@ use item_ids::Key;
 use job_table::{Asked, TableFault};
 use mark_green::Store;
 use recorder::{Outcome, Runner};
-use sessions::Session;
+use sessions::{Session, Terms};
 use std::alloc::AllocError;
 use std::sync::{Arc, Wait};
 
@@ -72,7 +72,7 @@ impl<J: Naming, R: Runner, T: Wait, G: Gate> Store for Seat<'_, J, R, T, G> {
         ensures told { TellsDone (is_told self.new.kept) key.now result }
         ensures stays { StaysTold (is_told self.old.kept) (is_told self.new.kept) }
         ensures given { IsOwnAnswer result
-            ⊎ IsGiven J.past J.project (λ t u. AskGives t w key.now result u) }
+            ⊎ IsGiven R.queries J.opened (λ t u. AskGives t w key.now result u) }
     {
         if let Some(sealed) = self.kept.get(key) {
             return again(sealed);
@@ -89,7 +89,7 @@ impl<J: Naming, R: Runner, T: Wait, G: Gate> Store for Seat<'_, J, R, T, G> {
         ensures gives { Tells (λ t u. MarkGives t w key.now result u) None None }
         ensures told { IfOk result (λ a. is_told self.new.kept key.now (arc_value a)) }
         ensures stays { StaysTold (is_told self.old.kept) (is_told self.new.kept) }
-        ensures given { IsGiven J.past J.project (λ t u. MarkTells t w key.now result u) }
+        ensures given { IsGiven R.queries J.opened (λ t u. MarkTells t w key.now result u) }
     {
         self.shared
             .mark(self.rt, self.tally, &mut self.kept, w, key)
@@ -98,7 +98,7 @@ impl<J: Naming, R: Runner, T: Wait, G: Gate> Store for Seat<'_, J, R, T, G> {
     fn begin_run(&mut self, w: u32, key: &Key) -> Result<(), TableFault>
         ensures gives { Tells (λ t u. BeginGives t w key.now result u) None None }
         ensures stays { StaysTold (is_told self.old.kept) (is_told self.new.kept) }
-        ensures given { IsGiven J.past J.project (λ t u. BeginGives t w key.now result u) }
+        ensures given { IsGiven R.queries J.opened (λ t u. BeginGives t w key.now result u) }
     {
         let answer = self.shared.begin_run(self.rt, self.tally, w, key);
         if let Ok(()) = &answer {
@@ -115,7 +115,7 @@ impl<J: Naming, R: Runner, T: Wait, G: Gate> Store for Seat<'_, J, R, T, G> {
             (arc_value outcome).value) }
         ensures stays { StaysTold (is_told self.old.kept) (is_told self.new.kept) }
         ensures given { (result ≡ Err fault.OutOfMemory)
-            ⊎ IsGiven J.past J.project (λ t u. FinishTells t w (arc_value outcome) result u) }
+            ⊎ IsGiven R.queries J.opened (λ t u. FinishTells t w (arc_value outcome) result u) }
     {
         let Ok(ended) = Arc::try_clone(&outcome) else {
             return Err(TableFault::OutOfMemory);
@@ -130,14 +130,21 @@ impl<J: Naming, R: Runner, T: Wait, G: Gate> Store for Seat<'_, J, R, T, G> {
     fn fail(&mut self, w: u32) -> Result<(), TableFault>
         ensures gives { Tells (λ t u. FailGives t w result u) None None }
         ensures stays { StaysTold (is_told self.old.kept) (is_told self.new.kept) }
-        ensures given { IsGiven J.past J.project (λ t u. FailGives t w result u) }
+        ensures given { IsGiven R.queries J.opened (λ t u. FailGives t w result u) }
     {
         self.shared.fail(self.rt, self.tally, w)
     }
 
+    fn terms(&self) -> Terms
+        ensures known { Knows (λ t. result ≡ t.terms) None }
+        ensures of_name { result ≡ J.opened.terms }
+    {
+        self.shared.terms()
+    }
+
     fn past(&self) -> Result<Option<Arc<Session>>, AllocError>
         ensures known { IfOk result (λ past. Knows (λ t. session_in past ≡ t.past) None) }
-        ensures of_name { IfOk result (λ past. session_in past ≡ J.past) }
+        ensures of_name { IfOk result (λ past. session_in past ≡ J.opened.past) }
     {
         self.shared.past()
     }

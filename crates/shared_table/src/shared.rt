@@ -20,20 +20,22 @@ use item_ids::Key;
 use job_table::{Asked, TableFault};
 use known_list::{Known, Opened};
 use recorder::{Outcome, Read, Runner};
-use sessions::Session;
+use sessions::{Session, Terms};
 use std::alloc::{AllocError, Global};
 use std::sync::{Arc, Condvar, Mutex, Wait};
 
 /// One table for all workers of a session, under a lock. Its type keeps, whenever the lock is free, that the state is
 /// the replay of the history, that the history is legal, that each worker's events are counted, and that each result that
-/// a worker was told still stands. What never changes lies beside the lock: the previous session, and what is known at
-/// first of the list of all that is told.
+/// a worker was told still stands. What never changes lies beside the lock: the terms, the previous session, and what is
+/// known at first of the list of all that is told.
 pub struct Shared<J: Naming, R: Runner> {
     desk: Mutex<Desk<J, R>>,
     changed: Condvar,
+    terms: Terms,
     past: Option<Arc<Session>>,
     known: Known<J, Read>,
-    ghost of_name: { session_in past ≡ J.past },
+    ghost of_terms: { terms ≡ J.opened.terms },
+    ghost of_past: { session_in past ≡ J.opened.past },
 }
 
 impl<J: Naming, R: Runner> Drop for Shared<J, R> {
@@ -41,6 +43,7 @@ impl<J: Naming, R: Runner> Drop for Shared<J, R> {
         let Shared {
             desk: _,
             changed: _,
+            terms: _,
             past: _,
             known: _,
         } = self;
@@ -52,20 +55,30 @@ impl<J: Naming, R: Runner> Shared<J, R> {
     pub fn new(counted: Counted<J, R>, list: Opened<Read>) -> Result<Self, AllocError>
         requires { list.seen.book ≡ J.book }
     {
+        // Its terms and its previous session are those of its name, by its type.
+        counted.laws();
+        let terms = counted.terms();
         let past = counted.past()?;
-        Ok(Shared::over(counted, past, list))
+        Ok(Shared::over(counted, terms, past, list))
     }
 
-    /// Shares a table with its previous session, and the empty list.
-    fn over(counted: Counted<J, R>, past: Option<Arc<Session>>, list: Opened<Read>) -> Self
+    /// Shares a table with its terms, its previous session, and the empty list.
+    fn over(
+        counted: Counted<J, R>,
+        terms: Terms,
+        past: Option<Arc<Session>>,
+        list: Opened<Read>,
+    ) -> Self
         requires name { list.seen.book ≡ J.book }
-        requires past { session_in past ≡ J.past }
+        requires terms { terms ≡ J.opened.terms }
+        requires past { session_in past ≡ J.opened.past }
     {
         let (head, known) = list.named::<J>();
         let told = known.again();
         Shared {
             desk: Mutex::new(Desk::new(counted, head, told)),
             changed: Condvar::new(),
+            terms,
             past,
             known,
         }
@@ -87,6 +100,7 @@ impl<J: Naming, R: Runner> Shared<J, R> {
         let Shared {
             desk,
             changed: _,
+            terms: _,
             past: _,
             known: _,
         } = self;
@@ -102,7 +116,7 @@ impl<J: Naming, R: Runner> Shared<J, R> {
         w: u32,
         key: &Key,
     ) -> Result<Asked, TableFault>
-        ensures given { IsGiven J.past J.project (λ t u. AskGives t w key.now result u) }
+        ensures given { IsGiven R.queries J.opened (λ t u. AskGives t w key.now result u) }
         ensures claims { ClaimsNoInput key.now result }
         ensures told { TellsDone (is_told kept.new) key.now result }
         ensures stays { IsPrefix kept.old kept.new }
@@ -125,13 +139,13 @@ impl<J: Naming, R: Runner> Shared<J, R> {
         w: u32,
         key: &Key,
     ) -> Result<Asked, TableFault>
-        ensures given { IsGiven J.past J.project (λ t u. AskGives t w key.now result u) }
+        ensures given { IsGiven R.queries J.opened (λ t u. AskGives t w key.now result u) }
         ensures claims { ClaimsNoInput key.now result }
         ensures told { TellsDone (is_told kept.new) key.now result }
         ensures stays { IsPrefix kept.old kept.new }
     {
         let mut desk = self.desk.lock(rt);
-        desk.check_name();
+        desk.laws();
         let answer = desk.ask(tally, kept, w, key);
         if is_busy(&answer) {
             drop(self.changed.wait(rt, desk));
@@ -150,12 +164,12 @@ impl<J: Naming, R: Runner> Shared<J, R> {
         w: u32,
         key: &Key,
     ) -> Result<Arc<Sealed>, TableFault>
-        ensures given { IsGiven J.past J.project (λ t u. MarkTells t w key.now result u) }
+        ensures given { IsGiven R.queries J.opened (λ t u. MarkTells t w key.now result u) }
         ensures told { IfOk result (λ a. is_told kept.new key.now (arc_value a)) }
         ensures stays { IsPrefix kept.old kept.new }
     {
         let mut desk = self.desk.lock(rt);
-        desk.check_name();
+        desk.laws();
         let answer = desk.mark(tally, kept, w, key);
         drop(desk);
         self.changed.notify_all();
@@ -170,10 +184,10 @@ impl<J: Naming, R: Runner> Shared<J, R> {
         w: u32,
         key: &Key,
     ) -> Result<(), TableFault>
-        ensures { IsGiven J.past J.project (λ t u. BeginGives t w key.now result u) }
+        ensures { IsGiven R.queries J.opened (λ t u. BeginGives t w key.now result u) }
     {
         let mut desk = self.desk.lock(rt);
-        desk.check_name();
+        desk.laws();
         desk.begin_run(tally, w, key)
     }
 
@@ -189,12 +203,12 @@ impl<J: Naming, R: Runner> Shared<J, R> {
     ) -> Result<(), TableFault>
         requires same { ended.now ≡ arc_value outcome }
         requires reads { AreTold (is_told kept.old) ended.now.told }
-        ensures given { IsGiven J.past J.project (λ t u. FinishTells t w ended.now result u) }
+        ensures given { IsGiven R.queries J.opened (λ t u. FinishTells t w ended.now result u) }
         ensures told { IfOk result (λ _. is_told kept.new ended.now.key ended.now.value) }
         ensures stays { IsPrefix kept.old kept.new }
     {
         let mut desk = self.desk.lock(rt);
-        desk.check_name();
+        desk.laws();
         let answer = desk.finish(tally, kept, w, outcome, ended);
         drop(desk);
         self.changed.notify_all();
@@ -208,19 +222,26 @@ impl<J: Naming, R: Runner> Shared<J, R> {
         tally: &mut Tally<J>,
         w: u32,
     ) -> Result<(), TableFault>
-        ensures { IsGiven J.past J.project (λ t u. FailGives t w result u) }
+        ensures { IsGiven R.queries J.opened (λ t u. FailGives t w result u) }
     {
         let mut desk = self.desk.lock(rt);
-        desk.check_name();
+        desk.laws();
         let answer = desk.fail(tally, w);
         drop(desk);
         self.changed.notify_all();
         answer
     }
 
+    /// The terms of the session.
+    pub(crate) fn terms(&self) -> Terms
+        ensures { result ≡ J.opened.terms }
+    {
+        self.terms
+    }
+
     /// The previous session.
     pub(crate) fn past(&self) -> Result<Option<Arc<Session>>, AllocError>
-        ensures { IfOk result (λ past. session_in past ≡ J.past) }
+        ensures { IfOk result (λ past. session_in past ≡ J.opened.past) }
     {
         match &self.past {
             Some(past) => Ok(Some(Arc::try_clone(past)?)),

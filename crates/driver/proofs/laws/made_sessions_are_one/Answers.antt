@@ -1,12 +1,10 @@
-use Rattle.std.proofs.Common.{ap}
+use Rattle.std.proofs.Common.{ap, sym}
 use Rattle.sessions.specs.Spelling.{file_of}
-use Rattle.next_sessions.proofs.OneSession.{one_next}
-use Rattle.driver.proofs.NextRules.{next_session}
+use Rattle.driver.proofs.NextRules.{is_next, is_the_next}
 use Rattle.driver.proofs.laws.made_sessions_are_one.Goals as goal
 
 pub returns : goal.returns
-returns c mean reads laws past p project past_is decides v w a b r t a_is b_is h k =
-    let x = next_session c.histories_are_sound.ensures mean reads laws past p h.history a project past_is a_is decides h.events in
-    let y = next_session c.histories_are_sound.ensures mean reads laws past p k.history b project past_is b_is decides k.events in
-    let same = one_next mean reads past p a b x y in
+returns c = λ queries laws terms past p project past_is v w a b r t a_is b_is h k apart.
+    let next = is_next queries laws terms past p h.history a project past_is a_is h.events apart in
+    let same = sym (is_the_next queries laws terms past p k.history b project past_is b_is k.events a next apart) in
     (same, ap file_of same)

@@ -9,9 +9,8 @@ use Rattle.driver.proofs.session.session_of.Goals as goal
 pub returns : goal.returns
 returns g c =
     let reports : Reports = record { events = c.args.events; history = length c.history-history.result.now } in
-    session_of g.R.Runner.mean g.R.Runner.reads c.args.table.now (vec_len c.args.events) c.in_ok-close.field-0 reports
-    c.laws.ensures.legal c.laws.ensures.backed c.in_ok-close.ensures.may_close c.in_ok-close.ensures.closing
+    session_of g.R.Runner.queries c.args.table.now (vec_len c.args.events) c.in_ok-close.field-0 reports
+    c.laws.ensures.legal c.laws.ensures.backed c.laws.ensures.crossing c.in_ok-close.ensures.may_close c.in_ok-close.ensures.closing
     (sym (length-map c.history-history.result.now event_of) ∙ ap length c.history-history.ensures)
     refl
     c.requires.counted
-    c.args.table.now.past c.args.table.now.project refl refl

@@ -2,4 +2,4 @@ use Rattle.graph_rules.proofs.Keeping.{in_order}
 use Rattle.graph_rules.proofs.laws.sound_is_in_order.Goals as goal
 
 pub returns : goal.returns
-returns c = λ mean reads past p s graph sound. in_order mean reads past p graph s sound
+returns c = λ mean reads over p s graph sound. in_order mean reads over p graph s sound

@@ -1,4 +1,4 @@
-use Rattle.std.proofs.Common.{false}
+use Rattle.std.proofs.Common.{false, refl}
 use Rattle.key_states.specs.Nodes.{state_of_nodes}
 use Rattle.key_states.specs.Rows.{AreRowsOf, keys_of}
 use Rattle.key_states.proofs.RecordRules.{are_records, are_closed}
@@ -9,8 +9,8 @@ pub records_of-requires : goal.records_of-requires
 records_of-requires c =
     within (state_of_nodes c.args.inputs.now c.args.nodes.now false) _ _ (rw (c.as_slice.ensures.value, c.as_slice-2.ensures.value) c.in_ok-rows.ensures.rows)
 
-pub of-requires-clause-records : goal.of-requires-clause-records
-of-requires-clause-records c =
+pub of_as-requires-clause-records : goal.of_as-requires-clause-records
+of_as-requires-clause-records c =
     let s = state_of_nodes c.args.inputs.now c.args.nodes.now false in
     let of : AreRowsOf s c.as_slice.result.now c.as_slice-2.result.now = rw (c.as_slice.ensures.value, c.as_slice-2.ensures.value) c.in_ok-rows.ensures.rows in
     are_records c.ranks_in_order.ensures.lesser s (keys_of c.as_slice.result.now) _ of.ordered.ascend c.requires.order (rw c.in_ok-records.was at (c.records_of.ensures s of))
@@ -19,7 +19,8 @@ pub returns : goal.returns
 returns c =
     let s = state_of_nodes c.args.inputs.now c.args.nodes.now false in
     let of : AreRowsOf s c.as_slice.result.now c.as_slice-2.result.now = rw (c.as_slice.ensures.value, c.as_slice-2.ensures.value) c.in_ok-rows.ensures.rows in
-    rw c.of.ensures (record {
+    rw c.of_as.ensures (record {
+      terms_are = refl;
       number = c.number_behind.ensures.number;
       link = c.link_behind.ensures;
       closed =

@@ -4,9 +4,13 @@ use Rattle.recorder.specs.Backed.{rank}
 use Rattle.mark_green.specs.Moves.{Moves}
 use Rattle.std.specs.Prelude.{IfOk}
 use Rattle.mark_green.specs.Leaves.{StaysTold, AreTold}
-use Rattle.mark_green.proofs.Once.{told_of_run, halts_of_run, wants_memory}
+use Rattle.mark_green.proofs.Once.{told_of_run, profile_of_run, halts_of_run, wants_memory}
 use Rattle.mark_green.proofs.Told.{told_by_run}
 use Rattle.mark_green.proofs.runs.run_once.Goals as goal
+
+pub returns-clause-profile : goal.returns-clause-profile
+returns-clause-profile g c =
+    profile_of_run c.record-outcome.result c.outcome_of.result c.terms-profile.result c.into_reader-back.result.stop (g.S.Store.table c.args.store.now) c.outcome_of.ensures.ok c.record-outcome.ensures.profile c.terms-profile.ensures
 
 pub returns-clause-held : goal.returns-clause-held
 returns-clause-held g c =
@@ -46,6 +50,6 @@ outcome_of-requires g c =
     let last = ap (λ r. r.stop) c.into_reader-back.ensures in
     let below : c.rank.result ≡ rank c.args.key.now = c.rank.ensures ∙ ap rank_of c.kind.ensures in
     record {
-      memory = λ none. wants_memory g.R.Runner.mean g.R.Runner.reads c.args.key.now c.record-outcome.new.recorder c.record-outcome.new.recorder.inner.stop c.record-outcome.new.recorder.inner.below c.record-outcome.result _
+      memory = λ none. wants_memory (g.R.Runner.queries.mean c.terms-profile.result.profile) (g.R.Runner.queries.reads c.terms-profile.result.profile) c.args.key.now c.record-outcome.new.recorder c.record-outcome.new.recorder.inner.stop c.record-outcome.new.recorder.inner.below c.record-outcome.result _
           (follows.3 ∙ below) (sym last ∙ none) c.record-outcome.ensures.fault c.reads-reads.ensures.keeps c.record-outcome.ensures.refused;
     }

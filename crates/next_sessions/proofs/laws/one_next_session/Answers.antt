@@ -4,7 +4,7 @@ use Rattle.sessions.specs.Spelling.{file_of}
 use Rattle.next_sessions.proofs.laws.one_next_session.Goals as goal
 
 pub returns-clause-session : goal.returns-clause-session
-returns-clause-session c mean reads past p a b h k = one_next mean reads past p a b h k
+returns-clause-session c = one_next
 
 pub returns-clause-file : goal.returns-clause-file
-returns-clause-file c mean reads past p a b h k = ap file_of (one_next mean reads past p a b h k)
+returns-clause-file c queries terms past p a b h k = ap file_of (one_next queries terms past p a b h k)

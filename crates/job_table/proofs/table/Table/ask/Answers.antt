@@ -2,7 +2,7 @@ use Rattle.std.proofs.Common.{map, false, sym, ◌∙◌, refl}
 use Rattle.std.specs.Prelude.{IsTrue}
 use Rattle.graph_rules.specs.Steps.{Claim}
 use Rattle.job_table.specs.Kept.{event_of}
-use Rattle.job_table.proofs.StepRules.{may_claim, kept_claim, is_not_done, is_below, is_not_below, backed_last}
+use Rattle.job_table.proofs.StepRules.{may_claim, kept_claim, is_not_done, is_below, is_own, backed_last}
 use Rattle.job_table.proofs.table.Table.ask.Goals as goal
 
 not_true : IsTrue false → ⊥
@@ -23,7 +23,7 @@ returns-in-Pending-2 g c =
     let kept = c.self.invariant.0 in
     rw (← c.self.view_is) (
       (sym kept.failed_is ∙ c.if-self.false, is_not_done _ _ _ _ _ kept c.args.key.now c.in-Pending-2.ensures.0),
-      is_not_below _ _ _ _ _ kept c.args.w c.args.key.now (λ all. let e = c.if-is_below.ensures.1 all in absurd (not_true e)),
+      is_own _ _ _ _ _ kept c.args.w c.args.key.now (λ all. let e = c.if-is_below.ensures.1 all in absurd (not_true e)),
       refl,
     )
 
@@ -32,7 +32,7 @@ returns-then-not-is_below g c =
     let kept = c.self.invariant.0 in
     rw (← c.self.view_is) (
       (sym kept.failed_is ∙ c.if-self.false, is_not_done _ _ _ _ _ kept c.args.key.now c.in-Unknown.ensures.0),
-      is_not_below _ _ _ _ _ kept c.args.w c.args.key.now (λ all. let e = c.if-not-is_below.ensures.1 all in absurd (not_true e)),
+      is_own _ _ _ _ _ kept c.args.w c.args.key.now (λ all. let e = c.if-not-is_below.ensures.1 all in absurd (not_true e)),
       refl,
     )
 
@@ -49,7 +49,7 @@ invariant_of-self-2 g c =
     let u = c.in-Unknown.ensures.1 in
     rw c.in-Ok-claim.ensures.events (
       kept_claim _ _ _ _ _ kept _ c.args.w c.args.key.now c.if-self.false nd u (c.if-not-is_below.ensures.0 refl) c.in-Ok-claim.ensures.apart c.in-Ok-claim.ensures.claimed,
-      backed_last g.R.Runner.mean g.R.Runner.reads (map event_of i.history.items) (Claim c.args.w c.args.key.now) c.self.invariant.1 tt,
+      backed_last (g.R.Runner.queries.mean i.terms.profile) (g.R.Runner.queries.reads i.terms.profile) (map event_of i.history.items) (Claim c.args.w c.args.key.now) c.self.invariant.1 tt,
       (λ _. c.in-Ok-claim.ensures.room),
       c.self.invariant.3,
     )

@@ -4,7 +4,6 @@ use Rattle.graph_rules.specs.Steps.{Claimed, Begin}
 use Rattle.job_table.specs.Kept.{event_of}
 use Rattle.job_table.specs.Tables.{TableValue}
 use Rattle.job_table.specs.Calls.{BeginGives}
-use Rattle.sessions.specs.Sessions.{session_in}
 use Rattle.job_table.proofs.StepRules.{backed_last}
 use Rattle.job_table.proofs.CallRules.{not_standing, begin_at, begin_kept, begin_refused}
 use Rattle.key_states.proofs.PendingRules.{first_pending}
@@ -23,11 +22,11 @@ returns-in_default g c =
 pub returns-in-Some-why_not : goal.returns-in-Some-why_not
 returns-in-Some-why_not g c =
     subst (λ (u : TableValue). BeginGives c.args.self.now c.args.w c.args.key.now (Err c.in-Some-why_not.fault) u) (sym c.self.view_is)
-    (begin_refused (session_in c.self.inside.past) _ _ _ _ c.self.invariant.0 c.args.key.now c.args.w c.in-Some-why_not.fault c.if-self.false c.in-Some.ensures.claimed c.in-Some-why_not.ensures _ c.self.view_is)
+    (begin_refused _ _ c.self.view_is _ _ c.self.invariant.0 c.args.key.now c.args.w c.in-Some-why_not.fault c.if-self.false c.in-Some.ensures.claimed c.in-Some-why_not.ensures)
 
 pub returns-in_default-note_begin : goal.returns-in_default-note_begin
 returns-in_default-note_begin g c = (
-  begin_at (session_in c.self.inside.past) _ _ _ _ c.self.invariant.0 c.args.key.now c.args.w c.if-self.false c.in-Some.ensures.claimed c.in_default-why_not.ensures _ c.self.view_is,
+  begin_at _ _ c.self.view_is _ _ c.self.invariant.0 c.args.key.now c.args.w c.if-self.false c.in-Some.ensures.claimed c.in_default-why_not.ensures,
   rw (← c.self.view_is, c.in_default-note_begin.ensures.history.0) refl,
 )
 
@@ -42,16 +41,16 @@ pub invariant_of-self-2 : goal.invariant_of-self-2
 invariant_of-self-2 g c =
     let i = c.self.inside in
     rw (events_after g c) (
-      begin_kept _ _ _ _ _ _ c.self.invariant.0 c.args.key.now c.args.w c.if-self.false c.in-Some.ensures.claimed c.in_default-why_not.ensures c.put.ensures.apart
+      begin_kept _ _ _ _ _ c.self.invariant.0 _ c.args.key.now c.args.w c.if-self.false c.in-Some.ensures.claimed c.in_default-why_not.ensures c.put.ensures.apart
           (λ k. c.put.ensures.written c.args.key.now k c.in-Some.ensures.some.0),
-      backed_last g.R.Runner.mean g.R.Runner.reads (map event_of i.history.items) (Begin c.args.w c.args.key.now) c.self.invariant.1 tt,
+      backed_last (g.R.Runner.queries.mean i.terms.profile) (g.R.Runner.queries.reads i.terms.profile) (map event_of i.history.items) (Begin c.args.w c.args.key.now) c.self.invariant.1 tt,
       (λ _. c.in-Ok.ensures.room),
       c.self.invariant.3,
     )
 
 pub returns : goal.returns
 returns g c = (
-  begin_at (session_in c.self.inside.past) _ _ _ _ c.self.invariant.0 c.args.key.now c.args.w c.if-self.false c.in-Some.ensures.claimed c.in_default-why_not.ensures _ c.self.view_is,
+  begin_at _ _ c.self.view_is _ _ c.self.invariant.0 c.args.key.now c.args.w c.if-self.false c.in-Some.ensures.claimed c.in_default-why_not.ensures,
   rw (← c.self.view_is, events_after g c) refl,
 )
 

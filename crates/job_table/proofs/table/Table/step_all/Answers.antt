@@ -1,19 +1,19 @@
-use Rattle.std.proofs.Common.{◌<◌, List, length, arith, ap}
+use Rattle.std.proofs.Common.{◌<◌, length, arith, ap}
 use Rattle.std.proofs.lemmas.List.{take_all}
-use Rattle.graph_rules.specs.Steps.{Event}
+use Rattle.job_table.specs.Tables.{with_history}
 use Rattle.job_table.specs.Kept.{event_of}
-use Rattle.job_table.proofs.ReplayRules.{split_events, length_front, first_illegal, table_of, table_after, legal_after}
+use Rattle.job_table.proofs.ReplayRules.{split_events, length_front, first_illegal, table_after, legal_after}
 use Rattle.job_table.proofs.table.Table.step_all.Goals as goal
 
 pub loop-i-init : goal.loop-i-init
-loop-i-init g c = record { done = ap (λ (h : List Event). table_of c.args.self.now.past c.args.self.now.project h) c.requires; legal = tt }
+loop-i-init g c = record { done = ap (with_history c.args.self.now) c.requires; legal = tt }
 
 pub loop-i-preserved : goal.loop-i-preserved
 loop-i-preserved g c =
     let lt : c.loop-i.i < length c.args.events.now = omega arith in
     record {
-      done = table_after _ _ c.args.events.now c.loop-i.i c.index-events-i.result c.loop-i.self lt c.index-events-i.is c.loop-i.invariant.done c.step.new.self c.in-Ok.ensures.1;
-      legal = legal_after _ _ c.args.events.now c.loop-i.i c.index-events-i.result c.loop-i.self lt c.index-events-i.is c.loop-i.invariant.done c.loop-i.invariant.legal c.in-Ok.ensures.0;
+      done = table_after c.args.self.now c.args.events.now c.loop-i.i c.index-events-i.result c.loop-i.self lt c.index-events-i.is c.loop-i.invariant.done c.step.new.self c.in-Ok.ensures.1;
+      legal = legal_after c.args.self.now c.args.events.now c.loop-i.i c.index-events-i.result c.loop-i.self lt c.index-events-i.is c.loop-i.invariant.done c.loop-i.invariant.legal c.in-Ok.ensures.0;
     }
 
 pub returns : goal.returns
@@ -27,7 +27,7 @@ pub returns-in-Err-NoStep : goal.returns-in-Err-NoStep
 returns-in-Err-NoStep g c =
     let lt : c.loop-i.i < length c.args.events.now = omega arith in
     let no_step = rw c.in-Err-NoStep.field-0-is at c.in-Err-NoStep.ensures in
-    first_illegal _ _ _ _ (event_of c.index-events-i.result) _ c.loop-i.i c.loop-i.self
+    first_illegal c.args.self.now _ _ (event_of c.index-events-i.result) _ c.loop-i.i c.loop-i.self
     (split_events c.args.events.now c.loop-i.i c.index-events-i.result lt c.index-events-i.is)
     (length_front c.args.events.now c.loop-i.i lt)
     c.loop-i.invariant.done c.loop-i.invariant.legal

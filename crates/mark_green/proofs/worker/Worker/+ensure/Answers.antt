@@ -10,6 +10,7 @@ use Rattle.recorder.specs.Runs.{OutcomeValue}
 use Rattle.job_table.specs.declared.fault.Asked.{Asked}
 use Rattle.job_table.specs.declared.fault.TableFault.{TableFault}
 use Rattle.mark_green.specs.declared.asking.Stop.{Stop}
+use Rattle.mark_green.specs.declared.steps.Tried.{Tried}
 use Rattle.mark_green.specs.declared.fault.Fault.{Fault}
 use Rattle.mark_green.specs.Moves.{Halts}
 use Rattle.mark_green.proofs.Held.{held_more}
@@ -20,7 +21,7 @@ use Rattle.job_table.specs.Calls.{walk_in}
 use Rattle.mark_green.specs.Leaves.{Tells, HasStatus}
 use Rattle.mark_green.specs.Ensures.{WorkGives}
 use Rattle.mark_green.proofs.Turning.{Works, Fetches, Turns, Ends, Begins, Starts, fetch_ok, fetch_lost, fetch_up, turn_stopped, turn_more, turn_up, holds_more, ends_ok, ends_up, ends_lost, run_ended, run_up, start_run, start_refused}
-use Rattle.mark_green.proofs.Working.{Ensured, Edges, Overs, Asks, edge_ok, edge_up, far_more, far_changed, far_up, over_marked_at, over_run_at, over_up_at, over_once, over_once_up, over_later, Tries, work_over_past, ensured_work, ensured_done, ensured_stopped, ensured_busy, ensured_refused}
+use Rattle.mark_green.proofs.Working.{Ensured, Edges, OverEdges, Asks, edge_ok, edge_up, far_more, far_changed, far_up, over_marked_at, over_run_at, over_up_at, over_once, over_once_up, over_later, over_runs, Tries, work_over_past, ensured_work, ensured_done, ensured_stopped, ensured_busy, ensured_refused}
 use Rattle.mark_green.proofs.worker.Worker.+ensure.Goals as goal
 
 pub ensure-returns-in-Ok-Yours-clause-gives : goal.ensure-returns-in-Ok-Yours-clause-gives
@@ -229,21 +230,28 @@ pub work_by_edges-returns-in-Err-clause-gives : goal.work_by_edges-returns-in-Er
 work_by_edges-returns-in-Err-clause-gives g t c =
     over_up_at c.args.self.now.id c.args.key.now c.args.past.now c.in-Some.past c.in-Some.is c.deref-2.result.now c.deref-2.ensures c.in-Some-past_edges.edges.now c.walk_edges.result c.in-Err.fault c.in-Err.is _ _ c.walk_edges.ensures.gives
 
-pub work_over-returns-in-Ok-Some-clause-gives : goal.work_over-returns-in-Ok-Some-clause-gives
-work_over-returns-in-Ok-Some-clause-gives g t c =
+pub work_over-returns-in-Ok-Marked-clause-gives : goal.work_over-returns-in-Ok-Marked-clause-gives
+work_over-returns-in-Ok-Marked-clause-gives g t c =
     let w = c.args.self.now.id in
-    let h = subst (λ (r : Result (Option (Arc Value Global)) Fault). Tries w c.args.key.now r (g.S.Store.table c.args.self.now.store.now) (g.S.Store.table c.mark_at_once.new.self.store.now)) (c.in-Ok-Some.is ∙ ap Ok c.in-Ok-Some.field-0-is) c.mark_at_once.ensures.gives in
-    over_once w c.args.key.now (session_in c.args.past.now) c.in-Ok-Some.sealed _ _ h
+    let h = subst (λ (r : Result Tried Fault). Tries w c.args.key.now (session_in c.args.past.now) r (g.S.Store.table c.args.self.now.store.now) (g.S.Store.table c.mark_at_once.new.self.store.now)) (c.in-Ok-Marked.is ∙ ap Ok c.in-Ok-Marked.field-0-is) c.mark_at_once.ensures.gives in
+    over_once w c.args.key.now (session_in c.args.past.now) c.in-Ok-Marked.sealed _ _ h
 
-pub work_over-returns-in-Ok-None-clause-gives : goal.work_over-returns-in-Ok-None-clause-gives
-work_over-returns-in-Ok-None-clause-gives g t c =
+pub work_over-returns-in-Ok-ByEdges-clause-gives : goal.work_over-returns-in-Ok-ByEdges-clause-gives
+work_over-returns-in-Ok-ByEdges-clause-gives g t c =
     let w = c.args.self.now.id in
-    let h = subst (λ (r : Result (Option (Arc Value Global)) Fault). Tries w c.args.key.now r (g.S.Store.table c.args.self.now.store.now) (g.S.Store.table c.mark_at_once.new.self.store.now)) (c.in-Ok-None.is ∙ ap Ok c.in-Ok-None.field-0-is) c.mark_at_once.ensures.gives in
-    let o = subst (λ (n : ℕ). Overs (session_in c.args.past.now) n c.args.key.now c.work_by_edges.result (g.S.Store.table c.mark_at_once.new.self.store.now) (g.S.Store.table c.work_by_edges.new.self.store.now)) c.mark_at_once.ensures.id c.work_by_edges.ensures.gives in
+    let h = subst (λ (r : Result Tried Fault). Tries w c.args.key.now (session_in c.args.past.now) r (g.S.Store.table c.args.self.now.store.now) (g.S.Store.table c.mark_at_once.new.self.store.now)) (c.in-Ok-ByEdges.is ∙ ap Ok c.in-Ok-ByEdges.field-0-is) c.mark_at_once.ensures.gives in
+    let o = subst (λ (n : ℕ). OverEdges (session_in c.args.past.now) n c.args.key.now c.work_by_edges.result (g.S.Store.table c.mark_at_once.new.self.store.now) (g.S.Store.table c.work_by_edges.new.self.store.now)) c.mark_at_once.ensures.id c.work_by_edges.ensures.gives in
     over_later w c.args.key.now (session_in c.args.past.now) c.work_by_edges.result _ _ _ h o
+
+pub work_over-returns-in-Ok-Runs-clause-gives : goal.work_over-returns-in-Ok-Runs-clause-gives
+work_over-returns-in-Ok-Runs-clause-gives g t c =
+    let w = c.args.self.now.id in
+    let h = subst (λ (r : Result Tried Fault). Tries w c.args.key.now (session_in c.args.past.now) r (g.S.Store.table c.args.self.now.store.now) (g.S.Store.table c.mark_at_once.new.self.store.now)) (c.in-Ok-Runs.is ∙ ap Ok c.in-Ok-Runs.field-0-is) c.mark_at_once.ensures.gives in
+    let o = subst (λ (n : ℕ). Starts n c.args.key.now c.start.result (g.S.Store.table c.mark_at_once.new.self.store.now) (g.S.Store.table c.start.new.self.store.now)) c.mark_at_once.ensures.id c.start.ensures.gives in
+    over_runs w c.args.key.now (session_in c.args.past.now) c.start.result _ _ _ h o
 
 pub work_over-returns-in-Err-clause-gives : goal.work_over-returns-in-Err-clause-gives
 work_over-returns-in-Err-clause-gives g t c =
     let w = c.args.self.now.id in
-    let h = subst (λ (r : Result (Option (Arc Value Global)) Fault). Tries w c.args.key.now r (g.S.Store.table c.args.self.now.store.now) (g.S.Store.table c.mark_at_once.new.self.store.now)) c.in-Err.is c.mark_at_once.ensures.gives in
+    let h = subst (λ (r : Result Tried Fault). Tries w c.args.key.now (session_in c.args.past.now) r (g.S.Store.table c.args.self.now.store.now) (g.S.Store.table c.mark_at_once.new.self.store.now)) (c.in-Err.is) c.mark_at_once.ensures.gives in
     over_once_up w c.args.key.now (session_in c.args.past.now) c.in-Err.fault _ _ h

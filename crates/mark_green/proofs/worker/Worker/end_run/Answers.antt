@@ -1,11 +1,11 @@
 use Rattle.std.proofs.Common.{◌≡◌, ◌∙◌, subst}
-use Rattle.std.specs.Prelude.{Result, IfOk}
+use Rattle.std.specs.Prelude.{Result, Err, IfOk}
 use Rattle.std.specs.Arc.{arc_value}
 use Rattle.job_table.specs.Tables.{TableValue}
 use Rattle.job_table.specs.Calls.{FinishGives}
 use Rattle.job_table.specs.declared.fault.TableFault.{TableFault}
 use Rattle.mark_green.specs.Leaves.{Tells}
-use Rattle.mark_green.proofs.GoingOn.{tells_map, tells_then}
+use Rattle.mark_green.proofs.GoingOn.{tells_map, tells_then, tells_with}
 use Rattle.mark_green.proofs.Calling.{finish_ok, finish_ended, stopped_early}
 use Rattle.mark_green.proofs.Held.{held_shown}
 use Rattle.mark_green.proofs.Told.{told_shown, told_result}
@@ -21,7 +21,8 @@ pub returns-in-Err-clause-gives : goal.returns-in-Err-clause-gives
 returns-in-Err-clause-gives g c =
     let shown = g.S.Store.outcome_in c.in-Ok.outcome in
     let m = subst (λ (r : Result (Unit {0}) TableFault). Tells (λ (t u : TableValue). FinishGives t c.args.self.now.id shown r u) (g.S.Store.table c.args.self.now.store.now) (g.S.Store.table c.finish.new.self)) c.in-Err.is c.finish.ensures.gives in
-    tells_then _ _ _ (finish_ended c.args.self.now.id c.args.key.now c.args.outcome shown c.in-Err.fault c.give_up-in-Err.result (c.requires.shows c.in-Ok.outcome ∙ c.in-Ok.ensures.outcome) c.requires.key c.give_up-in-Err.ensures.fault) _ _ _ m c.give_up-in-Err.ensures.stops
+    let own = tells_with (λ t. c.args.outcome.profile ≡ t.terms.profile) _ (λ t u. (c.args.outcome.profile ≡ t.terms.profile) × FinishGives t c.args.self.now.id shown (Err c.in-Err.fault) u) (λ t u k f. (k, f)) _ _ c.requires.profile m in
+    tells_then _ _ _ (λ t u v f. finish_ended c.args.self.now.id c.args.key.now c.args.outcome shown c.in-Err.fault c.give_up-in-Err.result (c.requires.shows c.in-Ok.outcome ∙ c.in-Ok.ensures.outcome) c.requires.key c.give_up-in-Err.ensures.fault t u v f.0 f.1) _ _ _ own c.give_up-in-Err.ensures.stops
 
 pub returns-in_default-clause-gives : goal.returns-in_default-clause-gives
 returns-in_default-clause-gives g c =

@@ -3,6 +3,7 @@ use Rattle.std.specs.Prelude.{Result}
 use Rattle.std.specs.declared.alloc.Global.{Global}
 use Rattle.std.specs.declared.sync.Arc.{Arc}
 use Rattle.result_bytes.specs.declared.value.Value.{Value}
+use Rattle.sessions.specs.Sessions.{session_in}
 use Rattle.job_table.specs.Tables.{TableValue}
 use Rattle.job_table.specs.Calls.{MarkGives}
 use Rattle.job_table.specs.declared.fault.TableFault.{TableFault}
@@ -15,4 +16,4 @@ pub returns-in-Ok-clause-gives : goal.returns-in-Ok-clause-gives
 returns-in-Ok-clause-gives g c =
     let w = c.args.self.now.id in
     let m = subst (λ (r : Result (Arc Value Global) TableFault). Tells (λ (t u : TableValue). MarkGives t w c.args.key.now r u) (g.S.Store.table c.args.self.now.store.now) (g.S.Store.table c.mark.new.self)) c.in-Ok.is c.mark.ensures.gives in
-    tells_map _ _ (try_done w c.args.key.now c.in-Ok.sealed) _ _ m
+    tells_map _ _ (try_done w c.args.key.now c.in-Ok.sealed (session_in c.args.past.now)) _ _ m

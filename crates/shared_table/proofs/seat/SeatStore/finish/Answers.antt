@@ -17,4 +17,4 @@ returns-clause-stays g c = told_on c.args.self.now.kept c.finish-answer.new.kept
 pub returns-clause-given : goal.returns-clause-given
 returns-clause-given g c =
     let same = c.deref.ensures ∙ c.in-Ok.ensures in
-    inr (subst (λ (o : OutcomeValue). IsGiven g.J.Naming.past g.J.Naming.project (λ t u. FinishTells t c.args.w o c.finish-answer.result u)) same c.finish-answer.ensures.given)
+    inr (subst (λ (o : OutcomeValue). IsGiven g.R.Runner.queries g.J.Naming.opened (λ t u. FinishTells t c.args.w o c.finish-answer.result u)) same c.finish-answer.ensures.given)

@@ -1,0 +1,11 @@
+use Rattle.std.proofs.Common.{true, false, ◌∙◌}
+use Rattle.graph_rules.proofs.SettingRules.{crossing_by}
+use Rattle.job_table.proofs.walks.crosses.Goals as goal
+
+pub returns-then-not-is : goal.returns-then-not-is
+returns-then-not-is g c =
+    c.by_profile.ensures ∙ crossing_by g.R.Runner.queries.by_profile c.args.profile c.args.past.now c.args.kind false (rw c.terms.ensures at c.if-not-is.ensures)
+
+pub returns-else-not-is : goal.returns-else-not-is
+returns-else-not-is g c =
+    rw c.if-not-is.false (crossing_by g.R.Runner.queries.by_profile c.args.profile c.args.past.now c.args.kind true (rw c.terms.ensures at c.if-not-is.ensures))
