@@ -1,16 +1,20 @@
 -- The records of a session, by what is kept of it.
-use Rattle.std.proofs.Common.{◌≡◌, ℕ, ◌<◌, List, map, length, get_or, slice_get, position, is_some, Option, Some, None, refl, sym, ap, subst, ◌∙◌, arith}
-use Rattle.std.specs.Prelude.{HoldsAt, MatchOption, IfSome}
+use Rattle.std.proofs.Common.{◌≡◌, ◌↔◌, ℕ, ◌<◌, Bool, true, false, List, map, length, get_or, slice_get, position, is_some, Option, Some, None, refl, sym, ap, subst, ◌∙◌, arith}
+use Rattle.std.specs.Prelude.{IsTrue, HoldsAt, MatchOption, IfSome, if◌then◌else◌}
 use Rattle.std.specs.List.{AllByRecursion, list_any}
 use Rattle.std.specs.Ordering.{eq_by_cmp}
 use Rattle.std.proofs.lemmas.Option.{get_or_from_slice_get}
 use Rattle.std.proofs.lemmas.List.{get_or-map, length-map}
+use Rattle.profiles.specs.declared.profile.Profile.{Profile}
+use Rattle.item_ids.specs.declared.kind.Kind.{Kind}
 use Rattle.item_ids.specs.declared.key.Key.{Key}
 use Rattle.item_ids.specs.declared.key.Key.TheVariants.{Files}
 use Rattle.item_ids.specs.Keys.{key_cmp}
 use Rattle.sessions.specs.Sessions.{RecordValue, SessionValue, key_at, entry_at, entry_of}
 use Rattle.sessions.proofs.EntryRules.{edges_here}
 use Rattle.graph_rules.specs.Pasts.{print_in}
+use Rattle.graph_rules.specs.Settings.{has_kind, crossing_kinds}
+use Rattle.graph_rules.proofs.SettingRules.{crossing_by}
 use Rattle.graph_rules.proofs.SessionRules.{print_of_place}
 use Rattle.audit_graph.specs.Kept.{KeptRecord, KeptSession, kept_of, IsPastOf, ArePastOf}
 use Rattle.audit_graph.proofs.Entries.{item_at}
@@ -29,6 +33,12 @@ module _ (kept : KeptSession) (was : SessionValue) (p : IsPastOf kept was) where
 
   pub many : length kept.keys ≡ length was.records
   many = ap (λ (k : KeptSession). length k.keys) p.is ∙ length-map was.records (λ (r : RecordValue). r.key)
+
+  -- a kind crosses where the profiles differ and it goes by the profile
+  pub crosses_by : (by_profile : Kind → Bool) (profile : Profile) (k : Kind) (same : Bool) → (IsTrue same ↔ (kept.profile ≡ profile))
+      → (if same then false else by_profile k) ≡ has_kind (crossing_kinds by_profile profile (Some was)) k
+  crosses_by by_profile profile k same h =
+      crossing_by by_profile profile was k same (subst (λ (x : Profile). IsTrue same ↔ (x ≡ profile)) (ap (λ (x : KeptSession). x.profile) p.is) h)
 
   keys_are : kept.keys ≡ map (λ (r : RecordValue). r.key) was.records
   keys_are = ap (λ (k : KeptSession). k.keys) p.is

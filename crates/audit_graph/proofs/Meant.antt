@@ -7,15 +7,17 @@ use Rattle.std.proofs.lemmas.Option.{same_Some}
 use Rattle.item_ids.specs.declared.key.Key.{Key}
 use Rattle.item_ids.specs.declared.key.Key.TheVariants.{Files, Source, Tree, Index, Header, Method, Sig, Supers, Members, CheckClass, CheckBody, Diags, Answer}
 use Rattle.item_ids.specs.Keys.{kind_of}
+use Rattle.result_bytes.specs.declared.value.Value.{Value}
 use Rattle.fingerprint.specs.Prints.{print_of}
-use Rattle.mj_project.specs.Projects.{IsProject}
 use Rattle.recorder.specs.Projects.{Project}
 use Rattle.recorder.specs.Backed.{Meaning, ReadLists, ReadValue, RunnerLaws, rank, keys, AreLower, Alike, Gives, GivesEach}
 use Rattle.sessions.specs.declared.mark.Mark.TheVariants.{Input, Green, Executed}
 use Rattle.sessions.specs.Marks.{is_input, is_input_mark}
 use Rattle.sessions.specs.Sessions.{Entry}
 use Rattle.graph_rules.specs.Pasts.{Past, IsGraph, print_in}
-use Rattle.graph_rules.specs.Next.{AreSources, AreMeant, StandsIn}
+use Rattle.graph_rules.specs.Settings.{Setting, kept}
+use Rattle.graph_rules.specs.Next.{AreSources, IsKnownPast, StandsIn}
+use Rattle.graph_rules.proofs.SettingRules.{kept_held}
 use Rattle.graph_rules.proofs.NextRules.{all_at, all_from}
 use Rattle.audit_graph.specs.Greens.{GreensStand}
 use Rattle.audit_graph.specs.Replays.{IsHeld, FollowsFromEdges, AreReplayed, AreValuesApart, AreWithLower}
@@ -53,10 +55,9 @@ above Answer e = omega arith
 print_some : (past : Past) (e : Key) (x : Entry) → past e ≡ Some x → print_in past e ≡ Some (print_of x.value)
 print_some past e x is = ap (option_map (λ r. print_of r.value)) is
 
-module _ (mean : Meaning) (reads : ReadLists) (laws : RunnerLaws mean reads) (past now : Past) (old p : Project)
-    (past_graph : IsGraph past) (old_project : IsProject old) (meant : AreMeant mean reads past old)
+module _ (mean : Meaning) (reads : ReadLists) (laws : RunnerLaws mean reads) (over : Setting) (now : Past) (p : Project) (known : IsKnownPast mean reads over)
     (graph : IsGraph now) (marks : (q : Key) (r : Entry) → now q ≡ Some r → is_input_mark r.mark ≡ is_input (kind_of q))
-    (sources : AreSources now p) (greens : GreensStand past now) (apart : AreValuesApart past now)
+    (sources : AreSources now p) (greens : GreensStand over now) (apart : AreValuesApart over.held now)
     (front : Key → Bool) (lower : AreWithLower front) (replayed : AreReplayed mean reads now front) where
   abbrev Meant : Key → Type 0
   Meant q = (r : Entry) → now q ≡ Some r → (r.value ≡ mean p q) × (r.reads ≡ reads p q)
@@ -105,29 +106,37 @@ module _ (mean : Meaning) (reads : ReadLists) (laws : RunnerLaws mean reads) (pa
 
   -- ---- green keys
 
-  alike_at : (q : Key) (r had : Entry) → now q ≡ Some r → past q ≡ Some had → had.reads ≡ r.reads → ((e : Key) → rank e < rank q → Meant e)
-      → (e : Key) → Contains r.reads e → print_in past e ≡ print_in now e → mean old e ≡ mean p e
-  alike_at q r had has past_has edges ih e c print =
-      let x = past_graph.closed q had e past_has (subst (λ ks. Contains ks e) (sym edges) c) in
-      let y = graph.closed q r e has c in
-      let same = same_Some _ _ (sym (print_some past e x.0 x.1) ∙ (print ∙ print_some now e y.0 y.1)) in
-      let low : rank e < rank q = all_at (λ k. rank k < rank q) r.reads (graph.lower q r has) e c in
-      sym (meant e x.0 x.1).0 ∙ (apart e e x.0 y.0 x.1 y.1 same ∙ (ih e low y.0 y.1).0)
+  -- what the previous session's project gives the key by its own meaning
+  abbrev old_value : Key → Value
+  old_value q = known.past_mean known.project q
 
-  green : (q : Key) (r : Entry) → now q ≡ Some r → 0 < rank q → ((e : Key) → rank e < rank q → Meant e) → StandsIn past now r → (r.value ≡ mean p q) × (r.reads ≡ reads p q)
+  abbrev old_reads : Key → List Key
+  old_reads q = known.past_reads known.project q
+
+  alike_at : (q : Key) (r had : Entry) → now q ≡ Some r → over.held q ≡ Some had → had.reads ≡ r.reads → ((e : Key) → rank e < rank q → Meant e)
+      → (e : Key) → Contains r.reads e → print_in over.held e ≡ print_in now e → old_value e ≡ mean p e
+  alike_at q r had has past_has edges ih e c print =
+      let x = known.graph.closed q had e past_has (subst (λ ks. Contains ks e) (sym edges) c) in
+      let y = graph.closed q r e has c in
+      let same = same_Some _ _ (sym (print_some over.held e x.0 x.1) ∙ (print ∙ print_some now e y.0 y.1)) in
+      let low : rank e < rank q = all_at (λ k. rank k < rank q) r.reads (graph.lower q r has) e c in
+      sym (known.meant e x.0 x.1).0 ∙ (apart e e x.0 y.0 x.1 y.1 same ∙ (ih e low y.0 y.1).0)
+
+  green : (q : Key) (r : Entry) → now q ≡ Some r → 0 < rank q → ((e : Key) → rank e < rank q → Meant e) → StandsIn over now r → (r.value ≡ mean p q) × (r.reads ≡ reads p q)
   green q r has is_above ih st =
-      let key = graph.key q r has in
-      let past_has : past q ≡ Some st.had = ap past (sym key) ∙ st.past_has in
-      let m = meant q st.had past_has in
-      let list : reads old q ≡ r.reads = sym m.1 ∙ st.edges in
-      let each : AllByRecursion (λ e. mean old e ≡ mean p e) r.reads = all_from (λ e. mean old e ≡ mean p e) r.reads (λ e c. alike_at q r st.had has past_has st.edges ih e c (st.same e c)) in
-      let alike : Alike (mean old) (mean p) (reads old q) = subst (Alike (mean old) (mean p)) (sym list) each in
-      let n = length (reads old q) in
-      let some : Alike (mean old) (mean p) (take n (reads old q)) = subst (Alike (mean old) (mean p)) (sym (take_all n (reads old q) (omega arith))) alike in
-      let next = laws.next old p q n old_project sources.project some in
-      let same = whole (reads old q) (reads p q) (sym next ∙ take_all (suc n) (reads old q) (omega arith)) in
+      let kept_there : kept over q ≡ Some st.had = ap (kept over) (sym (graph.key q r has)) ∙ st.past_has in
+      let past_has = kept_held over q st.had kept_there in
+      let across = known.across q st.had kept_there in
+      let m = known.meant q st.had past_has in
+      let list : old_reads q ≡ r.reads = sym m.1 ∙ st.edges in
+      let each : AllByRecursion (λ e. old_value e ≡ mean p e) r.reads = all_from (λ e. old_value e ≡ mean p e) r.reads (λ e c. alike_at q r st.had has past_has st.edges ih e c (st.same e c)) in
+      let alike : Alike old_value (mean p) (old_reads q) = subst (Alike old_value (mean p)) (sym list) each in
+      let n = length (old_reads q) in
+      let some : Alike old_value (mean p) (take n (old_reads q)) = subst (Alike old_value (mean p)) (sym (take_all n (old_reads q) (omega arith))) alike in
+      let next = across.next known.project p n known.is_project sources.project some in
+      let same = whole (old_reads q) (reads p q) (sym next ∙ take_all (suc n) (old_reads q) (omega arith)) in
       let value = apart q q st.had r past_has has st.print in
-      (sym value ∙ (m.0 ∙ laws.same old p q old_project sources.project is_above alike), sym list ∙ sym same)
+      (sym value ∙ (m.0 ∙ across.same known.project p known.is_project sources.project is_above alike), sym list ∙ sym same)
 
   -- ---- all keys, by rank
 

@@ -8,39 +8,41 @@ use Rattle.item_ids.specs.declared.key.Key.{Key}
 use Rattle.item_ids.specs.Keys.{key_cmp, key_total}
 use Rattle.mj_project.specs.Projects.{IsProject}
 use Rattle.recorder.specs.Projects.{Project}
-use Rattle.recorder.specs.Backed.{Meaning, ReadLists, RunnerLaws}
+use Rattle.recorder.specs.Backed.{Queries, AreLawful}
 use Rattle.sessions.specs.Sessions.{Entry, SessionValue, IsSession, entry_at, past_entry}
 use Rattle.graph_rules.specs.Pasts.{Past, IsGraph}
-use Rattle.graph_rules.specs.Next.{AreMeant, AreSources, IsRight}
+use Rattle.graph_rules.specs.Next.{ArePastMeant, AreSources, IsRightAfter}
+use Rattle.graph_rules.proofs.KnownRules.{known_past}
 use Rattle.graph_rules.proofs.SessionRules.{session_graph}
-use Rattle.audit_graph.specs.Steps.{IsSessionStep}
+use Rattle.audit_graph.specs.Steps.{IsSessionStep, setting_behind}
 use Rattle.audit_graph.specs.Replays.{AreReplayed, AreValuesApart, AreWithLower, is_before}
 use Rattle.audit_graph.proofs.Entries.{marked}
 use Rattle.audit_graph.proofs.Meant.{front_meant}
 
-pub front_is_meant : (mean : Meaning) (reads : ReadLists) → RunnerLaws mean reads
+pub front_is_meant : (queries : Queries) → AreLawful queries
     → (past : Option SessionValue) (k : ℕ) (s : SessionValue) (old p : Project)
-    → IsGraph (past_entry past) → IsProject old → AreMeant mean reads (past_entry past) old
-    → IsSession s → IsSessionStep past k s → AreSources (entry_at s) p
+    → IsGraph (past_entry past) → IsProject old → ArePastMeant queries past old
+    → IsSession s → IsSessionStep queries.by_profile past k s → AreSources (entry_at s) p
     → AreValuesApart (past_entry past) (entry_at s)
-    → (front : Key → Bool) → AreWithLower front → AreReplayed mean reads (entry_at s) front
-    → (q : Key) (r : Entry) → front q ≡ true → entry_at s q ≡ Some r → (r.value ≡ mean p q) × (r.reads ≡ reads p q)
-front_is_meant mean reads laws past k s old p graph old_project meant session step sources apart front lower replayed =
-    front_meant mean reads laws (past_entry past) (entry_at s) old p graph old_project meant (session_graph s session) (marked s session)
+    → (front : Key → Bool) → AreWithLower front → AreReplayed (queries.mean s.terms.profile) (queries.reads s.terms.profile) (entry_at s) front
+    → (q : Key) (r : Entry) → front q ≡ true → entry_at s q ≡ Some r → (r.value ≡ queries.mean s.terms.profile p q) × (r.reads ≡ queries.reads s.terms.profile p q)
+front_is_meant queries laws past k s old p graph old_project meant session step sources apart front lower replayed =
+    front_meant (queries.mean s.terms.profile) (queries.reads s.terms.profile) (laws.each s.terms.profile) (setting_behind queries.by_profile past s) (entry_at s) p
+    (known_past queries laws s.terms.profile past old graph old_project meant) (session_graph s session) (marked s session)
     sources step.greens apart front lower replayed
 
-pub step_is_right : (mean : Meaning) (reads : ReadLists) → RunnerLaws mean reads
+pub step_is_right : (queries : Queries) → AreLawful queries
     → (past : Option SessionValue) (k : ℕ) (s : SessionValue) (old : Project)
-    → IsGraph (past_entry past) → IsProject old → AreMeant mean reads (past_entry past) old
-    → IsSession s → IsSessionStep past k s
+    → IsGraph (past_entry past) → IsProject old → ArePastMeant queries past old
+    → IsSession s → IsSessionStep queries.by_profile past k s
     → AreValuesApart (past_entry past) (entry_at s)
-    → AreReplayed mean reads (entry_at s) (λ _. true)
-    → IsRight mean reads (past_entry past) (entry_at s)
-step_is_right mean reads laws past k s old graph old_project meant session step apart replayed = record {
+    → AreReplayed (queries.mean s.terms.profile) (queries.reads s.terms.profile) (entry_at s) (λ _. true)
+    → IsRightAfter queries past s
+step_is_right queries laws past k s old graph old_project meant session step apart replayed = record {
   project = step.sources.0;
   of_project = record {
     sources = step.sources.1;
-    meant = λ q r has. front_is_meant mean reads laws past k s old step.sources.0 graph old_project meant session step step.sources.1 apart
+    meant = λ q r has. front_is_meant queries laws past k s old step.sources.0 graph old_project meant session step step.sources.1 apart
         (λ _. true) (λ _ _ _ _. refl) replayed q r refl has;
   };
   greens = step.greens;
@@ -67,8 +69,8 @@ none_graph = record {
   closed = λ q r e has c. absurd (none-some r has);
 }
 
-pub none_meant : (mean : Meaning) (reads : ReadLists) (p : Project) → AreMeant mean reads (past_entry None) p
-none_meant mean reads p q r has = absurd (none-some r has)
+pub none_meant : (queries : Queries) (p : Project) → ArePastMeant queries None p
+none_meant queries p = tt
 
 pub none_apart : (now : Past) → AreValuesApart (past_entry None) now
 none_apart now k q a b has there same = absurd (none-some a has)

@@ -1,5 +1,6 @@
 -- What the audit of the next session needs of a session: no results.
 use Rattle.std.specs.Prelude.{◌≡◌, ℕ, List, map, Option, Some, None}
+use Rattle.profiles.specs.declared.profile.Profile.{Profile}
 use Rattle.item_ids.specs.declared.key.Key.{Key}
 use Rattle.fingerprint.specs.Prints.{print_of}
 use Rattle.sessions.specs.Sessions.{RecordValue, SessionValue, IsSession}
@@ -11,8 +12,9 @@ pub record KeptRecord : Type 0 where
   pub edges : List ℕ
   pub print : List ℕ
 
--- a number in the chain, the SHA-256 of the file, the keys of the records, and the records
+-- a profile, a number in the chain, the SHA-256 of the file, the keys of the records, and the records
 pub record KeptSession : Type 0 where
+  pub profile : Profile
   pub number : ℕ
   pub digest : List ℕ
   pub keys : List Key
@@ -23,6 +25,7 @@ kept_of r = record { edges = r.edges; print = print_of r.value }
 
 abbrev pub kept_in : SessionValue → KeptSession
 kept_in s = record {
+  profile = s.terms.profile;
   number = s.number;
   digest = digest_of s;
   keys = map (λ r. r.key) s.records;

@@ -28,6 +28,9 @@ pub enum AuditFault {
     /// This record is green, and the previous session has no record of its key.
     #[error("14.7 GreenWithoutPast({0}, {1})")]
     GreenWithoutPast(usize, usize),
+    /// This record is green and of a kind that goes by the profile, and the previous session is of another profile.
+    #[error("14.17 GreenAcrossProfiles({0}, {1})")]
+    GreenAcrossProfiles(usize, usize),
     /// This record is green, and its edges aren't those of the previous session.
     #[error("14.8 OtherEdges({0}, {1})")]
     OtherEdges(usize, usize),

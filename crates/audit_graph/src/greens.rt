@@ -3,17 +3,19 @@ ghost use Rattle.std.specs.Prelude.{◌≡◌, ◌≢◌, ◌<◌, length, true,
 ghost use Rattle.std.specs.Option.{option_copied};
 ghost use Rattle.std.specs.List.{AllByRecursion};
 ghost use Rattle.sessions.specs.declared.mark.Mark.TheVariants.{Green};
-ghost use Rattle.sessions.specs.Sessions.{SessionValue, AreInside, key_at, entry_at, entry_of, past_entry};
+ghost use Rattle.sessions.specs.Sessions.{SessionValue, AreInside, key_at, entry_at, entry_of};
 ghost use Rattle.audit_graph.specs.Kept.{IsPastOf, ArePastOf};
+ghost use Rattle.graph_rules.specs.Settings.{has_kind, crossing_kinds};
 ghost use Rattle.graph_rules.specs.Next.{StandsIn};
 ghost use Rattle.audit_graph.specs.Firsts.{IsFirstWithout};
 ghost use Rattle.audit_graph.specs.Greens.{GreensStand, HasSamePrint, StandsIfGreen, IsLack, keys_at};
-ghost use Rattle.audit_graph.specs.Steps.{IsFirstLack};
+ghost use Rattle.audit_graph.specs.Steps.{IsFirstLack, setting_behind};
 
 use crate::past::Past;
 use crate::places::{key_of, print_of};
 use fingerprint::Print;
-use item_ids::{Key, keys_in_order};
+use item_ids::{Key, Kind, keys_in_order};
+use recorder::Runner;
 use sessions::{Mark, Record, Session};
 
 /// Why a green record doesn't stand in the previous session: the first of these reasons.
@@ -21,6 +23,8 @@ use sessions::{Mark, Record, Session};
 pub enum Lack {
     /// The previous session has no record of the key.
     WithoutPast,
+    /// It is of a kind that goes by the profile, and the previous session is of another profile.
+    AcrossProfiles,
     /// Its edges are different there.
     OtherEdges,
     /// The edge at this place has another fingerprint there.
@@ -30,13 +34,15 @@ pub enum Lack {
 }
 
 /// The first green record that doesn't stand in the previous session, and why.
-pub(crate) fn first_lack(past: Option<&Past>, session: &Session) -> Option<(usize, Lack)>
+pub(crate) fn first_lack<R: Runner>(past: Option<&Past>, session: &Session) -> Option<(usize, Lack)>
     ensures { (was : Option SessionValue) → ArePastOf (option_copied past.entry) was
-        → MatchOption result (GreensStand (past_entry was) (entry_at session.now))
-        (λ x. IsFirstLack was session.now x.0 x.1) }
+        → MatchOption result
+        (GreensStand (setting_behind R.queries.by_profile was session.now) (entry_at session.now))
+        (λ x. IsFirstLack (setting_behind R.queries.by_profile was session.now) session.now x.0
+        x.1) }
 {
     for (n, item) in session.records().iter().enumerate() {
-        if let Some(why) = lack_if_green(past, session, item) {
+        if let Some(why) = lack_if_green::<R>(past, session, item) {
             return Some((n, why));
         }
     }
@@ -44,34 +50,39 @@ pub(crate) fn first_lack(past: Option<&Past>, session: &Session) -> Option<(usiz
 }
 
 /// Why a record doesn't stand in the previous session, where it is green.
-fn lack_if_green(past: Option<&Past>, session: &Session, item: &Record) -> Option<Lack>
+fn lack_if_green<R: Runner>(past: Option<&Past>, session: &Session, item: &Record) -> Option<Lack>
     requires { AreInside session.now.records item.now.edges }
     ensures { (was : Option SessionValue) → ArePastOf (option_copied past.entry) was
         → MatchOption result
-        (StandsIfGreen (past_entry was) (entry_at session.now)
+        (StandsIfGreen (setting_behind R.queries.by_profile was session.now) (entry_at session.now)
         (entry_of session.now.records item.now))
         (λ why. (item.now.mark ≡ Green)
-        × IsLack (past_entry was) (entry_at session.now)
+        × IsLack (setting_behind R.queries.by_profile was session.now) (entry_at session.now)
         (entry_of session.now.records item.now) why) }
 {
     match (item.mark(), past) {
-        (Mark::Green, Some(past)) => find_lack(past, session, item),
+        (Mark::Green, Some(past)) => find_lack::<R>(past, session, item),
         (Mark::Green, None) => Some(Lack::WithoutPast),
         (Mark::Input | Mark::Executed, _) => None,
     }
 }
 
 /// Why a record doesn't stand in the previous session.
-fn find_lack(past: &Past, session: &Session, item: &Record) -> Option<Lack>
+fn find_lack<R: Runner>(past: &Past, session: &Session, item: &Record) -> Option<Lack>
     requires { AreInside session.now.records item.now.edges }
     ensures { (was : SessionValue) → IsPastOf past.now was
         → MatchOption result
-        (StandsIn (entry_at was) (entry_at session.now) (entry_of session.now.records item.now))
-        (IsLack (entry_at was) (entry_at session.now) (entry_of session.now.records item.now)) }
+        (StandsIn (setting_behind R.queries.by_profile (Some was) session.now)
+        (entry_at session.now) (entry_of session.now.records item.now))
+        (IsLack (setting_behind R.queries.by_profile (Some was) session.now)
+        (entry_at session.now) (entry_of session.now.records item.now)) }
 {
     let Some(at) = past.find(item.key()) else {
         return Some(Lack::WithoutPast);
     };
+    if crosses::<R>(past, session, item.key().kind()) {
+        return Some(Lack::AcrossProfiles);
+    }
     let old = past.edges(at);
     if !are_same(past, old, session, item.edges()) {
         return Some(Lack::OtherEdges);
@@ -83,6 +94,16 @@ fn find_lack(past: &Past, session: &Session, item: &Record) -> Option<Lack>
         return Some(Lack::OtherPrint);
     }
     None
+}
+
+/// Whether nothing of this kind is taken over from the previous session, since the kind goes by the profile and the
+/// session has another one.
+fn crosses<R: Runner>(past: &Past, session: &Session, kind: Kind) -> bool
+    ensures { (was : SessionValue) → IsPastOf past.now was
+        → result ≡ has_kind
+        (crossing_kinds R.queries.by_profile session.now.terms.profile (Some was)) kind }
+{
+    !past.profile().is(session.terms().profile) && R::by_profile(kind)
 }
 
 /// Whether edges of the previous session and of the session lead to the same keys.

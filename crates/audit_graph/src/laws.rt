@@ -3,11 +3,11 @@ ghost use Rattle.std.specs.Prelude.{◌≡◌, ◌↔◌, ℕ, Bool, true, Optio
 ghost use Rattle.item_ids.specs.declared.key.Key.{Key};
 ghost use Rattle.mj_project.specs.Projects.{IsProject};
 ghost use Rattle.recorder.specs.Projects.{Project};
-ghost use Rattle.recorder.specs.Backed.{Meaning, ReadLists, RunnerLaws};
+ghost use Rattle.recorder.specs.Backed.{Queries, AreLawful};
 ghost use Rattle.sessions.specs.declared.mark.Mark.TheVariants.{Executed, Green};
 ghost use Rattle.sessions.specs.Sessions.{RecordValue, Entry, SessionValue, IsSession, entry_at, past_entry};
 ghost use Rattle.graph_rules.specs.Pasts.{Past, IsGraph};
-ghost use Rattle.graph_rules.specs.Next.{AreMeant, AreSources, IsRight, StandsIn};
+ghost use Rattle.graph_rules.specs.Next.{ArePastMeant, AreSources, IsRightAfter};
 ghost use Rattle.audit_graph.specs.Plans.{executed_in};
 ghost use Rattle.audit_graph.specs.Steps.{IsSessionStep};
 ghost use Rattle.audit_graph.specs.Replays.{AreReplayed, AreValuesApart, AreWithLower, is_before};
@@ -26,29 +26,33 @@ pub fn plan_tells()
 {}
 
 /// For keys that have with each of them all keys of lower rank, and of which the executed ones follow from their edges:
-/// where the previous session has the values and reads of a project, and no two different values of both sessions share
-/// a fingerprint, these keys have the values and reads of the project whose files the session holds.
+/// where the previous session has the values and reads of a project by its own profile, and no two different values of
+/// both sessions share a fingerprint, these keys have by the session's profile the values and reads of the project whose
+/// files it holds.
 pub fn front_is_meant()
-    ensures { (mean : Meaning) (reads : ReadLists) → RunnerLaws mean reads
+    ensures { (queries : Queries) → AreLawful queries
         → (past : Option SessionValue) (k : ℕ) (s : SessionValue) (old p : Project)
-        → IsGraph (past_entry past) → IsProject old → AreMeant mean reads (past_entry past) old
-        → IsSession s → IsSessionStep past k s → AreSources (entry_at s) p
+        → IsGraph (past_entry past) → IsProject old → ArePastMeant queries past old
+        → IsSession s → IsSessionStep queries.by_profile past k s → AreSources (entry_at s) p
         → AreValuesApart (past_entry past) (entry_at s)
         → (front : Key → Bool) → AreWithLower front
-        → AreReplayed mean reads (entry_at s) front
+        → AreReplayed (queries.mean s.terms.profile) (queries.reads s.terms.profile) (entry_at s)
+        front
         → (q : Key) (r : Entry) → front q ≡ true → entry_at s q ≡ Some r
-        → (r.value ≡ mean p q) × (r.reads ≡ reads p q) }
+        → (r.value ≡ queries.mean s.terms.profile p q)
+        × (r.reads ≡ queries.reads s.terms.profile p q) }
 {}
 
 /// Where all executed keys follow from their edges, the session is right over the previous session.
 pub fn step_is_right()
-    ensures { (mean : Meaning) (reads : ReadLists) → RunnerLaws mean reads
+    ensures { (queries : Queries) → AreLawful queries
         → (past : Option SessionValue) (k : ℕ) (s : SessionValue) (old : Project)
-        → IsGraph (past_entry past) → IsProject old → AreMeant mean reads (past_entry past) old
-        → IsSession s → IsSessionStep past k s
+        → IsGraph (past_entry past) → IsProject old → ArePastMeant queries past old
+        → IsSession s → IsSessionStep queries.by_profile past k s
         → AreValuesApart (past_entry past) (entry_at s)
-        → AreReplayed mean reads (entry_at s) (λ _. true)
-        → IsRight mean reads (past_entry past) (entry_at s) }
+        → AreReplayed (queries.mean s.terms.profile) (queries.reads s.terms.profile) (entry_at s)
+        (λ _. true)
+        → IsRightAfter queries past s }
 {}
 
 /// The keys that come before a key, as those of the records in front of it, have all keys of lower rank with them.
@@ -62,7 +66,6 @@ pub fn before_has_lower()
 /// its values shares a fingerprint with another one.
 pub fn no_past_is_meant()
     ensures graph { IsGraph (past_entry None) }
-    ensures meant { (mean : Meaning) (reads : ReadLists) (p : Project)
-        → AreMeant mean reads (past_entry None) p }
+    ensures meant { (queries : Queries) (p : Project) → ArePastMeant queries None p }
     ensures apart { (now : Past) → AreValuesApart (past_entry None) now }
 {}

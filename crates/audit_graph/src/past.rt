@@ -8,6 +8,7 @@ ghost use Rattle.audit_graph.specs.Kept.{IsPastOf, kept_of};
 use fingerprint::Print;
 use indexmap::IndexSet;
 use item_ids::Key;
+use profiles::Profile;
 use session_file::digest;
 use sessions::{Record, Session};
 use std::alloc::{AllocError, Global};
@@ -28,9 +29,10 @@ impl Model for Kept {
     ghost view = { λ k. record { edges = k.edges.items; print = k.print.0 } };
 }
 
-/// What the audit of the next session needs of a session: its number, the SHA-256 of its file, and the key, edges and
-/// fingerprint of each record. It holds no results.
+/// What the audit of the next session needs of a session: its profile, its number, the SHA-256 of its file, and the key,
+/// edges and fingerprint of each record. It holds no results.
 pub struct Past {
+    profile: Profile,
     number: u32,
     digest: [u8; 32],
     keys: IndexSet<Key>,
@@ -40,6 +42,7 @@ pub struct Past {
 impl Drop for Past {
     fn drop(self) {
         let Past {
+            profile: _,
             number: _,
             digest: _,
             keys: _,
@@ -55,6 +58,7 @@ impl Model for Past {
     ghost Value = { KeptSession };
 
     ghost view = { λ p. record {
+      profile = p.profile;
       number = p.number;
       digest = p.digest;
       keys = p.keys.keys;
@@ -62,6 +66,7 @@ impl Model for Past {
     } };
 
     ghost invariant = { λ p. (was : SessionValue) × IsPastOf (record {
+      profile = p.profile;
       number = p.number;
       digest = p.digest;
       keys = p.keys.keys;
@@ -78,11 +83,19 @@ impl Past {
         let keys = key_set(alloc, session.records())?;
         let records = kept_records(alloc, session.records())?;
         Ok(Past {
+            profile: session.terms().profile,
             number: session.number(),
             digest: digest(session),
             keys,
             records,
         })
+    }
+
+    /// The profile that it was made in.
+    pub fn profile(&self) -> Profile
+        ensures { result ≡ self.now.profile }
+    {
+        self.profile
     }
 
     /// Its number in the chain.

@@ -14,19 +14,20 @@ use crate::greens::{Lack, first_lack};
 use crate::past::Past;
 use crate::plan::Plan;
 use crate::sources::{SourceFault, check_sources};
+use recorder::Runner;
 use sessions::Session;
 use std::alloc::Global;
 
 /// Checks session `k` over the one before it, without running a query: its number and link, the files that it holds,
-/// and its green records. The plan is what is left to run.
-pub fn check_step(
+/// and its green records. The runner tells which kinds go by the profile. The plan is what is left to run.
+pub fn check_step<R: Runner>(
     alloc: Global,
     past: Option<&Past>,
     k: usize,
     session: &Session,
 ) -> Result<Plan, AuditFault>
     ensures gives { (was : Option SessionValue) → ArePastOf (option_copied past.entry) was
-        → CheckStepGives was k session.now result }
+        → CheckStepGives R.queries.by_profile was k session.now result }
     ensures sources { IfOk result
         (λ _. (session.now.number ≡ k) × HasSources (entry_at session.now)) }
     ensures plan { IfOk result (λ plan. plan ≡ executed_in session.now) }
@@ -37,7 +38,7 @@ pub fn check_step(
     if let Err(fault) = check_sources(alloc, session) {
         return Err(fault_of_sources(k, fault));
     }
-    if let Some((n, why)) = first_lack(past, session) {
+    if let Some((n, why)) = first_lack::<R>(past, session) {
         return Err(fault_of_green(k, n, why));
     }
     match Plan::of(alloc, session) {
@@ -84,6 +85,7 @@ fn fault_of_green(k: usize, n: usize, why: Lack) -> AuditFault
 {
     match why {
         Lack::WithoutPast => AuditFault::GreenWithoutPast(k, n),
+        Lack::AcrossProfiles => AuditFault::GreenAcrossProfiles(k, n),
         Lack::OtherEdges => AuditFault::OtherEdges(k, n),
         Lack::OverRed(i) => AuditFault::GreenOverRed(k, n, i),
         Lack::OtherPrint => AuditFault::GreenPrint(k, n),

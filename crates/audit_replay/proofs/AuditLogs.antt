@@ -4,7 +4,7 @@ use Rattle.std.specs.Prelude.{Option}
 use Rattle.std.specs.List.{AllByRecursion}
 use Rattle.std.proofs.lemmas.List.{map-append}
 use Rattle.item_ids.specs.declared.key.Key.{Key}
-use Rattle.recorder.specs.Backed.{Meaning, ReadLists}
+use Rattle.recorder.specs.Backed.{Queries}
 use Rattle.recorder.proofs.Recorded.{all_last}
 use Rattle.sessions.specs.Sessions.{SessionValue, IsSession}
 use Rattle.sessions.specs.Spelling.{file_of}
@@ -16,9 +16,9 @@ use Rattle.audit_replay.specs.Passes.{RunsWithin, FileRefuses}
 use Rattle.audit_replay.specs.Audits.{AuditRefuses, IsRefusedBehind, PassesWith}
 use Rattle.audit_replay.proofs.LogRules.{executed_more, log_none}
 
-module _ (mean : Meaning) (reads : ReadLists) (files : List (List ℕ)) (old new : List Key) where
+module _ (queries : Queries) (files : List (List ℕ)) (old new : List Key) where
   -- all of the keys of these sessions
-  pub passed_log : (Holds : Past → Type 0) → PassesWith mean reads files old new Holds → RunsNoOther files old new
+  pub passed_log : (Holds : Past → Type 0) → PassesWith queries files old new Holds → RunsNoOther files old new
   passed_log Holds p = record {
     sessions = p.sessions;
     rest = [];
@@ -39,9 +39,9 @@ module _ (mean : Meaning) (reads : ReadLists) (files : List (List ℕ)) (old new
   }
 
   -- all of those in front, and a beginning of those of the session that is refused
-  within_log : (front : List SessionValue) (file : List ℕ) (rest : List (List ℕ)) → map file_of front ++ file ∷ rest ≡ files → AllByRecursion IsSession front
-      → (s : SessionValue) → RunsWithin file (old ++ all_executed_keys front) new s → RunsNoOther files old new
-  within_log front file rest spelled each s w = record {
+  within_log : (past : Option SessionValue) (front : List SessionValue) (file : List ℕ) (rest : List (List ℕ)) → map file_of front ++ file ∷ rest ≡ files → AllByRecursion IsSession front
+      → (s : SessionValue) → RunsWithin past file (old ++ all_executed_keys front) new s → RunsNoOther files old new
+  within_log past front file rest spelled each s w = record {
     sessions = front ++ s ∷ [];
     rest = rest;
     each = all_last IsSession front s each w.session;
@@ -60,23 +60,19 @@ module _ (mean : Meaning) (reads : ReadLists) (files : List (List ℕ)) (old new
   }
 
   file_log : (past : Option SessionValue) (k : ℕ) (front : List SessionValue) (file : List ℕ) (rest : List (List ℕ)) → map file_of front ++ file ∷ rest ≡ files → AllByRecursion IsSession front
-      → (fault : AuditFault) → FileRefuses mean reads past k file (old ++ all_executed_keys front) new fault → RunsNoOther files old new
+      → (fault : AuditFault) → FileRefuses queries past k file (old ++ all_executed_keys front) new fault → RunsNoOther files old new
   file_log past k front file rest spelled each (File j f) r = front_log front file rest spelled each r.2
   file_log past k front file rest spelled each OutOfMemory r = elim r [
     | inl same ↦ front_log front file rest spelled each same
-    | inr x ↦ within_log front file rest spelled each x.0 x.1
+    | inr x ↦ within_log past front file rest spelled each x.0 x.1
   ]
-  file_log past k front file rest spelled each fault r = within_log front file rest spelled each r.0 r.1
+  file_log past k front file rest spelled each fault r = within_log past front file rest spelled each r.0 r.1
 
-  behind_log : (fault : AuditFault) → IsRefusedBehind mean reads files old new fault → RunsNoOther files old new
+  behind_log : (fault : AuditFault) → IsRefusedBehind queries files old new fault → RunsNoOther files old new
   behind_log fault h = file_log _ _ h.front h.file_bytes h.rest h.spelled h.each fault h.refused
 
-  pub refused_log : (fault : AuditFault) → AuditRefuses mean reads files old new fault → RunsNoOther files old new
+  pub refused_log : (fault : AuditFault) → AuditRefuses queries files old new fault → RunsNoOther files old new
   refused_log EmptyChain h = record { sessions = []; rest = []; each = tt; spelled = sym h.0; log = log_none [] old new h.1 }
   refused_log NoAnswer h = passed_log _ h.1
   refused_log SourcesDiffer h = absurd h
-  refused_log OutOfMemory h = elim h [
-    | inl x ↦ behind_log OutOfMemory x
-    | inr x ↦ passed_log _ x
-  ]
   refused_log fault h = behind_log fault h

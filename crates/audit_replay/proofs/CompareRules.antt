@@ -4,9 +4,11 @@ use Rattle.std.specs.Prelude.{Contains, IfSome, option_and_then}
 use Rattle.std.specs.List.{AllByRecursion}
 use Rattle.std.proofs.lemmas.List.{length-map, take_all, take-map}
 use Rattle.std.proofs.lemmas.Option.{slice_get_within, none-some, same_Some}
+use Rattle.profiles.specs.declared.profile.Profile.{Profile}
 use Rattle.item_ids.specs.declared.key.Key.{Key}
 use Rattle.result_bytes.specs.declared.value.Value.{Value}
-use Rattle.recorder.specs.Backed.{Meaning, ReadLists, ReadValue, keys, Asked, IsNext, Backed, BeginsWith}
+use Rattle.recorder.specs.Backed.{Meaning, ReadLists, Queries, ReadValue, keys, Asked, IsNext, Backed, BeginsWith}
+use Rattle.recorder.specs.Runs.{OutcomeValue, IsOutcome}
 use Rattle.recorder.specs.Recording.{IsUnread, IsForMemory, IsByReader}
 use Rattle.recorder.specs.declared.reader.ReadFault.TheVariants.{OutOfMemory, NotHeld}
 use Rattle.recorder.specs.declared.refused.Refused.{Refused}
@@ -40,6 +42,16 @@ pub begins_in : (told read : List ReadValue) (edges es : List ℕ) (records : Li
     → AreFirstKeys (keys read) (keys_at records es) → AreFirstKeys (keys told) (keys_at records edges)
 begins_in told read edges es records a b h =
     subst (λ (xs : List ℕ). AreFirstKeys (keys told) (keys_at records xs)) b (subst (λ (xs : List ReadValue). AreFirstKeys (keys xs) (keys_at records es)) a h)
+
+-- ---- the outcome of a run
+
+-- what follows in a profile from what a run told
+pub backed_in : (queries : Queries) (o : OutcomeValue) (profile : Profile) (key : Key) (told : List ReadValue) → o.profile ≡ profile → o.key ≡ key → o.told ≡ told
+    → IsOutcome (queries.mean o.profile) (queries.reads o.profile) o → Backed (queries.mean profile) (queries.reads profile) key told o.value
+backed_in queries o profile key told in_profile of_key as_told outcome =
+    subst (λ (ts : List ReadValue). Backed (queries.mean profile) (queries.reads profile) key ts o.value) as_told
+    (subst (λ (k : Key). Backed (queries.mean profile) (queries.reads profile) k o.told o.value) of_key
+    (subst (λ (x : Profile). Backed (queries.mean x) (queries.reads x) o.key o.told o.value) in_profile outcome.backed))
 
 -- ---- refused reads
 

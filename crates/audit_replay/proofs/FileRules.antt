@@ -5,9 +5,9 @@ use Rattle.std.specs.Borrow.{Bor}
 use Rattle.std.proofs.lemmas.Option.{none-some}
 use Rattle.std.proofs.lemmas.List.{map-append, length-map, take-append-drop}
 use Rattle.item_ids.specs.declared.key.Key.{Key}
-use Rattle.recorder.specs.Backed.{Meaning, ReadLists}
+use Rattle.recorder.specs.Backed.{Queries}
 use Rattle.recorder.proofs.Recorded.{all_last}
-use Rattle.sessions.specs.Sessions.{RecordValue, SessionValue, IsSession, key_at}
+use Rattle.sessions.specs.Sessions.{RecordValue, SessionValue, IsSession, AreTaken, key_at}
 use Rattle.sessions.specs.Spelling.{file_of}
 use Rattle.audit_graph.specs.Chains.{AreLinked}
 use Rattle.audit_graph.specs.Plans.{is_executed, executed_from, executed_in}
@@ -18,6 +18,10 @@ use Rattle.audit_replay.specs.Passes.{Passes, RunsWithin, SessionRefuses, FileRe
 use Rattle.audit_replay.specs.Audits.{ArePassed, ArePassedFiles, last_of, IsRefusedBehind}
 use Rattle.audit_replay.proofs.Lists.{take_there}
 use Rattle.audit_replay.proofs.LogRules.{executed_more}
+
+pub linked_taken : (past : Option SessionValue) (k : ℕ) (ss : List SessionValue) → AreLinked past k ss → AreTaken past ss
+linked_taken past k [] a = tt
+linked_taken past k (s ∷ ss) a = (a.1, linked_taken (Some s) (k + 1) ss a.2)
 
 pub last_more : (past : Option SessionValue) (ss : List SessionValue) (s : SessionValue) → last_of past (ss ++ s ∷ []) ≡ Some s
 last_more past [] s = refl
@@ -32,21 +36,26 @@ none_last (s ∷ ss) e = absurd (some_last s ss e)
     some_last s [] e = none-some s (sym e)
     some_last s (t ∷ ts) e = some_last t ts e
 
-module _ (mean : Meaning) (reads : ReadLists) where
-  passed_more : (past : Option SessionValue) (k : ℕ) (ss : List SessionValue) (s : SessionValue) → ArePassed mean reads past k ss
-      → (n : ℕ) → n ≡ k + length ss → Passes mean reads (last_of past ss) n s → ArePassed mean reads past k (ss ++ s ∷ [])
-  passed_more past k [] s a n is p = let e : n ≡ k = omega (arith, is) in (subst (λ m. Passes mean reads past m s) e p, tt)
+module _ (queries : Queries) where
+  passed_more : (past : Option SessionValue) (k : ℕ) (ss : List SessionValue) (s : SessionValue) → ArePassed queries past k ss
+      → (n : ℕ) → n ≡ k + length ss → Passes queries (last_of past ss) n s → ArePassed queries past k (ss ++ s ∷ [])
+  passed_more past k [] s a n is p = let e : n ≡ k = omega (arith, is) in (subst (λ m. Passes queries past m s) e p, tt)
   passed_more past k (t ∷ ts) s a n is p = let e : n ≡ k + 1 + length ts = omega (arith, is) in (a.0, passed_more (Some t) (k + 1) ts s a.1 n e p)
 
   -- sessions that pass are linked
-  pub passed_linked : (past : Option SessionValue) (k : ℕ) (ss : List SessionValue) → ArePassed mean reads past k ss → AreLinked past k ss
+  pub passed_linked : (past : Option SessionValue) (k : ℕ) (ss : List SessionValue) → ArePassed queries past k ss → AreLinked past k ss
   passed_linked past k [] a = tt
-  passed_linked past k (s ∷ ss) a = (a.0.step.linked, passed_linked (Some s) (k + 1) ss a.1)
+  passed_linked past k (s ∷ ss) a = (a.0.step.linked, a.0.taken, passed_linked (Some s) (k + 1) ss a.1)
+
+  -- and taken from one another
+  pub passed_taken : (past : Option SessionValue) (k : ℕ) (ss : List SessionValue) → ArePassed queries past k ss → AreTaken past ss
+  passed_taken past k [] a = tt
+  passed_taken past k (s ∷ ss) a = (a.0.taken, passed_taken (Some s) (k + 1) ss a.1)
 
   -- one more file
-  pub file_passed : (front : List (List ℕ)) (file : List ℕ) (old now new : List Key) (ss : List SessionValue) → ArePassedFiles mean reads front old now ss (length (all_executed_keys ss))
-      → (s : SessionValue) → IsSession s → file ≡ file_of s → Passes mean reads (last_of None ss) (length ss) s → new ≡ now ++ executed_keys s
-      → ArePassedFiles mean reads (front ++ file ∷ []) old new (ss ++ s ∷ []) (length (all_executed_keys (ss ++ s ∷ [])))
+  pub file_passed : (front : List (List ℕ)) (file : List ℕ) (old now new : List Key) (ss : List SessionValue) → ArePassedFiles queries front old now ss (length (all_executed_keys ss))
+      → (s : SessionValue) → IsSession s → file ≡ file_of s → Passes queries (last_of None ss) (length ss) s → new ≡ now ++ executed_keys s
+      → ArePassedFiles queries (front ++ file ∷ []) old new (ss ++ s ∷ []) (length (all_executed_keys (ss ++ s ∷ [])))
   file_passed front file old now new ss so_far s session spelled passes log = record {
     spelled = map-append file_of ss (s ∷ []) ∙ (ap (λ (fs : List (List ℕ)). fs ++ file_of s ∷ []) so_far.spelled ∙ ap (λ (f : List ℕ). front ++ f ∷ []) (sym spelled));
     each = all_last IsSession ss s so_far.each session;
@@ -58,8 +67,8 @@ module _ (mean : Meaning) (reads : ReadLists) where
 
   -- the file behind the first k ones
   pub file_refused : (files : List (List ℕ)) (k : ℕ) (file : List ℕ) → slice_get files k ≡ Some file → (old now new : List Key) (ss : List SessionValue)
-      → ArePassedFiles mean reads (take k files) old now ss (length (all_executed_keys ss))
-      → (fault : AuditFault) → FileRefuses mean reads (last_of None ss) (length ss) file now new fault → IsRefusedBehind mean reads files old new fault
+      → ArePassedFiles queries (take k files) old now ss (length (all_executed_keys ss))
+      → (fault : AuditFault) → FileRefuses queries (last_of None ss) (length ss) file now new fault → IsRefusedBehind queries files old new fault
   file_refused files k file here old now new ss so_far fault r = record {
     front = ss;
     file_bytes = file;
@@ -69,15 +78,15 @@ module _ (mean : Meaning) (reads : ReadLists) where
         ∙ (ap (λ (fs : List (List ℕ)). fs ++ drop (k + 1) files) (sym (take_there files k file here)) ∙ take-append-drop (k + 1) files));
     each = so_far.each;
     passed = so_far.passed;
-    refused = subst (λ (ks : List Key). FileRefuses mean reads (last_of None ss) (length ss) file ks new fault) so_far.log r;
+    refused = subst (λ (ks : List Key). FileRefuses queries (last_of None ss) (length ss) file ks new fault) so_far.log r;
   }
 
 -- a session that is refused makes its file refused
-pub session_refused : (mean : Meaning) (reads : ReadLists) (past : Option SessionValue) (k : ℕ) (s : SessionValue) (file : List ℕ) (old new : List Key) → RunsWithin file old new s
-    → (fault : AuditFault) → SessionRefuses mean reads past k s fault → FileRefuses mean reads past k file old new fault
-session_refused mean reads past k s file old new w (File j f) r = elim r [ inl x ↦ absurd x | inr x ↦ absurd x.1 ]
-session_refused mean reads past k s file old new w OutOfMemory r = inr (s, w)
-session_refused mean reads past k s file old new w fault r = (s, w, r)
+pub session_refused : (queries : Queries) (past : Option SessionValue) (k : ℕ) (s : SessionValue) (file : List ℕ) (old new : List Key) → RunsWithin past file old new s
+    → (fault : AuditFault) → SessionRefuses queries past k s fault → FileRefuses queries past k file old new fault
+session_refused queries past k s file old new w (File j f) r = elim r [ inl x ↦ absurd x | inr x ↦ absurd x.1 ]
+session_refused queries past k s file old new w OutOfMemory r = inr (s, w)
+session_refused queries past k s file old new w fault r = (s, w, r)
 
 -- ---- a list of borrowed files
 

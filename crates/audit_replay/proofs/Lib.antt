@@ -11,6 +11,7 @@ pub mod SumRules
 pub mod AuditLogs
 pub mod AgainstRules
 pub mod InputRules
+pub mod AcceptedRules
 pub mod SumEnds
 pub mod SourceFaults
 pub mod SessionFiles

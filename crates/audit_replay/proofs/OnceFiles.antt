@@ -3,14 +3,15 @@ use Rattle.std.proofs.Common.{◌≡◌, inl, inr, ℕ, ◌+◌, List, [], ◌�
 use Rattle.std.specs.Prelude.{◌⊎◌, ◌≢◌}
 use Rattle.std.specs.List.{AllByRecursion}
 use Rattle.std.proofs.lemmas.Option.{none-some}
+use Rattle.profiles.specs.declared.profile.Profile.{Profile}
 use Rattle.item_ids.specs.declared.key.Key.{Key}
 use Rattle.item_ids.specs.declared.key.Key.TheVariants.{Answer}
 use Rattle.result_bytes.specs.declared.value.Value.{Value}
 use Rattle.recorder.specs.Projects.{Project}
-use Rattle.recorder.specs.Backed.{Meaning, ReadLists}
-use Rattle.sessions.specs.Sessions.{SessionValue, IsSession}
+use Rattle.recorder.specs.Backed.{Queries}
+use Rattle.sessions.specs.Sessions.{SessionValue, IsSession, IsTakenFrom}
 use Rattle.sessions.specs.Spelling.{file_of}
-use Rattle.session_file.specs.Reading.{file_at}
+use Rattle.session_file.specs.Reading.{file_after}
 use Rattle.session_file.specs.declared.fault.FileFault.{FileFault}
 use Rattle.graph_rules.specs.Pasts.{Past}
 use Rattle.graph_rules.specs.Next.{AreSources}
@@ -20,67 +21,70 @@ use Rattle.audit_replay.specs.Passes.{FileRefuses, Passes}
 use Rattle.audit_replay.specs.Audits.{ArePassed, ArePassedFiles, AuditRefuses, AuditRefusesAgainst, IsAccepted, IsRefusedBehind, PassesWith, last_of, last_entry}
 use Rattle.audit_replay.specs.Refusals.{IsToldByFiles}
 use Rattle.audit_replay.proofs.OnceSteps.{HasReason, reason_of_session, one_fault, no_fault}
+use Rattle.audit_replay.proofs.FileRules.{passed_taken}
 use Rattle.audit_replay.proofs.SessionFiles.{file_again, one_session, same_sessions}
 use Rattle.audit_replay.proofs.SumEnds.{behind_against}
 
 -- ---- one file
 
 -- the file is that of no session
-record IsUnread (k : ℕ) (file : List ℕ) (fault : AuditFault) : Type 0 where
+record IsUnread (past : Option SessionValue) (k : ℕ) (file : List ℕ) (fault : AuditFault) : Type 0 where
   why : FileFault
-  unread : file_at file ≡ Err why
+  unread : file_after past file ≡ Err why
   is : fault ≡ faults.File k why
 
 -- the file is that of a session with this fault
-record IsFaulty (past : Option SessionValue) (k : ℕ) (file : List ℕ) (fault : AuditFault) : Type 0 where
+record IsFaulty (queries : Queries) (past : Option SessionValue) (k : ℕ) (file : List ℕ) (fault : AuditFault) : Type 0 where
   session : SessionValue
   each : IsSession session
+  taken : IsTakenFrom past session
   spelled : file_of session ≡ file
-  reason : HasReason past k session fault
+  reason : HasReason queries past k session fault
 
-abbrev IsRefusedFile : Option SessionValue → ℕ → List ℕ → AuditFault → Type 0
-IsRefusedFile past k file fault = IsUnread k file fault ⊎ IsFaulty past k file fault
+abbrev IsRefusedFile : Queries → Option SessionValue → ℕ → List ℕ → AuditFault → Type 0
+IsRefusedFile queries past k file fault = IsUnread past k file fault ⊎ IsFaulty queries past k file fault
 
-module _ (mean : Meaning) (reads : ReadLists) where
-  refused_file : (past : Option SessionValue) (k : ℕ) (file : List ℕ) (old new : List Key) (fault : AuditFault) → IsToldByFiles fault → FileRefuses mean reads past k file old new fault → IsRefusedFile past k file fault
+module _ (queries : Queries) where
+  refused_file : (past : Option SessionValue) (k : ℕ) (file : List ℕ) (old new : List Key) (fault : AuditFault) → IsToldByFiles fault → FileRefuses queries past k file old new fault → IsRefusedFile queries past k file fault
   refused_file past k file old new (faults.File j why) t r = inl (record { why = why; unread = r.1; is = ap (λ (m : ℕ). faults.File m why) r.0 })
   refused_file past k file old new faults.OutOfMemory t r = absurd t
   refused_file past k file old new fault t r = inr (record {
     session = r.0;
     each = r.1.session;
+    taken = r.1.taken;
     spelled = r.1.spelled;
-    reason = reason_of_session past k r.0 mean reads fault t r.2;
+    reason = reason_of_session queries past k r.0 fault t r.2;
   })
 
   -- the file of a session that passes isn't refused
-  not_refused : (past : Option SessionValue) (k : ℕ) (s : SessionValue) → IsSession s → Passes mean reads past k s → (fault : AuditFault) → IsRefusedFile past k (file_of s) fault → ⊥
-  not_refused past k s session p fault (inl u) = absurd (let o : Ok s ≡ Err u.why = sym (file_again s session) ∙ u.unread in cc)
+  not_refused : (past : Option SessionValue) (k : ℕ) (s : SessionValue) → IsSession s → Passes queries past k s → (fault : AuditFault) → IsRefusedFile queries past k (file_of s) fault → ⊥
+  not_refused past k s session p fault (inl u) = absurd (let o : Ok s ≡ Err u.why = sym (file_again past s session p.taken) ∙ u.unread in cc)
   not_refused past k s session p fault (inr h) =
-      let same = one_session h.session s h.each session h.spelled in
-      no_fault past k s session mean reads p fault (subst (λ (x : SessionValue). HasReason past k x fault) same h.reason)
+      let same = one_session past h.session s h.each session h.taken p.taken h.spelled in
+      no_fault queries past k s session p fault (subst (λ (x : SessionValue). HasReason queries past k x fault) same h.reason)
 
-one_of_file : (past : Option SessionValue) (k : ℕ) (file : List ℕ) (f g : AuditFault) → IsRefusedFile past k file f → IsRefusedFile past k file g → f ≡ g
-one_of_file past k file f g (inl a) (inl b) =
+one_of_file : (queries : Queries) (past : Option SessionValue) (k : ℕ) (file : List ℕ) (f g : AuditFault) → IsRefusedFile queries past k file f → IsRefusedFile queries past k file g → f ≡ g
+one_of_file queries past k file f g (inl a) (inl b) =
     let e : Err a.why ≡ Err b.why = sym a.unread ∙ b.unread in
     let same : a.why ≡ b.why = cc in
     a.is ∙ (ap (λ (w : FileFault). faults.File k w) same ∙ sym b.is)
-one_of_file past k file f g (inl a) (inr b) = absurd (let o : Ok b.session ≡ Err a.why = sym (file_again b.session b.each) ∙ (ap file_at b.spelled ∙ a.unread) in cc)
-one_of_file past k file f g (inr a) (inl b) = absurd (let o : Ok a.session ≡ Err b.why = sym (file_again a.session a.each) ∙ (ap file_at a.spelled ∙ b.unread) in cc)
-one_of_file past k file f g (inr a) (inr b) =
-    let same = one_session a.session b.session a.each b.each (a.spelled ∙ sym b.spelled) in
-    one_fault past k b.session b.each f g (subst (λ (x : SessionValue). HasReason past k x f) same a.reason) b.reason
+one_of_file queries past k file f g (inl a) (inr b) = absurd (let o : Ok b.session ≡ Err a.why = sym (file_again past b.session b.each b.taken) ∙ (ap (file_after past) b.spelled ∙ a.unread) in cc)
+one_of_file queries past k file f g (inr a) (inl b) = absurd (let o : Ok a.session ≡ Err b.why = sym (file_again past a.session a.each a.taken) ∙ (ap (file_after past) a.spelled ∙ b.unread) in cc)
+one_of_file queries past k file f g (inr a) (inr b) =
+    let same = one_session past a.session b.session a.each b.each a.taken b.taken (a.spelled ∙ sym b.spelled) in
+    one_fault queries past k b.session b.each f g (subst (λ (x : SessionValue). HasReason queries past k x f) same a.reason) b.reason
 
 -- ---- files one after the other
 
-module _ (mean : Meaning) (reads : ReadLists) where
+module _ (queries : Queries) where
   -- the sessions in front pass, and the file behind them is refused
   record IsRefusedLater (past : Option SessionValue) (k : ℕ) (front : List SessionValue) (file : List ℕ) (rest files : List (List ℕ)) (fault : AuditFault) : Type 0 where
     spelled : map file_of front ++ file ∷ rest ≡ files
     each : AllByRecursion IsSession front
-    passed : ArePassed mean reads past k front
+    passed : ArePassed queries past k front
     place : ℕ
     is : place ≡ k + length front
-    refused : IsRefusedFile (last_of past front) place file fault
+    refused : IsRefusedFile queries (last_of past front) place file fault
 
   -- so too over the first of them
   behind_first : (past : Option SessionValue) (k : ℕ) (s t : SessionValue) (ss : List SessionValue) (file : List ℕ) (rest files : List (List ℕ)) (fault : AuditFault) → s ≡ t
@@ -88,19 +92,19 @@ module _ (mean : Meaning) (reads : ReadLists) where
   behind_first past k s t ss file rest files fault same a = record {
     spelled = refl;
     each = a.each.1;
-    passed = subst (λ (x : SessionValue). ArePassed mean reads (Some x) (k + 1) ss) same a.passed.1;
+    passed = subst (λ (x : SessionValue). ArePassed queries (Some x) (k + 1) ss) same a.passed.1;
     place = a.place;
     is = omega (arith, a.is);
-    refused = subst (λ (x : SessionValue). IsRefusedFile (last_of (Some x) ss) a.place file fault) same a.refused;
+    refused = subst (λ (x : SessionValue). IsRefusedFile queries (last_of (Some x) ss) a.place file fault) same a.refused;
   }
 
   -- the first file isn't refused where its session passes
-  not_first : (past : Option SessionValue) (k : ℕ) (t : SessionValue) → IsSession t → Passes mean reads past k t → (file : List ℕ) (rest files : List (List ℕ)) (fault : AuditFault)
+  not_first : (past : Option SessionValue) (k : ℕ) (t : SessionValue) → IsSession t → Passes queries past k t → (file : List ℕ) (rest files : List (List ℕ)) (fault : AuditFault)
       → file ≡ file_of t → IsRefusedLater past k [] file rest files fault → ⊥
   not_first past k t session p file rest files fault same a =
       let n : a.place ≡ k = omega (arith, a.is) in
-      not_refused mean reads past k t session p fault
-      (subst (λ (m : ℕ). IsRefusedFile past m (file_of t) fault) n (subst (λ (x : List ℕ). IsRefusedFile past a.place x fault) same a.refused))
+      not_refused queries past k t session p fault
+      (subst (λ (m : ℕ). IsRefusedFile queries past m (file_of t) fault) n (subst (λ (x : List ℕ). IsRefusedFile queries past a.place x fault) same a.refused))
 
   one_from : (past : Option SessionValue) (k : ℕ) (files more : List (List ℕ)) (f g : AuditFault) (ss ts : List SessionValue) (fa fb : List ℕ) (ra rb : List (List ℕ)) → files ≡ more
       → IsRefusedLater past k ss fa ra files f → IsRefusedLater past k ts fb rb more g → f ≡ g
@@ -108,8 +112,8 @@ module _ (mean : Meaning) (reads : ReadLists) where
       let h : (fa ∷ ra) ≡ (fb ∷ rb) = a.spelled ∙ (e ∙ sym b.spelled) in
       let file : fa ≡ fb = cc in
       let n : a.place ≡ b.place = omega (arith, a.is, b.is) in
-      one_of_file past b.place fb f g
-      (subst (λ (m : ℕ). IsRefusedFile past m fb f) n (subst (λ (x : List ℕ). IsRefusedFile past a.place x f) file a.refused)) b.refused
+      one_of_file queries past b.place fb f g
+      (subst (λ (m : ℕ). IsRefusedFile queries past m fb f) n (subst (λ (x : List ℕ). IsRefusedFile queries past a.place x f) file a.refused)) b.refused
   one_from past k files more f g [] (t ∷ ts) fa fb ra rb e a b =
       let h : (fa ∷ ra) ≡ (file_of t ∷ (map file_of ts ++ fb ∷ rb)) = a.spelled ∙ (e ∙ sym b.spelled) in
       let file : fa ≡ file_of t = cc in
@@ -122,13 +126,13 @@ module _ (mean : Meaning) (reads : ReadLists) where
       let h : (file_of s ∷ (map file_of ss ++ fa ∷ ra)) ≡ (file_of t ∷ (map file_of ts ++ fb ∷ rb)) = a.spelled ∙ (e ∙ sym b.spelled) in
       let first : file_of s ≡ file_of t = cc in
       let later : map file_of ss ++ fa ∷ ra ≡ map file_of ts ++ fb ∷ rb = cc in
-      let same : s ≡ t = one_session s t a.each.0 b.each.0 first in
+      let same : s ≡ t = one_session past s t a.each.0 b.each.0 a.passed.0.taken b.passed.0.taken first in
       one_from (Some t) (k + 1) (map file_of ss ++ fa ∷ ra) (map file_of ts ++ fb ∷ rb) f g ss ts fa fb ra rb later
       (behind_first past k s t ss fa ra files f same a) (behind_first past k t t ts fb rb more g refl b)
 
   -- where all files pass, none is refused
   none_from : (past : Option SessionValue) (k : ℕ) (files : List (List ℕ)) (f : AuditFault) (ss ts : List SessionValue) (fa : List ℕ) (ra : List (List ℕ))
-      → IsRefusedLater past k ss fa ra files f → map file_of ts ≡ files → AllByRecursion IsSession ts → ArePassed mean reads past k ts → ⊥
+      → IsRefusedLater past k ss fa ra files f → map file_of ts ≡ files → AllByRecursion IsSession ts → ArePassed queries past k ts → ⊥
   none_from past k files f [] [] fa ra a e each passed = absurd (let h : (fa ∷ ra) ≡ [] = a.spelled ∙ sym e in cc)
   none_from past k files f [] (t ∷ ts) fa ra a e each passed =
       let h : (fa ∷ ra) ≡ (file_of t ∷ map file_of ts) = a.spelled ∙ sym e in
@@ -139,26 +143,26 @@ module _ (mean : Meaning) (reads : ReadLists) where
       let h : (file_of s ∷ (map file_of ss ++ fa ∷ ra)) ≡ (file_of t ∷ map file_of ts) = a.spelled ∙ sym e in
       let first : file_of s ≡ file_of t = cc in
       let later : map file_of ss ++ fa ∷ ra ≡ map file_of ts = cc in
-      let same : s ≡ t = one_session s t a.each.0 each.0 first in
+      let same : s ≡ t = one_session past s t a.each.0 each.0 a.passed.0.taken passed.0.taken first in
       none_from (Some t) (k + 1) (map file_of ss ++ fa ∷ ra) f ss ts fa ra (behind_first past k s t ss fa ra files f same a) (sym later) each.1 passed.1
 
   module _ (files : List (List ℕ)) where
-    refused_later : (old new : List Key) (f : AuditFault) → IsToldByFiles f → (r : IsRefusedBehind mean reads files old new f) → IsRefusedLater None 0 r.front r.file_bytes r.rest files f
+    refused_later : (old new : List Key) (f : AuditFault) → IsToldByFiles f → (r : IsRefusedBehind queries files old new f) → IsRefusedLater None 0 r.front r.file_bytes r.rest files f
     refused_later old new f t r = record {
       spelled = r.spelled;
       each = r.each;
       passed = r.passed;
       place = length r.front;
       is = omega arith;
-      refused = refused_file mean reads (last_of None r.front) (length r.front) r.file_bytes _ new f t r.refused;
+      refused = refused_file queries (last_of None r.front) (length r.front) r.file_bytes _ new f t r.refused;
     }
 
-    one_behind : (old new before after : List Key) (f g : AuditFault) → IsToldByFiles f → IsToldByFiles g → IsRefusedBehind mean reads files old new f → IsRefusedBehind mean reads files before after g → f ≡ g
+    one_behind : (old new before after : List Key) (f g : AuditFault) → IsToldByFiles f → IsToldByFiles g → IsRefusedBehind queries files old new f → IsRefusedBehind queries files before after g → f ≡ g
     one_behind old new before after f g tf tg a b =
         one_from None 0 files files f g a.front b.front a.file_bytes b.file_bytes a.rest b.rest refl (refused_later old new f tf a) (refused_later before after g tg b)
 
-    not_behind : (old new : List Key) (f : AuditFault) → IsToldByFiles f → IsRefusedBehind mean reads files old new f
-        → (before after : List Key) (ss : List SessionValue) (runs : ℕ) → ArePassedFiles mean reads files before after ss runs → ⊥
+    not_behind : (old new : List Key) (f : AuditFault) → IsToldByFiles f → IsRefusedBehind queries files old new f
+        → (before after : List Key) (ss : List SessionValue) (runs : ℕ) → ArePassedFiles queries files before after ss runs → ⊥
     not_behind old new f t r before after ss runs p = none_from None 0 files f r.front ss r.file_bytes r.rest (refused_later old new f t r) p.spelled p.each p.passed
 
     -- ---- the end
@@ -168,19 +172,19 @@ module _ (mean : Meaning) (reads : ReadLists) where
       old : List Key
       new : List Key
       runs : ℕ
-      passed : ArePassedFiles mean reads files old new sessions runs
+      passed : ArePassedFiles queries files old new sessions runs
 
     -- why the files are refused against a project
     data Why (p : Project) (fault : AuditFault) : Type 0 where
       none : files ≡ [] → fault ≡ faults.EmptyChain → Why p fault
-      behind : (old new : List Key) → IsToldByFiles fault → IsRefusedBehind mean reads files old new fault → Why p fault
+      behind : (old new : List Key) → IsToldByFiles fault → IsRefusedBehind queries files old new fault → Why p fault
       unanswered : (ss : List SessionValue) → ArePassedTo ss → files ≢ [] → last_entry ss Answer ≡ None → fault ≡ faults.NoAnswer → Why p fault
       differ : (ss : List SessionValue) → ArePassedTo ss → last_entry ss Answer ≢ None → (¬ AreSources (last_entry ss) p) → fault ≡ faults.SourcesDiffer → Why p fault
 
-    passed_to : (old new : List Key) (Holds : Past → Type 0) → (x : PassesWith mean reads files old new Holds) → ArePassedTo x.sessions
+    passed_to : (old new : List Key) (Holds : Past → Type 0) → (x : PassesWith queries files old new Holds) → ArePassedTo x.sessions
     passed_to old new Holds x = record { old = old; new = new; runs = x.runs; passed = x.passed }
 
-    why : (p : Project) (old new : List Key) (fault : AuditFault) → IsToldByFiles fault → AuditRefusesAgainst mean reads files old new p fault → Why p fault
+    why : (p : Project) (old new : List Key) (fault : AuditFault) → IsToldByFiles fault → AuditRefusesAgainst queries files old new p fault → Why p fault
     why p old new faults.EmptyChain t r = none r.0 refl
     why p old new faults.NoAnswer t r = unanswered r.1.sessions (passed_to old new _ r.1) r.0 r.1.holds refl
     why p old new faults.SourcesDiffer t r = differ r.sessions (passed_to old new _ r) r.holds.0 r.holds.1 refl
@@ -191,7 +195,7 @@ module _ (mean : Meaning) (reads : ReadLists) where
     some_file [] file rest e = absurd (let h : (file ∷ rest) ≡ [] = e in cc)
     some_file (f ∷ fs) file rest e = absurd (let h : (f ∷ (fs ++ file ∷ rest)) ≡ [] = e in cc)
 
-    none_behind : files ≡ [] → (old new : List Key) (f : AuditFault) → IsRefusedBehind mean reads files old new f → ⊥
+    none_behind : files ≡ [] → (old new : List Key) (f : AuditFault) → IsRefusedBehind queries files old new f → ⊥
     none_behind nothing old new f r = some_file (map file_of r.front) r.file_bytes r.rest (r.spelled ∙ nothing)
 
     unanswered_none : (ss : List SessionValue) → map file_of ss ≡ [] → last_entry ss Answer ≢ None → ⊥
@@ -199,12 +203,12 @@ module _ (mean : Meaning) (reads : ReadLists) where
     unanswered_none (s ∷ ss) e answered = absurd (let h : (file_of s ∷ map file_of ss) ≡ [] = e in cc)
 
     one_end : (ss ts : List SessionValue) → ArePassedTo ss → ArePassedTo ts → ss ≡ ts
-    one_end ss ts a b = same_sessions ss ts a.passed.each b.passed.each (a.passed.spelled ∙ sym b.passed.spelled)
+    one_end ss ts a b = same_sessions None ss ts a.passed.each b.passed.each (passed_taken queries None 0 ss a.passed.passed) (passed_taken queries None 0 ts b.passed.passed) (a.passed.spelled ∙ sym b.passed.spelled)
 
     answered_once : (ss ts : List SessionValue) → ArePassedTo ss → ArePassedTo ts → last_entry ss Answer ≡ None → last_entry ts Answer ≢ None → ⊥
     answered_once ss ts a b nothing some = some (subst (λ (xs : List SessionValue). last_entry xs Answer ≡ None) (one_end ss ts a b) nothing)
 
-    passed_not_behind : (ss : List SessionValue) → ArePassedTo ss → (old new : List Key) (f : AuditFault) → IsToldByFiles f → IsRefusedBehind mean reads files old new f → ⊥
+    passed_not_behind : (ss : List SessionValue) → ArePassedTo ss → (old new : List Key) (f : AuditFault) → IsToldByFiles f → IsRefusedBehind queries files old new f → ⊥
     passed_not_behind ss a old new f t r = not_behind old new f t r a.old a.new ss a.runs a.passed
 
     one_why : (p : Project) (f g : AuditFault) → Why p f → Why p g → f ≡ g
@@ -226,17 +230,17 @@ module _ (mean : Meaning) (reads : ReadLists) where
     one_why p f g (differ ss x answered other fa) (differ ts y more none_ gb) = fa ∙ sym gb
 
     pub one_against : (p : Project) (old new before after : List Key) (f g : AuditFault) → IsToldByFiles f → IsToldByFiles g
-        → AuditRefusesAgainst mean reads files old new p f → AuditRefusesAgainst mean reads files before after p g → f ≡ g
+        → AuditRefusesAgainst queries files old new p f → AuditRefusesAgainst queries files before after p g → f ≡ g
     one_against p old new before after f g tf tg a b = one_why p f g (why p old new f tf a) (why p before after g tg b)
 
     pub one_refusal : (old new before after : List Key) (f g : AuditFault) → IsToldByFiles f → IsToldByFiles g
-        → AuditRefuses mean reads files old new f → AuditRefuses mean reads files before after g → f ≡ g
+        → AuditRefuses queries files old new f → AuditRefuses queries files before after g → f ≡ g
     one_refusal old new before after f g tf tg a b =
-        one_against [] old new before after f g tf tg (behind_against mean reads files old new [] f a) (behind_against mean reads files before after [] g b)
+        one_against [] old new before after f g tf tg (behind_against queries files old new [] f a) (behind_against queries files before after [] g b)
 
     -- ---- beside an accepted chain
 
-    module _ (old new : List Key) (p : Project) (answer : Value) (count runs : ℕ) (a : IsAccepted mean reads files old new p answer count runs) where
+    module _ (old new : List Key) (profile : Profile) (p : Project) (answer : Value) (count runs : ℕ) (a : IsAccepted queries files old new profile p answer count runs) where
       accepted_to : ArePassedTo a.sessions
       accepted_to = record { old = old; new = new; runs = runs; passed = a.passed }
 
@@ -249,8 +253,8 @@ module _ (mean : Meaning) (reads : ReadLists) where
       no_why fault (unanswered ss x some nothing is) = answered_once ss a.sessions x accepted_to nothing answered
       no_why fault (differ ss x more other is) = other (subst (λ (xs : List SessionValue). AreSources (last_entry xs) p) (one_end a.sessions ss accepted_to x) a.sources)
 
-      pub none_against : (before after : List Key) (fault : AuditFault) → IsToldByFiles fault → AuditRefusesAgainst mean reads files before after p fault → ⊥
+      pub none_against : (before after : List Key) (fault : AuditFault) → IsToldByFiles fault → AuditRefusesAgainst queries files before after p fault → ⊥
       none_against before after fault t r = no_why fault (why p before after fault t r)
 
-      pub none_refused : (before after : List Key) (fault : AuditFault) → IsToldByFiles fault → AuditRefuses mean reads files before after fault → ⊥
-      none_refused before after fault t r = none_against before after fault t (behind_against mean reads files before after p fault r)
+      pub none_refused : (before after : List Key) (fault : AuditFault) → IsToldByFiles fault → AuditRefuses queries files before after fault → ⊥
+      none_refused before after fault t r = none_against before after fault t (behind_against queries files before after p fault r)

@@ -1,19 +1,22 @@
 -- Of all faults of one session that follow from the files alone, at most one holds.
-use Rattle.std.proofs.Common.{◌≡◌, inl, inr, ℕ, suc, zero, List, [], ◌∷◌, take, slice_get, Option, Some, None, Err, refl, sym, ap, ◌∙◌, subst}
+use Rattle.std.proofs.Common.{◌≡◌, inl, inr, ℕ, suc, zero, true, false, List, [], ◌∷◌, take, slice_get, Option, Some, None, Err, refl, sym, ap, ◌∙◌, subst}
 use Rattle.std.specs.Prelude.{◌≢◌}
 use Rattle.std.specs.List.{AllByRecursion}
 use Rattle.std.proofs.lemmas.Option.{none-some, same_Some}
 use Rattle.item_ids.specs.declared.key.Key.TheVariants.{Files}
+use Rattle.item_ids.specs.Keys.{kind_of}
 use Rattle.result_bytes.specs.declared.value.Value.TheVariants as values
-use Rattle.recorder.specs.Backed.{Meaning, ReadLists}
-use Rattle.sessions.specs.Sessions.{SessionValue, IsSession, Entry, entries, entry_at, past_entry}
+use Rattle.recorder.specs.Backed.{Queries}
+use Rattle.sessions.specs.Sessions.{SessionValue, IsSession, Entry, entries, entry_at}
 use Rattle.graph_rules.specs.Pasts.{Past}
+use Rattle.graph_rules.specs.Settings.{Setting, has_kind, kept}
+use Rattle.graph_rules.proofs.SettingRules.{kept_held, kept_kind}
 use Rattle.graph_rules.proofs.NextRules.{all_at}
 use Rattle.audit_graph.specs.Firsts.{IsFirstWithout}
 use Rattle.audit_graph.specs.Chains.{IsLinked}
 use Rattle.audit_graph.specs.Sources.{HasFiles, HasBytes, HasSources, IsNoStray, source_keys}
 use Rattle.audit_graph.specs.Greens.{HasSamePrint, HasSameEdges, IsLack, StandsIfGreen}
-use Rattle.audit_graph.specs.Steps.{IsSessionStep, IsMissing, IsStray, RefusesGreen, CheckStepGives, green_fault}
+use Rattle.audit_graph.specs.Steps.{IsSessionStep, IsMissing, IsStray, RefusesGreen, CheckStepGives, green_fault, setting_behind}
 use Rattle.audit_graph.specs.declared.greens.Lack.{Lack}
 use Rattle.audit_graph.specs.declared.greens.Lack.TheVariants as lacks
 use Rattle.audit_graph.specs.declared.fault.AuditFault.{AuditFault}
@@ -39,30 +42,44 @@ once Has items i j a b = one_first Has items i j a.item b.item a.here b.here a.b
 
 -- ---- why a green key doesn't stand in the previous session
 
-module _ (past now : Past) (r : Entry) where
-  has_it : past r.key ≡ None → (had : Entry) → past r.key ≡ Some had → ⊥
-  has_it none had is = none-some had (sym none ∙ is)
+module _ (over : Setting) (now : Past) (r : Entry) where
+  -- the previous session has what is taken over from it
+  has_it : over.held r.key ≡ None → (had : Entry) → kept over r.key ≡ Some had → ⊥
+  has_it none had is = none-some had (sym none ∙ kept_held over r.key had is)
 
-  other_edges : (o : (had : Entry) × (past r.key ≡ Some had) × (had.reads ≢ r.reads)) → HasSameEdges past r → ⊥
+  -- nothing is taken over of a kind that crosses
+  crosses_it : has_kind over.crossing (kind_of r.key) ≡ true → (had : Entry) → kept over r.key ≡ Some had → ⊥
+  crosses_it crossing had is = absurd (let e : true ≡ false = sym crossing ∙ kept_kind over r.key had is in cc)
+
+  other_edges : (o : (had : Entry) × (kept over r.key ≡ Some had) × (had.reads ≢ r.reads)) → HasSameEdges over r → ⊥
   other_edges o e = o.2 (ap (λ (x : Entry). x.reads) (same_Some _ _ (sym o.1 ∙ e.past_has)) ∙ e.edges)
 
-  all_same : (i : ℕ) → IsFirstWithout (HasSamePrint past now) r.reads i → AllByRecursion (HasSamePrint past now) r.reads → ⊥
-  all_same i first all = first.lacks (all_at (HasSamePrint past now) r.reads all first.item (contains_there r.reads i first.item first.here))
+  all_same : (i : ℕ) → IsFirstWithout (HasSamePrint over.held now) r.reads i → AllByRecursion (HasSamePrint over.held now) r.reads → ⊥
+  all_same i first all = first.lacks (all_at (HasSamePrint over.held now) r.reads all first.item (contains_there r.reads i first.item first.here))
 
-  one_lack : (why other : Lack) → IsLack past now r why → IsLack past now r other → why ≡ other
+  one_lack : (why other : Lack) → IsLack over now r why → IsLack over now r other → why ≡ other
   one_lack lacks.WithoutPast lacks.WithoutPast a b = refl
+  one_lack lacks.WithoutPast lacks.AcrossProfiles a b = absurd (none-some b.0.0 (sym a ∙ b.0.1))
   one_lack lacks.WithoutPast lacks.OtherEdges a b = absurd (has_it a b.0 b.1)
   one_lack lacks.WithoutPast (lacks.OverRed j) a b = absurd (has_it a b.0.had b.0.past_has)
   one_lack lacks.WithoutPast lacks.OtherPrint a b = absurd (has_it a b.0.had b.0.past_has)
+  one_lack lacks.AcrossProfiles lacks.WithoutPast a b = absurd (none-some a.0.0 (sym b ∙ a.0.1))
+  one_lack lacks.AcrossProfiles lacks.AcrossProfiles a b = refl
+  one_lack lacks.AcrossProfiles lacks.OtherEdges a b = absurd (crosses_it a.1 b.0 b.1)
+  one_lack lacks.AcrossProfiles (lacks.OverRed j) a b = absurd (crosses_it a.1 b.0.had b.0.past_has)
+  one_lack lacks.AcrossProfiles lacks.OtherPrint a b = absurd (crosses_it a.1 b.0.had b.0.past_has)
   one_lack lacks.OtherEdges lacks.WithoutPast a b = absurd (has_it b a.0 a.1)
+  one_lack lacks.OtherEdges lacks.AcrossProfiles a b = absurd (crosses_it b.1 a.0 a.1)
   one_lack lacks.OtherEdges lacks.OtherEdges a b = refl
   one_lack lacks.OtherEdges (lacks.OverRed j) a b = absurd (other_edges a b.0)
   one_lack lacks.OtherEdges lacks.OtherPrint a b = absurd (other_edges a b.0)
   one_lack (lacks.OverRed i) lacks.WithoutPast a b = absurd (has_it b a.0.had a.0.past_has)
+  one_lack (lacks.OverRed i) lacks.AcrossProfiles a b = absurd (crosses_it b.1 a.0.had a.0.past_has)
   one_lack (lacks.OverRed i) lacks.OtherEdges a b = absurd (other_edges b a.0)
-  one_lack (lacks.OverRed i) (lacks.OverRed j) a b = ap lacks.OverRed (once (HasSamePrint past now) r.reads i j a.1 b.1)
+  one_lack (lacks.OverRed i) (lacks.OverRed j) a b = ap lacks.OverRed (once (HasSamePrint over.held now) r.reads i j a.1 b.1)
   one_lack (lacks.OverRed i) lacks.OtherPrint a b = absurd (all_same i a.1 b.1)
   one_lack lacks.OtherPrint lacks.WithoutPast a b = absurd (has_it b a.0.had a.0.past_has)
+  one_lack lacks.OtherPrint lacks.AcrossProfiles a b = absurd (crosses_it b.1 a.0.had a.0.past_has)
   one_lack lacks.OtherPrint lacks.OtherEdges a b = absurd (other_edges b a.0)
   one_lack lacks.OtherPrint (lacks.OverRed j) a b = absurd (all_same j b.1 a.1)
   one_lack lacks.OtherPrint lacks.OtherPrint a b = refl
@@ -77,13 +94,16 @@ pub data Reason : Type 0 where
   stray : ℕ → Reason
   green : ℕ → Lack → Reason
 
-module _ (past : Option SessionValue) (k : ℕ) (s : SessionValue) where
+module _ (queries : Queries) (past : Option SessionValue) (k : ℕ) (s : SessionValue) where
+  abbrev over : Setting
+  over = setting_behind queries.by_profile past s
+
   abbrev pub Holds : Reason → Type 0
   Holds link = ¬ IsLinked past k s
   Holds files = IsLinked past k s × (entry_at s Files ≡ None)
   Holds (missing f) = IsLinked past k s × IsMissing s f
   Holds (stray n) = IsLinked past k s × IsStray s n
-  Holds (green n why) = RefusesGreen past k s n why
+  Holds (green n why) = RefusesGreen queries.by_profile past k s n why
 
   abbrev pub fault_of_reason : Reason → AuditFault
   fault_of_reason link = faults.BrokenLink k
@@ -98,7 +118,7 @@ module _ (past : Option SessionValue) (k : ℕ) (s : SessionValue) where
     pub holds : Holds reason
     pub is : fault ≡ fault_of_reason reason
 
-  reason_of : (fault : AuditFault) → IsToldByFiles fault → CheckStepGives past k s (Err fault) → HasReason fault
+  reason_of : (fault : AuditFault) → IsToldByFiles fault → CheckStepGives queries.by_profile past k s (Err fault) → HasReason fault
   reason_of faults.EmptyChain t g = absurd g
   reason_of (faults.File j f) t g = absurd g
   reason_of (faults.BrokenLink j) t g = record { reason = link; holds = g.1; is = ap faults.BrokenLink g.0 }
@@ -106,6 +126,7 @@ module _ (past : Option SessionValue) (k : ℕ) (s : SessionValue) where
   reason_of (faults.MissingSource j f) t g = record { reason = missing f; holds = (g.1, g.2); is = ap (λ (m : ℕ). faults.MissingSource m f) g.0 }
   reason_of (faults.StraySource j n) t g = record { reason = stray n; holds = (g.1, g.2); is = ap (λ (m : ℕ). faults.StraySource m n) g.0 }
   reason_of (faults.GreenWithoutPast j n) t g = record { reason = green n lacks.WithoutPast; holds = g.1; is = ap (λ (m : ℕ). faults.GreenWithoutPast m n) g.0 }
+  reason_of (faults.GreenAcrossProfiles j n) t g = record { reason = green n lacks.AcrossProfiles; holds = g.1; is = ap (λ (m : ℕ). faults.GreenAcrossProfiles m n) g.0 }
   reason_of (faults.OtherEdges j n) t g = record { reason = green n lacks.OtherEdges; holds = g.1; is = ap (λ (m : ℕ). faults.OtherEdges m n) g.0 }
   reason_of (faults.GreenOverRed j n i) t g = record { reason = green n (lacks.OverRed i); holds = g.1; is = ap (λ (m : ℕ). faults.GreenOverRed m n i) g.0 }
   reason_of (faults.GreenPrint j n) t g = record { reason = green n lacks.OtherPrint; holds = g.1; is = ap (λ (m : ℕ). faults.GreenPrint m n) g.0 }
@@ -116,16 +137,16 @@ module _ (past : Option SessionValue) (k : ℕ) (s : SessionValue) where
   reason_of faults.SourcesDiffer t g = absurd g
   reason_of faults.OutOfMemory t g = absurd t
 
-  not_plan : (mean : Meaning) (reads : ReadLists) (fault : AuditFault) → IsToldByFiles fault → RefusesPlan mean reads k s fault → ⊥
-  not_plan mean reads (faults.OtherRead j n i) t g = t
-  not_plan mean reads (faults.UnreadEdges j n) t g = t
-  not_plan mean reads (faults.OtherResult j n) t g = t
-  not_plan mean reads faults.OutOfMemory t g = t
-  not_plan mean reads fault t g = g
+  not_plan : (fault : AuditFault) → IsToldByFiles fault → RefusesPlan (queries.mean s.terms.profile) (queries.reads s.terms.profile) k s fault → ⊥
+  not_plan (faults.OtherRead j n i) t g = t
+  not_plan (faults.UnreadEdges j n) t g = t
+  not_plan (faults.OtherResult j n) t g = t
+  not_plan faults.OutOfMemory t g = t
+  not_plan fault t g = g
 
-  pub reason_of_session : (mean : Meaning) (reads : ReadLists) (fault : AuditFault) → IsToldByFiles fault → SessionRefuses mean reads past k s fault → HasReason fault
-  reason_of_session mean reads fault t (inl g) = reason_of fault t g
-  reason_of_session mean reads fault t (inr g) = absurd (not_plan mean reads fault t g.1)
+  pub reason_of_session : (fault : AuditFault) → IsToldByFiles fault → SessionRefuses queries past k s fault → HasReason fault
+  reason_of_session fault t (inl g) = reason_of fault t g
+  reason_of_session fault t (inr g) = absurd (not_plan fault t g.1)
 
   -- ---- one reason at most
 
@@ -154,13 +175,13 @@ module _ (past : Option SessionValue) (k : ℕ) (s : SessionValue) where
       let all = subst (λ (ns : List (List ℕ)). AllByRecursion (HasBytes (entry_at s)) (source_keys ns)) (one_names b.names a.names b.files a.files) b.each in
       a.first.lacks (all_at (HasBytes (entry_at s)) (source_keys a.names) all a.first.item (contains_there (source_keys a.names) f a.first.item a.first.here))
 
-  one_green : (n m : ℕ) (why other : Lack) → RefusesGreen past k s n why → RefusesGreen past k s m other → green n why ≡ green m other
+  one_green : (n m : ℕ) (why other : Lack) → RefusesGreen queries.by_profile past k s n why → RefusesGreen queries.by_profile past k s m other → green n why ≡ green m other
   one_green n m why other a b =
-      let place = once (StandsIfGreen (past_entry past) (entry_at s)) (entries s) n m a.first.first b.first.first in
+      let place = once (StandsIfGreen over (entry_at s)) (entries s) n m a.first.first b.first.first in
       let here = subst (λ (i : ℕ). slice_get (entries s) i ≡ Some a.first.first.item) place a.first.first.here in
       let item = same_Some a.first.first.item b.first.first.item (sym here ∙ b.first.first.here) in
-      let lack = subst (λ (r : Entry). IsLack (past_entry past) (entry_at s) r why) item a.first.lack in
-      ap (λ (i : ℕ). green i why) place ∙ ap (λ (w : Lack). green m w) (one_lack (past_entry past) (entry_at s) b.first.first.item why other lack b.first.lack)
+      let lack = subst (λ (r : Entry). IsLack over (entry_at s) r why) item a.first.lack in
+      ap (λ (i : ℕ). green i why) place ∙ ap (λ (w : Lack). green m w) (one_lack over (entry_at s) b.first.first.item why other lack b.first.lack)
 
   module _ (session : IsSession s) where
     one_reason : (a b : Reason) → Holds a → Holds b → a ≡ b
@@ -194,7 +215,7 @@ module _ (past : Option SessionValue) (k : ℕ) (s : SessionValue) where
     one_fault f g a b = a.is ∙ (ap fault_of_reason (one_reason a.reason b.reason a.holds b.holds) ∙ sym b.is)
 
     -- a session that passes has no reason
-    no_reason : IsSessionStep past k s → (r : Reason) → Holds r → ⊥
+    no_reason : IsSessionStep queries.by_profile past k s → (r : Reason) → Holds r → ⊥
     no_reason step link h = h step.linked
     no_reason step files h = named_in step.sources h.1
     no_reason step (missing f) h = not_missing s session step.sources.0 step.sources.1 f h.1
@@ -204,5 +225,5 @@ module _ (past : Option SessionValue) (k : ℕ) (s : SessionValue) where
         let has = told_of_entry s session first.item (contains_there (entries s) n first.item first.here) in
         first.lacks (step.greens first.item.key first.item has)
 
-    pub no_fault : (mean : Meaning) (reads : ReadLists) → Passes mean reads past k s → (fault : AuditFault) → HasReason fault → ⊥
-    no_fault mean reads p fault h = no_reason p.step h.reason h.holds
+    pub no_fault : Passes queries past k s → (fault : AuditFault) → HasReason fault → ⊥
+    no_fault p fault h = no_reason p.step h.reason h.holds

@@ -1,17 +1,17 @@
 -- What follows from reading a file from a feed.
-use Rattle.std.proofs.Common.{◌≡◌, ◌≢◌, inl, inr, ℕ, ◌<◌, List, [], ◌∷◌, ◌++◌, length, Err, refl, sym, ap, ◌∙◌, arith, append-nil}
-use Rattle.sessions.specs.Sessions.{SessionValue, IsSession}
+use Rattle.std.proofs.Common.{◌≡◌, ◌≢◌, inl, inr, ℕ, ◌<◌, List, [], ◌∷◌, ◌++◌, length, Option, Err, refl, sym, ap, ◌∙◌, arith, append-nil}
+use Rattle.sessions.specs.Sessions.{SessionValue, IsSession, IsTakenFrom}
 use Rattle.sessions.specs.Spelling.{file_of}
 use Rattle.session_file.specs.Feeding.{Given, CountsIf, is_device}
-use Rattle.session_file.specs.Reading.{IsUnlessStopped, front_at, session_at}
+use Rattle.session_file.specs.Reading.{IsUnlessStopped, front_after, session_after}
 use Rattle.session_file.specs.declared.fault.FileFault.{FileFault}
-use Rattle.session_file.specs.declared.fault.FileFault.TheVariants.{BadMagic, Version, Truncated, BadDigest, KeyOrder, BadEdge, Result as BadResult, InputKind, Trailing, Device, BadKey, Number, OutOfMemory}
+use Rattle.session_file.specs.declared.fault.FileFault.TheVariants.{BadMagic, Version, Truncated, BadDigest, KeyOrder, BadEdge, Result as BadResult, InputKind, Trailing, Device, BadKey, Number, NoPastResult, OutOfMemory}
 use Rattle.session_file.proofs.FileLaws.{front_again, file_is_longer, file_breaks}
 use Rattle.audit_graph.specs.declared.fault.AuditFault.TheVariants as faults
 use Rattle.audit_replay.specs.Sums.{ReadFails, CountsFault, file_fault}
 
 -- a file behind which the feed is at its end
-module _ (old now new : List ℕ → Type 0) (s : SessionValue) (given : Given old now (file_of s)) where
+module _ (past : Option SessionValue) (old now new : List ℕ → Type 0) (s : SessionValue) (given : Given old now (file_of s)) where
   pub given_whole : ((bytes : List ℕ) → now bytes → (bytes ≡ []) × new bytes) → Given old new (file_of s)
   given_whole end = record {
     left = λ bytes h.
@@ -25,29 +25,30 @@ module _ (old now new : List ℕ → Type 0) (s : SessionValue) (given : Given o
       l.whole ∙ (ap (λ (rest : List ℕ). file_of s ++ rest) (end l.rest l.holds).0 ∙ append-nil (file_of s))
 
   -- a byte behind it
-  pub is_trailing : IsSession s → ((bytes : List ℕ) → now bytes → bytes ≢ []) → (k : ℕ) (bytes : List ℕ) → old bytes → ReadFails k bytes (faults.File k Trailing)
-  is_trailing session some k bytes h =
+  pub is_trailing : IsSession s → IsTakenFrom past s → ((bytes : List ℕ) → now bytes → bytes ≢ []) → (k : ℕ) (bytes : List ℕ) → old bytes → ReadFails past k bytes (faults.File k Trailing)
+  is_trailing session taken some k bytes h =
       let l = given.left bytes h in
-      inr (refl, file_is_longer bytes s l.rest (ap front_at l.whole ∙ front_again s l.rest session) (longer l.rest (some l.rest l.holds)))
+      inr (refl, file_is_longer past bytes s l.rest (ap (front_after past) l.whole ∙ front_again past s l.rest session taken) (longer l.rest (some l.rest l.holds)))
     where
       longer : (rest : List ℕ) → rest ≢ [] → 0 < length rest
       longer [] not = absurd (not refl)
       longer (x ∷ xs) not = omega arith
 
-pub file_fails : (k : ℕ) (bytes : List ℕ) (fault : FileFault) → IsUnlessStopped {A = SessionValue} (Err fault) (session_at bytes) → ReadFails k bytes (file_fault k fault)
-file_fails k bytes BadMagic e = inr (refl, file_breaks bytes BadMagic (sym e))
-file_fails k bytes Version e = inr (refl, file_breaks bytes Version (sym e))
-file_fails k bytes Truncated e = inr (refl, file_breaks bytes Truncated (sym e))
-file_fails k bytes BadDigest e = inr (refl, file_breaks bytes BadDigest (sym e))
-file_fails k bytes (KeyOrder i) e = inr (refl, file_breaks bytes (KeyOrder i) (sym e))
-file_fails k bytes (BadEdge i j) e = inr (refl, file_breaks bytes (BadEdge i j) (sym e))
-file_fails k bytes (BadResult i) e = inr (refl, file_breaks bytes (BadResult i) (sym e))
-file_fails k bytes (InputKind i) e = inr (refl, file_breaks bytes (InputKind i) (sym e))
-file_fails k bytes Trailing e = inr (refl, file_breaks bytes Trailing (sym e))
-file_fails k bytes Device e = inl (record { is = refl })
-file_fails k bytes (BadKey i) e = inr (refl, file_breaks bytes (BadKey i) (sym e))
-file_fails k bytes Number e = inr (refl, file_breaks bytes Number (sym e))
-file_fails k bytes OutOfMemory e = inr tt
+pub file_fails : (past : Option SessionValue) (k : ℕ) (bytes : List ℕ) (fault : FileFault) → IsUnlessStopped {A = SessionValue} (Err fault) (session_after past bytes) → ReadFails past k bytes (file_fault k fault)
+file_fails past k bytes BadMagic e = inr (refl, file_breaks past bytes BadMagic (sym e))
+file_fails past k bytes Version e = inr (refl, file_breaks past bytes Version (sym e))
+file_fails past k bytes Truncated e = inr (refl, file_breaks past bytes Truncated (sym e))
+file_fails past k bytes BadDigest e = inr (refl, file_breaks past bytes BadDigest (sym e))
+file_fails past k bytes (KeyOrder i) e = inr (refl, file_breaks past bytes (KeyOrder i) (sym e))
+file_fails past k bytes (BadEdge i j) e = inr (refl, file_breaks past bytes (BadEdge i j) (sym e))
+file_fails past k bytes (BadResult i) e = inr (refl, file_breaks past bytes (BadResult i) (sym e))
+file_fails past k bytes (InputKind i) e = inr (refl, file_breaks past bytes (InputKind i) (sym e))
+file_fails past k bytes Trailing e = inr (refl, file_breaks past bytes Trailing (sym e))
+file_fails past k bytes Device e = inl (record { is = refl })
+file_fails past k bytes (BadKey i) e = inr (refl, file_breaks past bytes (BadKey i) (sym e))
+file_fails past k bytes Number e = inr (refl, file_breaks past bytes Number (sym e))
+file_fails past k bytes (NoPastResult i) e = inr (refl, file_breaks past bytes (NoPastResult i) (sym e))
+file_fails past k bytes OutOfMemory e = inr tt
 
 pub file_counts : (k : ℕ) (fault : FileFault) (old new : ℕ) → CountsIf (is_device fault) old new → CountsFault (file_fault k fault) old new
 file_counts k OutOfMemory old new c = c

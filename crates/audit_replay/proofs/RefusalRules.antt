@@ -9,8 +9,8 @@ use Rattle.std.proofs.lemmas.Option.{slice_get_within, get_or_from_slice_get}
 use Rattle.item_ids.specs.declared.key.Key.{Key}
 use Rattle.item_ids.specs.Keys.{key_cmp}
 use Rattle.recorder.specs.Projects.{Project}
-use Rattle.recorder.specs.Backed.{Meaning, ReadLists, RunnerLaws, ReadValue, rank, keys, Gives, GivesEach}
-use Rattle.sessions.specs.Sessions.{SessionValue, IsSession, Entry, entry_of, entry_at, past_entry}
+use Rattle.recorder.specs.Backed.{Meaning, ReadLists, Queries, AreLawful, ReadValue, rank, keys, Gives, GivesEach}
+use Rattle.sessions.specs.Sessions.{SessionValue, IsSession, Entry, entry_of, entry_at}
 use Rattle.sessions.specs.Spelling.{file_of}
 use Rattle.sessions.proofs.EntryRules.{entry_of_place, has_key}
 use Rattle.mj_project.specs.Projects.{IsProject}
@@ -94,16 +94,16 @@ module _ (mean : Meaning) (reads : ReadLists) (now : Past) (p : Project) (projec
 
 -- ---- a chain
 
-module _ (mean : Meaning) (reads : ReadLists) (laws : RunnerLaws mean reads) (lesser : (a b : Key) → rank a < rank b → key_cmp a b ≡ Less) (lower : (k : Key) → AreWithLower (is_before k)) where
-  first_wrong : (front : List SessionValue) (s : SessionValue) → AllByRecursion IsSession front → IsSession s → ArePassed mean reads None 0 front
-      → IsSessionStep (last_of None front) (length front) s → (n : ℕ) (why : Mismatch) → (why ≢ OutOfMemory) → IsFirstMismatch mean reads s n why
-      → AreApart (front ++ s ∷ []) → AreRight mean reads None front × IsFirstWrong mean reads (past_entry (last_of None front)) s n
+module _ (queries : Queries) (laws : AreLawful queries) (lesser : (a b : Key) → rank a < rank b → key_cmp a b ≡ Less) (lower : (k : Key) → AreWithLower (is_before k)) where
+  first_wrong : (front : List SessionValue) (s : SessionValue) → AllByRecursion IsSession front → IsSession s → ArePassed queries None 0 front
+      → IsSessionStep queries.by_profile (last_of None front) (length front) s → (n : ℕ) (why : Mismatch) → (why ≢ OutOfMemory) → IsFirstMismatch (queries.mean s.terms.profile) (queries.reads s.terms.profile) s n why
+      → AreApart (front ++ s ∷ []) → AreRight queries None front × IsFirstWrong queries (last_of None front) s n
   first_wrong front s each session passed step n why other first apart =
       let all = front ++ s ∷ [] in
       let by_print = one_by_print all (all_last IsSession front s each session) apart in
-      let sound = front_right mean reads laws all by_print front (λ t c. contains_front front (s ∷ []) t c) each passed in
+      let sound = front_right queries laws all by_print front (λ t c. contains_front front (s ∷ []) t c) each passed in
       let p = step.sources.0 in
-      let before = before_means mean reads laws all by_print (last_of None front) sound.1 (length front) s (contains_last front s) session step p step.sources.1
+      let before = before_means queries laws all by_print (last_of None front) sound.1 (length front) s (contains_last front s) session step p step.sources.1
       first.item.key (lower first.item.key) first.before in
       let within = slice_get_within s.records n first.item first.here in
       let has = entry_of_place s session n first.item within (get_or_from_slice_get s.records n first.item first.item first.here) in
@@ -119,11 +119,11 @@ module _ (mean : Meaning) (reads : ReadLists) (laws : RunnerLaws mean reads) (le
               let key = has_key s session q x is in
               let means = before q x b is in
               record {
-                value = means.0 ∙ ap (λ (e : Key). mean p e) (sym key);
-                edges = means.1 ∙ ap (λ (e : Key). reads p e) (sym key);
+                value = means.0 ∙ ap (λ (e : Key). queries.mean s.terms.profile p e) (sym key);
+                edges = means.1 ∙ ap (λ (e : Key). queries.reads s.terms.profile p e) (sym key);
                 green = step.greens q x is;
               };
-          wrong = differs mean reads (entry_at s) p step.sources.1.project r
+          wrong = differs (queries.mean s.terms.profile) (queries.reads s.terms.profile) (entry_at s) p step.sources.1.project r
               (λ e x c is. (before e x (ap is_lt (lesser e first.item.key (all_at (λ k. rank k < rank first.item.key) r.reads below e c))) is).0)
               why other first.differs;
         },
@@ -132,8 +132,8 @@ module _ (mean : Meaning) (reads : ReadLists) (laws : RunnerLaws mean reads) (le
   -- file k is refused for its record n
   module _ (files : List (List ℕ)) (old new : List Key) (k n : ℕ) (why : Mismatch) (other : why ≢ OutOfMemory) where
     refused_at : (front : List SessionValue) (s : SessionValue) (bytes : List ℕ) (rest : List (List ℕ)) → file_of s ≡ bytes → map file_of front ++ bytes ∷ rest ≡ files
-        → AllByRecursion IsSession front → IsSession s → ArePassed mean reads None 0 front → IsSessionStep (last_of None front) (length front) s
-        → k ≡ length front → IsFirstMismatch mean reads s n why → HasFirstWrong mean reads files k n
+        → AllByRecursion IsSession front → IsSession s → ArePassed queries None 0 front → IsSessionStep queries.by_profile (last_of None front) (length front) s
+        → k ≡ length front → IsFirstMismatch (queries.mean s.terms.profile) (queries.reads s.terms.profile) s n why → HasFirstWrong queries files k n
     refused_at front s bytes rest spells spelled each session passed step is first = record {
       front = front;
       session = s;
@@ -143,23 +143,23 @@ module _ (mean : Meaning) (reads : ReadLists) (laws : RunnerLaws mean reads) (le
       each = each;
       is = session;
       passed = passed;
-      step = subst (λ (m : ℕ). IsSessionStep (last_of None front) m s) (sym is) step;
+      step = subst (λ (m : ℕ). IsSessionStep queries.by_profile (last_of None front) m s) (sym is) step;
       wrong = first_wrong front s each session passed step n why other first;
     }
 
-  pub other_read : (files : List (List ℕ)) (old new : List Key) (k n i : ℕ) → IsRefusedBehind mean reads files old new (faults.OtherRead k n i) → HasFirstWrong mean reads files k n
+  pub other_read : (files : List (List ℕ)) (old new : List Key) (k n i : ℕ) → IsRefusedBehind queries files old new (faults.OtherRead k n i) → HasFirstWrong queries files k n
   other_read files old new k n i h = elim h.refused.2 [
     | inl none ↦ absurd none
     | inr x ↦ refused_at files old new k n (OtherRead i) (λ e. absurd (cc)) h.front h.refused.0 h.file_bytes h.rest h.refused.1.spelled h.spelled h.each h.refused.1.session h.passed x.0 x.1.0 x.1.1
   ]
 
-  pub unread_edges : (files : List (List ℕ)) (old new : List Key) (k n : ℕ) → IsRefusedBehind mean reads files old new (faults.UnreadEdges k n) → HasFirstWrong mean reads files k n
+  pub unread_edges : (files : List (List ℕ)) (old new : List Key) (k n : ℕ) → IsRefusedBehind queries files old new (faults.UnreadEdges k n) → HasFirstWrong queries files k n
   unread_edges files old new k n h = elim h.refused.2 [
     | inl none ↦ absurd none
     | inr x ↦ refused_at files old new k n UnreadEdges (λ e. absurd (cc)) h.front h.refused.0 h.file_bytes h.rest h.refused.1.spelled h.spelled h.each h.refused.1.session h.passed x.0 x.1.0 x.1.1
   ]
 
-  pub other_result : (files : List (List ℕ)) (old new : List Key) (k n : ℕ) → IsRefusedBehind mean reads files old new (faults.OtherResult k n) → HasFirstWrong mean reads files k n
+  pub other_result : (files : List (List ℕ)) (old new : List Key) (k n : ℕ) → IsRefusedBehind queries files old new (faults.OtherResult k n) → HasFirstWrong queries files k n
   other_result files old new k n h = elim h.refused.2 [
     | inl none ↦ absurd none
     | inr x ↦ refused_at files old new k n OtherResult (λ e. absurd (cc)) h.front h.refused.0 h.file_bytes h.rest h.refused.1.spelled h.spelled h.each h.refused.1.session h.passed x.0 x.1.0 x.1.1

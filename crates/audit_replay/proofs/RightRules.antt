@@ -3,18 +3,19 @@ use Rattle.std.proofs.Common.{◌≡◌, inl, inr, ℕ, ◌+◌, List, [], ◌�
 use Rattle.std.specs.Prelude.{◌≢◌}
 use Rattle.std.specs.List.{AllByRecursion}
 use Rattle.std.proofs.lemmas.Option.{none-some, slice_get_within, get_or_from_slice_get}
+use Rattle.profiles.specs.declared.profile.Profile.{Profile}
 use Rattle.item_ids.specs.declared.key.Key.{Key}
 use Rattle.item_ids.specs.declared.key.Key.TheVariants.{Answer}
 use Rattle.result_bytes.specs.declared.value.Value.{Value}
 use Rattle.recorder.specs.Projects.{Project}
-use Rattle.recorder.specs.Backed.{Meaning, ReadLists}
-use Rattle.sessions.specs.Sessions.{SessionValue, IsSession, entry_of, entries, entry_at, past_entry}
+use Rattle.recorder.specs.Backed.{Meaning, ReadLists, Queries}
+use Rattle.sessions.specs.Sessions.{SessionValue, IsSession, IsTakenFrom, AreTaken, entry_of, entries, entry_at}
 use Rattle.sessions.specs.Spelling.{file_of}
 use Rattle.sessions.proofs.EntryRules.{entry_of_place}
-use Rattle.session_file.specs.Reading.{file_at}
-use Rattle.graph_rules.specs.Next.{AreSources, IsRight}
+use Rattle.session_file.specs.Reading.{file_after}
+use Rattle.graph_rules.specs.Next.{AreSources, IsRightAfter}
 use Rattle.audit_graph.specs.Chains.{IsLinked, AreLinked}
-use Rattle.audit_graph.specs.Steps.{IsFirstLack, CheckStepGives}
+use Rattle.audit_graph.specs.Steps.{IsFirstLack, CheckStepGives, setting_behind}
 use Rattle.audit_graph.specs.declared.greens.Lack.{Lack}
 use Rattle.audit_graph.specs.declared.fault.AuditFault.{AuditFault}
 use Rattle.audit_graph.specs.declared.fault.AuditFault.TheVariants as faults
@@ -25,21 +26,28 @@ use Rattle.audit_replay.specs.Passes.{RunsWithin, SessionRefuses, FileRefuses}
 use Rattle.audit_replay.specs.Audits.{AreRight, AreApart, IsAccepted, IsRefusedBehind, AuditRefuses, last_of, last_entry}
 use Rattle.audit_replay.specs.RightChains.{IsRightChain}
 use Rattle.audit_replay.proofs.Lists.{contains_there}
+use Rattle.audit_replay.proofs.FileRules.{linked_taken, passed_taken}
 use Rattle.audit_replay.proofs.SessionFiles.{file_again, one_session, same_sessions}
 use Rattle.audit_replay.proofs.SourceFaults.{told_of_entry, not_missing, not_stray}
 use Rattle.audit_replay.proofs.RefusalRules.{differs}
 
-module _ (mean : Meaning) (reads : ReadLists) (past : Option SessionValue) (k : ℕ) (s : SessionValue) (session : IsSession s) (linked : IsLinked past k s)
-    (right : IsRight mean reads (past_entry past) (entry_at s)) where
+module _ (queries : Queries) (past : Option SessionValue) (k : ℕ) (s : SessionValue) (session : IsSession s) (linked : IsLinked past k s)
+    (right : IsRightAfter queries past s) where
+  abbrev mean : Meaning
+  mean = queries.mean s.terms.profile
+
+  abbrev reads : ReadLists
+  reads = queries.reads s.terms.profile
+
   abbrev sources : AreSources (entry_at s) right.project
   sources = right.of_project.sources
 
-  not_lack : (n : ℕ) (why : Lack) → IsFirstLack past s n why → ⊥
+  not_lack : (n : ℕ) (why : Lack) → IsFirstLack (setting_behind queries.by_profile past s) s n why → ⊥
   not_lack n why m =
       let c = contains_there (entries s) n m.first.item m.first.here in
       m.first.lacks (right.greens m.first.item.key m.first.item (told_of_entry s session m.first.item c))
 
-  not_step : (fault : AuditFault) → CheckStepGives past k s (Err fault) → fault ≡ faults.OutOfMemory
+  not_step : (fault : AuditFault) → CheckStepGives queries.by_profile past k s (Err fault) → fault ≡ faults.OutOfMemory
   not_step faults.EmptyChain g = absurd g
   not_step (faults.File j f) g = absurd g
   not_step (faults.BrokenLink j) g = absurd (g.1 linked)
@@ -47,6 +55,7 @@ module _ (mean : Meaning) (reads : ReadLists) (past : Option SessionValue) (k : 
   not_step (faults.MissingSource j f) g = absurd (not_missing s session right.project sources f g.2)
   not_step (faults.StraySource j n) g = absurd (not_stray s session right.project sources n g.2)
   not_step (faults.GreenWithoutPast j n) g = absurd (not_lack n _ g.1.first)
+  not_step (faults.GreenAcrossProfiles j n) g = absurd (not_lack n _ g.1.first)
   not_step (faults.OtherEdges j n) g = absurd (not_lack n _ g.1.first)
   not_step (faults.GreenOverRed j n i) g = absurd (not_lack n _ g.1.first)
   not_step (faults.GreenPrint j n) g = absurd (not_lack n _ g.1.first)
@@ -73,6 +82,7 @@ module _ (mean : Meaning) (reads : ReadLists) (past : Option SessionValue) (k : 
   not_plan (faults.MissingSource j f) g = absurd g
   not_plan (faults.StraySource j n) g = absurd g
   not_plan (faults.GreenWithoutPast j n) g = absurd g
+  not_plan (faults.GreenAcrossProfiles j n) g = absurd g
   not_plan (faults.OtherEdges j n) g = absurd g
   not_plan (faults.GreenOverRed j n i) g = absurd g
   not_plan (faults.GreenPrint j n) g = absurd g
@@ -83,21 +93,21 @@ module _ (mean : Meaning) (reads : ReadLists) (past : Option SessionValue) (k : 
   not_plan faults.SourcesDiffer g = absurd g
   not_plan faults.OutOfMemory g = refl
 
-  not_session : (fault : AuditFault) → SessionRefuses mean reads past k s fault → fault ≡ faults.OutOfMemory
+  not_session : (fault : AuditFault) → SessionRefuses queries past k s fault → fault ≡ faults.OutOfMemory
   not_session fault (inl g) = not_step fault g
   not_session fault (inr g) = not_plan fault g.1
 
 -- ---- files
 
-module _ (mean : Meaning) (reads : ReadLists) (past : Option SessionValue) (k : ℕ) (s : SessionValue) (session : IsSession s) (linked : IsLinked past k s)
-    (right : IsRight mean reads (past_entry past) (entry_at s)) (file : List ℕ) (spelled : file_of s ≡ file) (old new : List Key) where
-  some_session : (fault : AuditFault) → (t : SessionValue) × RunsWithin file old new t × SessionRefuses mean reads past k t fault → fault ≡ faults.OutOfMemory
+module _ (queries : Queries) (past : Option SessionValue) (k : ℕ) (s : SessionValue) (session : IsSession s) (linked : IsLinked past k s)
+    (right : IsRightAfter queries past s) (taken : IsTakenFrom past s) (file : List ℕ) (spelled : file_of s ≡ file) (old new : List Key) where
+  some_session : (fault : AuditFault) → (t : SessionValue) × RunsWithin past file old new t × SessionRefuses queries past k t fault → fault ≡ faults.OutOfMemory
   some_session fault g =
-      let same : g.0 ≡ s = one_session g.0 s g.1.session session (g.1.spelled ∙ sym spelled) in
-      not_session mean reads past k s session linked right fault (subst (λ (x : SessionValue). SessionRefuses mean reads past k x fault) same g.2)
+      let same : g.0 ≡ s = one_session past g.0 s g.1.session session g.1.taken taken (g.1.spelled ∙ sym spelled) in
+      not_session queries past k s session linked right fault (subst (λ (x : SessionValue). SessionRefuses queries past k x fault) same g.2)
 
-  not_file : (fault : AuditFault) → FileRefuses mean reads past k file old new fault → fault ≡ faults.OutOfMemory
-  not_file (faults.File j f) g = absurd (let o : Ok s ≡ Err f = sym (file_again s session) ∙ (ap file_at spelled ∙ g.1) in cc)
+  not_file : (fault : AuditFault) → FileRefuses queries past k file old new fault → fault ≡ faults.OutOfMemory
+  not_file (faults.File j f) g = absurd (let o : Ok s ≡ Err f = sym (file_again past s session taken) ∙ (ap (file_after past) spelled ∙ g.1) in cc)
   not_file faults.OutOfMemory g = refl
   not_file faults.EmptyChain g = some_session faults.EmptyChain g
   not_file (faults.BrokenLink j) g = some_session (faults.BrokenLink j) g
@@ -105,6 +115,7 @@ module _ (mean : Meaning) (reads : ReadLists) (past : Option SessionValue) (k : 
   not_file (faults.MissingSource j f) g = some_session (faults.MissingSource j f) g
   not_file (faults.StraySource j n) g = some_session (faults.StraySource j n) g
   not_file (faults.GreenWithoutPast j n) g = some_session (faults.GreenWithoutPast j n) g
+  not_file (faults.GreenAcrossProfiles j n) g = some_session (faults.GreenAcrossProfiles j n) g
   not_file (faults.OtherEdges j n) g = some_session (faults.OtherEdges j n) g
   not_file (faults.GreenOverRed j n i) g = some_session (faults.GreenOverRed j n i) g
   not_file (faults.GreenPrint j n) g = some_session (faults.GreenPrint j n) g
@@ -116,47 +127,48 @@ module _ (mean : Meaning) (reads : ReadLists) (past : Option SessionValue) (k : 
 
 -- ---- chains
 
-module _ (mean : Meaning) (reads : ReadLists) where
+module _ (queries : Queries) where
   -- the file behind the first ones is that of a session which is linked to the last of those and right over it
   pub record IsRightBehind (past : Option SessionValue) (k : ℕ) (bytes : List ℕ) : Type 0 where
     pub session : SessionValue
     pub is : IsSession session
     pub spelled : file_of session ≡ bytes
     pub linked : IsLinked past k session
-    pub right : IsRight mean reads (past_entry past) (entry_at session)
+    pub taken : IsTakenFrom past session
+    pub right : IsRightAfter queries past session
 
   behind : (front : List SessionValue) (bytes : List ℕ) (rest : List (List ℕ)) (ss : List SessionValue) (past : Option SessionValue) (k n : ℕ) → n ≡ k + length front
-      → map file_of front ++ bytes ∷ rest ≡ map file_of ss → AllByRecursion IsSession front → AllByRecursion IsSession ss → AreLinked past k ss → AreRight mean reads past ss
+      → map file_of front ++ bytes ∷ rest ≡ map file_of ss → AllByRecursion IsSession front → AllByRecursion IsSession ss → AreTaken past front → AreLinked past k ss → AreRight queries past ss
       → IsRightBehind (last_of past front) n bytes
-  behind [] bytes rest [] past k n many e ia ib linked right = absurd (let h : (bytes ∷ rest) ≡ [] = e in cc)
-  behind [] bytes rest (s ∷ ss) past k n many e ia ib linked right =
+  behind [] bytes rest [] past k n many e ia ib taken linked right = absurd (let h : (bytes ∷ rest) ≡ [] = e in cc)
+  behind [] bytes rest (s ∷ ss) past k n many e ia ib taken linked right =
       let h : (bytes ∷ rest) ≡ (file_of s ∷ map file_of ss) = e in
       let same : k ≡ n = omega (arith, many) in
-      record { session = s; is = ib.0; spelled = cc; linked = subst (λ m. IsLinked past m s) same linked.0; right = right.0 }
-  behind (t ∷ ts) bytes rest [] past k n many e ia ib linked right = absurd (let h : (file_of t ∷ (map file_of ts ++ bytes ∷ rest)) ≡ [] = e in cc)
-  behind (t ∷ ts) bytes rest (s ∷ ss) past k n many e ia ib linked right =
+      record { session = s; is = ib.0; spelled = cc; linked = subst (λ m. IsLinked past m s) same linked.0; taken = linked.1; right = right.0 }
+  behind (t ∷ ts) bytes rest [] past k n many e ia ib taken linked right = absurd (let h : (file_of t ∷ (map file_of ts ++ bytes ∷ rest)) ≡ [] = e in cc)
+  behind (t ∷ ts) bytes rest (s ∷ ss) past k n many e ia ib taken linked right =
       let h : (file_of t ∷ (map file_of ts ++ bytes ∷ rest)) ≡ (file_of s ∷ map file_of ss) = e in
       let first : file_of s ≡ file_of t = cc in
       let later : map file_of ts ++ bytes ∷ rest ≡ map file_of ss = cc in
-      let same : s ≡ t = one_session s t ib.0 ia.0 first in
+      let same : s ≡ t = one_session past s t ib.0 ia.0 linked.1 taken.0 first in
       let next : n ≡ k + 1 + length ts = omega (arith, many) in
-      subst (λ (x : SessionValue). IsRightBehind (last_of (Some x) ts) n bytes) same (behind ts bytes rest ss (Some s) (k + 1) n next later ia.1 ib.1 linked.1 right.1)
+      subst (λ (x : SessionValue). IsRightBehind (last_of (Some x) ts) n bytes) same (behind ts bytes rest ss (Some s) (k + 1) n next later ia.1 ib.1 (subst (λ (x : SessionValue). AreTaken (Some x) ts) (sym same) taken.1) linked.2 right.1)
 
-  module _ (sessions : List SessionValue) (chain : IsRightChain mean reads sessions) (files : List (List ℕ)) (spelled : map file_of sessions ≡ files) (old new : List Key) where
-    refused_behind : (fault : AuditFault) → IsRefusedBehind mean reads files old new fault → fault ≡ faults.OutOfMemory
+  module _ (sessions : List SessionValue) (chain : IsRightChain queries sessions) (files : List (List ℕ)) (spelled : map file_of sessions ≡ files) (old new : List Key) where
+    refused_behind : (fault : AuditFault) → IsRefusedBehind queries files old new fault → fault ≡ faults.OutOfMemory
     refused_behind fault r =
         let n = length r.front in
-        let b = behind r.front r.file_bytes r.rest sessions None 0 n (omega arith) (r.spelled ∙ sym spelled) r.each chain.each chain.chain chain.right in
-        not_file mean reads (last_of None r.front) n b.session b.is b.linked b.right r.file_bytes b.spelled _ new fault r.refused
+        let b = behind r.front r.file_bytes r.rest sessions None 0 n (omega arith) (r.spelled ∙ sym spelled) r.each chain.each (passed_taken queries None 0 r.front r.passed) chain.chain chain.right in
+        not_file queries (last_of None r.front) n b.session b.is b.linked b.right b.taken r.file_bytes b.spelled _ new fault r.refused
 
     none_files : (ss : List SessionValue) → (last_entry ss Answer ≢ None) → map file_of ss ≡ [] → ⊥
     none_files [] answered e = answered refl
     none_files (s ∷ ss) answered e = absurd (let h : (file_of s ∷ map file_of ss) ≡ [] = e in cc)
 
-    pub refused : (fault : AuditFault) → AuditRefuses mean reads files old new fault → fault ≡ faults.OutOfMemory
+    pub refused : (fault : AuditFault) → AuditRefuses queries files old new fault → fault ≡ faults.OutOfMemory
     refused faults.EmptyChain r = absurd (none_files sessions chain.answered (spelled ∙ r.0))
     refused faults.NoAnswer r =
-        let same : r.1.sessions ≡ sessions = same_sessions r.1.sessions sessions r.1.passed.each chain.each (r.1.passed.spelled ∙ sym spelled) in
+        let same : r.1.sessions ≡ sessions = same_sessions None r.1.sessions sessions r.1.passed.each chain.each (passed_taken queries None 0 r.1.sessions r.1.passed.passed) (linked_taken None 0 sessions chain.chain) (r.1.passed.spelled ∙ sym spelled) in
         absurd (chain.answered (subst (λ (ss : List SessionValue). last_entry ss Answer ≡ None) same r.1.holds))
     refused faults.SourcesDiffer r = absurd r
     refused faults.OutOfMemory r = refl
@@ -166,6 +178,7 @@ module _ (mean : Meaning) (reads : ReadLists) where
     refused (faults.MissingSource j f) r = refused_behind (faults.MissingSource j f) r
     refused (faults.StraySource j n) r = refused_behind (faults.StraySource j n) r
     refused (faults.GreenWithoutPast j n) r = refused_behind (faults.GreenWithoutPast j n) r
+    refused (faults.GreenAcrossProfiles j n) r = refused_behind (faults.GreenAcrossProfiles j n) r
     refused (faults.OtherEdges j n) r = refused_behind (faults.OtherEdges j n) r
     refused (faults.GreenOverRed j n i) r = refused_behind (faults.GreenOverRed j n i) r
     refused (faults.GreenPrint j n) r = refused_behind (faults.GreenPrint j n) r
@@ -174,9 +187,9 @@ module _ (mean : Meaning) (reads : ReadLists) where
     refused (faults.OtherResult j n) r = refused_behind (faults.OtherResult j n) r
 
 -- an accepted chain
-pub accepted_right : (mean : Meaning) (reads : ReadLists) (files : List (List ℕ)) (old new : List Key) (project : Project) (answer : Value) (count runs : ℕ)
-    → (a : IsAccepted mean reads files old new project answer count runs) → AreApart a.sessions → IsRightChain mean reads a.sessions
-accepted_right mean reads files old new project answer count runs a apart = record {
+pub accepted_right : (queries : Queries) (files : List (List ℕ)) (old new : List Key) (profile : Profile) (project : Project) (answer : Value) (count runs : ℕ)
+    → (a : IsAccepted queries files old new profile project answer count runs) → AreApart a.sessions → IsRightChain queries a.sessions
+accepted_right queries files old new profile project answer count runs a apart = record {
   each = a.passed.each;
   chain = a.chain;
   right = a.right apart;

@@ -6,12 +6,12 @@ use Rattle.std.proofs.lemmas.List.{length-map}
 use Rattle.std.proofs.lemmas.List.Elements.{Contains-push}
 use Rattle.std.proofs.Math.ListN.{get_or-append}
 use Rattle.item_ids.specs.declared.key.Key.{Key}
-use Rattle.recorder.specs.Backed.{Meaning, ReadLists, RunnerLaws}
+use Rattle.recorder.specs.Backed.{Queries, AreLawful}
 use Rattle.recorder.proofs.Recorded.{all_last}
-use Rattle.sessions.specs.Sessions.{SessionValue, IsSession, key_at, entry_at, past_entry}
+use Rattle.sessions.specs.Sessions.{SessionValue, IsSession, IsTakenFrom, key_at}
 use Rattle.sessions.specs.Spelling.{file_of}
 use Rattle.session_file.specs.Feeding.{Given}
-use Rattle.graph_rules.specs.Next.{IsRight}
+use Rattle.graph_rules.specs.Next.{IsRightAfter}
 use Rattle.audit_graph.specs.Chains.{IsLinked, AreLinked}
 use Rattle.audit_graph.specs.Plans.{executed_in}
 use Rattle.audit_graph.specs.Kept.{ArePastOf}
@@ -37,7 +37,17 @@ past_kept (Some l) (Some s) i = i.past
 past_kept None (Some s) i = absurd i
 past_kept (Some l) None i = absurd i
 
+pub session_kept : (last : Option Last) (s : Option SessionValue) → IsLast last s → option_map (λ (l : Last). l.session) last ≡ s
+session_kept None None i = refl
+session_kept (Some l) (Some s) i = ap Some i.session
+session_kept None (Some s) i = absurd i
+session_kept (Some l) None i = absurd i
+
 -- ---- one more session
+
+-- a log that grew by all executed keys grew by a beginning of them
+pub runs_all : (s : SessionValue) (old new : List Key) → new ≡ old ++ executed_keys s → GrowsWithin (executed_keys s) old new
+runs_all s old new log = record { front = executed_keys s; grown = log; begins = ([], append-nil (executed_keys s)) }
 
 -- all executed records can be counted
 few_runs : (ss : List SessionValue) → AllByRecursion IsSession ss → length (all_executed_keys ss) ≤ length ss * 18446744073709551615
@@ -48,38 +58,38 @@ few_runs (s ∷ ss) each =
     let both = length-append (executed_keys s) (all_executed_keys ss) in
     omega (arith, one, rest, both)
 
-linked_more : (past : Option SessionValue) (k n : ℕ) (ss : List SessionValue) (s : SessionValue) → n ≡ k + length ss → AreLinked past k ss → IsLinked (last_of past ss) n s → AreLinked past k (ss ++ s ∷ [])
-linked_more past k n [] s is a l = let e : n ≡ k = omega (arith, is) in (subst (λ (m : ℕ). IsLinked past m s) e l, tt)
-linked_more past k n (t ∷ ts) s is a l = let e : n ≡ k + 1 + length ts = omega (arith, is) in (a.0, linked_more (Some t) (k + 1) n ts s e a.1 l)
+linked_more : (past : Option SessionValue) (k n : ℕ) (ss : List SessionValue) (s : SessionValue) → n ≡ k + length ss → AreLinked past k ss → IsLinked (last_of past ss) n s → IsTakenFrom (last_of past ss) s → AreLinked past k (ss ++ s ∷ [])
+linked_more past k n [] s is a l t = let e : n ≡ k = omega (arith, is) in (subst (λ (m : ℕ). IsLinked past m s) e l, t, tt)
+linked_more past k n (t ∷ ts) s is a l taken = let e : n ≡ k + 1 + length ts = omega (arith, is) in (a.0, a.1, linked_more (Some t) (k + 1) n ts s e a.2 l taken)
 
-right_more : (mean : Meaning) (reads : ReadLists) (past : Option SessionValue) (ss : List SessionValue) (s : SessionValue) → AreRight mean reads past ss → IsRight mean reads (past_entry (last_of past ss)) (entry_at s) → AreRight mean reads past (ss ++ s ∷ [])
-right_more mean reads past [] s a r = (r, tt)
-right_more mean reads past (t ∷ ts) s a r = (a.0, right_more mean reads (Some t) ts s a.1 r)
+right_more : (queries : Queries) (past : Option SessionValue) (ss : List SessionValue) (s : SessionValue) → AreRight queries past ss → IsRightAfter queries (last_of past ss) s → AreRight queries past (ss ++ s ∷ [])
+right_more queries past [] s a r = (r, tt)
+right_more queries past (t ∷ ts) s a r = (a.0, right_more queries (Some t) ts s a.1 r)
 
 front_in : (ss : List SessionValue) (s t : SessionValue) → Contains ss t → Contains (ss ++ s ∷ []) t
 front_in ss s t c = (c.0, omega (arith, c.1, length-append ss (s ∷ [])), get_or-append ss (s ∷ []) t c.0 c.1 ∙ c.2)
 
-chain_more : (mean : Meaning) (reads : ReadLists) → RunnerLaws mean reads → (ss : List SessionValue) (s : SessionValue) → AreRightInChain mean reads ss → IsSession s → Passes mean reads (last_of None ss) (length ss) s → AreApart (ss ++ s ∷ [])
-    → AreRightInChain mean reads (ss ++ s ∷ [])
-chain_more mean reads laws ss s c session p apart = record {
+chain_more : (queries : Queries) → AreLawful queries → (ss : List SessionValue) (s : SessionValue) → AreRightInChain queries ss → IsSession s → Passes queries (last_of None ss) (length ss) s → AreApart (ss ++ s ∷ [])
+    → AreRightInChain queries (ss ++ s ∷ [])
+chain_more queries laws ss s c session p apart = record {
   each = all_last IsSession ss s c.each session;
-  chain = linked_more None 0 (length ss) ss s (omega arith) c.chain p.step.linked;
-  right = right_more mean reads None ss s c.right
-      (right_behind mean reads laws (ss ++ s ∷ []) (one_by_print (ss ++ s ∷ []) (all_last IsSession ss s c.each session) apart) ss s (front_in ss s) (Contains-push ss s) c.each c.right (length ss) session p);
+  chain = linked_more None 0 (length ss) ss s (omega arith) c.chain p.step.linked p.taken;
+  right = right_more queries None ss s c.right
+      (right_behind queries laws (ss ++ s ∷ []) (one_by_print (ss ++ s ∷ []) (all_last IsSession ss s c.each session) apart) ss s (front_in ss s) (Contains-push ss s) c.each c.right (length ss) session p);
 }
 
-module _ (mean : Meaning) (reads : ReadLists) (laws : RunnerLaws mean reads) (old new : Sum) (s : SessionValue) (session : IsSession s) (runs : ℕ)
-    (gives : (was : Option SessionValue) → ArePastOf (option_map (λ (l : Last). l.past) old.last) was → SessionGives mean reads was old.count s (Ok runs)) where
-  gives_behind : (ss : List SessionValue) → IsSumOf old ss → SessionGives mean reads (last_of None ss) old.count s (Ok runs)
-  gives_behind ss a = gives (last_of None ss) (past_kept old.last (last_of None ss) a.last)
+module _ (queries : Queries) (laws : AreLawful queries) (old new : Sum) (s : SessionValue) (session : IsSession s) (taken : IsTakenFrom (option_map (λ (l : Last). l.session) old.last) s) (runs : ℕ)
+    (gives : (was : Option SessionValue) → ArePastOf (option_map (λ (l : Last). l.past) old.last) was → IsTakenFrom was s → SessionGives queries was old.count s (Ok runs)) where
+  gives_behind : (ss : List SessionValue) → IsSumOf old ss → SessionGives queries (last_of None ss) old.count s (Ok runs)
+  gives_behind ss a = gives (last_of None ss) (past_kept old.last (last_of None ss) a.last) (subst (λ (p : Option SessionValue). IsTakenFrom p s) (session_kept old.last (last_of None ss) a.last) taken)
 
-  passes_behind : (ss : List SessionValue) → IsSumOf old ss → Passes mean reads (last_of None ss) (length ss) s
-  passes_behind ss a = subst (λ (n : ℕ). Passes mean reads (last_of None ss) n s) a.count (gives_behind ss a).0
+  passes_behind : (ss : List SessionValue) → IsSumOf old ss → Passes queries (last_of None ss) (length ss) s
+  passes_behind ss a = subst (λ (n : ℕ). Passes queries (last_of None ss) n s) a.count (gives_behind ss a).0
 
   -- what a call has to establish
   pub takes : (held left : List ℕ → Type 0) (log_old log_new : List Key) → Given held left (file_of s) → ((bytes : List ℕ) → held bytes → bytes ≡ file_of s) → s.number ≡ old.count
       → log_new ≡ log_old ++ executed_keys s → new.count ≡ old.count + 1 → new.runs ≡ min (old.runs + runs) (2 ^ 128 - 1) → IsLast new.last (Some s)
-      → Takes mean reads (Ok old) (Ok new) held left log_old log_new s
+      → Takes queries (Ok old) (Ok new) held left log_old log_new s
   takes held left log_old log_new given whole number log count sum last = record {
     session = session;
     given = given;
@@ -98,50 +108,54 @@ module _ (mean : Meaning) (reads : ReadLists) (laws : RunnerLaws mean reads) (ol
           omega (arith, sum, a.runs, a.count, number, session.number, g.1, few, one, keys, split, both);
       last = subst (IsLast new.last) (sym (last_more None ss s)) last;
     };
-    right = λ ss a chain apart. chain_more mean reads laws ss s chain session (passes_behind ss a) apart;
+    right = λ ss a chain apart. chain_more queries laws ss s chain session (passes_behind ss a) apart;
     log = log;
   }
 
 -- ---- refusals
 
-module _ (mean : Meaning) (reads : ReadLists) (kept : Sum) (ss : List SessionValue) (a : IsSumOf kept ss) (bytes : List ℕ) where
-  file_fails : (log : List Key) (fault : AuditFault) → ReadRefuses (length ss) bytes fault → FileRefuses mean reads (last_of None ss) (length ss) bytes log log fault
+module _ (queries : Queries) (kept : Sum) (ss : List SessionValue) (a : IsSumOf kept ss) (bytes : List ℕ) where
+  file_fails : (log : List Key) (fault : AuditFault) → ReadRefuses (last_of None ss) (length ss) bytes fault → FileRefuses queries (last_of None ss) (length ss) bytes log log fault
   file_fails log (File j f) r = (r.0, r.1, refl)
   file_fails log OutOfMemory r = inl refl
   file_fails log fault r = absurd r
 
-  pub read_refuses : (log : List Key) (fault : AuditFault) → ReadFails kept.count bytes fault → TakeRefuses mean reads ss bytes log log fault
+  pub read_refuses : (log : List Key) (fault : AuditFault) → ReadFails (option_map (λ (l : Last). l.session) kept.last) kept.count bytes fault → TakeRefuses queries ss bytes log log fault
   read_refuses log fault (inl d) = inl (subst (λ (n : ℕ). IsDeviceFault n fault) a.count d, refl)
-  read_refuses log fault (inr r) = inr (file_fails log fault (subst (λ (n : ℕ). ReadRefuses n bytes fault) a.count r))
+  read_refuses log fault (inr r) = inr (file_fails log fault (subst (λ (n : ℕ). ReadRefuses (last_of None ss) n bytes fault) a.count (subst (λ (p : Option SessionValue). ReadRefuses p kept.count bytes fault) (session_kept kept.last (last_of None ss) a.last) r)))
 
-  module _ (s : SessionValue) (session : IsSession s) (spelled : bytes ≡ file_of s) (log_old log_new : List Key) where
-    pub session_refuses : (fault : AuditFault) → ((was : Option SessionValue) → ArePastOf (option_map (λ (l : Last). l.past) kept.last) was → SessionGives mean reads was kept.count s (Err fault))
-        → GrowsWithin (executed_keys s) log_old log_new → TakeRefuses mean reads ss bytes log_old log_new fault
-    session_refuses fault gives log = inr (session_refused mean reads (last_of None ss) (length ss) s bytes log_old log_new
-        (record { session = session; spelled = sym spelled; log = log }) fault
-        (subst (λ (n : ℕ). SessionRefuses mean reads (last_of None ss) n s fault) a.count (gives (last_of None ss) (past_kept kept.last (last_of None ss) a.last))))
+  module _ (s : SessionValue) (session : IsSession s) (kept_taken : IsTakenFrom (option_map (λ (l : Last). l.session) kept.last) s) (spelled : bytes ≡ file_of s) (log_old log_new : List Key) where
+    taken : IsTakenFrom (last_of None ss) s
+    taken = subst (λ (p : Option SessionValue). IsTakenFrom p s) (session_kept kept.last (last_of None ss) a.last) kept_taken
 
-    pub memory_refuses : log_new ≡ log_old ++ executed_keys s → TakeRefuses mean reads ss bytes log_old log_new OutOfMemory
+    pub session_refuses : (fault : AuditFault) → ((was : Option SessionValue) → ArePastOf (option_map (λ (l : Last). l.past) kept.last) was → IsTakenFrom was s → SessionGives queries was kept.count s (Err fault))
+        → GrowsWithin (executed_keys s) log_old log_new → TakeRefuses queries ss bytes log_old log_new fault
+    session_refuses fault gives log = inr (session_refused queries (last_of None ss) (length ss) s bytes log_old log_new
+        (record { session = session; taken = taken; spelled = sym spelled; log = log }) fault
+        (subst (λ (n : ℕ). SessionRefuses queries (last_of None ss) n s fault) a.count (gives (last_of None ss) (past_kept kept.last (last_of None ss) a.last) taken)))
+
+    pub memory_refuses : log_new ≡ log_old ++ executed_keys s → TakeRefuses queries ss bytes log_old log_new OutOfMemory
     memory_refuses log = inr (inr (
       s,
       record {
         session = session;
+        taken = taken;
         spelled = sym spelled;
-        log = record { front = executed_keys s; grown = log; begins = ([], append-nil (executed_keys s)) };
+        log = runs_all s log_old log_new log;
       },
     ))
 
 -- what a session is refused for is no failure of a device
-session_counts : (mean : Meaning) (reads : ReadLists) (past : Option SessionValue) (k : ℕ) (s : SessionValue) (fault : AuditFault) → SessionRefuses mean reads past k s fault → (n : ℕ) → CountsFault fault n n
-session_counts mean reads past k s (File j f) r n = absurd (elim r [
+session_counts : (queries : Queries) (past : Option SessionValue) (k : ℕ) (s : SessionValue) (fault : AuditFault) → SessionRefuses queries past k s fault → (n : ℕ) → CountsFault fault n n
+session_counts queries past k s (File j f) r n = absurd (elim r [
   | inl x ↦ x
   | inr x ↦ x.1
 ])
-session_counts mean reads past k s fault r n = refl
+session_counts queries past k s fault r n = refl
 
-pub session_counted : (mean : Meaning) (reads : ReadLists) (kept : Sum) (ss : List SessionValue) → IsSumOf kept ss → (s : SessionValue) (fault : AuditFault)
-    → ((was : Option SessionValue) → ArePastOf (option_map (λ (l : Last). l.past) kept.last) was → SessionGives mean reads was kept.count s (Err fault))
+pub session_counted : (queries : Queries) (kept : Sum) (ss : List SessionValue) → IsSumOf kept ss → (s : SessionValue) → IsTakenFrom (option_map (λ (l : Last). l.session) kept.last) s → (fault : AuditFault)
+    → ((was : Option SessionValue) → ArePastOf (option_map (λ (l : Last). l.past) kept.last) was → IsTakenFrom was s → SessionGives queries was kept.count s (Err fault))
     → (old new : ℕ) → new ≡ old → CountsFault fault old new
-session_counted mean reads kept ss a s fault gives old new same =
+session_counted queries kept ss a s taken fault gives old new same =
     subst (λ (n : ℕ). CountsFault fault old n) (sym same)
-    (session_counts mean reads (last_of None ss) kept.count s fault (gives (last_of None ss) (past_kept kept.last (last_of None ss) a.last)) old)
+    (session_counts queries (last_of None ss) kept.count s fault (gives (last_of None ss) (past_kept kept.last (last_of None ss) a.last) (subst (λ (p : Option SessionValue). IsTakenFrom p s) (session_kept kept.last (last_of None ss) a.last) taken)) old)

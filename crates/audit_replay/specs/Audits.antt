@@ -1,20 +1,21 @@
 -- What the audit of a list of files answers.
-use Rattle.std.specs.Prelude.{◌≡◌, ◌≢◌, ◌⊎◌, ℕ, ◌+◌, List, [], ◌∷◌, ◌++◌, map, length, Contains, Option, Some, None}
+use Rattle.std.specs.Prelude.{◌≡◌, ◌≢◌, ℕ, ◌+◌, List, [], ◌∷◌, ◌++◌, map, length, Contains, Option, Some, None, IfSome}
 use Rattle.std.specs.List.{AllByRecursion}
+use Rattle.profiles.specs.declared.profile.Profile.{Profile}
 use Rattle.item_ids.specs.declared.key.Key.{Key}
 use Rattle.item_ids.specs.declared.key.Key.TheVariants.{Answer}
 use Rattle.result_bytes.specs.declared.value.Value.{Value}
 use Rattle.result_bytes.specs.Values.{canon}
 use Rattle.fingerprint.specs.Prints.{print_of}
 use Rattle.recorder.specs.Projects.{Project}
-use Rattle.recorder.specs.Backed.{Meaning, ReadLists}
-use Rattle.sessions.specs.Sessions.{Entry, SessionValue, IsSession, entry_at, past_entry}
+use Rattle.recorder.specs.Backed.{Queries}
+use Rattle.sessions.specs.Sessions.{Entry, SessionValue, IsSession, AreTaken, entry_at, past_entry}
 use Rattle.sessions.specs.Spelling.{file_of}
 use Rattle.graph_rules.specs.Pasts.{Past}
-use Rattle.graph_rules.specs.Next.{AreSources, IsRight}
+use Rattle.graph_rules.specs.Next.{AreSources, IsRightAfter}
 use Rattle.audit_graph.specs.Chains.{IsChain}
 use Rattle.audit_graph.specs.declared.fault.AuditFault.{AuditFault}
-use Rattle.audit_graph.specs.declared.fault.AuditFault.TheVariants.{EmptyChain, NoAnswer, SourcesDiffer, OutOfMemory}
+use Rattle.audit_graph.specs.declared.fault.AuditFault.TheVariants.{EmptyChain, NoAnswer, SourcesDiffer}
 use Rattle.audit_replay.specs.Logs.{all_executed_keys}
 use Rattle.audit_replay.specs.Passes.{Passes, FileRefuses}
 
@@ -23,16 +24,16 @@ use Rattle.audit_replay.specs.Passes.{Passes, FileRefuses}
 -- from number k on each session passes over the one before, and the first of them over the previous
 -- session
 abbrev pub ArePassed
-    : Meaning → ReadLists → Option SessionValue → ℕ → List SessionValue → Type 0
-ArePassed mean reads past k [] = Unit {0}
-ArePassed mean reads past k (s ∷ ss) =
-    Passes mean reads past k s × ArePassed mean reads (Some s) (k + 1) ss
+    : Queries → Option SessionValue → ℕ → List SessionValue → Type 0
+ArePassed queries past k [] = Unit {0}
+ArePassed queries past k (s ∷ ss) =
+    Passes queries past k s × ArePassed queries (Some s) (k + 1) ss
 
 -- each session is right over the one before, and the first of them over the previous session
-abbrev pub AreRight : Meaning → ReadLists → Option SessionValue → List SessionValue → Type 0
-AreRight mean reads past [] = Unit {0}
-AreRight mean reads past (s ∷ ss) =
-    IsRight mean reads (past_entry past) (entry_at s) × AreRight mean reads (Some s) ss
+abbrev pub AreRight : Queries → Option SessionValue → List SessionValue → Type 0
+AreRight queries past [] = Unit {0}
+AreRight queries past (s ∷ ss) =
+    IsRightAfter queries past s × AreRight queries (Some s) ss
 
 -- the last of the sessions, which is the previous session where there is none
 abbrev pub last_of : Option SessionValue → List SessionValue → Option SessionValue
@@ -64,70 +65,79 @@ pub record HasValue (now : Past) (q : Key) (v : Value) : Type 0 where
   pub has : now q ≡ Some entry
   pub value : entry.value ≡ v
 
+-- the files are those of the sessions, each of which is taken from the one before
+pub record HaveFiles (sessions : List SessionValue) (files : List (List ℕ)) : Type 0 where
+  pub each : AllByRecursion IsSession sessions
+  pub taken : AreTaken None sessions
+  pub spelled : map file_of sessions ≡ files
+
 -- ---- what an audit answers
 
 -- The files are those of sessions each of which passes over the one before, and just the executed
 -- records were run, so many, session by session in order.
-pub record ArePassedFiles (mean : Meaning) (reads : ReadLists) (files : List (List ℕ))
+pub record ArePassedFiles (queries : Queries) (files : List (List ℕ))
     (old new : List Key) (sessions : List SessionValue) (runs : ℕ) : Type 0 where
   pub spelled : map file_of sessions ≡ files
   pub each : AllByRecursion IsSession sessions
-  pub passed : ArePassed mean reads None 0 sessions
+  pub passed : ArePassed queries None 0 sessions
   pub log : new ≡ old ++ all_executed_keys sessions
   pub many : runs ≡ length (all_executed_keys sessions)
 
--- The audit accepts the files, with this answer, over this project. The files are those of a chain
--- of sessions, of which the last holds the answer and the project's files. Where no two different
--- results in them share a fingerprint, each session is right over the one before, and the answer is
--- what the project means by it.
-pub record IsAccepted (mean : Meaning) (reads : ReadLists) (files : List (List ℕ))
-    (old new : List Key) (project : Project) (answer : Value) (count runs : ℕ) : Type 0 where
+-- the last of the sessions is of this profile
+abbrev pub IsLastProfile : List SessionValue → Profile → Type 0
+IsLastProfile sessions profile = IfSome (last_of None sessions) (λ s. s.terms.profile ≡ profile)
+
+-- The audit accepts the files, with this answer, in this profile and over this project. The files
+-- are those of a chain of sessions, of which the last is of the profile, and holds the answer and
+-- the project's files. Where no two different results in them share a fingerprint, each session is
+-- right over the one before, and the answer is what the project means by it in the profile.
+pub record IsAccepted (queries : Queries) (files : List (List ℕ))
+    (old new : List Key) (profile : Profile) (project : Project) (answer : Value)
+    (count runs : ℕ) : Type 0 where
   pub sessions : List SessionValue
-  pub passed : ArePassedFiles mean reads files old new sessions runs
+  pub passed : ArePassedFiles queries files old new sessions runs
   pub many : count ≡ length sessions
   pub chain : IsChain sessions
+  pub last_is : IsLastProfile sessions profile
   pub sources : AreSources (last_entry sessions) project
   pub held : HasValue (last_entry sessions) Answer answer
-  pub right : AreApart sessions → AreRight mean reads None sessions
-  pub means : AreApart sessions → answer ≡ mean project Answer
+  pub right : AreApart sessions → AreRight queries None sessions
+  pub means : AreApart sessions → answer ≡ queries.mean profile project Answer
 
 -- The sessions of the first files pass, and the file behind them is refused.
-pub record IsRefusedBehind (mean : Meaning) (reads : ReadLists) (files : List (List ℕ))
+pub record IsRefusedBehind (queries : Queries) (files : List (List ℕ))
     (old new : List Key) (fault : AuditFault) : Type 0 where
   pub front : List SessionValue
   pub file_bytes : List ℕ
   pub rest : List (List ℕ)
   pub spelled : map file_of front ++ file_bytes ∷ rest ≡ files
   pub each : AllByRecursion IsSession front
-  pub passed : ArePassed mean reads None 0 front
-  pub refused : FileRefuses mean reads (last_of None front) (length front) file_bytes
+  pub passed : ArePassed queries None 0 front
+  pub refused : FileRefuses queries (last_of None front) (length front) file_bytes
       (old ++ all_executed_keys front) new fault
 
 -- all files pass, and this holds of what the last session says
-pub record PassesWith (mean : Meaning) (reads : ReadLists) (files : List (List ℕ))
+pub record PassesWith (queries : Queries) (files : List (List ℕ))
     (old new : List Key) (Holds : Past → Type 0) : Type 0 where
   pub sessions : List SessionValue
   pub runs : ℕ
-  pub passed : ArePassedFiles mean reads files old new sessions runs
+  pub passed : ArePassedFiles queries files old new sessions runs
   pub holds : Holds (last_entry sessions)
 
 -- Why files are refused: there are none, or one of them is refused, or the last has no answer.
 abbrev pub AuditRefuses
-    : Meaning → ReadLists → List (List ℕ) → List Key → List Key → AuditFault → Type 0
-AuditRefuses mean reads files old new EmptyChain = (files ≡ []) × (new ≡ old)
-AuditRefuses mean reads files old new NoAnswer =
-    (files ≢ []) × PassesWith mean reads files old new (λ last. last Answer ≡ None)
-AuditRefuses mean reads files old new SourcesDiffer = ⊥
-AuditRefuses mean reads files old new OutOfMemory =
-    IsRefusedBehind mean reads files old new OutOfMemory
-    ⊎ PassesWith mean reads files old new (λ last. last Answer ≢ None)
-AuditRefuses mean reads files old new fault = IsRefusedBehind mean reads files old new fault
+    : Queries → List (List ℕ) → List Key → List Key → AuditFault → Type 0
+AuditRefuses queries files old new EmptyChain = (files ≡ []) × (new ≡ old)
+AuditRefuses queries files old new NoAnswer =
+    (files ≢ []) × PassesWith queries files old new (λ last. last Answer ≡ None)
+AuditRefuses queries files old new SourcesDiffer = ⊥
+AuditRefuses queries files old new fault = IsRefusedBehind queries files old new fault
 
 -- The same, or the last session has an answer, and not the files of the project.
 abbrev pub AuditRefusesAgainst
-    : Meaning → ReadLists → List (List ℕ) → List Key → List Key → Project → AuditFault → Type 0
-AuditRefusesAgainst mean reads files old new project SourcesDiffer =
-    PassesWith mean reads files old new
+    : Queries → List (List ℕ) → List Key → List Key → Project → AuditFault → Type 0
+AuditRefusesAgainst queries files old new project SourcesDiffer =
+    PassesWith queries files old new
     (λ last. (last Answer ≢ None) × ¬ AreSources last project)
-AuditRefusesAgainst mean reads files old new project fault =
-    AuditRefuses mean reads files old new fault
+AuditRefusesAgainst queries files old new project fault =
+    AuditRefuses queries files old new fault

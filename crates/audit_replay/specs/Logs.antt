@@ -1,5 +1,5 @@
 -- The keys that an audit runs, and the log of the runner.
-use Rattle.std.specs.Prelude.{◌≡◌, ℕ, List, ◌++◌, map, flat_map, length, Result, Ok, Err}
+use Rattle.std.specs.Prelude.{◌≡◌, ◌⊎◌, ℕ, List, ◌++◌, map, flat_map, length, Result, Ok, Err}
 use Rattle.std.specs.List.{AllByRecursion}
 use Rattle.item_ids.specs.declared.key.Key.{Key}
 use Rattle.recorder.specs.Backed.{BeginsWith}
@@ -20,6 +20,11 @@ pub record GrowsWithin (all old new : List Key) : Type 0 where
   pub front : List Key
   pub grown : new ≡ old ++ front
   pub begins : BeginsWith front all
+
+-- The log grew by a beginning of the keys of a session's executed records, or not at all.
+abbrev pub RunsPart : List Key → List Key → Type 0
+RunsPart old new =
+    (new ≡ old) ⊎ ((s : SessionValue) × IsSession s × GrowsWithin (executed_keys s) old new)
 
 -- the log grew by these keys; after a refusal by a beginning of them
 abbrev pub LogGives : {A E : Type 0} → List Key → List Key → List Key → Result A E → Type 0

@@ -1,10 +1,10 @@
 -- One session over the one before: its step, and its executed records replayed.
 use Rattle.std.specs.Prelude.{◌≡◌, ◌⊎◌, ℕ, true, List, length, Option, Result, Ok, Err}
 use Rattle.item_ids.specs.declared.key.Key.{Key}
-use Rattle.recorder.specs.Backed.{Meaning, ReadLists}
-use Rattle.sessions.specs.Sessions.{SessionValue, IsSession, entry_at}
+use Rattle.recorder.specs.Backed.{Queries}
+use Rattle.sessions.specs.Sessions.{SessionValue, IsSession, IsTakenFrom, entry_at}
 use Rattle.sessions.specs.Spelling.{file_of}
-use Rattle.session_file.specs.Reading.{file_at}
+use Rattle.session_file.specs.Reading.{file_after}
 use Rattle.audit_graph.specs.Plans.{executed_in}
 use Rattle.audit_graph.specs.Steps.{IsSessionStep, CheckStepGives}
 use Rattle.audit_graph.specs.Replays.{AreReplayed}
@@ -13,47 +13,55 @@ use Rattle.audit_graph.specs.declared.fault.AuditFault.TheVariants.{File, OutOfM
 use Rattle.audit_replay.specs.Reruns.{RefusesPlan}
 use Rattle.audit_replay.specs.Logs.{executed_keys, GrowsWithin}
 
--- Session k over the previous one: it is linked to it, it holds the files of a project, its green
--- records stand in it, and its executed ones follow from their edges.
-pub record Passes (mean : Meaning) (reads : ReadLists) (past : Option SessionValue) (k : ℕ)
+-- Session k over the previous one: it is linked to it and taken from it, it holds the files of a
+-- project, its green records stand in the previous one, and its executed ones follow from their
+-- edges, by its own profile.
+pub record Passes (queries : Queries) (past : Option SessionValue) (k : ℕ)
     (s : SessionValue) : Type 0 where
-  pub step : IsSessionStep past k s
-  pub replayed : AreReplayed mean reads (entry_at s) (λ _. true)
+  pub taken : IsTakenFrom past s
+  pub step : IsSessionStep queries.by_profile past k s
+  pub replayed : AreReplayed (queries.mean s.terms.profile) (queries.reads s.terms.profile)
+      (entry_at s) (λ _. true)
 
 -- the first fault of session k over the previous one: of its step, then of its executed records
 abbrev pub SessionRefuses
-    : Meaning → ReadLists → Option SessionValue → ℕ → SessionValue → AuditFault → Type 0
-SessionRefuses mean reads past k s fault =
-    CheckStepGives past k s (Err fault) ⊎ (IsSessionStep past k s × RefusesPlan mean reads k s fault)
+    : Queries → Option SessionValue → ℕ → SessionValue → AuditFault → Type 0
+SessionRefuses queries past k s fault =
+    CheckStepGives queries.by_profile past k s (Err fault)
+    ⊎ (IsSessionStep queries.by_profile past k s
+    × RefusesPlan (queries.mean s.terms.profile) (queries.reads s.terms.profile) k s fault)
 
 -- a session passes, and so many records were run; else its first fault
 abbrev pub SessionGives
-    : Meaning → ReadLists → Option SessionValue → ℕ → SessionValue → Result ℕ AuditFault → Type 0
-SessionGives mean reads past k s (Ok runs) =
-    Passes mean reads past k s × (runs ≡ length (executed_in s))
-SessionGives mean reads past k s (Err fault) = SessionRefuses mean reads past k s fault
+    : Queries → Option SessionValue → ℕ → SessionValue → Result ℕ AuditFault → Type 0
+SessionGives queries past k s (Ok runs) =
+    Passes queries past k s × (runs ≡ length (executed_in s))
+SessionGives queries past k s (Err fault) = SessionRefuses queries past k s fault
 
 -- ---- one file
 
--- the file is that of a session, of which no more was run than the executed records, in order
-pub record RunsWithin (file : List ℕ) (old new : List Key) (s : SessionValue) : Type 0 where
+-- the file is that of a session over the previous one, of which no more was run than the executed
+-- records, in order
+pub record RunsWithin (past : Option SessionValue) (file : List ℕ) (old new : List Key)
+    (s : SessionValue) : Type 0 where
   pub session : IsSession s
+  pub taken : IsTakenFrom past s
   pub spelled : file_of s ≡ file
   pub log : GrowsWithin (executed_keys s) old new
 
--- the file is that of no session
-abbrev pub ReadRefuses : ℕ → List ℕ → AuditFault → Type 0
-ReadRefuses k file (File j fault) = (j ≡ k) × (file_at file ≡ Err fault)
-ReadRefuses k file OutOfMemory = Unit {0}
-ReadRefuses k file _ = ⊥
+-- the file is that of no session over the previous one
+abbrev pub ReadRefuses : Option SessionValue → ℕ → List ℕ → AuditFault → Type 0
+ReadRefuses past k file (File j fault) = (j ≡ k) × (file_after past file ≡ Err fault)
+ReadRefuses past k file OutOfMemory = Unit {0}
+ReadRefuses past k file _ = ⊥
 
--- The file is that of no session, or that of a session with a fault.
+-- The file is that of no session over the previous one, or that of a session with a fault.
 abbrev pub FileRefuses
-    : Meaning → ReadLists → Option SessionValue → ℕ → List ℕ → List Key → List Key → AuditFault
+    : Queries → Option SessionValue → ℕ → List ℕ → List Key → List Key → AuditFault
     → Type 0
-FileRefuses mean reads past k file old new (File j fault) =
-    (j ≡ k) × (file_at file ≡ Err fault) × (new ≡ old)
-FileRefuses mean reads past k file old new OutOfMemory =
-    (new ≡ old) ⊎ ((s : SessionValue) × RunsWithin file old new s)
-FileRefuses mean reads past k file old new fault =
-    (s : SessionValue) × RunsWithin file old new s × SessionRefuses mean reads past k s fault
+FileRefuses queries past k file old new (File j fault) =
+    (j ≡ k) × (file_after past file ≡ Err fault) × (new ≡ old)
+FileRefuses queries past k file old new OutOfMemory =
+    (new ≡ old) ⊎ ((s : SessionValue) × RunsWithin past file old new s)
+FileRefuses queries past k file old new fault =
+    (s : SessionValue) × RunsWithin past file old new s × SessionRefuses queries past k s fault

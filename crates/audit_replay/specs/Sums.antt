@@ -9,7 +9,7 @@ use Rattle.item_ids.specs.declared.key.Key.TheVariants.{Files, Source, Answer}
 use Rattle.result_bytes.specs.declared.value.Value.{Value}
 use Rattle.result_bytes.specs.declared.value.Value.TheVariants as values
 use Rattle.recorder.specs.Projects.{Project}
-use Rattle.recorder.specs.Backed.{Meaning, ReadLists}
+use Rattle.recorder.specs.Backed.{Queries}
 use Rattle.sessions.specs.Sessions.{SessionValue, IsSession, entry_at}
 use Rattle.sessions.specs.Spelling.{file_of}
 use Rattle.session_file.specs.Feeding.{Given, CountsIf, is_device}
@@ -23,7 +23,7 @@ use Rattle.audit_graph.specs.declared.fault.AuditFault.{AuditFault}
 use Rattle.audit_graph.specs.declared.fault.AuditFault.TheVariants.{EmptyChain, File, NoAnswer, SourcesDiffer, OutOfMemory}
 use Rattle.audit_replay.specs.Logs.{executed_keys, all_executed_keys}
 use Rattle.audit_replay.specs.Passes.{Passes, FileRefuses, ReadRefuses}
-use Rattle.audit_replay.specs.Audits.{AreApart, ArePassedFiles, HasValue, last_of, last_entry}
+use Rattle.audit_replay.specs.Audits.{AreApart, ArePassedFiles, IsLastProfile, HasValue, last_of, last_entry}
 use Rattle.audit_replay.specs.RightChains.{AreRightInChain}
 use Rattle.audit_replay.specs.declared.chain.Audited.{Audited}
 use Rattle.audit_replay.specs.declared.sum.Last.{Last}
@@ -49,9 +49,10 @@ abbrev pub IsAnswer : SessionValue → Option (Arc Value Global) → Type 0
 IsAnswer s answer = MatchOption answer (entry_at s Answer ≡ None)
     (λ a. HasValue (entry_at s) Answer (arc_value a))
 
--- of the session, which holds the files of a project, its `Past`, its inputs and its answer are
--- kept
+-- the session, which holds the files of a project, is kept, with its `Past`, its inputs and its
+-- answer
 pub record IsLastOf (kept : Last) (s : SessionValue) : Type 0 where
+  pub session : kept.session ≡ s
   pub past : IsPastOf kept.past s
   pub sources : HasSources (entry_at s)
   pub inputs : AreInputs (entry_at s) (arc_value kept.inputs.names)
@@ -81,16 +82,16 @@ Sums (Err fault) sessions = ⊥
 -- The file of session s was taken, whole, which passes behind all sessions summed before. They and
 -- it are summed now, and are a chain of right sessions where they were one, unless two different
 -- results in them share a fingerprint. Just its executed records were run, in order.
-pub record Takes (mean : Meaning) (reads : ReadLists) (old new : Result Sum AuditFault)
+pub record Takes (queries : Queries) (old new : Result Sum AuditFault)
     (held left : List ℕ → Type 0) (log_old log_new : List Key) (s : SessionValue) : Type 0 where
   pub session : IsSession s
   pub given : Given held left (file_of s)
   pub whole : (bytes : List ℕ) → held bytes → bytes ≡ file_of s
   pub passes : (ss : List SessionValue) → Sums old ss
-      → Passes mean reads (last_of None ss) (length ss) s
+      → Passes queries (last_of None ss) (length ss) s
   pub sums : (ss : List SessionValue) → Sums old ss → Sums new (ss ++ s ∷ [])
-  pub right : (ss : List SessionValue) → Sums old ss → AreRightInChain mean reads ss
-      → AreApart (ss ++ s ∷ []) → AreRightInChain mean reads (ss ++ s ∷ [])
+  pub right : (ss : List SessionValue) → Sums old ss → AreRightInChain queries ss
+      → AreApart (ss ++ s ∷ []) → AreRightInChain queries (ss ++ s ∷ [])
   pub log : log_new ≡ log_old ++ executed_keys s
 
 -- the fault of file k
@@ -102,16 +103,16 @@ file_fault k fault = File k fault
 pub record IsDeviceFault (k : ℕ) (fault : AuditFault) : Type 0 where
   pub is : fault ≡ File k files.Device
 
--- the device failed, or the file is that of no session
-abbrev pub ReadFails : ℕ → List ℕ → AuditFault → Type 0
-ReadFails k bytes fault = IsDeviceFault k fault ⊎ ReadRefuses k bytes fault
+-- the device failed, or the file is that of no session over the previous one
+abbrev pub ReadFails : Option SessionValue → ℕ → List ℕ → AuditFault → Type 0
+ReadFails past k bytes fault = IsDeviceFault k fault ⊎ ReadRefuses past k bytes fault
 
 -- the device failed, or the file is refused behind the sessions
 abbrev pub TakeRefuses
-    : Meaning → ReadLists → List SessionValue → List ℕ → List Key → List Key → AuditFault → Type 0
-TakeRefuses mean reads ss bytes old new fault =
+    : Queries → List SessionValue → List ℕ → List Key → List Key → AuditFault → Type 0
+TakeRefuses queries ss bytes old new fault =
     (IsDeviceFault (length ss) fault × (new ≡ old))
-    ⊎ FileRefuses mean reads (last_of None ss) (length ss) bytes old new fault
+    ⊎ FileRefuses queries (last_of None ss) (length ss) bytes old new fault
 
 -- just a failure of the device is counted
 abbrev pub CountsFault : AuditFault → ℕ → ℕ → Type 0
@@ -130,18 +131,19 @@ EndsFeed old new (Err e) = Unit {0}
 
 -- ---- the end
 
--- The last of the sessions has this answer, and there are this many sessions, with this many
--- executed records. Where they are a chain of right sessions, it is what the last one's files mean
--- by it.
-pub record Ends (mean : Meaning) (reads : ReadLists) (ss : List SessionValue)
+-- The last of the sessions is of this profile and has this answer, and there are this many
+-- sessions, with this many executed records. Where they are a chain of right sessions, it is what
+-- the last one's files mean by it in the profile.
+pub record Ends (queries : Queries) (ss : List SessionValue)
     (a : Audited) : Type 0 where
   pub some : ss ≢ []
   pub sessions : a.sessions ≡ length ss
   pub runs : a.runs ≡ length (all_executed_keys ss)
   pub sources : HasSources (last_entry ss)
+  pub last_is : IsLastProfile ss a.profile
   pub held : HasValue (last_entry ss) Answer (arc_value a.answer)
-  pub means : AreRightInChain mean reads ss → (p : Project) → AreSources (last_entry ss) p
-      → arc_value a.answer ≡ mean p Answer
+  pub means : AreRightInChain queries ss → (p : Project) → AreSources (last_entry ss) p
+      → arc_value a.answer ≡ queries.mean a.profile p Answer
 
 -- there is no session, or the last one has no answer
 abbrev pub EndRefuses : List SessionValue → AuditFault → Type 0
@@ -156,22 +158,22 @@ EndRefusesAgainst ss p SourcesDiffer =
 EndRefusesAgainst ss p fault = EndRefuses ss fault
 
 abbrev pub EndGives
-    : Meaning → ReadLists → List SessionValue → Result Audited AuditFault → Type 0
-EndGives mean reads ss (Ok a) = Ends mean reads ss a
-EndGives mean reads ss (Err fault) = EndRefuses ss fault
+    : Queries → List SessionValue → Result Audited AuditFault → Type 0
+EndGives queries ss (Ok a) = Ends queries ss a
+EndGives queries ss (Err fault) = EndRefuses ss fault
 
 abbrev pub EndGivesAgainst
-    : Meaning → ReadLists → List SessionValue → Project → Result Audited AuditFault → Type 0
-EndGivesAgainst mean reads ss p (Ok a) = Ends mean reads ss a × AreSources (last_entry ss) p
-EndGivesAgainst mean reads ss p (Err fault) = EndRefusesAgainst ss p fault
+    : Queries → List SessionValue → Project → Result Audited AuditFault → Type 0
+EndGivesAgainst queries ss p (Ok a) = Ends queries ss a × AreSources (last_entry ss) p
+EndGivesAgainst queries ss p (Err fault) = EndRefusesAgainst ss p fault
 
 -- ---- files one after the other
 
 -- the files are those of sessions that pass, which are summed, and just whose executed records were
 -- run
-pub record AreSummed (mean : Meaning) (reads : ReadLists) (files : List (List ℕ))
+pub record AreSummed (queries : Queries) (files : List (List ℕ))
     (old new : List Key) (kept : Result Sum AuditFault) : Type 0 where
   pub sessions : List SessionValue
-  pub passed : ArePassedFiles mean reads files old new sessions
+  pub passed : ArePassedFiles queries files old new sessions
       (length (all_executed_keys sessions))
   pub sums : Sums kept sessions

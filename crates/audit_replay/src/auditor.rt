@@ -4,6 +4,7 @@ ghost use Rattle.sessions.specs.Sessions.{SessionValue};
 ghost use Rattle.graph_rules.specs.Next.{AreSources};
 ghost use Rattle.audit_graph.specs.declared.fault.AuditFault.{AuditFault as Fault};
 ghost use Rattle.audit_replay.specs.Audits.{last_entry};
+ghost use Rattle.audit_replay.specs.Logs.{RunsPart};
 ghost use Rattle.audit_replay.specs.Sums.{CountsTake, EndGives, EndGivesAgainst, IsSumOf, Sums, TakeRefuses, Takes};
 
 use crate::chain::Audited;
@@ -11,15 +12,14 @@ use crate::reading::read_file;
 use crate::session::audit_session;
 use crate::sum::{Last, Sum};
 use audit_graph::AuditFault;
+use devices::Feed;
 use mj_project::Project;
 use recorder::Runner;
-use session_file::Feed;
 use std::alloc::Global;
 use std::marker::PhantomData;
 
-/// Audits the sessions of a chain one by one. Between two of them it keeps of the last one its `Past`, its inputs and
-/// its answer, and nothing else of any session. Once it has refused it answers the same again, and reads and runs
-/// nothing.
+/// Audits the sessions of a chain one by one. Between two of them it keeps the last one, and nothing of the others. Once
+/// it has refused it answers the same again, and reads and runs nothing.
 #[derive(Drop)]
 pub struct Auditor<R: Runner> {
     state: Result<Sum, AuditFault>,
@@ -50,13 +50,15 @@ impl<R: Runner> Auditor<R> {
         feed: &mut F,
     ) -> Result<(), AuditFault>
         // A session was taken.
-        ensures taken { OnOk result ((s : SessionValue) × Takes R.mean R.reads self.old.state
+        ensures taken { OnOk result ((s : SessionValue) × Takes R.queries self.old.state
             self.new.state (F.holds feed.old) (F.holds feed.new) (R.log runner.old)
             (R.log runner.new) s) }
         // Why it is refused after the sessions taken before, by the bytes that the feed held, if it tells them.
         ensures refused { IfErr result (λ fault. (ss : List SessionValue) (bytes : List ℕ)
             → Sums self.old.state ss → F.holds feed.old bytes
-            → TakeRefuses R.mean R.reads ss bytes (R.log runner.old) (R.log runner.new) fault) }
+            → TakeRefuses R.queries ss bytes (R.log runner.old) (R.log runner.new) fault) }
+        // Whatever the feed tells: no more was run than executed records of a session, in order.
+        ensures log { IfErr result (λ _. RunsPart (R.log runner.old) (R.log runner.new)) }
         ensures kept { IfErr result (λ fault. self.new.state ≡ Err fault) }
         // What was refused once is refused again.
         ensures again { (fault : Fault) → self.old.state ≡ Err fault
@@ -81,10 +83,10 @@ impl<R: Runner> Auditor<R> {
         }
     }
 
-    /// The answer of the last session, how many sessions there are, and how many records were run.
+    /// The profile and the answer of the last session, how many sessions there are, and how many records were run.
     pub fn end(self) -> Result<Audited, AuditFault>
         ensures gives { (ss : List SessionValue) → Sums self.state ss
-            → EndGives R.mean R.reads ss result }
+            → EndGives R.queries ss result }
         ensures again { (fault : Fault) → self.state ≡ Err fault → result ≡ Err fault }
     {
         let Auditor { state, .. } = self;
@@ -97,7 +99,7 @@ impl<R: Runner> Auditor<R> {
     /// The same, where the last session's files are those of the project.
     pub fn end_against(self, project: &Project) -> Result<Audited, AuditFault>
         ensures gives { (ss : List SessionValue) → Sums self.state ss
-            → EndGivesAgainst R.mean R.reads ss project.now result }
+            → EndGivesAgainst R.queries ss project.now result }
         ensures again { (fault : Fault) → self.state ≡ Err fault → result ≡ Err fault }
     {
         let Auditor { state, .. } = self;
@@ -127,15 +129,16 @@ fn take_session<R: Runner, F: Feed>(
     kept: &Sum,
     feed: &mut F,
 ) -> Result<Sum, AuditFault>
-    ensures taken { IfOk result (λ next. (s : SessionValue) × Takes R.mean R.reads (Ok kept.now)
+    ensures taken { IfOk result (λ next. (s : SessionValue) × Takes R.queries (Ok kept.now)
         (Ok next) (F.holds feed.old) (F.holds feed.new) (R.log runner.old) (R.log runner.new) s) }
     ensures refused { IfErr result (λ fault. (ss : List SessionValue) (bytes : List ℕ)
         → IsSumOf kept.now ss → F.holds feed.old bytes
-        → TakeRefuses R.mean R.reads ss bytes (R.log runner.old) (R.log runner.new) fault) }
+        → TakeRefuses R.queries ss bytes (R.log runner.old) (R.log runner.new) fault) }
+    ensures log { IfErr result (λ _. RunsPart (R.log runner.old) (R.log runner.new)) }
     ensures counted { (ss : List SessionValue) → IsSumOf kept.now ss
         → CountsTake result (F.failed feed.old) (F.failed feed.new) }
 {
-    let session = match read_file(alloc, kept.count, feed) {
+    let session = match read_file(alloc, kept.session(), kept.count, feed) {
         Ok(session) => session,
         Err(fault) => return Err(fault),
     };
@@ -143,7 +146,7 @@ fn take_session<R: Runner, F: Feed>(
         Ok(runs) => runs,
         Err(fault) => return Err(fault),
     };
-    match Last::of(alloc, &session) {
+    match Last::of(alloc, session) {
         Ok(last) => Ok(Sum {
             count: kept.count + 1,
             runs: kept.runs.saturating_add(runs as u128),
@@ -155,14 +158,16 @@ fn take_session<R: Runner, F: Feed>(
 
 /// The result of the sessions that are summed.
 fn end_of<R: Runner>(kept: Sum) -> Result<Audited, AuditFault>
-    ensures { (ss : List SessionValue) → IsSumOf kept ss → EndGives R.mean R.reads ss result }
+    ensures { (ss : List SessionValue) → IsSumOf kept ss → EndGives R.queries ss result }
 {
     let Sum { count, runs, last } = kept;
     let Some(last) = last else {
         return Err(AuditFault::EmptyChain);
     };
+    let profile = last.profile();
     match last.into_answer() {
         Some(answer) => Ok(Audited {
+            profile,
             answer,
             sessions: count,
             runs,

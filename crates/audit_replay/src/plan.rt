@@ -24,8 +24,10 @@ pub(crate) fn run_plan<R: Runner>(
 ) -> Result<(), AuditFault>
     requires { plan.now ≡ executed_in session.now }
     ensures replayed { OnOk result
-        (AreReplayed R.mean R.reads (entry_at session.now) (λ _. true)) }
-    ensures refused { IfErr result (RefusesPlan R.mean R.reads k session.now) }
+        (AreReplayed (R.queries.mean session.now.terms.profile)
+        (R.queries.reads session.now.terms.profile) (entry_at session.now) (λ _. true)) }
+    ensures refused { IfErr result (RefusesPlan (R.queries.mean session.now.terms.profile)
+        (R.queries.reads session.now.terms.profile) k session.now) }
     ensures log { LogGives (executed_keys session.now) (R.log runner.old) (R.log runner.new)
         result }
 {
@@ -48,7 +50,8 @@ fn rerun_at<R: Runner>(
     n: usize,
 ) -> Result<(), Mismatch>
     requires { IsExecutedAt session.now n }
-    ensures run { RerunGivesAt R.mean R.reads session.now n result }
+    ensures run { RerunGivesAt (R.queries.mean session.now.terms.profile)
+        (R.queries.reads session.now.terms.profile) session.now n result }
     ensures ok { OnOk result
         (Logs (key_at session.now.records n) (R.log runner.old) (R.log runner.new)) }
     ensures log { Logs (key_at session.now.records n) (R.log runner.old) (R.log runner.new)

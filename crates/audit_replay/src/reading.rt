@@ -1,31 +1,35 @@
 //! The file of a session, from a feed.
 ghost use Rattle.std.specs.Prelude.{◌≡◌, ℕ, List, IfOk, IfErr};
-ghost use Rattle.sessions.specs.Sessions.{IsSession};
+ghost use Rattle.std.specs.Option.{option_copied};
+ghost use Rattle.sessions.specs.Sessions.{IsSession, IsTakenFrom};
 ghost use Rattle.sessions.specs.Spelling.{file_of};
-ghost use Rattle.session_file.specs.Devices.{Counts};
+ghost use Rattle.devices.specs.Devices.{Counts};
 ghost use Rattle.session_file.specs.Feeding.{Given};
 ghost use Rattle.audit_replay.specs.Sums.{CountsTake, EndsFeed, ReadFails, file_fault};
 
 use audit_graph::AuditFault;
-use session_file::{DeviceFault, Feed, FileFault, read_from};
+use devices::{DeviceFault, Feed};
+use session_file::{FileFault, read_from_after};
 use sessions::Session;
 use std::alloc::Global;
 
-/// The session whose file the feed holds, as file `k` of its chain. Nothing may follow the file.
+/// The session over the previous one whose file the feed holds, as file `k` of its chain. Nothing may follow the file.
 pub(crate) fn read_file<F: Feed>(
     alloc: Global,
+    past: Option<&Session>,
     k: usize,
     feed: &mut F,
 ) -> Result<Session, AuditFault>
     ensures session { IfOk result IsSession }
+    ensures taken { IfOk result (IsTakenFrom (option_copied past.entry)) }
     ensures given { IfOk result (λ s. Given (F.holds feed.old) (F.holds feed.new) (file_of s)) }
     ensures whole { IfOk result (λ s. (bytes : List ℕ) → F.holds feed.old bytes
         → bytes ≡ file_of s) }
     ensures refused { IfErr result (λ fault. (bytes : List ℕ) → F.holds feed.old bytes
-        → ReadFails k bytes fault) }
+        → ReadFails (option_copied past.entry) k bytes fault) }
     ensures counted { CountsTake result (F.failed feed.old) (F.failed feed.new) }
 {
-    match read_from(alloc, feed) {
+    match read_from_after(alloc, past, feed) {
         Ok(session) => match is_at_end(feed) {
             Ok(true) => Ok(session),
             Ok(false) => Err(AuditFault::File(k, FileFault::Trailing)),

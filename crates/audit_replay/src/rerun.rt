@@ -11,12 +11,12 @@ ghost use Rattle.audit_replay.specs.Reruns.{AreAllEdges, IsExecutedIn, RerunGive
 use crate::compare::first_other;
 use crate::mismatch::Mismatch;
 use crate::script::script_of;
-use recorder::{AnswerList, Outcome, ReadFault, Recorder, RunFault, Runner, record};
+use recorder::{AnswerList, Outcome, ReadFault, Recorder, RunFault, Runner, record_sharing};
 use sessions::{Record, Session};
 use std::alloc::Global;
 
-/// Replays an executed record, with the results of its edges for answers, and compares what the run reads, in its
-/// order, and its result with the record.
+/// Replays an executed record in its session's profile, with the results of its edges for answers, and compares what the
+/// run reads, in its order, and its result with the record.
 pub(crate) fn rerun<R: Runner>(
     alloc: Global,
     runner: &mut R,
@@ -24,7 +24,8 @@ pub(crate) fn rerun<R: Runner>(
     item: &Record,
 ) -> Result<(), Mismatch>
     requires { IsExecutedIn session.now item.now }
-    ensures run { RerunGives R.mean R.reads (entry_at session.now)
+    ensures run { RerunGives (R.queries.mean session.now.terms.profile)
+        (R.queries.reads session.now.terms.profile) (entry_at session.now)
         (entry_of session.now.records item.now) result }
     ensures ok { OnOk result (Logs item.now.key (R.log runner.old) (R.log runner.new)) }
     ensures log { Logs item.now.key (R.log runner.old) (R.log runner.new)
@@ -53,7 +54,8 @@ fn replay<R: Runner>(
         recorder.old.inner }
     requires unread { recorder.old.told ≡ [] }
     requires unrefused { recorder.old.refused ≡ None }
-    ensures run { RerunGives R.mean R.reads (entry_at session.now)
+    ensures run { RerunGives (R.queries.mean session.now.terms.profile)
+        (R.queries.reads session.now.terms.profile) (entry_at session.now)
         (entry_of session.now.records item.now) result }
     ensures ok { OnOk result (Logs item.now.key (R.log runner.old) (R.log runner.new)) }
     ensures log { Logs item.now.key (R.log runner.old) (R.log runner.new)
@@ -61,7 +63,9 @@ fn replay<R: Runner>(
 {
     // A session keeps in its type what its records are.
     let _records = session.records();
-    match record(alloc, runner, item.key(), recorder) {
+    let profile = session.terms().profile;
+    let known = Some(item.sealed());
+    match record_sharing(alloc, runner, profile, item.key(), recorder, known) {
         Ok(outcome) => compare(session, item, recorder, &outcome),
         Err(RunFault::OutOfMemory) => Err(Mismatch::OutOfMemory),
         Err(RunFault::Read(fault)) => Err(refused_read::<R>(session, item, recorder, fault)),
@@ -78,9 +82,11 @@ fn compare<R: Runner>(
     requires inside { AreInside session.now.records item.now.edges }
     requires script { AreAllEdges (entry_at session.now) (entry_of session.now.records item.now)
         recorder.now.inner }
+    requires profile { outcome.now.profile ≡ session.now.terms.profile }
     requires key { outcome.now.key ≡ item.now.key }
     requires told { outcome.now.told ≡ recorder.now.told }
-    ensures { RerunGives R.mean R.reads (entry_at session.now)
+    ensures { RerunGives (R.queries.mean session.now.terms.profile)
+        (R.queries.reads session.now.terms.profile) (entry_at session.now)
         (entry_of session.now.records item.now) result }
 {
     let reads = recorder.reads();
@@ -107,10 +113,13 @@ fn refused_read<R: Runner>(
     requires inside { AreInside session.now.records item.now.edges }
     requires script { AreAllEdges (entry_at session.now) (entry_of session.now.records item.now)
         recorder.now.inner }
-    requires asked { Asked R.mean R.reads item.now.key recorder.now.told }
-    requires next { IsNextRefused R.mean R.reads item.now.key recorder.now }
+    requires asked { Asked (R.queries.mean session.now.terms.profile)
+        (R.queries.reads session.now.terms.profile) item.now.key recorder.now.told }
+    requires next { IsNextRefused (R.queries.mean session.now.terms.profile)
+        (R.queries.reads session.now.terms.profile) item.now.key recorder.now }
     requires fault { fault_of recorder.now ≡ Some fault }
-    ensures { RerunGives R.mean R.reads (entry_at session.now)
+    ensures { RerunGives (R.queries.mean session.now.terms.profile)
+        (R.queries.reads session.now.terms.profile) (entry_at session.now)
         (entry_of session.now.records item.now) (Err result) }
 {
     let reads = recorder.reads();

@@ -1,7 +1,7 @@
 //! One session over the one before.
 ghost use Rattle.std.specs.Prelude.{◌≡◌, IfOk, Option};
 ghost use Rattle.std.specs.Option.{option_copied};
-ghost use Rattle.sessions.specs.Sessions.{SessionValue, entry_at};
+ghost use Rattle.sessions.specs.Sessions.{SessionValue, IsTakenFrom, entry_at};
 ghost use Rattle.audit_graph.specs.Kept.{ArePastOf};
 ghost use Rattle.audit_graph.specs.Sources.{HasSources};
 ghost use Rattle.audit_replay.specs.Logs.{LogGives, executed_keys};
@@ -23,13 +23,14 @@ pub(crate) fn audit_session<R: Runner>(
     session: &Session,
 ) -> Result<usize, AuditFault>
     ensures gives { (was : Option SessionValue) → ArePastOf (option_copied past.entry) was
-        → SessionGives R.mean R.reads was k session.now result }
+        → IsTakenFrom was session.now
+        → SessionGives R.queries was k session.now result }
     ensures sources { IfOk result
         (λ _. (session.now.number ≡ k) × HasSources (entry_at session.now)) }
     ensures log { LogGives (executed_keys session.now) (R.log runner.old) (R.log runner.new)
         result }
 {
-    let plan = match check_step(alloc, past, k, session) {
+    let plan = match check_step::<R>(alloc, past, k, session) {
         Ok(plan) => plan,
         Err(fault) => return Err(fault),
     };

@@ -9,6 +9,7 @@ use crate::answer::answer_of;
 use crate::inputs::Inputs;
 use audit_graph::Past;
 use fingerprint::Sealed;
+use profiles::Profile;
 use sessions::Session;
 use std::alloc::{AllocError, Global};
 use std::sync::Arc;
@@ -21,15 +22,26 @@ pub(crate) struct Sum {
     pub(crate) last: Option<Last>,
 }
 
-/// Of a session its `Past`, its inputs and its answer.
+/// A session, with its `Past`, its inputs and its answer.
 #[derive(Drop)]
 pub(crate) struct Last {
+    session: Session,
     past: Past,
     inputs: Inputs,
     answer: Option<Arc<Sealed>>,
 }
 
 impl Sum {
+    /// The session that the next one is read over.
+    pub(crate) fn session(&self) -> Option<&Session>
+        ensures { option_copied result ≡ option_map (λ last. last.session) self.now.last }
+    {
+        match &self.last {
+            Some(last) => Some(&last.session),
+            None => None,
+        }
+    }
+
     /// The `Past` that the next session is audited over.
     pub(crate) fn past(&self) -> Option<&Past>
         ensures { option_copied result ≡ option_map (λ last. last.past) self.now.last }
@@ -43,17 +55,26 @@ impl Sum {
 
 impl Last {
     /// What is kept of a session that holds the files of a project.
-    pub(crate) fn of(alloc: Global, session: &Session) -> Result<Self, AllocError>
-        requires { HasSources (entry_at session.now) }
-        ensures { IfOk result (λ last. IsLastOf last session.now) }
+    pub(crate) fn of(alloc: Global, session: Session) -> Result<Self, AllocError>
+        requires { HasSources (entry_at session) }
+        ensures { IfOk result (λ last. IsLastOf last session) }
     {
-        let answer = shared_answer(session)?;
-        let inputs = Inputs::of(alloc, session)?;
+        let answer = shared_answer(&session)?;
+        let inputs = Inputs::of(alloc, &session)?;
+        let past = Past::of(alloc, &session)?;
         Ok(Last {
-            past: Past::of(alloc, session)?,
+            session,
+            past,
             inputs,
             answer,
         })
+    }
+
+    /// Its profile.
+    pub(crate) fn profile(&self) -> Profile
+        ensures { result ≡ self.now.session.terms.profile }
+    {
+        self.session.terms().profile
     }
 
     /// Its inputs.

@@ -1,6 +1,7 @@
 -- A session that was closed has a record of the answer.
-use Rattle.std.proofs.Common.{◌≡◌, ◌∙◌, ℕ, zero, suc, ◌<◌, List, [], ◌∷◌, map, length, get_or, Option, Some, None, refl, sym, ap, arith}
-use Rattle.std.specs.Prelude.{Contains, IfSome}
+use Rattle.std.proofs.Common.{◌≡◌, ◌∙◌, ℕ, ◌<◌, Option, Some, None, refl, sym, ap, arith}
+use Rattle.std.specs.Prelude.{IfSome}
+use Rattle.profiles.specs.declared.profile.Profile.{Profile}
 use Rattle.std.specs.declared.alloc.Global.{Global}
 use Rattle.std.specs.declared.sync.Arc.{Arc}
 use Rattle.item_ids.specs.declared.key.Key.TheVariants.{Answer}
@@ -10,36 +11,21 @@ use Rattle.mj_rules.specs.Answering.{rules_of}
 use Rattle.mj_rules.specs.Laws.{AnswerLaw}
 use Rattle.recorder.specs.Projects.{Project}
 use Rattle.query_rules.specs.Meaning.{mean}
-use Rattle.query_rules.specs.Reads.{reads}
+use Rattle.query_rules.specs.Queries.{queries}
 use Rattle.providers.proofs.AnswerKind.{answer_value}
-use Rattle.sessions.specs.Sessions.{RecordValue, SessionValue, IsSession, Entry, entries, entry_at, entry_of, session_in}
-use Rattle.sessions.proofs.EntryRules.{entry_of_place, has_key}
+use Rattle.sessions.specs.declared.terms.Terms.{Terms}
+use Rattle.sessions.specs.Sessions.{SessionValue, IsSession, Entry, entries, entry_at, session_in}
+use Rattle.sessions.proofs.EntryRules.{has_key}
 use Rattle.graph_rules.specs.Steps.{State}
 use Rattle.graph_rules.specs.Graphs.{AreClosed, answer}
 use Rattle.graph_rules.specs.Graphs.IsReached.{root as starts}
-use Rattle.graph_rules.proofs.SessionRules.{session_graph}
+use Rattle.graph_rules.proofs.SessionRules.{session_graph, told_of_entry, entry_told}
 use Rattle.key_states.specs.Closing.{IsFull}
 use Rattle.session_cache.specs.Names.{most}
-use Rattle.next_sessions.specs.Nexts.{DecidesNext, IsNextSession}
-use Rattle.next_sessions.proofs.NextRight.{entry_told}
+use Rattle.next_sessions.specs.Nexts.{StandsApart, IsNextSession}
 use Rattle.driver.specs.Sessions.{IsSessionOf}
 use Rattle.driver.specs.declared.reports.Reports.{Reports}
 use Rattle.cached_check.specs.Checks.{IsAnswered, IsNextByRules, IsMadeOver}
-
--- a record at some place of the list that is mapped
-mapped_at : (rs xs : List RecordValue) (i : ℕ) (r : Entry) → i < length (map (entry_of rs) xs) → get_or (map (entry_of rs) xs) i r ≡ r
-    → (x : RecordValue) × (i < length xs) × (get_or xs i x ≡ x) × (entry_of rs x ≡ r)
-mapped_at rs [] i r lt is = absurd (omega arith)
-mapped_at rs (x ∷ xs) zero r lt is = let l : 0 < length (x ∷ xs) = omega arith in (x, l, refl, is)
-mapped_at rs (x ∷ xs) (suc i) r lt is =
-    let rest = mapped_at rs xs i r (omega arith) is in
-    let l : suc i < length (x ∷ xs) = let b = rest.1 in omega arith in (rest.0, l, rest.2, rest.3)
-
--- what stands among the entries is what the session says about its key
-told : (s : SessionValue) → IsSession s → (r : Entry) → Contains (entries s) r → entry_at s r.key ≡ Some r
-told s session r has =
-    let at = mapped_at s.records s.records has.0 r has.1 has.2 in
-    ap (λ (e : Entry). entry_at s e.key) (sym at.3) ∙ entry_of_place s session has.0 at.0 at.1 at.2 ∙ ap Some at.3
 
 answered : (s : SessionValue) → IsSession s → (r : Entry) → entry_at s Answer ≡ Some r → IsAnswered s
 answered s session r has =
@@ -49,7 +35,7 @@ answered s session r has =
 closed_answered : (p : Project) (s : SessionValue) → IsSession s → (state : State) → AreClosed p state (entries s) → IsAnswered s
 closed_answered p s session state closed =
     let it = closed.all Answer (starts Answer answer) in
-    answered s session it.0 (ap (entry_at s) (sym it.2) ∙ told s session it.0 it.1)
+    answered s session it.0 (ap (entry_at s) (sym it.2) ∙ told_of_entry s session it.0 it.1)
 
 -- ---- the previous session
 
@@ -59,36 +45,39 @@ has_room (Some s) room full = omega arith
 
 -- ---- the answer of the rules
 
-means_the_rules : (p : Project) → mean p Answer ≡ values.Answer (rules_of p)
+means_the_rules : (profile : Profile) (p : Project) → mean profile p Answer ≡ values.Answer (rules_of profile p)
 unfolding mean
-means_the_rules p = refl
+means_the_rules profile p = refl
 
 same_answer : (a b : AnswerValue) → values.Answer a ≡ values.Answer b → a ≡ b
 same_answer a b e = cc
 
--- the next session's record of the answer has what the project gives
-next_means : (past : Option SessionValue) (p : Project) (s : SessionValue) → IsNextSession mean reads past p s
-    → (r : Entry) → entry_at s Answer ≡ Some r → r.value ≡ mean p Answer
-next_means past p s is r has =
-    let key : r.key ≡ Answer = has_key s is.session Answer r has in
-    (is.told.each r (entry_told s Answer r has)).value ∙ ap (mean p) key
+module _ (terms : Terms) (past : Option SessionValue) (p : Project) (s : SessionValue) (is : IsNextSession queries terms past p s) where
+  -- the next session's record of the answer has what the project gives
+  next_means : (r : Entry) → entry_at s Answer ≡ Some r → r.value ≡ mean terms.profile p Answer
+  next_means r has =
+      let key : r.key ≡ Answer = has_key s is.session Answer r has in
+      (is.told.each r (entry_told s Answer r has)).value ∙ ap (mean terms.profile p) key
 
-of_the_rules : AnswerLaw → (past : Option SessionValue) (p : Project) (s : SessionValue) → IsNextSession mean reads past p s → IsNextByRules past p s
-of_the_rules law past p s is = record {
-  next = is;
-  rules = λ answer recorded.
-      let same : answer ≡ rules_of p = same_answer answer (rules_of p)
-      (sym recorded.value ∙ next_means past p s is recorded.entry recorded.has ∙ means_the_rules p) in
-      (law p answer).1 same;
-}
+  of_the_rules : AnswerLaw → IsNextByRules terms past p s
+  of_the_rules law = record {
+    next = is;
+    rules = λ answer recorded.
+        let same : answer ≡ rules_of terms.profile p = same_answer answer (rules_of terms.profile p)
+        (sym recorded.value ∙ next_means recorded.entry recorded.has ∙ means_the_rules terms.profile p) in
+        (law terms.profile p answer).1 same;
+  }
 
-module _ (law : AnswerLaw) (past : Option (Arc SessionValue Global)) (p : Project) (workers : ℕ) (s : SessionValue) (r : Reports) where
-  pub made_over : IsSession s → IsSessionOf mean reads (session_in past) p workers s r
-      → (DecidesNext mean reads (session_in past) p → IsNextSession mean reads (session_in past) p s)
-      → IsMadeOver (session_in past) p s
-  made_over session of next = record {
+module _ (law : AnswerLaw) (terms : Terms) (past : Option (Arc SessionValue Global)) (p : Project) (workers : ℕ) (s : SessionValue) (r : Reports)
+    (next : StandsApart queries (session_in past) s → IsNextSession queries terms (session_in past) p s) where
+  pub next_by_rules : StandsApart queries (session_in past) s → IsNextByRules terms (session_in past) p s
+  next_by_rules apart = of_the_rules terms (session_in past) p s (next apart) law
+
+  pub made_over : IsSession s → IsSessionOf queries terms (session_in past) p workers s r
+      → IsMadeOver terms (session_in past) p s
+  made_over session of = record {
     history = of.history;
     events = of.events;
     answered = closed_answered p s session _ of.events.closing.closed;
-    decided = λ d. of_the_rules law (session_in past) p s (next d);
+    by_rules = next_by_rules;
   }

@@ -6,11 +6,11 @@ use Rattle.mj_answer.specs.AnswerValues.{AnswerValue}
 use Rattle.result_bytes.specs.declared.value.Value.TheVariants as values
 use Rattle.mj_rules.specs.Rules.{Rules}
 use Rattle.recorder.specs.Projects.{Project}
-use Rattle.query_rules.specs.Meaning.{mean}
-use Rattle.query_rules.specs.Reads.{reads}
+use Rattle.query_rules.specs.Queries.{queries}
+use Rattle.sessions.specs.declared.terms.Terms.{Terms}
 use Rattle.sessions.specs.Sessions.{Entry, SessionValue, entry_at, session_in}
 use Rattle.graph_rules.specs.Steps.{Event}
-use Rattle.next_sessions.specs.Nexts.{DecidesNext, IsNextSession}
+use Rattle.next_sessions.specs.Nexts.{StandsApart, IsNextSession}
 use Rattle.driver.specs.Sessions.{AreEventsOf}
 use Rattle.session_cache.specs.Starts.{IsLast, IsStart, IsStartBehind, IsStartless, path_of}
 use Rattle.session_cache.specs.declared.fault.CacheFault.TheVariants as cache
@@ -82,22 +82,24 @@ pub record IsAnswerIn (s : SessionValue) (answer : AnswerValue) : Type 0 where
 abbrev pub IsAnswered : SessionValue → Type 0
 IsAnswered s = (answer : AnswerValue) × IsAnswerIn s answer
 
--- It is the one next session, and its answer is the one that the static rules give the files.
-pub record IsNextByRules (past : Option SessionValue) (p : Project) (s : SessionValue)
-    : Type 0 where
-  pub next : IsNextSession mean reads past p s
-  pub rules : (answer : AnswerValue) → IsAnswerIn s answer → Rules p answer
+-- It is the one next session of these terms, and its answer is the one that the static rules of its
+-- profile give the files.
+pub record IsNextByRules (terms : Terms) (past : Option SessionValue) (p : Project)
+    (s : SessionValue) : Type 0 where
+  pub next : IsNextSession queries terms past p s
+  pub rules : (answer : AnswerValue) → IsAnswerIn s answer → Rules terms.profile p answer
 
--- A legal history over the previous session and the project closes with the session. Each outcome
--- in it is one that MiniJava's queries give to their reads, and it records the answer. Where the
--- previous session and the project decide the next one, it is that, with the answer of the static
--- rules.
-pub record IsMadeOver (past : Option SessionValue) (p : Project) (s : SessionValue) : Type 0 where
+-- A legal history of a session of these terms over the previous session and the project closes with the
+-- session. Each outcome in it is one that MiniJava's queries give to their reads, and it records the
+-- answer. Where it stands apart from the previous session, it is the next one, with the answer of the
+-- static rules.
+pub record IsMadeOver (terms : Terms) (past : Option SessionValue) (p : Project)
+    (s : SessionValue) : Type 0 where
   pub history : List Event
-  pub events : AreEventsOf mean reads past p history s
+  pub events : AreEventsOf queries terms past p history s
   pub answered : IsAnswered s
-  pub decided : DecidesNext mean reads past p → IsNextByRules past p s
+  pub by_rules : StandsApart queries past s → IsNextByRules terms past p s
 
 -- the session comes where it is to begin
-abbrev pub IsNextAt : Beginning → Project → SessionValue → Type 0
-IsNextAt b p s = IsMadeOver (session_in b.past) p s
+abbrev pub IsNextAt : Terms → Beginning → Project → SessionValue → Type 0
+IsNextAt terms b p s = IsMadeOver terms (session_in b.past) p s

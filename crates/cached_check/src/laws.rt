@@ -1,11 +1,10 @@
-//! What a project decides by itself.
+//! First sessions.
 ghost use Rattle.std.specs.Prelude.{None};
-ghost use Rattle.recorder.specs.Projects.{Project};
-ghost use Rattle.query_rules.specs.Meaning.{mean};
-ghost use Rattle.query_rules.specs.Reads.{reads};
-ghost use Rattle.next_sessions.specs.Nexts.{DecidesNext};
+ghost use Rattle.query_rules.specs.Queries.{queries};
+ghost use Rattle.sessions.specs.Sessions.{SessionValue};
+ghost use Rattle.next_sessions.specs.Nexts.{StandsApart};
 
-/// Where there is no previous session, each project decides the next session.
-pub fn first_is_decided()
-    ensures { (p : Project) → DecidesNext mean reads None p }
+/// Where there is no previous session, each session stands apart from it.
+pub fn first_stands_apart()
+    ensures { (s : SessionValue) → StandsApart queries None s }
 {}

@@ -12,6 +12,6 @@ mod words;
 pub use answer::answer_in;
 pub use beginning::{Beginning, begin, begin_behind, keep};
 pub use fault::CheckFault;
-pub use laws::first_is_decided;
+pub use laws::first_stands_apart;
 pub use next::next_session;
 pub use words::summary_text;

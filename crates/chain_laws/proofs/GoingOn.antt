@@ -4,18 +4,25 @@ use Rattle.std.specs.Prelude.{Contains, IfSome}
 use Rattle.std.specs.List.{AllByRecursion}
 use Rattle.std.proofs.lemmas.List.{map-append}
 use Rattle.std.proofs.lemmas.Option.{none-some, same_Some}
+use Rattle.profiles.specs.declared.profile.Profile.{Profile}
 use Rattle.item_ids.specs.declared.key.Key.{Key}
 use Rattle.item_ids.specs.declared.key.Key.TheVariants.{Answer}
 use Rattle.result_bytes.specs.declared.value.Value.{Value}
 use Rattle.mj_project.specs.Projects.{IsProject}
 use Rattle.recorder.specs.Projects.{Project}
-use Rattle.recorder.specs.Backed.{Meaning, ReadLists, RunnerLaws}
-use Rattle.sessions.specs.Sessions.{SessionValue, IsSession, entry_at, past_entry, next_number}
+use Rattle.recorder.specs.Backed.{Queries, AreLawful}
+use Rattle.sessions.specs.declared.terms.Terms.{Terms}
+use Rattle.sessions.specs.Sessions.{SessionValue, IsSession, IsTakenFrom, entries, entry_at, past_entry, next_number}
 use Rattle.sessions.specs.Spelling.{file_of}
+use Rattle.sessions.proofs.EntryRules.{has_key}
+use Rattle.graph_rules.specs.Settings.{setting_of}
+use Rattle.graph_rules.specs.Apart.{AreApartFrom, HasNoClash}
 use Rattle.graph_rules.specs.Graphs.IsRoot.{answer as answer_root}
-use Rattle.graph_rules.specs.Next.{IsRight, HasNoClash}
+use Rattle.graph_rules.specs.Next.{IsRightAfter}
 use Rattle.graph_rules.specs.Next.IsReadIn.{root}
-use Rattle.next_sessions.specs.Nexts.{IsOfSomeProject, DecidesNext, IsNextSession, ReadsOwnFiles}
+use Rattle.graph_rules.proofs.SettingRules.{kept_held}
+use Rattle.graph_rules.proofs.SessionRules.{entry_told, no_clash}
+use Rattle.next_sessions.specs.Nexts.{IsOfSomeProject, StandsApart, IsNextSession, ReadsOwnFiles}
 use Rattle.next_sessions.proofs.NextRight.{told, next_right}
 use Rattle.audit_graph.specs.Chains.{IsLinked, AreLinked}
 use Rattle.audit_graph.specs.declared.fault.AuditFault.{AuditFault}
@@ -23,7 +30,6 @@ use Rattle.audit_graph.specs.declared.fault.AuditFault.TheVariants.{OutOfMemory}
 use Rattle.audit_graph.proofs.Entries.{contains_first, contains_later, all_last}
 use Rattle.audit_replay.specs.Audits.{AreRight, AreApart, IsRecorded, IsAccepted, AuditRefuses, last_of}
 use Rattle.audit_replay.specs.RightChains.{IsRightChain}
-use Rattle.audit_replay.proofs.ApartRules.{one_by_print}
 use Rattle.audit_replay.proofs.FileRules.{last_more}
 use Rattle.audit_replay.proofs.RightRules.{refused, accepted_right}
 
@@ -55,19 +61,23 @@ number_behind past k n [] is linked many = omega (arith, is, many)
 number_behind past k n (s ∷ ss) is linked many =
     let number = linked.0.number in
     let here : next_number (Some s) ≡ k + 1 = omega (arith, number) in
-    number_behind (Some s) (k + 1) n ss here linked.1 (omega (arith, many))
+    number_behind (Some s) (k + 1) n ss here linked.2 (omega (arith, many))
 
-linked_more : (past : Option SessionValue) (k n : ℕ) (ss : List SessionValue) (s : SessionValue) → AreLinked past k ss → n ≡ k + length ss → IsLinked (last_of past ss) n s → AreLinked past k (ss ++ s ∷ [])
-linked_more past k n [] s linked many is = let e : n ≡ k = omega (arith, many) in (subst (λ m. IsLinked past m s) e is, tt)
-linked_more past k n (t ∷ ts) s linked many is = (linked.0, linked_more (Some t) (k + 1) n ts s linked.1 (omega (arith, many)) is)
+linked_more : (past : Option SessionValue) (k n : ℕ) (ss : List SessionValue) (s : SessionValue) → AreLinked past k ss → n ≡ k + length ss → IsLinked (last_of past ss) n s → IsTakenFrom (last_of past ss) s → AreLinked past k (ss ++ s ∷ [])
+linked_more past k n [] s linked many is taken = let e : n ≡ k = omega (arith, many) in (subst (λ m. IsLinked past m s) e is, taken, tt)
+linked_more past k n (t ∷ ts) s linked many is taken = (linked.0, linked.1, linked_more (Some t) (k + 1) n ts s linked.2 (omega (arith, many)) is taken)
 
-module _ (mean : Meaning) (reads : ReadLists) where
-  right_more : (past : Option SessionValue) (ss : List SessionValue) (s : SessionValue) → AreRight mean reads past ss → IsRight mean reads (past_entry (last_of past ss)) (entry_at s) → AreRight mean reads past (ss ++ s ∷ [])
+module _ (queries : Queries) where
+  right_more : (past : Option SessionValue) (ss : List SessionValue) (s : SessionValue) → AreRight queries past ss → IsRightAfter queries (last_of past ss) s → AreRight queries past (ss ++ s ∷ [])
   right_more past [] s right is = (is, tt)
   right_more past (t ∷ ts) s right is = (right.0, right_more (Some t) ts s right.1 is)
 
+  -- a session is that of some project by its own profile
+  abbrev IsKnown : SessionValue → Type 0
+  IsKnown t = IsOfSomeProject (queries.mean t.terms.profile) (queries.reads t.terms.profile) (entry_at t)
+
   -- the last session is one, and that of some project
-  last_known : (past : Option SessionValue) (ss : List SessionValue) → IfSome past (λ t. IsOfSomeProject mean reads (entry_at t)) → AreRight mean reads past ss → IfSome (last_of past ss) (λ t. IsOfSomeProject mean reads (entry_at t))
+  last_known : (past : Option SessionValue) (ss : List SessionValue) → IfSome past IsKnown → AreRight queries past ss → IfSome (last_of past ss) IsKnown
   last_known past [] known right = known
   last_known past (s ∷ ss) known right = last_known (Some s) ss (right.0.project, right.0.of_project) right.1
 
@@ -75,32 +85,56 @@ module _ (mean : Meaning) (reads : ReadLists) where
   last_session past [] session each = session
   last_session past (s ∷ ss) session each = last_session (Some s) ss each.0 each.1
 
-  module _ (laws : RunnerLaws mean reads) (sessions : List SessionValue) (chain : IsRightChain mean reads sessions) (p : Project) (next : SessionValue)
-      (project : IsProject p) (own : ReadsOwnFiles reads p) (is : IsNextSession mean reads (last_of None sessions) p next) (apart : AreApart (sessions ++ next ∷ [])) where
-    no_clash : (past : Option SessionValue) → last_of None sessions ≡ past → HasNoClash mean reads (past_entry past) p
-    no_clash None last q k r inn has same = absurd (none-some r has)
-    no_clash (Some t) last q k r inn has same =
-        let x = told mean reads laws (last_of None sessions) p next project own is q inn in
-        let there = within sessions next t (last_in None sessions t (λ y e _. none-some y e) last) in
-        one_by_print (sessions ++ next ∷ []) (all_last IsSession sessions next chain.each is.session) apart r.value (mean p q)
-        (record { session = t; there = there; key = k; entry = r; has = has; value = refl })
-        (record { session = next; there = at_last sessions next; key = q; entry = x.0; has = x.1; value = x.2 }) same
+  -- ---- a session behind a right chain
 
-    pub next_decided : DecidesNext mean reads (last_of None sessions) p
-    next_decided = record { past_is = last_known None sessions tt chain.right; apart = no_clash (last_of None sessions) refl }
+  module _ (sessions : List SessionValue) (chain : IsRightChain queries sessions) (s : SessionValue) (apart : AreApart (sessions ++ s ∷ [])) where
+    there : (past : Option SessionValue) → last_of None sessions ≡ past → AreApartFrom (past_entry past) (entry_at s)
+    there None last v w a b same = absurd (none-some a.entry a.has)
+    there (Some t) last v w a b same =
+        apart v w
+        (record { session = t; there = within sessions s t (last_in None sessions t (λ y e _. none-some y e) last); key = a.key; entry = a.entry; has = a.has; value = a.value })
+        (record { session = s; there = at_last sessions s; key = b.key; entry = b.entry; has = b.has; value = b.value })
+        same
 
-    pub goes_on : IsRightChain mean reads (sessions ++ next ∷ [])
+    pub stands_apart : StandsApart queries (last_of None sessions) s
+    stands_apart = record { past_is = last_known None sessions tt chain.right; apart = there (last_of None sessions) refl }
+
+  -- a green record of a session that is right over the previous one, and has no clash with it, has the result that is
+  -- recorded there
+  taken_over : (past : Option SessionValue) (s : SessionValue) → IsSession s → IsRightAfter queries past s → HasNoClash (past_entry past) (entries s) → IsTakenFrom past s
+  taken_over past s session right apart two q r has green =
+      let over = setting_of queries.by_profile s.terms.profile past in
+      let g = right.greens q r has green in
+      let held = kept_held over r.key g.had g.past_has in
+      (g.had, subst (λ (k : Key). past_entry past k ≡ Some g.had) (has_key s session q r has) held, apart r.key g.had r held (entry_told s q r has) g.print)
+
+  module _ (laws : AreLawful queries) (sessions : List SessionValue) (chain : IsRightChain queries sessions) (terms : Terms) (p : Project) (next : SessionValue)
+      (project : IsProject p) (own : ReadsOwnFiles (queries.reads terms.profile) p) (is : IsNextSession queries terms (last_of None sessions) p next) (apart : AreApart (sessions ++ next ∷ [])) where
+    abbrev past : Option SessionValue
+    past = last_of None sessions
+
+    past_is : IfSome past IsSession
+    past_is = last_session None sessions tt chain.each
+
+    stands : StandsApart queries past next
+    stands = stands_apart sessions chain next apart
+
+    right : IsRightAfter queries past next
+    right = next_right queries laws terms past p next project past_is stands own is
+
+    pub goes_on : IsRightChain queries (sessions ++ next ∷ [])
     goes_on = record {
       each = all_last IsSession sessions next chain.each is.session;
       chain = linked_more None 0 (length sessions) sessions next chain.chain (omega arith)
           (record {
             number = is.number ∙ number_behind None 0 (length sessions) sessions refl chain.chain (omega arith);
             link = is.link;
-          });
-      right = right_more None sessions next chain.right
-          (next_right mean reads laws (last_of None sessions) p next project (last_session None sessions tt chain.each) next_decided own is);
+          })
+          (taken_over past next is.session right (no_clash past next past_is is.session stands.apart));
+      right = right_more None sessions next chain.right right;
       answered = λ none.
-          let x = told mean reads laws (last_of None sessions) p next project own is Answer (root Answer answer_root) in
+          let over = setting_of queries.by_profile terms.profile past in
+          let x = told (queries.mean terms.profile) (queries.reads terms.profile) (laws.each terms.profile) over p next project own is.session is.told Answer (root Answer answer_root) in
           none-some x.0 (sym none ∙ (ap (λ (o : Option SessionValue). past_entry o Answer) (last_more None sessions next) ∙ x.1));
     }
 
@@ -111,22 +145,21 @@ fewer_apart ss s apart v w a b same = apart v w (more v a) (more w b) same
     more : (v : Value) → IsRecorded ss v → IsRecorded (ss ++ s ∷ []) v
     more v r = record { session = r.session; there = within ss s r.session r.there; key = r.key; entry = r.entry; has = r.has; value = r.value }
 
-module _ (mean : Meaning) (reads : ReadLists) where
-  pub accepted_chain : (files : List (List ℕ)) (old new : List Key) (project : Project) (answer : Value) (count runs : ℕ)
-      → (accepted : IsAccepted mean reads files old new project answer count runs) → (next : SessionValue) → AreApart (accepted.sessions ++ next ∷ []) → IsRightChain mean reads accepted.sessions
-  accepted_chain files old new project answer count runs accepted next apart = accepted_right mean reads files old new project answer count runs accepted (fewer_apart accepted.sessions next apart)
+module _ (queries : Queries) (files : List (List ℕ)) (old new : List Key) (profile : Profile) (project : Project) (answer : Value) (count runs : ℕ)
+    (accepted : IsAccepted queries files old new profile project answer count runs) where
+  pub accepted_chain : (s : SessionValue) → AreApart (accepted.sessions ++ s ∷ []) → IsRightChain queries accepted.sessions
+  accepted_chain s apart = accepted_right queries files old new profile project answer count runs accepted (fewer_apart accepted.sessions s apart)
 
-pub next_accepted : (mean : Meaning) (reads : ReadLists) → RunnerLaws mean reads
-    → (files : List (List ℕ)) (old new : List Key) (project : Project) (answer : Value) (count runs : ℕ)
-    → (accepted : IsAccepted mean reads files old new project answer count runs)
-    → (p : Project) (next : SessionValue) → IsProject p → ReadsOwnFiles reads p
-    → IsNextSession mean reads (last_of None accepted.sessions) p next
-    → AreApart (accepted.sessions ++ next ∷ [])
-    → (before after : List Key) (fault : AuditFault)
-    → AuditRefuses mean reads (files ++ file_of next ∷ []) before after fault
-    → fault ≡ OutOfMemory
-next_accepted mean reads laws files old new project answer count runs accepted p next is_project own is apart before after fault r =
-    let chain = accepted_chain mean reads files old new project answer count runs accepted next apart in
-    let on = goes_on mean reads laws accepted.sessions chain p next is_project own is apart in
-    let spelled : map file_of (accepted.sessions ++ next ∷ []) ≡ files ++ file_of next ∷ [] = map-append file_of accepted.sessions (next ∷ []) ∙ ap (λ (fs : List (List ℕ)). fs ++ file_of next ∷ []) accepted.passed.spelled in
-    refused mean reads (accepted.sessions ++ next ∷ []) on (files ++ file_of next ∷ []) spelled before after fault r
+  pub behind_accepted : (s : SessionValue) → AreApart (accepted.sessions ++ s ∷ []) → StandsApart queries (last_of None accepted.sessions) s
+  behind_accepted s apart = stands_apart queries accepted.sessions (accepted_chain s apart) s apart
+
+  pub next_accepted : AreLawful queries → (terms : Terms) (p : Project) (next : SessionValue) → IsProject p → ReadsOwnFiles (queries.reads terms.profile) p
+      → IsNextSession queries terms (last_of None accepted.sessions) p next
+      → AreApart (accepted.sessions ++ next ∷ [])
+      → (before after : List Key) (fault : AuditFault)
+      → AuditRefuses queries (files ++ file_of next ∷ []) before after fault
+      → fault ≡ OutOfMemory
+  next_accepted laws terms p next is_project own is apart before after fault r =
+      let on = goes_on queries laws accepted.sessions (accepted_chain next apart) terms p next is_project own is apart in
+      let spelled : map file_of (accepted.sessions ++ next ∷ []) ≡ files ++ file_of next ∷ [] = map-append file_of accepted.sessions (next ∷ []) ∙ ap (λ (fs : List (List ℕ)). fs ++ file_of next ∷ []) accepted.passed.spelled in
+      refused queries (accepted.sessions ++ next ∷ []) on (files ++ file_of next ∷ []) spelled before after fault r

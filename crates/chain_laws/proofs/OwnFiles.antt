@@ -3,23 +3,28 @@ use Rattle.std.proofs.Common.{◌≡◌, ℕ, zero, suc, ◌+◌, List, [], ◌�
 use Rattle.std.specs.Prelude.{Contains}
 use Rattle.std.specs.List.{AllByRecursion}
 use Rattle.std.proofs.lemmas.Option.{none-some, same_Some}
+use Rattle.profiles.specs.declared.profile.Profile.{Profile}
+use Rattle.profiles.specs.declared.profile.Profile.TheVariants.{One, Two}
 use Rattle.item_ids.specs.declared.key.Key.{Key}
 use Rattle.item_ids.specs.declared.key.Key.TheVariants as keys
 use Rattle.mj_tree.specs.Trees.{Name, Method}
 use Rattle.mj_tree.specs.declared.tree.Field.{Field}
 use Rattle.mj_members.specs.Declarations.{ClassDecl}
 use Rattle.mj_classes.specs.Chains.{chain_of, chain_names}
+use Rattle.mj_classes.specs.Members.{own_method}
+use Rattle.mj_phrases.specs.Inquiries.{Sig}
 use Rattle.mj_project.specs.Projects.{SourceFile, names_of}
+use Rattle.mj_rules.specs.FaultLists.{same_types, rest_of, nearest_sig, method_names}
 use Rattle.mj_rules.specs.Sentences.{classes_in}
 use Rattle.mj_rules.specs.Worlds.{world_of}
 use Rattle.mj_rules.specs.Answering.{first_classes}
 use Rattle.mj_rules.specs.Tables.{table_of}
 use Rattle.recorder.specs.Projects.{Project}
 use Rattle.query_rules.specs.Items.{class_at, body_at, name_of, file_of_class}
-use Rattle.query_rules.specs.BodyReads.{type_reads}
-use Rattle.query_rules.specs.Reads.{all_trees, tree_of_class, chain_headers, signatures, row_signature, field_headers, overriding, bodies_of, answer_parts, class_check_reads, diagnosis_reads, asked_keys, reads}
+use Rattle.query_rules.specs.BodyReads.{type_reads, accept_reads}
+use Rattle.query_rules.specs.Reads.{all_trees, tree_of_class, chain_headers, signatures, row_signature, field_headers, return_chain, return_chains, overriding, bodies_of, answer_parts, class_check_reads, diagnosis_reads, asked_keys, reads}
 use Rattle.query_rules.proofs.Firsts.{all_append, all_mapped, all_flat, firsts_all}
-use Rattle.query_rules.proofs.BodyRanks.{type_all, body_all}
+use Rattle.query_rules.proofs.BodyRanks.{type_all, accept_all, when_all, body_all}
 use Rattle.text_queries.proofs.Files.{stands_in}
 use Rattle.graph_rules.specs.Graphs.{IsRoot}
 use Rattle.graph_rules.specs.Graphs.IsRoot.{answer, files, source}
@@ -48,7 +53,7 @@ class_file p c k e =
     let file : file_of_class p k ≡ s.file.name = ap (λ n. name_of (slice_get p n)) (s.number ∙ start) ∙ ap name_of s.here in
     subst (Contains (names_of p)) (sym file) (name_there p s.at s.file s.here)
 
-module _ (p : Project) where
+module _ (profile : Profile) (p : Project) where
   abbrev Own : Key → Type 0
   Own k = IsOwn p k
 
@@ -66,26 +71,38 @@ module _ (p : Project) where
   headers : (c : Name) → AllByRecursion Own (chain_headers p c)
   headers c = all_mapped Own keys.Header (λ d. tt) (chain_names (chain_of (classes_in p) c))
 
-  overrides : (ms : List Method) (chain : List Name) → AllByRecursion Own (overriding ms chain)
-  overrides [] chain = tt
-  overrides (m ∷ ms) [] = tt
-  overrides (m ∷ ms) (c ∷ []) = tt
-  overrides (m ∷ ms) (c ∷ s ∷ farther) = (tt, (tt, tt))
+  returned : (m : Option Method) (sig : Option Sig) → AllByRecursion Own (return_chain m sig)
+  returned None sig = tt
+  returned (Some m) None = tt
+  returned (Some m) (Some sig) =
+      when_all Own (λ d. tt) (λ d. tt) (λ d. tt) (same_types m.formals sig.formals) (accept_reads m.returns sig.returns)
+      (accept_all Own (λ d. tt) (λ d. tt) (λ d. tt) m.returns sig.returns)
 
-  class_check : (c : Name) (o : Option ClassDecl) → AllByRecursion Own (class_check_reads p c o)
+  all_returned : (profile : Profile) (cs : List ClassDecl) (k : ClassDecl) → AllByRecursion Own (return_chains profile cs k)
+  all_returned One cs k = tt
+  all_returned Two cs k =
+      all_flat Own (λ (m : Name). return_chain (own_method m k) (nearest_sig (rest_of cs k.name) m)) (λ m. returned (own_method m k) (nearest_sig (rest_of cs k.name) m)) (method_names k)
+
+  overrides : (ms : List Method) (chain : List Name) (ks : List Key) → AllByRecursion Own ks → AllByRecursion Own (overriding ms chain ks)
+  overrides [] chain ks all = tt
+  overrides (m ∷ ms) [] ks all = tt
+  overrides (m ∷ ms) (c ∷ []) ks all = tt
+  overrides (m ∷ ms) (c ∷ s ∷ farther) ks all = (tt, (tt, all))
+
+  class_check : (c : Name) (o : Option ClassDecl) → AllByRecursion Own (class_check_reads profile p c o)
   class_check c None = tt
   class_check c (Some k) = (
     tt,
     all_append Own (field_headers k.fields) _
         (all_flat Own (λ (f : Field). type_reads f.ty) (λ f. type_all Own (λ d. tt) (λ d. tt) (λ d. tt) f.ty) k.fields)
-        (overrides k.methods (chain_names (chain_of (classes_in p) c))),
+        (overrides k.methods (chain_names (chain_of (classes_in p) c)) (return_chains profile (classes_in p) k) (all_returned profile (classes_in p) k)),
   )
 
   diagnosis : (c : Name) (o : Option ClassDecl) → AllByRecursion Own (diagnosis_reads c o)
   diagnosis c None = tt
   diagnosis c (Some k) = (tt, all_mapped Own (keys.CheckBody c) (λ m. tt) (bodies_of k))
 
-  asked : (q : Key) → IsOwn p q → AllByRecursion Own (asked_keys p q)
+  asked : (q : Key) → IsOwn p q → AllByRecursion Own (asked_keys profile p q)
   unfolding asked_keys
   asked keys.Files own = tt
   asked (keys.Source f) own = tt
@@ -112,13 +129,13 @@ module _ (p : Project) where
   own_root _ files = tt
   own_root _ (source file c) = c
 
-  own_reads : (q : Key) → IsOwn p q → AllByRecursion Own (reads p q)
+  own_reads : (q : Key) → IsOwn p q → AllByRecursion Own (reads profile p q)
   unfolding reads
-  own_reads q own = firsts_all Own [] (asked_keys p q) (asked q own)
+  own_reads q own = firsts_all Own [] (asked_keys profile p q) (asked q own)
 
-  own : (q : Key) → IsReadIn reads p q → IsOwn p q
+  own : (q : Key) → IsReadIn (reads profile) p q → IsOwn p q
   own q (root _ r) = own_root q r
-  own _ (read q e inn has) = all_at Own (reads p q) (own_reads q (own q inn)) e has
+  own _ (read q e inn has) = all_at Own (reads profile p q) (own_reads q (own q inn)) e has
 
-pub own_files : (p : Project) → ReadsOwnFiles reads p
-own_files p file inn = own p (keys.Source file) inn
+pub own_files : (profile : Profile) (p : Project) → ReadsOwnFiles (reads profile) p
+own_files profile p file inn = own profile p (keys.Source file) inn

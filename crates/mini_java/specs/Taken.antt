@@ -1,7 +1,6 @@
 -- What an auditor of MiniJava sessions has taken, and what one more call says about it.
 use Rattle.std.specs.Prelude.{◌≡◌, ◌⊎◌, ℕ, List, [], ◌∷◌, ◌++◌, length, Err}
-use Rattle.query_rules.specs.Meaning.{mean}
-use Rattle.query_rules.specs.Reads.{reads}
+use Rattle.query_rules.specs.Queries.{queries}
 use Rattle.session_file.specs.Feeding.{Given}
 use Rattle.audit_graph.specs.declared.fault.AuditFault.{AuditFault}
 use Rattle.audit_replay.specs.Sums.{AreSummed, IsDeviceFault}
@@ -11,7 +10,7 @@ use Rattle.mini_java.specs.declared.auditor.ChainAuditor.{ChainAuditor}
 -- The auditor took these files, in this order, and refused none: they are those of sessions, each of
 -- which passes over the one before, and just their executed records were run.
 abbrev pub HasTaken : List (List ℕ) → ChainAuditor → Type 0
-HasTaken files a = AreSummed mean reads files [] a.runner.log.items a.auditor.state
+HasTaken files a = AreSummed queries files [] a.runner.log.items a.auditor.state
 
 -- the auditor has refused with this fault
 abbrev pub HasRefused : AuditFault → ChainAuditor → Type 0

@@ -5,11 +5,10 @@ ghost use Rattle.result_bytes.specs.declared.value.Value.TheVariants as values;
 ghost use Rattle.recorder.specs.Projects.{Project};
 ghost use Rattle.sessions.specs.Sessions.{SessionValue};
 ghost use Rattle.graph_rules.specs.Next.{AreSources};
-ghost use Rattle.query_rules.specs.Meaning.{mean};
-ghost use Rattle.query_rules.specs.Reads.{reads};
-ghost use Rattle.audit_replay.specs.Audits.{AreApart, AreRight, last_entry};
+ghost use Rattle.query_rules.specs.Queries.{queries};
+ghost use Rattle.audit_replay.specs.Audits.{AreApart, AreRight, HaveFiles, IsLastProfile, last_entry};
 ghost use Rattle.providers.specs.AnswerValues.{IsAnswerValue};
-ghost use Rattle.mini_java.specs.Headline.{AreFilesOf, ChainRefuses, IsAcceptedChain, IsOfTheRules};
+ghost use Rattle.mini_java.specs.Headline.{ChainRefuses, IsAcceptedChain, IsOfTheRules};
 
 use audit_graph::AuditFault;
 use audit_replay::{Audited, audit};
@@ -19,21 +18,25 @@ use providers::{MiniJava, answer_of};
 use std::alloc::Global;
 
 /// Audits the files of a chain of sessions of MiniJava projects. Where no two different results that they record share
-/// a fingerprint, the answer of an accepted chain is what the static rules give the last session's files.
+/// a fingerprint, the answer of an accepted chain is what the static rules of the last session's profile give its files.
 pub fn audit_chain(alloc: Global, chain: &[&[u8]]) -> Result<Audited, AuditFault>
     // What was checked.
     ensures accepted { IfOk result (λ a.
-        IsAcceptedChain (map (λ f. f.now) chain.now) (arc_value a.answer) a.sessions a.runs) }
-    // What follows of the sessions whose files these are, where no two different results in them share a fingerprint:
-    // each is right over the one before,
+        IsAcceptedChain (map (λ f. f.now) chain.now) a.profile (arc_value a.answer) a.sessions
+        a.runs) }
+    // What follows of the sessions whose files these are: the profile is that of the last one,
+    ensures profile { IfOk result (λ a. (sessions : List SessionValue)
+        → HaveFiles sessions (map (λ f. f.now) chain.now)
+        → IsLastProfile sessions a.profile) }
+    // and where no two different results in them share a fingerprint, each is right over the one before,
     ensures right { IfOk result (λ _. (sessions : List SessionValue)
-        → AreFilesOf sessions (map (λ f. f.now) chain.now) → AreApart sessions
-        → AreRight mean reads None sessions) }
-    // and the answer is what the static rules give the files of the last one.
+        → HaveFiles sessions (map (λ f. f.now) chain.now) → AreApart sessions
+        → AreRight queries None sessions) }
+    // and the answer is what the static rules of the profile give the files of the last one.
     ensures headline { IfOk result (λ a. (sessions : List SessionValue) (project : Project)
-        → AreFilesOf sessions (map (λ f. f.now) chain.now) → AreApart sessions
+        → HaveFiles sessions (map (λ f. f.now) chain.now) → AreApart sessions
         → AreSources (last_entry sessions) project
-        → IsOfTheRules project (arc_value a.answer)) }
+        → IsOfTheRules a.profile project (arc_value a.answer)) }
     ensures refused { IfErr result (ChainRefuses (map (λ f. f.now) chain.now)) }
 {
     // The answer that the queries mean is that of the rules.

@@ -4,19 +4,18 @@ ghost use Rattle.std.specs.Arc.{arc_value};
 ghost use Rattle.recorder.specs.Projects.{Project};
 ghost use Rattle.sessions.specs.Sessions.{SessionValue};
 ghost use Rattle.graph_rules.specs.Next.{AreSources};
-ghost use Rattle.query_rules.specs.Meaning.{mean};
-ghost use Rattle.query_rules.specs.Reads.{reads};
+ghost use Rattle.query_rules.specs.Queries.{queries};
 ghost use Rattle.audit_graph.specs.declared.fault.AuditFault.{AuditFault as Fault};
-ghost use Rattle.audit_replay.specs.Audits.{AreApart, AreRight, last_entry};
+ghost use Rattle.audit_replay.specs.Audits.{AreApart, AreRight, HaveFiles, IsLastProfile, last_entry};
 ghost use Rattle.audit_replay.specs.Sums.{CountsTake};
-ghost use Rattle.mini_java.specs.Headline.{AreFilesOf, ChainRefuses, IsAcceptedChain, IsOfTheRules};
+ghost use Rattle.mini_java.specs.Headline.{ChainRefuses, IsAcceptedChain, IsOfTheRules};
 ghost use Rattle.mini_java.specs.Taken.{HasRefused, HasTaken, RefusesBehind, TakesFile};
 
 use audit_graph::AuditFault;
 use audit_replay::{Audited, Auditor};
+use devices::Feed;
 use mj_rules::answer_laws;
 use providers::MiniJava;
-use session_file::Feed;
 use std::alloc::Global;
 
 /// Audits the files of a chain of sessions of MiniJava projects one by one, without holding them. Once it has refused it
@@ -59,21 +58,25 @@ impl ChainAuditor {
         self.auditor.take(alloc, &mut self.runner, feed)
     }
 
-    /// The answer that the chain of the files taken ends with, and how many there are and records were run.
+    /// The profile and the answer that the chain of the files taken ends with, how many there are, and how many records
+    /// were run.
     pub fn end(self) -> Result<Audited, AuditFault>
         // What was checked.
         ensures accepted { IfOk result (λ a. (files : List (List ℕ)) → HasTaken files self
-            → IsAcceptedChain files (arc_value a.answer) a.sessions a.runs) }
-        // What follows of the sessions whose files were taken, where no two different results in them share a
-        // fingerprint: each is right over the one before,
+            → IsAcceptedChain files a.profile (arc_value a.answer) a.sessions a.runs) }
+        // What follows of the sessions whose files were taken: the profile is that of the last one,
+        ensures profile { IfOk result (λ a. (files : List (List ℕ))
+            (sessions : List SessionValue) → HasTaken files self → HaveFiles sessions files
+            → IsLastProfile sessions a.profile) }
+        // and where no two different results in them share a fingerprint, each is right over the one before,
         ensures right { IfOk result (λ _. (files : List (List ℕ)) (sessions : List SessionValue)
-            → HasTaken files self → AreFilesOf sessions files → AreApart sessions
-            → AreRight mean reads None sessions) }
-        // and the answer is what the static rules give the files of the last one.
+            → HasTaken files self → HaveFiles sessions files → AreApart sessions
+            → AreRight queries None sessions) }
+        // and the answer is what the static rules of the profile give the files of the last one.
         ensures headline { IfOk result (λ a. (files : List (List ℕ)) (sessions : List SessionValue)
-            (project : Project) → HasTaken files self → AreFilesOf sessions files
+            (project : Project) → HasTaken files self → HaveFiles sessions files
             → AreApart sessions → AreSources (last_entry sessions) project
-            → IsOfTheRules project (arc_value a.answer)) }
+            → IsOfTheRules a.profile project (arc_value a.answer)) }
         ensures refused { IfErr result (λ fault. (files : List (List ℕ)) → HasTaken files self
             → ChainRefuses files fault) }
         ensures again { (fault : Fault) → HasRefused fault self → result ≡ Err fault }

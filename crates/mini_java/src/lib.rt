@@ -12,4 +12,4 @@ pub use audit_replay::Audited;
 pub use auditor::ChainAuditor;
 pub use driver::{DriveFault, Gate, Open, Reports, Shared};
 pub use laws::{accepted_are_the_rules, accepted_chains_are_the_rules};
-pub use session::run_session;
+pub use session::{run_session, run_session_as};

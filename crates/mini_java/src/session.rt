@@ -1,21 +1,20 @@
 //! One session of a MiniJava project.
 ghost use Rattle.std.specs.Prelude.{IfOk};
-ghost use Rattle.query_rules.specs.Meaning.{mean};
-ghost use Rattle.query_rules.specs.Reads.{reads};
+ghost use Rattle.query_rules.specs.Queries.{queries};
+ghost use Rattle.sessions.specs.Terms.{first_terms};
 ghost use Rattle.sessions.specs.Sessions.{session_in};
-ghost use Rattle.next_sessions.specs.Nexts.{DecidesNext, IsNextSession};
+ghost use Rattle.next_sessions.specs.Nexts.{StandsApart, IsNextSession};
 ghost use Rattle.driver.specs.Sessions.{DriveGives};
 
-use driver::{Crew, DriveFault, Gate, Reports, drive};
+use driver::{Crew, DriveFault, Gate, Reports, drive_as};
 use mj_project::Project;
 use providers::MiniJava;
-use sessions::Session;
+use sessions::{Session, Terms};
 use std::alloc::Global;
 use std::sync::{Arc, Wait};
 use std::thread::Threads;
 
-/// Makes one session of a MiniJava project over the previous session, by so many workers, each in a thread of its own.
-/// The gate is called around each run.
+/// Makes one session of a MiniJava project, of the first terms, as `run_session_as` does.
 pub fn run_session<G: Gate + Sync, T: Threads + Wait + Sync>(
     rt: &T,
     alloc: Global,
@@ -24,17 +23,36 @@ pub fn run_session<G: Gate + Sync, T: Threads + Wait + Sync>(
     workers: usize,
     gate: &G,
 ) -> Result<(Session, Reports), DriveFault>
-    ensures gives { DriveGives mean reads (session_in prev) project.now workers result }
-    // Where the previous session and the project decide the next one, the session is that.
-    ensures next { IfOk result (λ done. DecidesNext mean reads (session_in prev) project.now
-        → IsNextSession mean reads (session_in prev) project.now done.0) }
+    ensures gives { DriveGives queries first_terms (session_in prev) project.now workers result }
+    ensures next { IfOk result (λ done. StandsApart queries (session_in prev) done.0
+        → IsNextSession queries first_terms (session_in prev) project.now done.0) }
 {
-    drive(
+    run_session_as(rt, alloc, prev, project, Terms::first(), workers, gate)
+}
+
+/// Makes one session of a MiniJava project, of these terms, over the previous session, by so many workers, each in a
+/// thread of its own. The gate is called around each run.
+pub fn run_session_as<G: Gate + Sync, T: Threads + Wait + Sync>(
+    rt: &T,
+    alloc: Global,
+    prev: Option<Arc<Session>>,
+    project: &Project,
+    terms: Terms,
+    workers: usize,
+    gate: &G,
+) -> Result<(Session, Reports), DriveFault>
+    ensures gives { DriveGives queries terms (session_in prev) project.now workers result }
+    // A session that stands apart from the previous one is the next session.
+    ensures next { IfOk result (λ done. StandsApart queries (session_in prev) done.0
+        → IsNextSession queries terms (session_in prev) project.now done.0) }
+{
+    drive_as(
         rt,
         alloc,
         &|| MiniJava::new(alloc),
         prev,
         project,
+        terms,
         Crew::of(workers),
         gate,
     )

@@ -1,23 +1,24 @@
 use Rattle.std.proofs.Common.{◌<◌, ◌≤◌, length, arith}
+use Rattle.audit_graph.specs.Steps.{setting_behind}
 use Rattle.audit_graph.proofs.GreenRules.{lack_here, stands_more, greens_stand}
 use Rattle.audit_graph.proofs.greens.first_lack.Goals as goal
 
 pub returns-in-Some : goal.returns-in-Some
-returns-in-Some c = λ was p.
+returns-in-Some g c = λ was p.
     let value = c.records-item-items.ensures.value in
     let lt : c.loop-n.n < length c.records-item-items.result.now = omega arith in
-    lack_here was c.args.session.now c.loop-n.n c.item-item.result (rw value at lt) (rw value at c.item-item.is) (c.loop-n.invariant was p)
+    lack_here (setting_behind g.R.Runner.queries.by_profile was c.args.session.now) c.args.session.now c.loop-n.n c.item-item.result (rw value at lt) (rw value at c.item-item.is) (c.loop-n.invariant was p)
     c.in-Some.why (c.in-Some.ensures was p).0 (c.in-Some.ensures was p).1
 
 pub loop-n-preserved : goal.loop-n-preserved
-loop-n-preserved c = λ was p.
+loop-n-preserved g c = λ was p.
     let value = c.records-item-items.ensures.value in
     let lt : c.loop-n.n < length c.records-item-items.result.now = omega arith in
-    stands_more was c.args.session.now c.loop-n.n c.item-item.result (rw value at lt) (rw value at c.item-item.is) (c.loop-n.invariant was p)
+    stands_more (setting_behind g.R.Runner.queries.by_profile was c.args.session.now) c.args.session.now c.loop-n.n c.item-item.result (rw value at lt) (rw value at c.item-item.is) (c.loop-n.invariant was p)
     (c.in_default.ensures was p)
 
 pub returns : goal.returns
-returns c = λ was p.
+returns g c = λ was p.
     let value = c.records-item-items.ensures.value in
     let le : length c.records-item-items.result.now ≤ c.loop-n.n = omega arith in
-    greens_stand was c.args.session.now c.loop-n.n (rw value at le) (c.loop-n.invariant was p)
+    greens_stand (setting_behind g.R.Runner.queries.by_profile was c.args.session.now) c.args.session.now c.loop-n.n (rw value at le) (c.loop-n.invariant was p)

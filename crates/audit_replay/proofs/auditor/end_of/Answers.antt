@@ -7,4 +7,5 @@ returns-in_default g c = λ ss a. sum_empty c.args.kept ss a c.in_default.is
 
 pub returns-in-Some-into_answer : goal.returns-in-Some-into_answer
 returns-in-Some-into_answer g c = λ ss a.
-    sum_ends g.R.Runner.mean g.R.Runner.reads c.args.kept ss a c.in-Some.last c.in-Some.is c.in-Some-into_answer.answer (sym c.into_answer.ensures ∙ c.in-Some-into_answer.is)
+    rw c.profile-profile.ensures
+    (sum_ends g.R.Runner.queries c.args.kept ss a c.in-Some.last c.in-Some.is c.in-Some-into_answer.answer (sym c.into_answer.ensures ∙ c.in-Some-into_answer.is))

@@ -4,4 +4,4 @@ use Rattle.audit_replay.proofs.RightRules.{refused}
 use Rattle.audit_replay.proofs.laws.right_chains_pass.Goals as goal
 
 pub returns : goal.returns
-returns c mean reads sessions chain old new fault r = refused mean reads sessions chain (map file_of sessions) refl old new fault r
+returns c queries sessions chain old new fault r = refused queries sessions chain (map file_of sessions) refl old new fault r

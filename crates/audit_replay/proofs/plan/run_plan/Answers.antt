@@ -12,7 +12,7 @@ rerun_at-requires g c =
     let plan = c.args.plan.now in
     let i = c.loop-n.n-index in
     let lt : i < length plan = omega arith in
-    plan_executed g.R.Runner.mean g.R.Runner.reads c.args.session.now plan c.requires i (get_or plan i 0) (there_default plan i 0 lt)
+    plan_executed (g.R.Runner.queries.mean c.args.session.now.terms.profile) (g.R.Runner.queries.reads c.args.session.now.terms.profile) c.args.session.now plan c.requires i (get_or plan i 0) (there_default plan i 0 lt)
 
 pub returns-in-Err-clause-refused : goal.returns-in-Err-clause-refused
 returns-in-Err-clause-refused g c =
@@ -20,8 +20,8 @@ returns-in-Err-clause-refused g c =
     let plan = c.args.plan.now in
     let i = c.loop-n.n-index in
     let lt : i < length plan = omega arith in
-    subst (RefusesPlan g.R.Runner.mean g.R.Runner.reads c.args.k s) (sym c.fault_of_run.ensures)
-    (plan_refused g.R.Runner.mean g.R.Runner.reads s c.records-records.ensures.session plan c.requires c.args.k i (get_or plan i 0) (there_default plan i 0 lt) c.loop-n.invariant.each c.in-Err.why c.in-Err.ensures.run)
+    subst (RefusesPlan (g.R.Runner.queries.mean c.args.session.now.terms.profile) (g.R.Runner.queries.reads c.args.session.now.terms.profile) c.args.k s) (sym c.fault_of_run.ensures)
+    (plan_refused (g.R.Runner.queries.mean c.args.session.now.terms.profile) (g.R.Runner.queries.reads c.args.session.now.terms.profile) s c.records-records.ensures.session plan c.requires c.args.k i (get_or plan i 0) (there_default plan i 0 lt) c.loop-n.invariant.each c.in-Err.why c.in-Err.ensures.run)
 
 pub returns-in-Err-clause-log : goal.returns-in-Err-clause-log
 returns-in-Err-clause-log g c =
@@ -36,4 +36,4 @@ pub returns-clause-replayed : goal.returns-clause-replayed
 returns-clause-replayed g c =
     let plan = c.args.plan.now in
     let le : length plan ≤ c.loop-n.n-index = omega arith in
-    plan_replayed g.R.Runner.mean g.R.Runner.reads c.args.session.now plan c.requires c.loop-n.n-index le c.loop-n.invariant.each
+    plan_replayed (g.R.Runner.queries.mean c.args.session.now.terms.profile) (g.R.Runner.queries.reads c.args.session.now.terms.profile) c.args.session.now plan c.requires c.loop-n.n-index le c.loop-n.invariant.each

@@ -1,10 +1,9 @@
-use Rattle.query_rules.specs.Meaning.{mean}
-use Rattle.query_rules.specs.Reads.{reads}
+use Rattle.query_rules.specs.Queries.{queries}
 use Rattle.providers.specs.Laws.{mini_java_laws}
 use Rattle.chain_laws.proofs.GoingOn.{next_accepted}
 use Rattle.chain_laws.proofs.OwnFiles.{own_files}
 use Rattle.chain_laws.proofs.of_mini_java.next_of_mini_java_is_accepted.Goals as goal
 
 pub returns : goal.returns
-returns c files old new project answer count runs accepted p next is_project is apart before after fault r =
-    next_accepted mean reads mini_java_laws files old new project answer count runs accepted p next is_project (own_files p) is apart before after fault r
+returns c = λ files old new profile project answer count runs accepted terms p next is_project.
+    next_accepted queries files old new profile project answer count runs accepted mini_java_laws terms p next is_project (own_files terms.profile p)

@@ -5,4 +5,4 @@ pub returns-clause-accepted : goal.returns-clause-accepted
 returns-clause-accepted c = audit_accepts_chain
 
 pub returns-clause-headline : goal.returns-clause-headline
-returns-clause-headline c = λ files answer count runs chain. chain_rules files answer count runs chain c.answer_laws.ensures
+returns-clause-headline c = λ files profile answer count runs chain. chain_rules files profile answer count runs chain c.answer_laws.ensures

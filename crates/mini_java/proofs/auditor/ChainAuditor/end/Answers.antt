@@ -1,8 +1,11 @@
-use Rattle.mini_java.proofs.TakenRules.{end_accepted, end_right, end_headline, end_refused}
+use Rattle.mini_java.proofs.TakenRules.{end_accepted, end_last, end_right, end_headline, end_refused}
 use Rattle.mini_java.proofs.auditor.ChainAuditor.end.Goals as goal
 
 pub returns-clause-accepted : goal.returns-clause-accepted
 returns-clause-accepted c = end_accepted c.args.self.runner.log.items c.args.self.auditor.state c.end.result c.end.ensures.gives
+
+pub returns-clause-profile : goal.returns-clause-profile
+returns-clause-profile c = end_last c.args.self.runner.log.items c.args.self.auditor.state c.end.result c.end.ensures.gives
 
 pub returns-clause-right : goal.returns-clause-right
 returns-clause-right c = end_right c.args.self.runner.log.items c.args.self.auditor.state c.end.result c.end.ensures.gives
