@@ -1,7 +1,7 @@
 mod ToldRows
-mod CheckWalk
 pub mod Faults
 pub mod Options
-pub mod FileWords
+pub mod Rules
+pub mod Walks
+pub mod PlainWords
 pub mod ProgramWords
-pub mod OneSubcommand

@@ -9,7 +9,7 @@ use Rattle.clap.specs.Lexer.{long_of, long_of_rest, short_of, short_of_rest, str
 use Rattle.clap.specs.Simple.{Shape, filled, help_rule, version_rule}
 use Rattle.clap.specs.Walk.{Held, Names, Outcome, Row, Step, Waiting, after_flag, arg_by_long, arg_by_short, bundle, bundle_met, bundle_step, long_or_other, plain, plain_word, reacted, settled, short_or_plain, subcommand_met, subcommand_or_other, trailing, word_met}
 use Rattle.clap.specs.Words.{Kinds, Rule, Text}
-use Rattle.command_line.specs.CommandLine.{dashes, is_option}
+use Rattle.command_line.specs.Plain.{dashes, is_option}
 use Rattle.command_line.proofs.Faults.{IsFault, first_fault, is_fault, next_fault}
 
 -- ---- what a word looks like

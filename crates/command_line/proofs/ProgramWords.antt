@@ -1,38 +1,41 @@
 -- How the words after the program's name are read.
-use Rattle.std.proofs.Common.{◌≡◌, ◌∙◌, ◌⊎◌, ◌≤◌, ◌<◌, ◌&&◌, ◌||◌, ◌==◌, ◌++◌, inl, inr, Bool, true, false, List, [], ◌∷◌, Option, Some, None, cond, codes, refl, sym, ap, ap₂, length, arith, append-nil, append_assoc, not, option_map, is_some, subst, true≢false}
+use Rattle.std.proofs.Common.{◌≡◌, ◌∙◌, ◌≤◌, ◌<◌, ◌&&◌, ◌||◌, ◌==◌, ◌++◌, inl, inr, ℕ, Bool, true, false, List, [], ◌∷◌, Option, Some, None, cond, codes, refl, sym, ap, ap₂, length, arith, append-nil, append_assoc, not, option_map, is_some, string_bytes, subst, true≢false}
 use Rattle.std.proofs.lemmas.Bool.{not-true}
-use Rattle.std.specs.Prelude.{drop, fold, if◌then◌else◌, option_and_then, unwrap_or}
+use Rattle.std.proofs.lemmas.Option.{none-some, same_Some}
+use Rattle.std.specs.Prelude.{drop, find, fold, if◌then◌else◌, option_and_then, slice_get}
+use Rattle.std.specs.Option.{option_map_or}
 use Rattle.std.specs.Str.{bytes_eq}
 use Rattle.std.proofs.lemmas.Slice.Eq.{bytes_eq-Decides}
 use Rattle.clap.specs.Faults.{check_fault, defaults_fault, entered_fault, fault_of, other_fault, settle_fault, step_fault, turn_fault, walk_fault, word_fault}
 use Rattle.clap.specs.Kinds.{or_else}
 use Rattle.clap.specs.Lexer.{long_of, usize_max}
-use Rattle.clap.specs.Simple.{Shape, built, entered, names_of}
+use Rattle.clap.specs.Simple.{Shape, built, entered, names_of, subcommand_rows}
 use Rattle.clap.specs.Walk.{Held, Names, Row, Step, Walk, after_step, finished, idle, long_or_other, nothing_held, rows_after, settled, subcommand_met, subcommand_or_other, trailing, value, walk_from, walked, word_met}
-use Rattle.clap.specs.Words.{App, HasKind, HasMatchesOf, Kinds, Text, all_of, first_of, is_simple, is_simple_and_free, kind_of, subcommand_name_of, subcommand_of, subcommand_rows_of}
+use Rattle.clap.specs.Words.{App, HasKind, HasMatchesOf, Kinds, Text, first_of, is_simple, is_simple_and_free, kind_of, subcommand_name_of, subcommand_of, subcommand_rows_of}
 use Rattle.clap.specs.declared.Error.{Error}
 use Rattle.clap.specs.declared.error.ErrorKind.TheVariants.{OutOfMemory}
-use Rattle.clap.specs.Simple.{subcommand_rows}
 use Rattle.clap.specs.declared.ArgMatches.{ArgMatches}
 use Rattle.clap.specs.declared.parser.matches.ArgMatches.TheViews.{out-ArgMatches, out-SubCommand}
 use Rattle.clap.specs.declared.parser.matches.SubCommand.{SubCommand}
 use Rattle.std.specs.Box.{box_value}
 use Rattle.std.specs.Prelude.{Box}
-use Rattle.command_line.specs.CommandLine.{Asks, AsksCheck, AsksFor, asks_plainly, dashes, files_for, files_of, has_option, taken_by, words_behind}
-use Rattle.command_line.specs.Given.{GivesCheck, IsGivenBy, decimal}
-use Rattle.command_line.specs.Matches.{AreMet, HasOptions, files_in}
-use Rattle.command_line.specs.Runnable.{files_of_words, subcommand_of_words}
-use Rattle.command_line.specs.declared.asked.CheckWords.{CheckWords}
+use Rattle.command_line.specs.CommandLine.{Asks, AsksFor}
+use Rattle.command_line.specs.Given.{AreOptionsOf, IsNumberOf, are_of, decimal, given_in, values_of}
+use Rattle.command_line.specs.Matches.{AreEnough, AreMet, AreOptionsIn, number_in, rows_in}
+use Rattle.command_line.specs.Plain.{HasDefaults, IsPlain, are_plain, asks_plainly, dashes, files_for, files_of, has_option, taken_by}
+use Rattle.command_line.specs.Program.{program_app}
+use Rattle.command_line.specs.Runnable.{subcommand_of as asked_of}
+use Rattle.command_line.specs.Subcommands.{is_one_or_more, name_of, options_of, wants_files_alone}
+use Rattle.command_line.specs.declared.asked.Subcommand.{Subcommand}
+use Rattle.command_line.specs.declared.asked.Subcommand.TheVariants.{Scratch, Check, Audit, Show}
 use Rattle.command_line.specs.declared.asked.Words.{Words}
 use Rattle.command_line.specs.declared.asked.Words.TheVariants as asked_words
-use Rattle.command_line.specs.Program.{program_app}
-use Rattle.command_line.specs.Subcommands.{command_name, name_of, takes}
-use Rattle.command_line.specs.declared.asked.Subcommand.{Subcommand}
-use Rattle.command_line.specs.declared.asked.Subcommand.TheVariants.{Scratch, Audit, Show}
 use Rattle.command_line.proofs.Faults.{IsFault, first_fault, is_fault, next_fault}
 use Rattle.command_line.proofs.Options.{HasFlagsAlone, read_plain}
-use Rattle.command_line.proofs.CheckWalk.{check_given, check_level, check_rows}
-use Rattle.command_line.proofs.FileWords.{check_shape, file_row, files_within, level_found, level_of, level_taken, rules, shape}
+use Rattle.command_line.proofs.PlainWords.{are_optional, files_within, level_taken, plain_files, plain_options}
+use Rattle.command_line.proofs.Rules.{Opt, names, options, rules_with}
+use Rattle.command_line.proofs.ToldRows.{told, values_in}
+use Rattle.command_line.proofs.Walks.{IsRead, is_few, level, read}
 
 -- ---- the program
 
@@ -108,26 +111,38 @@ met_step m word = subcommand_or_other top.rules m idle 1 word nothing_held
 abbrev turn_of : Option Text → Text → Kinds
 turn_of m word = or_else (other_fault top m word nothing_held) (step_fault top 1 (met_step m word).0 (met_step m word).1)
 
+-- the faults of a subcommand on the words after it
+abbrev level_of : Subcommand → List Text → Kinds
+level_of c rest = level (name_of c) (options c) rest
+
+-- its rows
+unfoldable rows_of : Subcommand → List Text → List Row
+rows_of c rest = rows_after (rules_with (options c)) [] rest
+
 name_walked : (c : Subcommand) → walked top.rules commands start (name_of c) ≡ stopped_at (name_of c) []
 unfolding walked
 name_walked Scratch = refl
+name_walked Check = refl
 name_walked Audit = refl
 name_walked Show = refl
 
 name_turn : (c : Subcommand) → turn_fault top commands start (name_of c) ≡ []
 name_turn Scratch = refl
+name_turn Check = refl
 name_turn Audit = refl
 name_turn Show = refl
 
 level_is : (c : Subcommand) (rest : List Text) → end_fault (stopped_at (name_of c) rest) [] ≡ or_else (level_of c rest) []
-unfolding shape defaults_fault
+unfolding defaults_fault
 level_is Scratch rest = refl
+level_is Check rest = refl
 level_is Audit rest = refl
 level_is Show rest = refl
 
-rows_are : (c : Subcommand) (rest : List Text) → entered program (Some (name_of c, rest)) ≡ Some (name_of c, rows_after (rules c) [] rest)
-unfolding shape
+rows_are : (c : Subcommand) (rest : List Text) → entered program (Some (name_of c, rest)) ≡ Some (name_of c, rows_of c rest)
+unfolding rows_of
 rows_are Scratch rest = refl
+rows_are Check rest = refl
 rows_are Audit rest = refl
 rows_are Show rest = refl
 
@@ -145,44 +160,8 @@ module _ (c : Subcommand) (rest : List Text) where
   fault_is : (name : Text) → fault_of program_app (name ∷ name_of c ∷ rest) ≡ or_else (level_of c rest) []
   fault_is name = ap₂ end_fault walk_is kinds_are ∙ level_is c rest
 
-  entered_is_of : (name : Text) → subcommand_of program_app (name ∷ name_of c ∷ rest) ≡ Some (name_of c, rows_after (rules c) [] rest)
+  entered_is_of : (name : Text) → subcommand_of program_app (name ∷ name_of c ∷ rest) ≡ Some (name_of c, rows_of c rest)
   entered_is_of name = ap (λ (w : Walk). entered program w.stopped) walk_is ∙ rows_are c rest
-
--- ---- `check`
-
-check_walked : walked top.rules commands start (codes "check") ≡ stopped_at (codes "check") []
-unfolding walked
-check_walked = refl
-
-check_entered : (rest : List Text) → entered program (Some (codes "check", rest)) ≡ Some (codes "check", check_rows rest)
-unfolding check_rows check_shape
-check_entered rest = refl
-
-check_is_entered : (name : Text) (rest : List Text) → subcommand_of program_app (name ∷ codes "check" ∷ rest) ≡ Some (codes "check", check_rows rest)
-check_is_entered name rest =
-    ap (λ (w : Walk). entered program w.stopped)
-    (ap (λ (w : Walk). fold (walked top.rules commands) w rest) check_walked ∙ stopped_walk (codes "check") [] rest)
-    ∙ check_entered rest
-
-check_turn : turn_fault top commands start (codes "check") ≡ []
-check_turn = refl
-
-check_kinds : (rest : List Text) → kinds_of (codes "check" ∷ rest) ≡ []
-unfolding walk_fault
-check_kinds rest =
-    ap (λ k. or_else k (walk_fault top commands (walked top.rules commands start (codes "check")) rest)) check_turn
-    ∙ (ap (λ (w : Walk). walk_fault top commands w rest) check_walked ∙ stopped_passes (codes "check") [] rest)
-
-check_level_is : (rest : List Text) → end_fault (stopped_at (codes "check") rest) [] ≡ or_else (check_level rest) []
-unfolding check_shape defaults_fault
-check_level_is rest = refl
-
--- the faults are those of `check`
-check_fault_is : (name : Text) (rest : List Text) → fault_of program_app (name ∷ codes "check" ∷ rest) ≡ or_else (check_level rest) []
-check_fault_is name rest =
-    let walk_at : walk_of (codes "check" ∷ rest) ≡ stopped_at (codes "check") rest =
-    ap (λ (w : Walk). fold (walked top.rules commands) w rest) check_walked ∙ stopped_walk (codes "check") [] rest in
-    ap₂ end_fault walk_at (check_kinds rest) ∙ check_level_is rest
 
 or_none : (kinds : Kinds) → or_else kinds [] ≡ kinds
 or_none [] = refl
@@ -267,106 +246,41 @@ no_word (name ∷ command ∷ rest) few = absurd (omega arith)
 -- ---- all words
 
 -- what a parse that succeeds is of
-record IsRead (words : List Text) : Type 0 where
+record IsFoundIn (words : List Text) : Type 0 where
   subcommand : Subcommand
-  rest : List Text
-  words_are : words_behind subcommand words ≡ Some rest
-  takes_them : takes subcommand (files_of rest) ≡ true
-  entered_is : subcommand_of program_app words ≡ Some (name_of subcommand, file_row subcommand (files_of rest) ∷ [])
-
--- or it is of `check`
-record IsReadAsCheck (words : List Text) : Type 0 where
-  asked : AsksCheck words
-  passes : check_level (drop 2 words) ≡ []
-  entered_is : subcommand_of program_app words ≡ Some (codes "check", check_rows (drop 2 words))
-
-abbrev rest_if : Bool → List Text → Option (List Text)
-rest_if t rest = if t then Some rest else None
+  asked : AsksFor words subcommand
+  passes : level_of subcommand (drop 2 words) ≡ []
+  entered_is : subcommand_of program_app words ≡ Some (name_of subcommand, rows_of subcommand (drop 2 words))
 
 found_at : (c : Subcommand) (name command : Text) (rest : List Text) → bytes_eq (name_of c) command ≡ true → fault_of program_app (name ∷ command ∷ rest) ≡ []
-    → IsRead (name ∷ command ∷ rest)
+    → IsFoundIn (name ∷ command ∷ rest)
 found_at c name command rest is none =
     let same : name_of c ≡ command = (bytes_eq-Decides (name_of c) command).0 is in
     let faults : fault_of program_app (name ∷ command ∷ rest) ≡ or_else (level_of c rest) [] =
     ap (λ w. fault_of program_app (name ∷ w ∷ rest)) (sym same) ∙ fault_is c rest name in
-    let entry : subcommand_of program_app (name ∷ command ∷ rest) ≡ Some (name_of c, rows_after (rules c) [] rest) =
-    ap (λ w. subcommand_of program_app (name ∷ w ∷ rest)) (sym same) ∙ entered_is_of c rest name in
-    let level = level_found c rest (sym (or_none (level_of c rest)) ∙ (sym faults ∙ none)) in
     record {
       subcommand = c;
-      rest = rest;
-      words_are = ap (λ t. rest_if t rest) is;
-      takes_them = level.0;
-      entered_is = entry ∙ ap (λ rows. Some (name_of c, rows)) level.1;
-    }
-
-check_found : (name command : Text) (rest : List Text) → bytes_eq (codes "check") command ≡ true → fault_of program_app (name ∷ command ∷ rest) ≡ []
-    → IsReadAsCheck (name ∷ command ∷ rest)
-check_found name command rest is none =
-    let same : codes "check" ≡ command = (bytes_eq-Decides (codes "check") command).0 is in
-    let faults : fault_of program_app (name ∷ command ∷ rest) ≡ or_else (check_level rest) [] =
-    ap (λ w. fault_of program_app (name ∷ w ∷ rest)) (sym same) ∙ check_fault_is name rest in
-    record {
       asked = ap (λ w. Some w) (sym same);
-      passes = sym (or_none (check_level rest)) ∙ (sym faults ∙ none);
-      entered_is = ap (λ w. subcommand_of program_app (name ∷ w ∷ rest)) (sym same) ∙ check_is_entered name rest;
+      passes = sym (or_none (level_of c rest)) ∙ (sym faults ∙ none);
+      entered_is = ap (λ w. subcommand_of program_app (name ∷ w ∷ rest)) (sym same) ∙ entered_is_of c rest name;
     }
-
-abbrev IsFound : List Text → Type 0
-IsFound words = IsRead words ⊎ IsReadAsCheck words
 
 found_by : (name command : Text) (rest : List Text) (s k a w : Bool)
     → bytes_eq (codes "scratch") command ≡ s → bytes_eq (codes "check") command ≡ k → bytes_eq (codes "audit") command ≡ a → bytes_eq (codes "show") command ≡ w
-    → fault_of program_app (name ∷ command ∷ rest) ≡ [] → IsFound (name ∷ command ∷ rest)
-found_by name command rest true k a w is_scratch is_check is_audit is_show none = inl (found_at Scratch name command rest is_scratch none)
-found_by name command rest false true a w is_scratch is_check is_audit is_show none = inr (check_found name command rest is_check none)
-found_by name command rest false false true w is_scratch is_check is_audit is_show none = inl (found_at Audit name command rest is_audit none)
-found_by name command rest false false false true is_scratch is_check is_audit is_show none = inl (found_at Show name command rest is_show none)
+    → fault_of program_app (name ∷ command ∷ rest) ≡ [] → IsFoundIn (name ∷ command ∷ rest)
+found_by name command rest true k a w is_scratch is_check is_audit is_show none = found_at Scratch name command rest is_scratch none
+found_by name command rest false true a w is_scratch is_check is_audit is_show none = found_at Check name command rest is_check none
+found_by name command rest false false true w is_scratch is_check is_audit is_show none = found_at Audit name command rest is_audit none
+found_by name command rest false false false true is_scratch is_check is_audit is_show none = found_at Show name command rest is_show none
 found_by name command rest false false false false is_scratch is_check is_audit is_show none =
     absurd (other_refused name command is_scratch is_check is_audit is_show (bytes_eq (codes "help") command) refl rest none)
 
-found : (words : List Text) → fault_of program_app words ≡ [] → IsFound words
+found : (words : List Text) → fault_of program_app words ≡ [] → IsFoundIn words
 found [] none = absurd (no_word [] (omega arith) none)
 found (name ∷ []) none = absurd (no_word (name ∷ []) (omega arith) none)
 found (name ∷ command ∷ rest) none =
     found_by name command rest (bytes_eq (codes "scratch") command) (bytes_eq (codes "check") command) (bytes_eq (codes "audit") command)
     (bytes_eq (codes "show") command) refl refl refl refl none
-
-abbrev files_if : Subcommand → Bool → List Text → Option (List Text)
-files_if c t rest = option_and_then (λ words. taken_by c (files_of words)) (rest_if t rest)
-
-abbrev plainly_if : Subcommand → Bool → List Text → Bool
-plainly_if c t rest = is_some (files_if c t rest) && not (has_option rest)
-
-both : (a b : Bool) → (a && b) ≡ true → (a ≡ true) × (b ≡ true)
-both true b is = (refl, is)
-both false b is = absurd (true≢false (sym is))
-
-abbrev taken_if : Bool → List Text → Option (List Text)
-taken_if t files = if t then Some files else None
-
-is_taken : (t : Bool) (files : List Text) → is_some (taken_if t files) ≡ true → t ≡ true
-is_taken true files is = refl
-is_taken false files is = absurd (true≢false (sym is))
-
-plain_by : (c : Subcommand) (name command : Text) (rest : List Text) (t : Bool) → bytes_eq (name_of c) command ≡ t → plainly_if c t rest ≡ true
-    → length rest ≤ usize_max → fault_of program_app (name ∷ command ∷ rest) ≡ []
-plain_by c name command rest false is plain most = absurd (true≢false (sym plain))
-plain_by c name command rest true is plain most =
-    let same : name_of c ≡ command = (bytes_eq-Decides (name_of c) command).0 is in
-    let parts = both (is_some (files_if c true rest)) (not (has_option rest)) plain in
-    let within = files_within rest in
-    let taken = is_taken (takes c (files_of rest)) (files_of rest) parts.0 in
-    ap (λ w. fault_of program_app (name ∷ w ∷ rest)) (sym same)
-    ∙ (fault_is c rest name
-    ∙ ap (λ k. or_else k []) (level_taken c rest (not-true (has_option rest) parts.1) taken (omega (arith, within, most))))
-
--- words that ask plainly are taken
-taken : (c : Subcommand) (words : List Text) → asks_plainly c words ≡ true → length words ≤ usize_max → fault_of program_app words ≡ []
-taken c [] plain most = absurd (true≢false (sym plain))
-taken c (name ∷ []) plain most = absurd (true≢false (sym plain))
-taken c (name ∷ command ∷ rest) plain most =
-    plain_by c name command rest (bytes_eq (name_of c) command) refl plain (omega (arith, most))
 
 -- ---- the matches
 
@@ -375,127 +289,217 @@ module _ {Z : Type 0} where
   name-subcommand_rows None = refl
   name-subcommand_rows (Some b) = refl
 
-some_same : (a b : Text) → Some a ≡ Some b → a ≡ b
-some_same a b same = ap (λ o. unwrap_or o a) same
-
--- the words ask for FILEs, and the matches have them
+-- the words ask for the subcommand that was met, whose rows have what the words behind it give
 pub record HasRead (words : List Text) (m : ArgMatches) : Type 0 where
   pub subcommand : Subcommand
-  pub given : List Text
-  pub asked : files_for subcommand words ≡ Some given
-  pub takes_them : takes subcommand given ≡ true
+  pub asked : AsksFor words subcommand
   pub name : subcommand_name_of m ≡ Some (name_of subcommand)
-  pub files : files_in m ≡ Some given
+  pub read : IsRead (options subcommand) (drop 2 words) (rows_in m)
 
--- the words ask for `check`, which was met, and the matches have what is behind it
-pub record HasReadCheck (words : List Text) (m : ArgMatches) : Type 0 where
-  pub asked : AsksCheck words
-  pub name : subcommand_name_of m ≡ Some (codes "check")
-  pub passes : check_level (drop 2 words) ≡ []
-  pub rows : subcommand_rows_of m ≡ Some (codes "check", check_rows (drop 2 words))
-
-abbrev pub HasReadWords : List Text → ArgMatches → Type 0
-HasReadWords words m = HasRead words m ⊎ HasReadCheck words m
-
-module _ (words : List Text) (m : ArgMatches) where
-  -- what was met, where the matches are those of the program
-  files_read : subcommand_rows_of m ≡ subcommand_of program_app words → IsRead words → HasRead words m
-  files_read matches is =
-      let met = matches ∙ is.entered_is in
-      record {
-        subcommand = is.subcommand;
-        given = files_of is.rest;
-        asked = ap (option_and_then (λ rest. taken_by is.subcommand (files_of rest))) is.words_are ∙ ap (λ t. taken_if t (files_of is.rest)) is.takes_them;
-        takes_them = is.takes_them;
-        name = name-subcommand_rows (out-ArgMatches m).subcommand ∙ ap (option_map (λ (p : Text × List Row). p.0)) met;
-        files = ap (option_and_then (λ (p : Text × List Row). all_of (codes "FILE") p.1)) met;
-      }
-
-  check_read : subcommand_rows_of m ≡ subcommand_of program_app words → IsReadAsCheck words → HasReadCheck words m
-  check_read matches is = record {
-    asked = is.asked;
-    name = name-subcommand_rows (out-ArgMatches m).subcommand ∙ ap (option_map (λ (p : Text × List Row). p.0)) (matches ∙ is.entered_is);
-    passes = is.passes;
-    rows = matches ∙ is.entered_is;
-  }
-
-  read_by : subcommand_rows_of m ≡ subcommand_of program_app words → IsFound words → HasReadWords words m
-  read_by matches (inl is) = inl (files_read matches is)
-  read_by matches (inr is) = inr (check_read matches is)
+found_read : (words : List Text) (m : ArgMatches) → subcommand_rows_of m ≡ subcommand_of program_app words → IsFoundIn words → HasRead words m
+unfolding rows_of
+found_read words m matches is =
+    let met = matches ∙ is.entered_is in
+    let rows = ap (λ o. option_map_or (λ (p : Text × List Row). p.1) o []) met in
+    record {
+      subcommand = is.subcommand;
+      asked = is.asked;
+      name = name-subcommand_rows (out-ArgMatches m).subcommand ∙ ap (option_map (λ (p : Text × List Row). p.0)) met;
+      read = subst (IsRead (options is.subcommand) (drop 2 words)) (sym rows) (read (name_of is.subcommand) (options is.subcommand) (drop 2 words) is.passes);
+    }
 
 -- a parse that succeeds
 pub has_read : (app : App) (words : List Text) (m : ArgMatches) → app ≡ program_app → (is_simple_and_free app ≡ true → fault_of app words ≡ [])
-    → HasMatchesOf app words m → HasReadWords words m
+    → HasMatchesOf app words m → HasRead words m
 has_read app words m program_is kinds matches =
     let none = ap (λ a. fault_of a words) (sym program_is) ∙ kinds (ap is_simple_and_free program_is) in
-    read_by words m ((matches (ap is_simple program_is)).1 ∙ ap (λ a. subcommand_of a words) program_is) (found words none)
+    found_read words m ((matches (ap is_simple program_is)).1 ∙ ap (λ a. subcommand_of a words) program_is) (found words none)
 
-named_by : (c : Subcommand) (command : Text) (rest : List Text) (t : Bool) → bytes_eq (name_of c) command ≡ t → plainly_if c t rest ≡ true → name_of c ≡ command
-named_by c command rest true is plain = (bytes_eq-Decides (name_of c) command).0 is
-named_by c command rest false is plain = absurd (true≢false (sym plain))
+-- the subcommand of a name
+abbrev named : Text → Option Subcommand
+named name = cond (bytes_eq (codes "scratch") name) (Some Scratch) (cond (bytes_eq (codes "check") name) (Some Check)
+    (cond (bytes_eq (codes "audit") name) (Some Audit) (cond (bytes_eq (codes "show") name) (Some Show) None)))
+
+named_as : (c : Subcommand) → named (name_of c) ≡ Some c
+named_as Scratch = refl
+named_as Check = refl
+named_as Audit = refl
+named_as Show = refl
 
 -- no two subcommands have one name
-pub same_subcommand : (c d : Subcommand) → name_of c ≡ name_of d → c ≡ d
-same_subcommand Scratch Scratch same = refl
-same_subcommand Audit Audit same = refl
-same_subcommand Show Show same = refl
-same_subcommand Scratch Audit same = absurd (true≢false (ap (bytes_eq (codes "scratch")) same))
-same_subcommand Scratch Show same = absurd (true≢false (ap (bytes_eq (codes "scratch")) same))
-same_subcommand Audit Scratch same = absurd (true≢false (ap (bytes_eq (codes "audit")) same))
-same_subcommand Audit Show same = absurd (true≢false (ap (bytes_eq (codes "audit")) same))
-same_subcommand Show Scratch same = absurd (true≢false (ap (bytes_eq (codes "show")) same))
-same_subcommand Show Audit same = absurd (true≢false (ap (bytes_eq (codes "show")) same))
+same_subcommand : (c d : Subcommand) → name_of c ≡ name_of d → c ≡ d
+same_subcommand c d same = same_Some c d (sym (named_as c) ∙ (ap named same ∙ named_as d))
 
--- none of them is `check`
-pub not_check : (c : Subcommand) → name_of c ≡ codes "check" → ⊥
-not_check Scratch same = true≢false (ap (bytes_eq (codes "scratch")) same)
-not_check Audit same = true≢false (ap (bytes_eq (codes "audit")) same)
-not_check Show same = true≢false (ap (bytes_eq (codes "show")) same)
+-- ---- what was met is what the words ask for
 
-asked_for : (words : List Text) (m : ArgMatches) (c : Option Subcommand) (files : List Text) → HasReadWords words m
-    → subcommand_name_of m ≡ Some (command_name c) → files_in m ≡ Some files → AsksFor words c files
-asked_for words m (Some d) files (inl read) name is =
-    let same = same_subcommand read.subcommand d (some_same _ _ (sym read.name ∙ name)) in
-    ap (λ c. files_for c words) (sym same) ∙ (read.asked ∙ (sym read.files ∙ is))
-asked_for words m (Some d) files (inr check) name is = absurd (not_check d (some_same _ _ (sym name ∙ check.name)))
-asked_for words m None files (inl read) name is = absurd (not_check read.subcommand (some_same _ _ (sym read.name ∙ name)))
-asked_for words m None files (inr check) name is = check.asked
+names_are : (c : Subcommand) → names (options c) ≡ options_of c
+names_are Scratch = refl
+names_are Check = refl
+names_are Audit = refl
+names_are Show = refl
+
+first_told : (id : Text) (rows : List Row) → first_of id rows ≡ slice_get (told id rows) 0
+first_told id rows = go (find (λ r. bytes_eq r.id id) rows)
+  where
+    go : (o : Option Row) → option_and_then (λ (r : Row). slice_get r.values 0) o ≡ slice_get (values_in o) 0
+    go None = refl
+    go (Some r) = refl
+
+one_value : (vs : List Text) (x : Text) → is_few vs ≡ true → slice_get vs 0 ≡ Some x → vs ≡ x ∷ []
+one_value [] x few first = absurd (none-some x first)
+one_value (v ∷ []) x few first = ap (λ y. y ∷ []) (same_Some v x first)
+one_value (v ∷ u ∷ vs) x few first = absurd (true≢false (sym few))
+
+number_of : (vs : List Text) (n : ℕ) → is_few vs ≡ true → option_map_or decimal (slice_get vs 0) 1 ≡ n → IsNumberOf vs n
+number_of [] n few is = sym is
+number_of (v ∷ []) n few is = sym is
+number_of (v ∷ u ∷ vs) n few is = absurd (true≢false (sym few))
+
+module _ (words : List Text) (opts : List Opt) (rows : List Row) (is : IsRead opts words rows) where
+  -- the number of an option
+  number_read : (name : Text) (n : ℕ) → bytes_eq (codes "FILE") name ≡ false → number_in name rows ≡ n → IsNumberOf (values_of (Some name) (given_in None words)) n
+  number_read name n part number = subst (λ vs. IsNumberOf vs n) (is.values (Some name) part)
+      (number_of (told name rows) n (is.few name part) (sym (ap (λ o. option_map_or decimal o 1) (first_told name rows)) ∙ number))
+
+  value_read : (name v : Text) → bytes_eq (codes "FILE") name ≡ false → first_of name rows ≡ Some v → values_of (Some name) (given_in None words) ≡ v ∷ []
+  value_read name v part first = sym (is.values (Some name) part) ∙ one_value (told name rows) v (is.few name part) (sym (first_told name rows) ∙ first)
+
+  options_read : (w : Words) → AreOptionsIn rows w → AreOptionsOf (given_in None words) w
+  options_read (asked_words.Scratch w) met = number_read (codes "profile") w.profile refl met
+  options_read (asked_words.Check w) met = record {
+    cache = value_read (codes "cache") (string_bytes w.cache) refl met.cache;
+    jobs = number_read (codes "jobs") w.jobs refl met.jobs;
+    profile = number_read (codes "profile") w.profile refl met.profile;
+    form = number_read (codes "form") w.form refl met.form;
+  }
+  options_read (asked_words.Audit files) met = tt
+  options_read (asked_words.Show files) met = tt
 
 -- the words that were met are those that were asked for
-pub asked_are_met : (words : List Text) (m : ArgMatches) (w : Words) → HasReadWords words m → AreMet m w → Asks words w
-asked_are_met words m w read met = asked_for words m (subcommand_of_words w) (files_of_words w) read met.name met.files
+pub asked_are_met : (words : List Text) (m : ArgMatches) (w : Words) → HasRead words m → AreMet m w → Asks words w
+asked_are_met words m w is met =
+    let same : is.subcommand ≡ asked_of w = same_subcommand is.subcommand (asked_of w) (same_Some _ _ (sym is.name ∙ met.name)) in
+    let rest = drop 2 words in
+    record {
+      subcommand = is.asked ∙ ap (λ c. Some (name_of c)) same;
+      known = subst (λ names. are_of names (given_in None rest) ≡ true) (names_are is.subcommand ∙ ap options_of same) is.read.known;
+      gives = record {
+        options = options_read rest (options is.subcommand) (rows_in m) is.read w met.options;
+        files = sym (is.read.values None tt) ∙ met.files;
+      };
+    }
 
-options_given : (words : List Text) (m : ArgMatches) (w : CheckWords) → HasReadWords words m → AreMet m (asked_words.Check w) → HasOptions m (asked_words.Check w)
-    → IsGivenBy (drop 2 words) w
-options_given words m w (inl read) met options = absurd (not_check read.subcommand (some_same _ _ (sym read.name ∙ met.name)))
-options_given words m w (inr check) met options =
-    let rows = check_rows (drop 2 words) in
-    check_given (drop 2 words) w check.passes
-    (sym (ap (option_and_then (λ (p : Text × List Row). all_of (codes "FILE") p.1)) check.rows) ∙ met.files)
-    (sym (ap (option_and_then (λ (p : Text × List Row). first_of (codes "cache") p.1)) check.rows) ∙ options.0)
-    (sym (ap (λ o. option_map decimal (option_and_then (λ (p : Text × List Row). first_of (codes "jobs") p.1) o)) check.rows) ∙ options.1)
+-- ---- plain words
 
--- what was met behind `check` is what the words give
-pub given_are_met : (words : List Text) (m : ArgMatches) (w : Words) → HasReadWords words m → AreMet m w → HasOptions m w → GivesCheck words w
-given_are_met words m (asked_words.Scratch files) read met options = tt
-given_are_met words m (asked_words.Check w) read met options = options_given words m w read met options
-given_are_met words m (asked_words.Audit files) read met options = tt
-given_are_met words m (asked_words.Show file) read met options = tt
+both : (a b : Bool) → (a && b) ≡ true → (a ≡ true) × (b ≡ true)
+both true b is = (refl, is)
+both false b is = absurd (true≢false (sym is))
 
--- words that ask plainly don't ask for `check`
-no_check : (c : Subcommand) (words : List Text) → asks_plainly c words ≡ true → AsksCheck words → ⊥
-no_check c [] plain asked = true≢false (sym plain)
-no_check c (name ∷ []) plain asked = true≢false (sym plain)
-no_check c (name ∷ command ∷ rest) plain asked =
-    not_check c (named_by c command rest (bytes_eq (name_of c) command) refl plain ∙ some_same _ _ asked)
+-- the FILEs are enough, and there is no option
+record ArePlain (c : Subcommand) (rest files : List Text) : Type 0 where
+  alone : wants_files_alone c ≡ true
+  enough : is_one_or_more (files_of rest) ≡ true
+  no_option : has_option rest ≡ false
+  files_are : files_of rest ≡ files
 
-pub plainly_read : (c : Subcommand) (words : List Text) (m : ArgMatches) → asks_plainly c words ≡ true → HasReadWords words m → HasRead words m
-plainly_read c words m plain (inl read) = read
-plainly_read c words m plain (inr check) = absurd (no_check c words plain check.asked)
+abbrev taken_if : Bool → List Text → Option (List Text)
+taken_if t rest = if t then Some (files_of rest) else None
+
+plain_rest : (c : Subcommand) (rest files : List Text) (t : Bool) → are_plain c rest ≡ t → taken_if t rest ≡ Some files → ArePlain c rest files
+plain_rest c rest files true is taken =
+    let first = both (wants_files_alone c) (is_one_or_more (files_of rest) && not (has_option rest)) is in
+    let second = both (is_one_or_more (files_of rest)) (not (has_option rest)) first.1 in
+    record { alone = first.0; enough = second.0; no_option = not-true (has_option rest) second.1; files_are = same_Some _ _ taken }
+plain_rest c rest files false is taken = absurd (none-some files taken)
+
+abbrev behind_if : Subcommand → Bool → List Text → Option (List Text)
+behind_if c t rest = option_and_then (taken_by c) (if t then Some rest else None)
+
+-- the subcommand is asked for, with plain words behind it
+record AsksPlainly (c : Subcommand) (words files : List Text) : Type 0 where
+  asked : AsksFor words c
+  plain : ArePlain c (drop 2 words) files
+
+plain_by : (c : Subcommand) (name command : Text) (rest files : List Text) (t : Bool) → bytes_eq (name_of c) command ≡ t → behind_if c t rest ≡ Some files
+    → AsksPlainly c (name ∷ command ∷ rest) files
+plain_by c name command rest files true is taken = record {
+  asked = ap (λ w. Some w) (sym ((bytes_eq-Decides (name_of c) command).0 is));
+  plain = plain_rest c rest files (are_plain c rest) refl taken;
+}
+plain_by c name command rest files false is taken = absurd (none-some files taken)
+
+asks : (c : Subcommand) (words files : List Text) → files_for c words ≡ Some files → AsksPlainly c words files
+asks c [] files is = absurd (none-some files is)
+asks c (name ∷ []) files is = absurd (none-some files is)
+asks c (name ∷ command ∷ rest) files is = plain_by c name command rest files (bytes_eq (name_of c) command) refl is
+
+is_given : (o : Option (List Text)) → is_some o ≡ true → (files : List Text) × (o ≡ Some files)
+is_given None is = absurd (true≢false (sym is))
+is_given (Some files) is = (files, refl)
+
+pub asks_some : (c : Subcommand) (words : List Text) → asks_plainly c words ≡ true → (files : List Text) × (files_for c words ≡ Some files)
+asks_some c words plain = is_given (files_for c words) plain
+
+optional : (c : Subcommand) → wants_files_alone c ≡ true → are_optional (options c)
+optional Scratch alone = refl
+optional Check alone = absurd (true≢false (sym alone))
+optional Audit alone = refl
+optional Show alone = refl
+
+-- words that ask plainly are taken
+taken : (c : Subcommand) (words files : List Text) → AsksPlainly c words files → length words ≤ usize_max → fault_of program_app words ≡ []
+taken c [] files plain most = absurd (none-some _ plain.asked)
+taken c (name ∷ []) files plain most = absurd (none-some _ plain.asked)
+taken c (name ∷ command ∷ rest) files is most =
+    let same : command ≡ name_of c = same_Some _ _ is.asked in
+    let within = files_within rest in
+    ap (λ w. fault_of program_app (name ∷ w ∷ rest)) same
+    ∙ (fault_is c rest name
+    ∙ ap (λ k. or_else k []) (level_taken (name_of c) (options c) (optional c is.plain.alone) rest is.plain.no_option is.plain.enough (omega (arith, within, most))))
 
 -- a parse of words that ask plainly fails only because memory runs out
-pub only_memory : (app : App) (c : Subcommand) (words : List Text) (e : Error) → app ≡ program_app → asks_plainly c words ≡ true → length words ≤ usize_max
+pub only_memory : (app : App) (c : Subcommand) (words files : List Text) (e : Error) → app ≡ program_app → files_for c words ≡ Some files → length words ≤ usize_max
     → (is_simple_and_free app ≡ true → HasKind (fault_of app words) e) → kind_of e ≡ OutOfMemory
-only_memory app c words e program_is plain most has =
-    let none = ap (λ a. fault_of a words) program_is ∙ taken c words plain most in
+only_memory app c words files e program_is plain most has =
+    let none = ap (λ a. fault_of a words) program_is ∙ taken c words files (asks c words files plain) most in
     elim (subst (λ kinds. HasKind kinds e) none (has (ap is_simple_and_free program_is))) [ inl is ↦ is | inr never ↦ absurd never ]
+
+-- ---- what is read of plain words
+
+module _ (c : Subcommand) (words files : List Text) (plain : files_for c words ≡ Some files) where
+  abbrev asked_plainly : AsksPlainly c words files
+  asked_plainly = asks c words files plain
+
+  number_of_none : (name : Text) (n : ℕ) → IsNumberOf (values_of (Some name) (given_in None (drop 2 words))) n → n ≡ 1
+  number_of_none name n number = subst (λ vs. IsNumberOf vs n) (plain_options name (drop 2 words) asked_plainly.plain.no_option) number
+
+  defaults : (w : Words) → AreOptionsOf (given_in None (drop 2 words)) w → HasDefaults w
+  defaults (asked_words.Scratch w) gives = number_of_none (codes "profile") w.profile gives
+  defaults (asked_words.Check w) gives = (
+    number_of_none (codes "jobs") w.jobs gives.jobs,
+    number_of_none (codes "profile") w.profile gives.profile,
+    number_of_none (codes "form") w.form gives.form,
+  )
+  defaults (asked_words.Audit files) gives = tt
+  defaults (asked_words.Show files) gives = tt
+
+  -- what plain words ask for is just this
+  pub plain_asked : (w : Words) → Asks words w → IsPlain c files w
+  plain_asked w asks = record {
+    asked = same_subcommand (asked_of w) c (same_Some _ _ (sym asks.subcommand ∙ asked_plainly.asked));
+    named = sym asks.gives.files ∙ (plain_files (drop 2 words) asked_plainly.plain.no_option ∙ asked_plainly.plain.files_are);
+    defaults = defaults w asks.gives.options;
+  }
+
+  module _ (m : ArgMatches) (is : HasRead words m) where
+    pub plain_named : subcommand_name_of m ≡ Some (name_of c)
+    plain_named = is.name ∙ (sym is.asked ∙ asked_plainly.asked)
+
+    -- the rows have FILEs that are enough
+    pub plain_enough : AreEnough c (rows_in m)
+    plain_enough = record {
+      alone = asked_plainly.plain.alone;
+      files = ap is_one_or_more (is.read.values None tt ∙ plain_files (drop 2 words) asked_plainly.plain.no_option) ∙ asked_plainly.plain.enough;
+      profile = first_told (codes "profile") (rows_in m)
+          ∙ ap (λ vs. slice_get vs 0) (is.read.values (Some (codes "profile")) refl ∙ plain_options (codes "profile") (drop 2 words) asked_plainly.plain.no_option);
+    }

@@ -1,10 +1,12 @@
--- What the words behind `check` give, by the words alone.
+-- What the words behind a subcommand give, by the words alone.
 use Rattle.std.specs.Prelude.{◌≡◌, ℕ, Bool, true, false, List, [], ◌∷◌, Option, Some, None}
-use Rattle.std.specs.Prelude.{codes, drop, if◌then◌else◌, map, string_bytes}
+use Rattle.std.specs.Prelude.{codes, if◌then◌else◌, map, string_bytes}
+use Rattle.std.specs.List.{list_all, list_any}
 use Rattle.std.specs.Str.{bytes_eq}
 use Rattle.std.specs.Str.Parse.{digits_value, without_leading_plus}
 use Rattle.clap.specs.Lexer.{long_of}
-use Rattle.command_line.specs.CommandLine.{dashes}
+use Rattle.command_line.specs.Plain.{dashes}
+use Rattle.command_line.specs.Runnable.{files_of_words}
 use Rattle.command_line.specs.Subcommands.{Text}
 use Rattle.command_line.specs.declared.asked.CheckWords.{CheckWords}
 use Rattle.command_line.specs.declared.asked.Words.{Words}
@@ -44,6 +46,15 @@ values_of name [] = []
 values_of name (given ∷ rest) =
     if is_of name given.0 then given.1 ∷ values_of name rest else values_of name rest
 
+-- it is a FILE's, or one of these options
+abbrev pub is_among : List Text → Option Text → Bool
+is_among names None = true
+is_among names (Some name) = list_any (bytes_eq name) names
+
+-- no other options are given than these
+abbrev pub are_of : List Text → List Given → Bool
+are_of names given = list_all (λ one. is_among names one.0) given
+
 -- the number that the digits of a text write
 abbrev pub decimal : Text → ℕ
 decimal text = digits_value 10 (without_leading_plus text)
@@ -54,14 +65,21 @@ IsNumberOf [] n = n ≡ 1
 IsNumberOf (text ∷ []) n = n ≡ decimal text
 IsNumberOf _ n = ⊥
 
--- the folder of the cache is the one value of `--cache`, the number of workers that of `--jobs`, and
--- the FILEs are all other words
-pub record IsGivenBy (rest : List Text) (w : CheckWords) : Type 0 where
-  pub cache : values_of (Some (codes "cache")) (given_in None rest) ≡ string_bytes w.cache ∷ []
-  pub jobs : IsNumberOf (values_of (Some (codes "jobs")) (given_in None rest)) w.jobs
-  pub files : values_of None (given_in None rest) ≡ map string_bytes w.files.items
+-- The folder of the cache is the one value of `--cache`, and the numbers are those of their options.
+pub record AreOptionsOfCheck (given : List Given) (w : CheckWords) : Type 0 where
+  pub cache : values_of (Some (codes "cache")) given ≡ string_bytes w.cache ∷ []
+  pub jobs : IsNumberOf (values_of (Some (codes "jobs")) given) w.jobs
+  pub profile : IsNumberOf (values_of (Some (codes "profile")) given) w.profile
+  pub form : IsNumberOf (values_of (Some (codes "form")) given) w.form
 
--- where `check` was read, the words behind it give what was read
-abbrev pub GivesCheck : List Text → Words → Type 0
-GivesCheck given (words.Check w) = IsGivenBy (drop 2 given) w
-GivesCheck given _ = Unit {0}
+-- the values of the options
+abbrev pub AreOptionsOf : List Given → Words → Type 0
+AreOptionsOf given (words.Scratch w) =
+    IsNumberOf (values_of (Some (codes "profile")) given) w.profile
+AreOptionsOf given (words.Check w) = AreOptionsOfCheck given w
+AreOptionsOf given _ = Unit {0}
+
+-- The values are those of the options, and the FILEs are all other words.
+pub record IsGivenBy (given : List Given) (w : Words) : Type 0 where
+  pub options : AreOptionsOf given w
+  pub files : values_of None given ≡ files_of_words w

@@ -1,9 +1,9 @@
 -- What the words of a command line that is read always have.
-use Rattle.std.specs.Prelude.{◌<◌, ◌≤◌, ℕ, List, [], ◌∷◌, Option, Some, None, map, string_bytes}
-use Rattle.std.specs.Prelude.{vec_len}
+use Rattle.std.specs.Prelude.{◌<◌, ◌≤◌, ℕ, List, map, string_bytes, vec_len}
 use Rattle.command_line.specs.declared.asked.CheckWords.{CheckWords}
+use Rattle.command_line.specs.declared.asked.ScratchWords.{ScratchWords}
 use Rattle.command_line.specs.declared.asked.Subcommand.{Subcommand}
-use Rattle.command_line.specs.declared.asked.Subcommand.TheVariants.{Scratch, Audit, Show}
+use Rattle.command_line.specs.declared.asked.Subcommand.TheVariants.{Scratch, Check, Audit, Show}
 use Rattle.command_line.specs.declared.asked.Words.{Words}
 use Rattle.command_line.specs.declared.asked.Words.TheVariants as words
 
@@ -11,29 +11,47 @@ use Rattle.command_line.specs.declared.asked.Words.TheVariants as words
 abbrev pub most_jobs : ℕ
 most_jobs = 64
 
--- at least one FILE, and 1 to 64 workers
+-- the last profile
+abbrev pub most_profile : ℕ
+most_profile = 2
+
+-- the last form of session files
+abbrev pub most_form : ℕ
+most_form = 2
+
+-- at least one FILE, and a profile
+pub record IsScratchable (w : ScratchWords) : Type 0 where
+  pub files : 0 < vec_len w.files
+  pub some_profile : 1 ≤ w.profile
+  pub most_profile : w.profile ≤ most_profile
+
+-- at least one FILE, 1 to 64 workers, a profile and a form
 pub record IsCheckable (w : CheckWords) : Type 0 where
   pub files : 0 < vec_len w.files
   pub some_jobs : 1 ≤ w.jobs
   pub most_jobs : w.jobs ≤ most_jobs
+  pub some_profile : 1 ≤ w.profile
+  pub most_profile : w.profile ≤ most_profile
+  pub some_form : 1 ≤ w.form
+  pub most_form : w.form ≤ most_form
 
--- at least one FILE, and for `check` 1 to 64 workers
+-- at least one FILE, and numbers that there are
 abbrev pub IsRunnable : Words → Type 0
-IsRunnable (words.Scratch files) = 0 < vec_len files
+IsRunnable (words.Scratch w) = IsScratchable w
 IsRunnable (words.Check w) = IsCheckable w
 IsRunnable (words.Audit files) = 0 < vec_len files
-IsRunnable (words.Show file) = Unit {0}
+IsRunnable (words.Show files) = 0 < vec_len files
 
--- the subcommand, where it has FILEs alone; only `check` has more
-abbrev pub subcommand_of_words : Words → Option Subcommand
-subcommand_of_words (words.Scratch files) = Some Scratch
-subcommand_of_words (words.Check w) = None
-subcommand_of_words (words.Audit files) = Some Audit
-subcommand_of_words (words.Show file) = Some Show
+-- the subcommand
+abbrev pub subcommand_of : Words → Subcommand
+subcommand_of (words.Scratch w) = Scratch
+subcommand_of (words.Check w) = Check
+subcommand_of (words.Audit files) = Audit
+subcommand_of (words.Show files) = Show
 
 -- the FILEs
 abbrev pub files_of_words : Words → List (List ℕ)
-files_of_words (words.Scratch files) = map string_bytes files.items
+files_of_words (words.Scratch w) = map string_bytes w.files.items
 files_of_words (words.Check w) = map string_bytes w.files.items
 files_of_words (words.Audit files) = map string_bytes files.items
-files_of_words (words.Show file) = string_bytes file ∷ []
+files_of_words (words.Show files) = map string_bytes files.items

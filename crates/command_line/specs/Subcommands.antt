@@ -1,7 +1,7 @@
 -- The program's subcommands.
-use Rattle.std.specs.Prelude.{ℕ, Bool, true, false, List, [], ◌∷◌, Option, Some, None, codes}
+use Rattle.std.specs.Prelude.{ℕ, Bool, true, false, List, [], ◌∷◌, codes}
 use Rattle.command_line.specs.declared.asked.Subcommand.{Subcommand}
-use Rattle.command_line.specs.declared.asked.Subcommand.TheVariants.{Scratch, Audit, Show}
+use Rattle.command_line.specs.declared.asked.Subcommand.TheVariants.{Scratch, Check, Audit, Show}
 
 abbrev pub Text : Type 0
 Text = List ℕ
@@ -9,23 +9,22 @@ Text = List ℕ
 -- the word that asks for it
 abbrev pub name_of : Subcommand → Text
 name_of Scratch = codes "scratch"
+name_of Check = codes "check"
 name_of Audit = codes "audit"
 name_of Show = codes "show"
 
--- the same, where none of the three is `check`
-abbrev pub command_name : Option Subcommand → Text
-command_name (Some subcommand) = name_of subcommand
-command_name None = codes "check"
+-- the names of its options
+abbrev pub options_of : Subcommand → List Text
+options_of Scratch = codes "profile" ∷ []
+options_of Check = codes "cache" ∷ codes "jobs" ∷ codes "profile" ∷ codes "form" ∷ []
+options_of Audit = []
+options_of Show = []
+
+-- FILEs are all that it wants; `check` wants a cache, too
+abbrev pub wants_files_alone : Subcommand → Bool
+wants_files_alone Check = false
+wants_files_alone _ = true
 
 abbrev pub is_one_or_more : List Text → Bool
 is_one_or_more [] = false
 is_one_or_more (file ∷ rest) = true
-
-abbrev pub is_just_one : List Text → Bool
-is_just_one (file ∷ []) = true
-is_just_one _ = false
-
--- it takes these FILEs: one or more, and `show` just one
-abbrev pub takes : Subcommand → List Text → Bool
-takes Show files = is_just_one files
-takes _ files = is_one_or_more files

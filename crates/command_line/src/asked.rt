@@ -6,14 +6,16 @@ ghost use Rattle.command_line.specs.declared.asked.WordsFault.TheVariants as fau
 use std::alloc::{AllocError, AllocFailed};
 use thiserror::Error;
 
-/// What the program can do with FILEs alone. `check` has more words, and stands beside these.
+/// What the program can do.
 #[derive(Clone, Copy, Debug, PartialEq, Eq)]
 pub enum Subcommand {
     /// Check a project from its files alone.
     Scratch,
+    /// Check a project over the last session of a cache.
+    Check,
     /// Audit a chain of session files.
     Audit,
-    /// Print a session file.
+    /// Print the last session of a chain.
     Show,
 }
 
@@ -24,6 +26,7 @@ impl Subcommand {
     {
         match self {
             Subcommand::Scratch => "scratch",
+            Subcommand::Check => "check",
             Subcommand::Audit => "audit",
             Subcommand::Show => "show",
         }
@@ -37,11 +40,21 @@ impl Subcommand {
     {
         match word {
             "scratch" => Some(Subcommand::Scratch),
+            "check" => Some(Subcommand::Check),
             "audit" => Some(Subcommand::Audit),
             "show" => Some(Subcommand::Show),
             _ => None,
         }
     }
+}
+
+/// The values of `scratch`.
+#[derive(Drop)]
+pub struct ScratchWords {
+    /// The number of the language's profile, 1 or 2.
+    pub profile: u8,
+    /// The source files of the project.
+    pub files: Vec<String>,
 }
 
 /// The values of `check`.
@@ -51,6 +64,10 @@ pub struct CheckWords {
     pub cache: String,
     /// How many workers run the queries, 1 to 64.
     pub jobs: usize,
+    /// The number of the language's profile, 1 or 2.
+    pub profile: u8,
+    /// The number of the form in which the session is written, 1 or 2.
+    pub form: u8,
     /// The source files of the project.
     pub files: Vec<String>,
 }
@@ -59,13 +76,13 @@ pub struct CheckWords {
 #[derive(Drop)]
 pub enum Words {
     /// Check the project of these files from scratch.
-    Scratch(Vec<String>),
+    Scratch(ScratchWords),
     /// Check the project of these files over the last session of the cache.
     Check(CheckWords),
     /// Audit the chain of these session files.
     Audit(Vec<String>),
-    /// Print this session file.
-    Show(String),
+    /// Print the last session of the chain of these session files.
+    Show(Vec<String>),
 }
 
 /// Why the words ask for no subcommand.

@@ -1,9 +1,9 @@
 //! The program and its subcommands, as `clap` reads them.
-ghost use Rattle.std.specs.Prelude.{◌≡◌, IfOk, false};
-ghost use Rattle.clap.specs.Words.{app_of, rule_of, with_subcommand};
+ghost use Rattle.std.specs.Prelude.{◌≡◌, IfOk, false, fold};
+ghost use Rattle.clap.specs.Words.{app_of, rule_of, with_rule, with_subcommand};
 ghost use Rattle.clap.specs.declared.builder.Command.TheViews.{out-Command};
-ghost use Rattle.command_line.specs.Program.{cache_rule, check_app, checker_app, file_rule, files_rule};
-ghost use Rattle.command_line.specs.Program.{jobs_rule, options_app, program_app, required_app, rule_of_files, subcommand_app};
+ghost use Rattle.command_line.specs.Program.{cache_rule, checker_app, files_rule, number_rule};
+ghost use Rattle.command_line.specs.Program.{options_app, profile_rule, program_app, required_app, rules_of, subcommand_app};
 
 use crate::asked::Subcommand;
 use crate::help;
@@ -17,25 +17,34 @@ pub(crate) const PROGRAM: &str = "mjrg";
 /// The positional that has the names of the files.
 pub(crate) const FILE: &str = "FILE";
 
-/// The subcommand that has more than FILEs.
-pub(crate) const CHECK: &str = "check";
-
 /// The option that has the folder of the cache.
 pub(crate) const CACHE: &str = "cache";
 
 /// The option that has the number of workers.
 pub(crate) const JOBS: &str = "jobs";
 
+/// The option that has the number of the profile.
+pub(crate) const PROFILE: &str = "profile";
+
+/// The option that has the number of the form.
+pub(crate) const FORM: &str = "form";
+
 /// The most workers that `check` can have.
 pub(crate) const MOST_JOBS: u8 = 64;
+
+/// The last profile.
+pub(crate) const MOST_PROFILE: u8 = 2;
+
+/// The last form.
+pub(crate) const MOST_FORM: u8 = 2;
 
 /// The program with its subcommands.
 pub(crate) fn program<'a>(alloc: Global) -> Result<Command<'a>, AllocError>
     ensures { IfOk result (λ command. app_of command ≡ program_app) }
 {
     let program = checker(alloc)?;
-    let program = with_files(alloc, program, Subcommand::Audit)?;
-    with_files(alloc, program, Subcommand::Show)
+    let program = with_command(alloc, program, Subcommand::Audit)?;
+    with_command(alloc, program, Subcommand::Show)
 }
 
 // The program with `scratch` and `check`.
@@ -43,8 +52,8 @@ fn checker<'a>(alloc: Global) -> Result<Command<'a>, AllocError>
     ensures { IfOk result (λ command. app_of command ≡ checker_app) }
 {
     let program = named(alloc)?;
-    let program = with_files(alloc, program, Subcommand::Scratch)?;
-    with_check(alloc, program)
+    let program = with_command(alloc, program, Subcommand::Scratch)?;
+    with_command(alloc, program, Subcommand::Check)
 }
 
 // The program before its subcommands.
@@ -61,8 +70,8 @@ fn named<'a>(alloc: Global) -> Result<Command<'a>, AllocError>
     )
 }
 
-// The program with a subcommand that has FILEs alone.
-fn with_files<'a>(
+// The program with a subcommand.
+fn with_command<'a>(
     alloc: Global,
     program: Command<'a>,
     which: Subcommand,
@@ -73,41 +82,40 @@ fn with_files<'a>(
     program.subcommand(command_of(alloc, which)?)
 }
 
-// The program with `check`.
-fn with_check<'a>(alloc: Global, program: Command<'a>) -> Result<Command<'a>, AllocError>
-    ensures { IfOk result (λ command.
-        app_of command ≡ with_subcommand (app_of program.entry) check_app.top) }
-{
-    program.subcommand(check_command(alloc)?)
-}
-
 fn command_of<'a>(alloc: Global, which: Subcommand) -> Result<Command<'a>, AllocError>
     ensures app { IfOk result (λ command. app_of command ≡ subcommand_app which) }
     ensures local { IfOk result (λ command. (out-Command command).has_globals ≡ false) }
 {
-    Command::new(alloc, which.name())
+    options_of(alloc, which)?.arg(files_of(alloc, which))
+}
+
+// A subcommand with its options, before its FILEs.
+fn options_of<'a>(alloc: Global, which: Subcommand) -> Result<Command<'a>, AllocError>
+    ensures app { IfOk result (λ command. app_of command ≡ options_app which) }
+    ensures local { IfOk result (λ command. (out-Command command).has_globals ≡ false) }
+{
+    let command = Command::new(alloc, which.name())
         .about(purpose(which))
-        .after_help(outcome(which))
-        .arg(files_of(alloc, which))
+        .after_help(outcome(which));
+    match which {
+        Subcommand::Scratch => command.arg(profile(alloc)),
+        Subcommand::Check => check_options(alloc, command),
+        Subcommand::Audit | Subcommand::Show => Ok(command),
+    }
 }
 
-fn check_command<'a>(alloc: Global) -> Result<Command<'a>, AllocError>
-    ensures app { IfOk result (λ command. app_of command ≡ check_app) }
-    ensures local { IfOk result (λ command. (out-Command command).has_globals ≡ false) }
+// A command with the options of `check`.
+fn check_options<'a>(alloc: Global, command: Command<'a>) -> Result<Command<'a>, AllocError>
+    requires { (out-Command command).has_globals ≡ false }
+    ensures app { IfOk result (λ made.
+        app_of made ≡ fold with_rule (app_of command.entry) (rules_of Subcommand.Check)) }
+    ensures local { IfOk result (λ made. (out-Command made).has_globals ≡ false) }
 {
-    check_options(alloc)?.arg(files_of(alloc, Subcommand::Scratch))
-}
-
-// `check` with its options, before its FILEs.
-fn check_options<'a>(alloc: Global) -> Result<Command<'a>, AllocError>
-    ensures app { IfOk result (λ command. app_of command ≡ options_app) }
-    ensures local { IfOk result (λ command. (out-Command command).has_globals ≡ false) }
-{
-    Command::new(alloc, CHECK)
-        .about(help::CHECK_PURPOSE)
-        .after_help(help::CHECK)
+    command
         .arg(cache(alloc))?
-        .arg(jobs(alloc))
+        .arg(number(alloc, JOBS, MOST_JOBS, help::JOBS))?
+        .arg(profile(alloc))?
+        .arg(number(alloc, FORM, MOST_FORM, help::FORM))
 }
 
 fn cache<'a>(alloc: Global) -> Arg<'a>
@@ -121,35 +129,34 @@ fn cache<'a>(alloc: Global) -> Arg<'a>
         .help(help::CACHE)
 }
 
-fn jobs<'a>(alloc: Global) -> Arg<'a>
-    ensures rule { rule_of result ≡ jobs_rule }
+fn profile<'a>(alloc: Global) -> Arg<'a>
+    ensures rule { rule_of result ≡ profile_rule }
     ensures local { result.global ≡ false }
 {
-    Arg::new(alloc, JOBS)
-        .long(JOBS)
+    number(alloc, PROFILE, MOST_PROFILE, help::PROFILE)
+}
+
+// An option that has a number from 1 on. (That it is 1 where it is left out is said by the help and made by the
+// reader: a default of `clap`'s would be a match like one that was given.)
+fn number<'a>(alloc: Global, name: &'a str, most: u8, help: &'a str) -> Arg<'a>
+    ensures rule { rule_of result ≡ number_rule name.entry.now most }
+    ensures local { result.global ≡ false }
+{
+    Arg::new(alloc, name)
+        .long(name)
         .value_name("N")
-        .value_parser(value_parser!(u8).range(1..=MOST_JOBS as i64))
-        .default_value("1")
-        .help(help::JOBS)
+        .value_parser(value_parser!(u8).range(1..=most as i64))
+        .help(help)
 }
 
-// The last positional.
+// The last positional, with one value or more.
 fn files_of<'a>(alloc: Global, which: Subcommand) -> Arg<'a>
-    ensures rule { rule_of result ≡ rule_of_files which }
+    ensures rule { rule_of result ≡ files_rule }
     ensures local { result.global ≡ false }
 {
-    let file = Arg::new(alloc, FILE).required(true).help(files(which));
-    match which {
-        Subcommand::Scratch | Subcommand::Audit => one_or_more(file),
-        Subcommand::Show => file,
-    }
-}
-
-// The positional with one or more values.
-fn one_or_more<'a>(file: Arg<'a>) -> Arg<'a>
-    requires { rule_of file ≡ file_rule }
-    ensures rule { rule_of result ≡ files_rule }
-    ensures local { result.global ≡ file.entry.global }
-{
-    file.num_args(1..).action(ArgAction::Append)
+    Arg::new(alloc, FILE)
+        .required(true)
+        .num_args(1..)
+        .action(ArgAction::Append)
+        .help(files(which))
 }

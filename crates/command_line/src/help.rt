@@ -5,8 +5,8 @@ use crate::asked::Subcommand;
 pub(crate) const PURPOSE: &str =
     "Check MiniJava projects, from scratch or session by session, and audit chains of session files";
 
-/// The version of the program, of the session files that it reads and writes, and of the language.
-pub(crate) const VERSION: &str = "0.1.0\nsession files: version 1\nlanguage: profile 1";
+/// The version of the program, the forms of the session files that it reads and writes, and the profiles of the language.
+pub(crate) const VERSION: &str = "0.1.0\nsession files: forms 1 and 2\nlanguage: profiles 1 and 2";
 
 /// What stands below the program's help.
 pub(crate) const STATUSES: &str = "\
@@ -67,7 +67,8 @@ Codes of a declaration:
   E202  the chain of superclasses runs into a cycle
   E203  a field of the same name stands before this one in the class
   E204  a method of the same name stands before this one in the class
-  E205  the method overrides one with other parameter types or another return type
+  E205  the method overrides one with other parameter types or another return type; in profile 2
+        its return type may be a subclass of the other's
   E206  the declared type is a class that isn't declared
   E207  a parameter or a local of the same name stands before this one
 
@@ -106,6 +107,7 @@ const SCRATCH: &str = help_of_project!(
     "
 Examples:
   mjrg scratch M.java
+  mjrg scratch --profile 2 M.java
   mjrg scratch $(find src -name '*.java' | LC_ALL=C sort)
 
 Exit status:
@@ -115,34 +117,38 @@ Exit status:
   4  out of memory"
 );
 
-/// What `check` is for.
-pub(crate) const CHECK_PURPOSE: &str = "Check a project over the last session of a cache";
-
 /// What the DIR of `check` is.
 pub(crate) const CACHE: &str = "The folder of the cache; it is made where it is missing";
 
-/// What the N of `check` is.
-pub(crate) const JOBS: &str = "How many workers run the queries, 1 to 64";
+/// What the N of `--jobs` is.
+pub(crate) const JOBS: &str = "How many workers run the queries, 1 to 64 [default: 1]";
 
-/// What stands below the help of `check`.
-pub(crate) const CHECK: &str = help_of_project!(
+/// What the N of `--profile` is.
+pub(crate) const PROFILE: &str = "The profile of the language, 1 or 2 [default: 1]";
+
+/// What the N of `--form` is.
+pub(crate) const FORM: &str = "The form in which the session is written, 1 or 2 [default: 1]";
+
+const CHECK: &str = help_of_project!(
     "\
 The project is checked over the previous session, which is the last one in the cache: a result is
 taken over as green where no result that it was made from has changed, and all else is executed. The
 session that comes of it is written to the cache. What is taken over is believed; 'mjrg audit' tests
-a cache that you don't trust. A cache may be deleted at any time.
+a cache that you don't trust. A cache may be deleted at any time. Over a session of the other profile
+the own declarations of each class are checked anew, and all else as ever.
 
 The sessions stand in chains, DIR/c0000/s0000.mjrg, DIR/c0000/s0001.mjrg and so on. The last one of
 the highest chain is read; other names are passed over, and what is missing is made. The next chain,
 DIR/c0001, begins with no session where that file is refused or its chain is full. No more chains
-are begun behind DIR/c9999.
+are begun behind DIR/c9999. A session of form 1 has all results in its file. In form 2 what is green has
+none there: it is read after the files before it, from the last one of form 1 on.
 
 Several workers run in a thread each and share one table behind a lock; one alone needs neither.
 More than one makes a first check somewhat faster, and one with few changes no faster. Over an empty
 or an audited cache the session is the same, however many there are, unless two different results
 share a fingerprint.
 ",
-    "  note: PATH refused: REFUSAL       the previous session's file is refused, as 11.4 BadDigest;
+    "  note: PATH refused: REFUSAL       a file that is read is refused, as 11.4 BadDigest;
                                     'mjrg help show' lists each REFUSAL
   note: PATH refused: number        its number isn't that of its name
   note: PATH full                   its chain has no place for another session
@@ -150,7 +156,7 @@ share a fingerprint.
 ",
     "  session K: E executed, G green    session K was written, with E executed records and G green ones
 ",
-    "  cannot read PATH                  the previous session's file can't be read
+    "  cannot read PATH                  a session's file can't be read
   cannot read DIR                   the cache, or the folder of a chain in it, can't be listed
   cannot write PATH                 the session's file can't be made, or not written to its end
   cannot write DIR                  the cache has no place for another chain
@@ -159,6 +165,7 @@ share a fingerprint.
 Examples:
   mjrg check --cache .mjrg src/*.java
   mjrg check --cache .mjrg --jobs 4 src/*.java
+  mjrg check --cache .mjrg --profile 2 --form 2 src/*.java
 
 Exit status:
   0  no diagnostics, or help was asked for
@@ -199,6 +206,8 @@ Standard error:
   14.12 UnreadEdges(K, N)         run again, the record doesn't read all its edges
   14.13 OtherResult(K, N)         run again, the record has another result
   14.14 NoAnswer                  the last session has no answer
+  14.17 GreenAcrossProfiles(K, N) the record is green and goes by the profile, but the session before
+                                  is of another one
 
 Example:
   mjrg audit .mjrg/c0000/*.mjrg   all sessions of the first chain in the cache .mjrg
@@ -210,6 +219,9 @@ Exit status:
   4  out of memory";
 
 const SHOW: &str = "\
+The files are those of a chain of sessions, or its first ones. Each is read after the one before, and
+the last is printed. A file of form 1 can be read alone.
+
 Standard output:
   session K version V records R, and then a line for each record, its parts parted by one space:
   its index, its kind, its class or file and its method ('-' where there is none), its mark, its
@@ -220,26 +232,29 @@ Standard error, where there is no answer:
   cannot read FILE              the file can't be read
   cannot write standard output  the text is missing there, or the rest of it
   out of memory                 the system refused memory
-  refused: and the first refusal. N is the index of the record and I the place of its edge, both
-  counted from 0
+  refused: and the first refusal, of the first file that is refused. N is the index of the record and
+  I the place of its edge, both counted from 0
 
-  11.1 BadMagic        the file doesn't begin as one of a session
-  11.2 Version         it is of another version
-  11.3 Truncated       it ends too early
-  11.4 BadDigest       its last bytes aren't the SHA-256 of all in front of them
-  11.5 KeyOrder(N)     the record's key isn't greater than the one before
-  11.6 BadEdge(N, I)   the edge leads to no record before it of lower rank, or stands there twice
-  11.7 Result(N)       the result isn't spelled as one of its kind, or has another fingerprint
-  11.8 InputKind(N)    the record is marked as an input and is none, or the other way round
-  11.9 Trailing        bytes stand behind its end
-  11.11 BadKey(N)      the record's kind or mark is unknown, or its names don't fit its kind
-  11.12 Number         the session's number is over 9,999
+  11.1 BadMagic         the file doesn't begin as one of a session
+  11.2 Version          it is of another version
+  11.3 Truncated        it ends too early
+  11.4 BadDigest        its last bytes aren't the SHA-256 of all in front of them
+  11.5 KeyOrder(N)      the record's key isn't greater than the one before
+  11.6 BadEdge(N, I)    the edge leads to no record before it of lower rank, or stands there twice
+  11.7 Result(N)        the result isn't spelled as one of its kind, or has another fingerprint
+  11.8 InputKind(N)     the record is marked as an input and is none, or the other way round
+  11.9 Trailing         bytes stand behind its end
+  11.11 BadKey(N)       the record's kind or mark is unknown, or its names don't fit its kind
+  11.12 Number          the session's number is over 9,999
+  11.13 NoPastResult(N) the record is green in form 2, and the session before has no result of its key
+                        with its fingerprint
 
 Example:
   mjrg show .mjrg/c0000/s0000.mjrg   the first session in the cache .mjrg
+  mjrg show .mjrg/c0000/*.mjrg       the last one of its first chain
 
 Exit status:
-  0  the file is printed, or help was asked for
+  0  the session is printed, or help was asked for
   2  refused words, a file that can't be read, a refused file, or a stream that can't be written
   4  out of memory";
 
@@ -247,8 +262,9 @@ Exit status:
 pub(crate) fn purpose<'a>(subcommand: Subcommand) -> &'a str {
     match subcommand {
         Subcommand::Scratch => "Check a project from its source files alone",
+        Subcommand::Check => "Check a project over the last session of a cache",
         Subcommand::Audit => "Audit a chain of session files",
-        Subcommand::Show => "Print a session file",
+        Subcommand::Show => "Print the last session of a chain of session files",
     }
 }
 
@@ -256,6 +272,7 @@ pub(crate) fn purpose<'a>(subcommand: Subcommand) -> &'a str {
 pub(crate) fn outcome<'a>(subcommand: Subcommand) -> &'a str {
     match subcommand {
         Subcommand::Scratch => SCRATCH,
+        Subcommand::Check => CHECK,
         Subcommand::Audit => AUDIT,
         Subcommand::Show => SHOW,
     }
@@ -264,10 +281,9 @@ pub(crate) fn outcome<'a>(subcommand: Subcommand) -> &'a str {
 /// What the FILEs of a subcommand are.
 pub(crate) fn files<'a>(subcommand: Subcommand) -> &'a str {
     match subcommand {
-        Subcommand::Scratch => {
+        Subcommand::Scratch | Subcommand::Check => {
             "A source file of the project, under the name given here; the order counts"
         }
-        Subcommand::Audit => "A session file; the order is that of the chain",
-        Subcommand::Show => "The session file",
+        Subcommand::Audit | Subcommand::Show => "A session file; the order is that of the chain",
     }
 }

@@ -6,5 +6,5 @@ mod command;
 mod help;
 mod reading;
 
-pub use asked::{CheckWords, Subcommand, Words, WordsFault};
+pub use asked::{CheckWords, ScratchWords, Subcommand, Words, WordsFault};
 pub use reading::words;

@@ -1,28 +1,31 @@
 //! The command line as `clap` reads it.
-ghost use Rattle.std.specs.Prelude.{◌≡◌, ◌∷◌, Some, IfOk, IfSome, IsOkUnless, IsSome};
-ghost use Rattle.std.specs.Prelude.{IsTrue, List, None, codes, map, string_bytes, unwrap_or, []};
-ghost use Rattle.std.specs.Prelude.{◌≤◌, option_map};
-ghost use Rattle.clap.specs.Words.{all_of, first_of, found_of, kind_of, rows_of, subcommand_name_of};
-ghost use Rattle.command_line.specs.CommandLine.{Asks, asks_plainly};
-ghost use Rattle.command_line.specs.Given.{GivesCheck, decimal};
-ghost use Rattle.command_line.specs.Matches.{AreMet, AreOptionsIn, HasOptions, files_in};
-ghost use Rattle.command_line.specs.Runnable.{IsRunnable, files_of_words, most_jobs, subcommand_of_words};
-ghost use Rattle.command_line.specs.Subcommands.{Text, command_name, is_just_one, name_of, takes};
+ghost use Rattle.std.specs.Prelude.{◌≡◌, ◌<◌, ◌≤◌, Some, None, IfOk, IfSome, IsOkUnless, IsTrue};
+ghost use Rattle.std.specs.Prelude.{List, codes, map, option_map, string_bytes, vec_len};
+ghost use Rattle.clap.specs.Words.{first_of, found_of, kind_of, rows_of, subcommand_name_of};
+ghost use Rattle.command_line.specs.CommandLine.{Asks};
+ghost use Rattle.command_line.specs.Matches.{AreEnough, AreMet, AreOptionsIn, files_in, number_in, rows_in};
+ghost use Rattle.command_line.specs.Plain.{IsPlain, asks_plainly, files_for};
+ghost use Rattle.command_line.specs.Runnable.{IsRunnable, files_of_words, subcommand_of};
+ghost use Rattle.command_line.specs.Subcommands.{Text, name_of};
 
-use crate::asked::{CheckWords, Subcommand, Words, WordsFault};
-use crate::command::{CACHE, CHECK, FILE, JOBS, MOST_JOBS, PROGRAM, program};
+use crate::asked::{CheckWords, ScratchWords, Subcommand, Words, WordsFault};
+use crate::command::{
+    CACHE, FILE, FORM, JOBS, MOST_FORM, MOST_JOBS, MOST_PROFILE, PROFILE, PROGRAM, program,
+};
 use clap::error::ErrorKind;
 use clap::{ArgMatches, Error};
 use std::alloc::{AllocError, Global};
 
 /// Reads a command line, whose first word is the program's name. An empty list is read as the name
-/// alone. Of `check` the folder of the cache is the value of `--cache`, the number of workers that of
-/// `--jobs`, or 1, and the files are all other words. Which other words are refused, and which ask for
-/// help or for the version, is `clap`'s to say.
+/// alone. The options have the values that the words give them, a number that isn't given is 1, and the
+/// files are all other words. Which other words are refused, and which ask for help or for the version,
+/// is `clap`'s to say.
 pub fn words(alloc: Global, list: Vec<String>) -> Result<Words, WordsFault>
     ensures runnable { IfOk result IsRunnable }
     ensures asked { IfOk result (Asks (map string_bytes list.items)) }
-    ensures check { IfOk result (GivesCheck (map string_bytes list.items)) }
+    ensures plain { (subcommand : Subcommand) (files : List Text)
+        → files_for subcommand (map string_bytes list.items) ≡ Some files
+        → IfOk result (IsPlain subcommand files) }
     ensures taken { (subcommand : Subcommand)
         → IsTrue (asks_plainly subcommand (map string_bytes list.items))
         → IsOkUnless result WordsFault.OutOfMemory }
@@ -37,7 +40,9 @@ pub fn words(alloc: Global, list: Vec<String>) -> Result<Words, WordsFault>
 fn read(alloc: Global, list: &[String]) -> Result<Words, WordsFault>
     ensures runnable { IfOk result IsRunnable }
     ensures asked { IfOk result (Asks (map string_bytes list.now)) }
-    ensures check { IfOk result (GivesCheck (map string_bytes list.now)) }
+    ensures plain { (subcommand : Subcommand) (files : List Text)
+        → files_for subcommand (map string_bytes list.now) ≡ Some files
+        → IfOk result (IsPlain subcommand files) }
     ensures taken { (subcommand : Subcommand)
         → IsTrue (asks_plainly subcommand (map string_bytes list.now))
         → IsOkUnless result WordsFault.OutOfMemory }
@@ -53,49 +58,93 @@ fn read(alloc: Global, list: &[String]) -> Result<Words, WordsFault>
 fn choose(alloc: Global, matches: &ArgMatches<'_>) -> Result<Words, WordsFault>
     ensures runnable { IfOk result IsRunnable }
     ensures met { IfOk result (AreMet matches.now) }
-    ensures options { IfOk result (HasOptions matches.now) }
     ensures taken { (subcommand : Subcommand)
         → subcommand_name_of matches.now ≡ Some (name_of subcommand)
-        → (files : List Text) → files_in matches.now ≡ Some files
-        → IsTrue (takes subcommand files) → IsOkUnless result WordsFault.OutOfMemory }
+        → AreEnough subcommand (rows_in matches.now)
+        → IsOkUnless result WordsFault.OutOfMemory }
 {
     let Some((name, given)) = matches.subcommand() else {
         return Err(unreadable(alloc));
     };
-    let Some(subcommand) = Subcommand::of_word(name) else {
-        return check_words(alloc, name, given);
-    };
-    let files = values(alloc, given)?;
-    match words_of(subcommand, files) {
-        Some(words) => Ok(words),
+    match Subcommand::of_word(name) {
+        Some(subcommand) => words_of(alloc, subcommand, given),
         None => Err(unreadable(alloc)),
     }
 }
 
-// The words of `check`, where the name is its.
-fn check_words(alloc: Global, name: &str, given: &ArgMatches<'_>) -> Result<Words, WordsFault>
+// The subcommand with what its matches have.
+fn words_of(
+    alloc: Global,
+    subcommand: Subcommand,
+    given: &ArgMatches<'_>,
+) -> Result<Words, WordsFault>
     ensures runnable { IfOk result IsRunnable }
-    ensures named { IfOk result (λ words.
-        Some name.now ≡ Some (command_name (subcommand_of_words words))) }
+    ensures subcommand { IfOk result (λ words. subcommand_of words ≡ subcommand) }
     ensures files { IfOk result (λ words.
-        all_of (codes "FILE") (rows_of (found_of given.now)) ≡ Some (files_of_words words)) }
+        files_in (rows_of (found_of given.now)) ≡ files_of_words words) }
+    ensures options { IfOk result (AreOptionsIn (rows_of (found_of given.now))) }
+    ensures taken { AreEnough subcommand (rows_of (found_of given.now))
+        → IsOkUnless result WordsFault.OutOfMemory }
+{
+    let files = values(alloc, given)?;
+    if files.is_empty() {
+        return Err(unreadable(alloc));
+    }
+    match subcommand {
+        Subcommand::Scratch => scratch_words(alloc, given, files),
+        Subcommand::Check => check_words(alloc, given, files),
+        Subcommand::Audit => Ok(Words::Audit(files)),
+        Subcommand::Show => Ok(Words::Show(files)),
+    }
+}
+
+// The words of `scratch` on these files.
+fn scratch_words(
+    alloc: Global,
+    given: &ArgMatches<'_>,
+    files: Vec<String>,
+) -> Result<Words, WordsFault>
+    requires { 0 < vec_len files }
+    ensures runnable { IfOk result IsRunnable }
+    ensures subcommand { IfOk result (λ words. subcommand_of words ≡ Subcommand.Scratch) }
+    ensures files { IfOk result (λ words. map string_bytes files.items ≡ files_of_words words) }
+    ensures options { IfOk result (AreOptionsIn (rows_of (found_of given.now))) }
+    ensures taken { first_of (codes "profile") (rows_of (found_of given.now)) ≡ None
+        → IsOkUnless result WordsFault.OutOfMemory }
+{
+    match number(given, PROFILE, MOST_PROFILE) {
+        Some(profile) => Ok(Words::Scratch(ScratchWords { profile, files })),
+        None => Err(unreadable(alloc)),
+    }
+}
+
+// The words of `check` on these files.
+fn check_words(
+    alloc: Global,
+    given: &ArgMatches<'_>,
+    files: Vec<String>,
+) -> Result<Words, WordsFault>
+    requires { 0 < vec_len files }
+    ensures runnable { IfOk result IsRunnable }
+    ensures subcommand { IfOk result (λ words. subcommand_of words ≡ Subcommand.Check) }
+    ensures files { IfOk result (λ words. map string_bytes files.items ≡ files_of_words words) }
     ensures options { IfOk result (AreOptionsIn (rows_of (found_of given.now))) }
 {
-    if name != CHECK {
-        return Err(unreadable(alloc));
-    }
-    let (Some(cache), Some(jobs)) = (first(given, CACHE), jobs(given)) else {
+    let (Some(cache), Some(jobs)) = (first(given, CACHE), number(given, JOBS, MOST_JOBS)) else {
         return Err(unreadable(alloc));
     };
-    let cache = String::from_str(alloc, cache)?;
-    let sources = values(alloc, given)?;
-    if sources.is_empty() {
+    let (Some(profile), Some(form)) = (
+        number(given, PROFILE, MOST_PROFILE),
+        number(given, FORM, MOST_FORM),
+    ) else {
         return Err(unreadable(alloc));
-    }
+    };
     Ok(Words::Check(CheckWords {
-        cache,
-        jobs,
-        files: sources,
+        cache: String::from_str(alloc, cache)?,
+        jobs: usize::from(jobs),
+        profile,
+        form,
+        files,
     }))
 }
 
@@ -107,49 +156,23 @@ fn first<'a>(given: &ArgMatches<'a>, id: &str) -> Option<&'a str>
     given.get_str(id)
 }
 
-// How many workers `check` has.
-fn jobs(given: &ArgMatches<'_>) -> Option<usize>
-    ensures some { IfSome result (λ jobs. 1 ≤ jobs) }
-    ensures most { IfSome result (λ jobs. jobs ≤ most_jobs) }
-    ensures given { IfSome result (λ jobs.
-        option_map decimal (first_of (codes "jobs") (rows_of (found_of given.now))) ≡ Some jobs) }
+// The number that an option has, which is 1 where it isn't given.
+fn number(given: &ArgMatches<'_>, id: &str, most: u8) -> Option<u8>
+    requires { 1 ≤ most }
+    ensures some { IfSome result (λ number. 1 ≤ number) }
+    ensures most { IfSome result (λ number. number ≤ most) }
+    ensures given { IfSome result (λ number.
+        number_in id.now (rows_of (found_of given.now)) ≡ number) }
+    ensures none { first_of id.now (rows_of (found_of given.now)) ≡ None → result ≡ Some 1 }
 {
-    let jobs: u8 = first(given, JOBS)?.parse().ok()?;
-    if jobs == 0 || jobs > MOST_JOBS {
+    let Some(text) = first(given, id) else {
+        return Some(1);
+    };
+    let number: u8 = text.parse().ok()?;
+    if number == 0 || number > most {
         return None;
     }
-    Some(usize::from(jobs))
-}
-
-// The subcommand with these FILEs, where it takes them.
-fn words_of(subcommand: Subcommand, files: Vec<String>) -> Option<Words>
-    ensures runnable { IfSome result IsRunnable }
-    ensures subcommand { IfSome result (λ words. subcommand_of_words words ≡ Some subcommand) }
-    ensures files { IfSome result (λ words.
-        files_of_words words ≡ map string_bytes files.items) }
-    ensures taken { IsTrue (takes subcommand (map string_bytes files.items)) → IsSome result }
-{
-    if files.is_empty() {
-        return None;
-    }
-    match subcommand {
-        Subcommand::Scratch => Some(Words::Scratch(files)),
-        Subcommand::Audit => Some(Words::Audit(files)),
-        Subcommand::Show => Some(Words::Show(only(files)?)),
-    }
-}
-
-// The only one of the FILEs, where there is just one.
-fn only(files: Vec<String>) -> Option<String>
-    ensures found { IfSome result (λ file.
-        map string_bytes files.items ≡ string_bytes file ∷ []) }
-    ensures taken { IsTrue (is_just_one (map string_bytes files.items)) → IsSome result }
-{
-    let mut files = files;
-    if files.len() > 1 {
-        return None;
-    }
-    files.pop()
+    Some(number)
 }
 
 fn unreadable(alloc: Global) -> WordsFault {
@@ -161,8 +184,8 @@ fn unreadable(alloc: Global) -> WordsFault {
 
 // The values of FILE.
 fn values(alloc: Global, given: &ArgMatches<'_>) -> Result<Vec<String>, AllocError>
-    ensures { IfOk result (λ files. map string_bytes files.items
-        ≡ unwrap_or (all_of (codes "FILE") (rows_of (found_of given.now))) []) }
+    ensures { IfOk result (λ files.
+        files_in (rows_of (found_of given.now)) ≡ map string_bytes files.items) }
 {
     match given.get_strs(FILE) {
         Some(texts) => copies(alloc, texts),

@@ -1,5 +1,5 @@
 -- Which failures end a run in which way, and what is written of them.
-use Rattle.std.proofs.Common.{◌≡◌, ◌≢◌, ◌⊎◌, inl, inr, ◌∙◌, ℕ, Bool, true, false, List, [], Option, Result, Ok, Err, map, string_bytes, refl, sym, subst}
+use Rattle.std.proofs.Common.{◌≡◌, ◌≢◌, ◌⊎◌, inl, inr, ◌∙◌, ℕ, Bool, true, false, List, [], Option, Result, Ok, Err, string_bytes, refl, sym, subst}
 use Rattle.std.specs.Prelude.{IfOk, IfErr, IsErrAnd, Contains}
 use Rattle.audit_graph.specs.declared.fault.AuditFault.{AuditFault}
 use Rattle.audit_graph.specs.declared.fault.AuditFault.TheVariants as chain
@@ -11,7 +11,6 @@ use Rattle.cached_check.specs.declared.fault.CheckFault.TheVariants as cache
 use Rattle.command_line.specs.declared.asked.WordsFault.{WordsFault}
 use Rattle.command_line.specs.declared.asked.WordsFault.TheVariants as words
 use Rattle.command_line.specs.CommandLine.{Asks}
-use Rattle.command_line.specs.Given.{GivesCheck}
 use Rattle.command_line.specs.declared.asked.Words.{Words}
 use Rattle.command_line.specs.declared.asked.Words.TheVariants as asked
 use Rattle.program_run.specs.Audits.{AuditFails, StopsAt}
@@ -54,6 +53,7 @@ file_ends file.Trailing = inl refl
 file_ends file.Device = inl refl
 file_ends (file.BadKey n) = inl refl
 file_ends file.Number = inl refl
+file_ends (file.NoPastResult n) = inl refl
 file_ends file.OutOfMemory = inr refl
 
 cache_ends : (fault : CheckFault) → Ends status.Refused (status_of_failure (failure.Cache fault))
@@ -69,6 +69,7 @@ chain_ends (chain.NoFiles k) = inl refl
 chain_ends (chain.MissingSource k f) = inl refl
 chain_ends (chain.StraySource k f) = inl refl
 chain_ends (chain.GreenWithoutPast k n) = inl refl
+chain_ends (chain.GreenAcrossProfiles k n) = inl refl
 chain_ends (chain.OtherEdges k n) = inl refl
 chain_ends (chain.GreenOverRed k n i) = inl refl
 chain_ends (chain.GreenPrint k n) = inl refl
@@ -113,14 +114,14 @@ check_plain dir names (failure.SessionFile fault) f = absurd f
 check_plain dir names (failure.Cache fault) f = tt
 check_plain dir names failure.OutOfMemory f = tt
 
-show_plain : (name : List ℕ) (why : Failure) → ShowFails name why → IsPlain why
-show_plain name (failure.Words fault) f = absurd f
-show_plain name (failure.CannotRead path) f = tt
-show_plain name (failure.Project fault) f = absurd f
-show_plain name (failure.Chain fault) f = absurd f
-show_plain name (failure.SessionFile fault) f = tt
-show_plain name (failure.Cache fault) f = absurd f
-show_plain name failure.OutOfMemory f = tt
+show_plain : (names : List (List ℕ)) (why : Failure) → ShowFails names why → IsPlain why
+show_plain names (failure.Words fault) f = absurd f
+show_plain names (failure.CannotRead path) f = tt
+show_plain names (failure.Project fault) f = absurd f
+show_plain names (failure.Chain fault) f = absurd f
+show_plain names (failure.SessionFile fault) f = tt
+show_plain names (failure.Cache fault) f = absurd f
+show_plain names failure.OutOfMemory f = tt
 
 no_diagnostics : (why : Failure) → status_of_failure why ≢ status.Diagnostics
 no_diagnostics (failure.Words (words.Help text)) = λ e. absurd cc
@@ -182,15 +183,6 @@ project_check dir names (failure.SessionFile fault) f = absurd f
 project_check dir names (failure.Cache fault) f = f
 project_check dir names failure.OutOfMemory f = tt
 
-pub unread_show : (name : List ℕ) (why : Failure) → IsUnread name why → ShowFails name why
-unread_show name (failure.Words fault) f = absurd f
-unread_show name (failure.CannotRead path) f = f
-unread_show name (failure.Project fault) f = absurd f
-unread_show name (failure.Chain fault) f = absurd f
-unread_show name (failure.SessionFile fault) f = absurd f
-unread_show name (failure.Cache fault) f = absurd f
-unread_show name failure.OutOfMemory f = tt
-
 module _ {File : Type 0} (held : File → Option (List ℕ)) where
   pub audit_not_clean : (names : List (List ℕ)) (why : Failure) → AuditFails held names why → status_of_failure why ≢ status.Clean
   audit_not_clean names (failure.Words fault) f = absurd f.fails
@@ -223,10 +215,10 @@ module _ {File : Type 0} (held : File → Option (List ℕ)) where
 
   -- what is asked for doesn't end clean where it fails
   pub fails_not_clean : (words : Words) (why : Failure) → FailsAt held words why → status_of_failure why ≢ status.Clean
-  fails_not_clean (asked.Scratch names) why f = plain_not_clean why (check_plain [] _ why (scratch_check [] _ why f))
+  fails_not_clean (asked.Scratch given) why f = plain_not_clean why (check_plain [] _ why (scratch_check [] _ why f))
   fails_not_clean (asked.Check given) why f = plain_not_clean why (check_plain _ _ why f)
   fails_not_clean (asked.Audit names) why f = audit_not_clean _ why f
-  fails_not_clean (asked.Show name) why f = plain_not_clean why (show_plain _ why f)
+  fails_not_clean (asked.Show names) why f = plain_not_clean why (show_plain _ why f)
 
   no_words : (words : Words) (fault : WordsFault) → FailsAt held words (failure.Words fault) → ⊥
   no_words (asked.Scratch names) fault f = f
@@ -234,20 +226,20 @@ module _ {File : Type 0} (held : File → Option (List ℕ)) where
   no_words (asked.Audit names) fault f = f.fails
   no_words (asked.Show name) fault f = f
 
-  pub may_fail : (given : List (List ℕ)) (words : Words) → Asks given words → GivesCheck given words → (why : Failure) → FailsAt held words why → MayFail held given why
-  may_fail given words asks gives (failure.Words fault) f = absurd (no_words words fault f)
-  may_fail given words asks gives (failure.CannotRead path) f = record { asked = words; asks = asks; gives = gives; fails = f }
-  may_fail given words asks gives (failure.Project fault) f = record { asked = words; asks = asks; gives = gives; fails = f }
-  may_fail given words asks gives (failure.Chain fault) f = record { asked = words; asks = asks; gives = gives; fails = f }
-  may_fail given words asks gives (failure.SessionFile fault) f = record { asked = words; asks = asks; gives = gives; fails = f }
-  may_fail given words asks gives (failure.Cache fault) f = record { asked = words; asks = asks; gives = gives; fails = f }
-  may_fail given words asks gives failure.OutOfMemory f = record { asked = words; asks = asks; gives = gives; fails = f }
+  pub may_fail : (given : List (List ℕ)) (words : Words) → Asks given words → (why : Failure) → FailsAt held words why → MayFail held given why
+  may_fail given words asks (failure.Words fault) f = absurd (no_words words fault f)
+  may_fail given words asks (failure.CannotRead path) f = record { asked = words; asks = asks; fails = f }
+  may_fail given words asks (failure.Project fault) f = record { asked = words; asks = asks; fails = f }
+  may_fail given words asks (failure.Chain fault) f = record { asked = words; asks = asks; fails = f }
+  may_fail given words asks (failure.SessionFile fault) f = record { asked = words; asks = asks; fails = f }
+  may_fail given words asks (failure.Cache fault) f = record { asked = words; asks = asks; fails = f }
+  may_fail given words asks failure.OutOfMemory f = record { asked = words; asks = asks; fails = f }
 
   -- only an audit refuses a chain
   audit_asked : (given : List (List ℕ)) (words : Words) → Asks given words → (fault : AuditFault) → FailsAt held words (failure.Chain fault) → RefusesAudit held given fault
   audit_asked given (asked.Scratch names) asks fault f = absurd f
   audit_asked given (asked.Check check) asks fault f = absurd f
-  audit_asked given (asked.Audit names) asks fault f = record { names = map string_bytes names.items; asked = asks; fails = f }
+  audit_asked given (asked.Audit names) asks fault f = record { asked = asked.Audit names; asks = asks; audit = refl; fails = f }
   audit_asked given (asked.Show name) asks fault f = absurd f
 
   -- ---- what is written

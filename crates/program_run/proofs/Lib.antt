@@ -1,7 +1,9 @@
 pub mod Added
+pub mod Believed
 pub mod Clean
 pub mod Failures
 pub mod Opened
 pub mod Runs
+pub mod Shown
 pub mod Streams
 pub mod Taking

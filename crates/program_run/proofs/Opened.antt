@@ -46,12 +46,14 @@ module _ {File : Type 0} (held : File → Option (List ℕ)) (front : List (List
   fails_behind (chain.File k file.Device) refuses = refl
   fails_behind (chain.File k (file.BadKey n)) refuses = other (chain.File k (file.BadKey n)) (λ j e. absurd cc) refuses
   fails_behind (chain.File k file.Number) refuses = other (chain.File k file.Number) (λ j e. absurd cc) refuses
+  fails_behind (chain.File k (file.NoPastResult n)) refuses = other (chain.File k (file.NoPastResult n)) (λ j e. absurd cc) refuses
   fails_behind (chain.File k file.OutOfMemory) refuses = other (chain.File k file.OutOfMemory) (λ j e. absurd cc) refuses
   fails_behind (chain.BrokenLink k) refuses = other (chain.BrokenLink k) (λ j e. absurd cc) refuses
   fails_behind (chain.NoFiles k) refuses = other (chain.NoFiles k) (λ j e. absurd cc) refuses
   fails_behind (chain.MissingSource k f) refuses = other (chain.MissingSource k f) (λ j e. absurd cc) refuses
   fails_behind (chain.StraySource k f) refuses = other (chain.StraySource k f) (λ j e. absurd cc) refuses
   fails_behind (chain.GreenWithoutPast k n) refuses = other (chain.GreenWithoutPast k n) (λ j e. absurd cc) refuses
+  fails_behind (chain.GreenAcrossProfiles k n) refuses = other (chain.GreenAcrossProfiles k n) (λ j e. absurd cc) refuses
   fails_behind (chain.OtherEdges k n) refuses = other (chain.OtherEdges k n) (λ j e. absurd cc) refuses
   fails_behind (chain.GreenOverRed k n i) refuses = other (chain.GreenOverRed k n i) (λ j e. absurd cc) refuses
   fails_behind (chain.GreenPrint k n) refuses = other (chain.GreenPrint k n) (λ j e. absurd cc) refuses

@@ -1,9 +1,11 @@
 -- What a run writes and ends with.
-use Rattle.std.proofs.Common.{◌≡◌, ◌⊎◌, inl, inr, ℕ, List, [], ◌∷◌, Option, map, string_bytes, String, Vec, refl, sym, ap, arith}
+use Rattle.std.proofs.Common.{◌≡◌, ◌⊎◌, inl, inr, ℕ, List, [], ◌∷◌, Option, Some, is_some, map, string_bytes, String, Vec, refl, sym, ap, arith}
 use Rattle.std.specs.declared.alloc.Global.{Global}
 use Rattle.mj_project.specs.Projects.{names_of, sources_view}
 use Rattle.command_line.specs.declared.asked.Subcommand.{Subcommand}
-use Rattle.program_run.specs.Runs.{EndsWithAnswer, HasAnswer, Reports, ReportsCheck, ReportsRefusal, TellsHelp, IsWritten, Prints, PrintsCheck, PrintsRefusal, status_number}
+use Rattle.command_line.proofs.ProgramWords.{plain_asked}
+use Rattle.command_line.specs.Plain.{files_for}
+use Rattle.program_run.specs.Runs.{EndsWithAnswer, HasAnswer, ReportsAsked, ReportsRefusal, TellsHelp, IsWritten, Prints, PrintsPlain, PrintsRefusal, status_number}
 use Rattle.program_run.specs.Statuses.{IsStatus}
 use Rattle.program_run.specs.declared.report.Report.{Report}
 use Rattle.program_run.specs.declared.report.Status.{Status}
@@ -37,25 +39,35 @@ delivered Says report status.ChainRefused a b c d says (inr written) (inr ends) 
 delivered Says report status.OutOfMemory a b c d says (inr written) (inl ends) = absurd cc
 delivered Says report status.OutOfMemory a b c d says (inr written) (inr ends) = absurd cc
 
--- the report of a subcommand that has FILEs alone
-pub prints : (subcommand : Subcommand) (names : List (List ℕ)) (report : Report) (s : Status) (out_old out_new err_old err_new : Option (List ℕ))
-    → (HasAnswer report.status → Reports subcommand names report)
+-- the report on what the words ask for, or help
+pub prints : (given : List (List ℕ)) (report : Report) (s : Status) (out_old out_new err_old err_new : Option (List ℕ))
+    → (HasAnswer report.status → ReportsAsked given report ⊎ TellsHelp given report)
     → (s ≡ status.Refused) ⊎ ((s ≡ report.status) × IsWritten report out_old out_new err_old err_new)
     → EndsWithAnswer (status_number s)
-    → Prints subcommand names (status_number s) out_old out_new err_old err_new
-prints subcommand names report s a b c d reports ends number =
-    let all = delivered (Reports subcommand names) report s a b c d reports ends number in
+    → Prints given (status_number s) out_old out_new err_old err_new
+prints given report s a b c d reports ends number =
+    let all = delivered (λ r. ReportsAsked given r ⊎ TellsHelp given r) report s a b c d reports ends number in
     record { report = report; reports = all.0; written = all.1; ends = all.2 }
 
--- the report of a check, or help
-pub prints_check : (given : List (List ℕ)) (report : Report) (s : Status) (out_old out_new err_old err_new : Option (List ℕ))
-    → (HasAnswer report.status → ReportsCheck given report ⊎ TellsHelp report)
-    → (s ≡ status.Refused) ⊎ ((s ≡ report.status) × IsWritten report out_old out_new err_old err_new)
-    → EndsWithAnswer (status_number s)
-    → PrintsCheck given (status_number s) out_old out_new err_old err_new
-prints_check given report s a b c d reports ends number =
-    let all = delivered (λ r. ReportsCheck given r ⊎ TellsHelp r) report s a b c d reports ends number in
-    record { report = report; reports = all.0; written = all.1; ends = all.2 }
+plain_reports : (subcommand : Subcommand) (given names : List (List ℕ)) → files_for subcommand given ≡ Some names → (report : Report)
+    → ReportsAsked given report ⊎ TellsHelp given report → ReportsAsked given report
+plain_reports subcommand given names plain report (inl reports) = reports
+plain_reports subcommand given names plain report (inr help) = absurd (help.other subcommand (ap is_some plain))
+
+-- the report on what plain words ask for
+pub prints_plain : (subcommand : Subcommand) (given names : List (List ℕ)) (number : ℕ) (out_old out_new err_old err_new : Option (List ℕ))
+    → files_for subcommand given ≡ Some names → Prints given number out_old out_new err_old err_new
+    → PrintsPlain subcommand names number out_old out_new err_old err_new
+prints_plain subcommand given names number a b c d plain is =
+    let reports = plain_reports subcommand given names plain is.report is.reports in
+    record {
+      asked = reports.asked;
+      plain = plain_asked subcommand given names plain reports.asked reports.asks;
+      report = is.report;
+      reports = reports.reports;
+      written = is.written;
+      ends = is.ends;
+    }
 
 -- a run that is out of memory ends neither clean nor with diagnostics
 pub silent : (s : Status) (Said : Type 0) → (s ≡ status.Refused) ⊎ ((s ≡ status.OutOfMemory) × Said) → EndsWithAnswer (status_number s) → ⊥

@@ -1,13 +1,17 @@
--- What an audit of files of these names ends with, and what is written of a session file that is shown.
-use Rattle.std.specs.Prelude.{◌≡◌, ◌⊎◌, ℕ, List, [], ◌∷◌, ◌++◌, Option, Some, codes, decimal, length, slice_get, String, string_bytes}
+-- What an audit of files of these names ends with, and what is written of a chain that is shown.
+use Rattle.std.specs.Prelude.{◌≡◌, ◌⊎◌, ℕ, List, [], ◌∷◌, ◌++◌, Option, Some, None, codes, decimal, length, slice_get, String, string_bytes}
+use Rattle.std.specs.List.{AllByRecursion}
 use Rattle.std.specs.declared.alloc.Global.{Global}
 use Rattle.mj_rules.specs.AnswerWords.{AnswerValue, text_of}
 use Rattle.result_bytes.specs.declared.value.Value.{Value}
 use Rattle.result_bytes.specs.declared.value.Value.TheVariants as values
-use Rattle.session_text.specs.SessionText.{IsTextOfFile}
+use Rattle.sessions.specs.Sessions.{AreTaken, IsSession, SessionValue}
+use Rattle.session_text.specs.SessionText.{text_of as session_text}
 use Rattle.audit_graph.specs.declared.fault.AuditFault.{AuditFault}
 use Rattle.audit_graph.specs.declared.fault.AuditFault.TheVariants as chain
 use Rattle.session_file.specs.declared.fault.FileFault.TheVariants as file
+use Rattle.audit_replay.specs.Audits.{last_of}
+use Rattle.profiles.specs.declared.profile.Profile.{Profile}
 use Rattle.mini_java.specs.Headline.{ChainRefuses, IsAcceptedChain}
 use Rattle.mini_java.specs.Taken.{HasTaken}
 use Rattle.mini_java.specs.declared.auditor.ChainAuditor.{ChainAuditor}
@@ -39,7 +43,8 @@ pub record AuditsTo (names : List (List ℕ)) (report : Report) : Type 0 where
   pub v : Value
   pub sessions : ℕ
   pub runs : ℕ
-  pub accepted : IsAcceptedChain files v sessions runs
+  pub profile : Profile
+  pub accepted : IsAcceptedChain files profile v sessions runs
   pub written : IsAcceptedReport v sessions runs report
 
 -- ---- refused
@@ -103,9 +108,18 @@ AuditFails held names why = StopsAt held names why
 
 -- ---- shown
 
--- The text of the session whose file it is stands on standard output alone.
-pub record ShowsFile (report : Report) : Type 0 where
-  pub bytes : List ℕ
-  pub text : IsTextOfFile bytes (string_bytes report.answer)
+-- It is the last of so many sessions, each of which is taken from the one before.
+pub record IsLastOf (many : ℕ) (last : Option SessionValue) : Type 0 where
+  pub sessions : List SessionValue
+  pub each : AllByRecursion IsSession sessions
+  pub taken : AreTaken None sessions
+  pub are_many : length sessions ≡ many
+  pub is_last : last_of None sessions ≡ last
+
+-- The text of the last of so many sessions stands on standard output alone.
+pub record ShowsLast (many : ℕ) (report : Report) : Type 0 where
+  pub session : SessionValue
+  pub last : IsLastOf many (Some session)
+  pub text : string_bytes report.answer ≡ session_text session
   pub notes : string_bytes report.notes ≡ []
   pub status : report.status ≡ status.Clean

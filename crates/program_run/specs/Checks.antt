@@ -1,8 +1,12 @@
 -- What a check over a cache reports.
-use Rattle.std.specs.Prelude.{◌≡◌, ◌++◌, ℕ, List, string_bytes}
+use Rattle.std.specs.Prelude.{◌≡◌, ◌++◌, ◌+◌, ℕ, List, map, string_bytes}
 use Rattle.mj_project.specs.Projects.{SourceFile, names_of}
 use Rattle.mj_rules.specs.AnswerWords.{AnswerValue, text_of}
+use Rattle.profiles.specs.Profiles.{profile_number}
 use Rattle.sessions.specs.Sessions.{SessionValue}
+use Rattle.sessions.specs.Terms.{form_number}
+use Rattle.sessions.specs.declared.terms.Terms.{Terms}
+use Rattle.command_line.specs.declared.asked.CheckWords.{CheckWords}
 use Rattle.cached_check.specs.Checks.{IsAnswerIn, IsBeginning, IsNextAt}
 use Rattle.cached_check.specs.Lines.{summary_line}
 use Rattle.cached_check.specs.declared.beginning.Beginning.{Beginning}
@@ -22,13 +26,21 @@ pub record TellsSession (files : List SourceFile) (notes : List ℕ) (session : 
   pub told : string_bytes report.notes ≡ notes ++ lines ++ summary_line session
   pub status : report.status ≡ status_of_answer (is_clean answer)
 
--- A report on files of these names by the session that comes where the cache of this folder lets it
--- begin.
-pub record ChecksTo (dir : List ℕ) (names : List (List ℕ)) (report : Report) : Type 0 where
+-- A report on files of these names by the session of these terms that comes where the cache of this
+-- folder lets it begin.
+pub record ChecksTo (terms : Terms) (dir : List ℕ) (names : List (List ℕ)) (report : Report)
+    : Type 0 where
   pub files : List SourceFile
   pub named : names_of files ≡ names
   pub beginning : Beginning
   pub begins : IsBeginning dir beginning
   pub session : SessionValue
-  pub next : IsNextAt beginning files session
+  pub next : IsNextAt terms beginning files session
   pub tells : TellsSession files (string_bytes beginning.notes) session report
+
+-- A report on what these words ask for: the terms are those of the numbers that they have.
+pub record ChecksAsked (asked : CheckWords) (report : Report) : Type 0 where
+  pub terms : Terms
+  pub profile : profile_number terms.profile ≡ asked.profile
+  pub form : form_number terms.form + 1 ≡ asked.form
+  pub checks : ChecksTo terms (string_bytes asked.cache) (map string_bytes asked.files.items) report

@@ -1,4 +1,5 @@
 pub mod Audits
+pub mod Believed
 pub mod Checks
 pub mod Endings
 pub mod Failures

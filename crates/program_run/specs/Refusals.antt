@@ -36,6 +36,7 @@ chain_words (chain.OtherRead k n i) = codes "14.11 OtherRead" ++ three k n i
 chain_words (chain.UnreadEdges k n) = codes "14.12 UnreadEdges" ++ two k n
 chain_words (chain.OtherResult k n) = codes "14.13 OtherResult" ++ two k n
 chain_words chain.NoAnswer = codes "14.14 NoAnswer"
+chain_words (chain.GreenAcrossProfiles k n) = codes "14.17 GreenAcrossProfiles" ++ two k n
 chain_words chain.SourcesDiffer = codes "14.15 SourcesDiffer"
 chain_words chain.OutOfMemory = codes ""
 

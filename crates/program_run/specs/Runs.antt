@@ -1,18 +1,22 @@
 -- What a run writes.
-use Rattle.std.specs.Prelude.{◌≡◌, ◌⊎◌, ℕ, List, [], IsTrue, Option, Some, String, drop, map, string_bytes}
+use Rattle.std.specs.Prelude.{◌≡◌, ◌⊎◌, ℕ, List, [], IsTrue, Option, String, map, string_bytes, vec_len}
 use Rattle.std.specs.Io.KnownBytes.{Appends}
 use Rattle.std.specs.declared.alloc.Global.{Global}
 use Rattle.mj_project.specs.Projects.{SourceFile, names_of}
+use Rattle.profiles.specs.Profiles.{profile_number}
+use Rattle.profiles.specs.declared.profile.Profile.{Profile}
 use Rattle.mj_rules.specs.AnswerWords.{AnswerValue, text_of}
 use Rattle.mj_rules.specs.Rules.{Rules}
 use Rattle.audit_graph.specs.declared.fault.AuditFault.{AuditFault}
-use Rattle.command_line.specs.CommandLine.{asks_plainly, files_for}
-use Rattle.command_line.specs.Given.{IsGivenBy}
-use Rattle.command_line.specs.declared.asked.CheckWords.{CheckWords}
+use Rattle.command_line.specs.CommandLine.{Asks}
+use Rattle.command_line.specs.Plain.{IsPlain, asks_plainly}
+use Rattle.command_line.specs.Runnable.{files_of_words, subcommand_of}
 use Rattle.command_line.specs.declared.asked.Subcommand.{Subcommand}
-use Rattle.command_line.specs.declared.asked.Subcommand.TheVariants.{Scratch, Audit, Show}
-use Rattle.program_run.specs.Audits.{AuditFails, AuditsTo, ShowsFile, StopsAt}
-use Rattle.program_run.specs.Checks.{ChecksTo}
+use Rattle.command_line.specs.declared.asked.Subcommand.TheVariants.{Audit}
+use Rattle.command_line.specs.declared.asked.Words.{Words}
+use Rattle.command_line.specs.declared.asked.Words.TheVariants as words
+use Rattle.program_run.specs.Audits.{AuditFails, AuditsTo, ShowsLast, StopsAt}
+use Rattle.program_run.specs.Checks.{ChecksAsked}
 use Rattle.program_run.specs.Endings.{status_of_answer}
 use Rattle.program_run.specs.Failures.{MayFail}
 use Rattle.program_run.specs.Lines.{is_clean, IsFaultText}
@@ -23,13 +27,15 @@ use Rattle.program_run.specs.declared.report.Report.{Report}
 use Rattle.program_run.specs.declared.report.Status.{Status}
 use Rattle.program_run.specs.declared.report.Status.TheVariants as status
 
--- The answer that the rules give files of these names: its text, a line for each of its diagnostics
--- with its place, and the status that it ends with.
-pub record ReportsOn (names : List (List ℕ)) (report : Report) : Type 0 where
+-- The answer that the rules of the profile of this number give files of these names: its text, a line
+-- for each of its diagnostics with its place, and the status that it ends with.
+pub record ReportsOn (number : ℕ) (names : List (List ℕ)) (report : Report) : Type 0 where
+  pub profile : Profile
+  pub numbered : profile_number profile ≡ number
   pub files : List SourceFile
   pub answer : AnswerValue
   pub named : names_of files ≡ names
-  pub rules : Rules files answer
+  pub rules : Rules profile files answer
   pub text : string_bytes report.answer ≡ text_of answer
   pub lines : IsFaultText files answer (string_bytes report.notes)
   pub status : report.status ≡ status_of_answer (is_clean answer)
@@ -39,11 +45,6 @@ pub record IsWritten (report : Report)
     (out_old out_new err_old err_new : Option (List ℕ)) : Type 0 where
   pub notes : Appends err_old err_new (string_bytes report.notes)
   pub answer : Appends out_old out_new (string_bytes report.answer)
-
--- the words give this subcommand these files, and no option
-abbrev pub AsksPlainly : List (List ℕ) → Subcommand → List (List ℕ) → Type 0
-AsksPlainly given subcommand names =
-    (files_for subcommand given ≡ Some names) × IsTrue (asks_plainly subcommand given)
 
 -- the run has an answer, with diagnostics or without
 abbrev pub HasAnswer : Status → Type 0
@@ -60,47 +61,53 @@ status_number status.Refused = 2
 status_number status.ChainRefused = 3
 status_number status.OutOfMemory = 4
 
--- the report of a subcommand on files of these names
-abbrev pub Reports : Subcommand → List (List ℕ) → Report → Type 0
-Reports Scratch names report = ReportsOn names report
-Reports Audit names report = AuditsTo names report
-Reports Show names report = ShowsFile report
+-- the report on what the words ask for
+abbrev pub Reports : Words → Report → Type 0
+Reports (words.Scratch asked) report =
+    ReportsOn asked.profile (map string_bytes asked.files.items) report
+Reports (words.Check asked) report = ChecksAsked asked report
+Reports (words.Audit names) report = AuditsTo (map string_bytes names.items) report
+Reports (words.Show names) report = ShowsLast (vec_len names) report
 
--- A subcommand's report on files of these names is written, and the run ends with its status.
-pub record Prints (subcommand : Subcommand) (names : List (List ℕ)) (status : ℕ)
-    (out_old out_new err_old err_new : Option (List ℕ)) : Type 0 where
-  pub report : Report
-  pub reports : Reports subcommand names report
-  pub written : IsWritten report out_old out_new err_old err_new
-  pub ends : status ≡ status_number report.status
+-- The report on what these words ask for.
+pub record ReportsAsked (given : List (List ℕ)) (report : Report) : Type 0 where
+  pub asked : Words
+  pub asks : Asks given asked
+  pub reports : Reports asked report
 
--- The report of a check over the cache and on the files that the words give.
-pub record ReportsCheck (given : List (List ℕ)) (report : Report) : Type 0 where
-  pub asked : CheckWords
-  pub gives : IsGivenBy (drop 2 given) asked
-  pub checks : ChecksTo (string_bytes asked.cache) (map string_bytes asked.files.items) report
-
--- Help: nothing stands on standard error, where a check has a line on its session.
-pub record TellsHelp (report : Report) : Type 0 where
+-- Help: nothing stands on standard error. Plain words get none.
+pub record TellsHelp (given : List (List ℕ)) (report : Report) : Type 0 where
+  pub other : (subcommand : Subcommand) → IsTrue (asks_plainly subcommand given) → ⊥
   pub notes : string_bytes report.notes ≡ []
   pub ends : report.status ≡ status.Clean
 
--- The report of a check, or help, is written, and the run ends with its status.
-pub record PrintsCheck (given : List (List ℕ)) (status : ℕ)
+-- The report on what the words ask for, or help, is written, and the run ends with its status.
+pub record Prints (given : List (List ℕ)) (status : ℕ)
     (out_old out_new err_old err_new : Option (List ℕ)) : Type 0 where
   pub report : Report
-  pub reports : ReportsCheck given report ⊎ TellsHelp report
+  pub reports : ReportsAsked given report ⊎ TellsHelp given report
+  pub written : IsWritten report out_old out_new err_old err_new
+  pub ends : status ≡ status_number report.status
+
+-- The report on just this is written: the subcommand, on files of these names.
+pub record PrintsPlain (subcommand : Subcommand) (names : List (List ℕ)) (status : ℕ)
+    (out_old out_new err_old err_new : Option (List ℕ)) : Type 0 where
+  pub asked : Words
+  pub plain : IsPlain subcommand names asked
+  pub report : Report
+  pub reports : Reports asked report
   pub written : IsWritten report out_old out_new err_old err_new
   pub ends : status ≡ status_number report.status
 
 -- ---- audits without an answer
 
--- The words ask for an audit of files of these names, which refuses their chain with this fault.
+-- The words ask for an audit of files, which refuses their chain with this fault.
 pub record RefusesAudit {File : Type 0} (held : File → Option (List ℕ)) (given : List (List ℕ))
     (fault : AuditFault) : Type 0 where
-  pub names : List (List ℕ)
-  pub asked : files_for Audit given ≡ Some names
-  pub fails : AuditFails held names (failure.Chain fault)
+  pub asked : Words
+  pub asks : Asks given asked
+  pub audit : subcommand_of asked ≡ Audit
+  pub fails : AuditFails held (files_of_words asked) (failure.Chain fault)
 
 -- The fault of a refused chain stands on standard error alone.
 pub record ReportsRefusal {File : Type 0} (held : File → Option (List ℕ)) (given : List (List ℕ))

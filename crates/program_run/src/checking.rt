@@ -2,40 +2,50 @@
 ghost use Rattle.std.specs.Prelude.{◌≡◌, ◌≤◌, IfOk, IfErr, map, string_bytes};
 ghost use Rattle.mj_project.specs.Projects.{names_of};
 ghost use Rattle.cached_check.specs.Checks.{IsAnswered};
-ghost use Rattle.program_run.specs.Checks.{ChecksTo, TellsSession};
+ghost use Rattle.command_line.specs.Runnable.{IsCheckable};
+ghost use Rattle.program_run.specs.Checks.{ChecksAsked, ChecksTo, TellsSession};
 ghost use Rattle.program_run.specs.Failures.{CheckFails, ProjectFails};
 
 use crate::failure::Failure;
 use crate::files::read_files;
 use crate::lines::fault_text_of;
 use crate::report::{Report, Status};
+use crate::terms::{form_of, profile_of};
 use cached_check::{Beginning, answer_in, begin, keep, next_session, summary_text};
 use command_line::CheckWords;
 use mj_rules::{Project, render};
-use sessions::Session;
+use sessions::{Session, Terms};
 use std::alloc::{AllocError, Global};
 use std::mem::forget;
 use std::rt::Files;
 use std::sync::{Arc, Wait};
 use std::thread::Threads;
 
-/// The report on a check of these files over the cache, by the session that follows the last one there, whose workers
-/// are threads. All of it is made before the session's file is written.
+/// The report on a check of these files over the cache, by the session of these terms that follows the last one there,
+/// whose workers are threads. All of it is made before the session's file is written.
 pub(crate) fn check<R: Files + AllocGlobal, T: Threads + Wait + Sync>(
     rt: &R,
     threads: &T,
     asked: CheckWords,
 ) -> Result<Report, Failure>
-    requires some { 1 ≤ asked.jobs }
-    requires most { asked.jobs ≤ 64 }
-    ensures reports { IfOk result
-        (ChecksTo (string_bytes asked.cache) (map string_bytes asked.files.items)) }
+    requires { IsCheckable asked }
+    ensures reports { IfOk result (ChecksAsked asked) }
     ensures failed { IfErr result
         (CheckFails (string_bytes asked.cache) (map string_bytes asked.files.items)) }
 {
-    let CheckWords { cache, jobs, files } = asked;
+    let CheckWords {
+        cache,
+        jobs,
+        profile,
+        form,
+        files,
+    } = asked;
     let project = Project::new(rt.alloc(), read_files(rt, files)?)?;
-    check_project(rt, threads, &project, cache.as_str(), jobs)
+    let terms = Terms {
+        profile: profile_of(profile),
+        form: form_of(form),
+    };
+    check_project(rt, threads, &project, terms, cache.as_str(), jobs)
 }
 
 // The report on a check of the project over the cache of this folder.
@@ -43,18 +53,19 @@ fn check_project<R: Files + AllocGlobal, T: Threads + Wait + Sync>(
     rt: &R,
     threads: &T,
     project: &Project,
+    terms: Terms,
     cache: &str,
     jobs: usize,
 ) -> Result<Report, Failure>
     requires some { 1 ≤ jobs }
     requires most { jobs ≤ 64 }
-    ensures reports { IfOk result (ChecksTo cache.now (names_of project.now)) }
+    ensures reports { IfOk result (ChecksTo terms cache.now (names_of project.now)) }
     ensures failed { IfErr result (ProjectFails cache.now) }
 {
     let alloc = rt.alloc();
     let Beginning { past, place, notes } = begin(rt, cache)?;
     let followed = held_again(&past)?;
-    let session = next_session(threads, alloc, past, project, jobs)?;
+    let session = next_session(threads, alloc, past, project, terms, jobs)?;
     let report = session_report(alloc, project, notes.as_str(), &session)?;
     keep(rt, threads, cache, place, &session, jobs, notes)?;
     // (the run ends here: the memory of both sessions is left to the system, which frees all of it at once)

@@ -10,6 +10,7 @@ mod refusals;
 mod report;
 mod running;
 mod showing;
+mod terms;
 
 pub use report::{Status, no_words};
 pub use running::run;

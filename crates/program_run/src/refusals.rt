@@ -83,6 +83,7 @@ fn add_chain_fault(text: &mut String, fault: AuditFault) -> Result<(), AllocErro
         AuditFault::UnreadEdges(k, n) => add_two(text, "14.12 UnreadEdges", k, n),
         AuditFault::OtherResult(k, n) => add_two(text, "14.13 OtherResult", k, n),
         AuditFault::NoAnswer => text.push_str("14.14 NoAnswer"),
+        AuditFault::GreenAcrossProfiles(k, n) => add_two(text, "14.17 GreenAcrossProfiles", k, n),
         AuditFault::SourcesDiffer => text.push_str("14.15 SourcesDiffer"),
         AuditFault::OutOfMemory => Err(AllocError),
     }

@@ -1,14 +1,17 @@
 //! One run of the program.
-ghost use Rattle.std.specs.Prelude.{◌≡◌, ◌≢◌, ◌⊎◌, ℕ, List, map, Some, [], IfOk, IfErr, string_bytes};
-ghost use Rattle.command_line.specs.CommandLine.{AsksCheck, files_for};
+ghost use Rattle.std.specs.Prelude.{◌≡◌, ◌≢◌, ◌⊎◌, ℕ, List, map, Some, [], IfOk, IfErr, IsTrue, string_bytes};
+ghost use Rattle.command_line.specs.CommandLine.{AsksFor};
+ghost use Rattle.command_line.specs.Plain.{asks_plainly, files_for};
+ghost use Rattle.command_line.specs.Runnable.{IsScratchable};
 ghost use Rattle.command_line.specs.declared.asked.Subcommand.{Subcommand};
 ghost use Rattle.mj_rules.specs.AnswerWords.{text_of};
 ghost use Rattle.program_run.specs.Audits.{StopsAt};
 ghost use Rattle.program_run.specs.Endings.{status_of_answer, status_of_failure};
+ghost use Rattle.program_run.specs.Believed.{PrintsBelieved};
 ghost use Rattle.program_run.specs.Failures.{MayFail, ScratchFails};
 ghost use Rattle.program_run.specs.Lines.{is_clean, IsFaultText};
 ghost use Rattle.program_run.specs.Refusals.{AreNotes};
-ghost use Rattle.program_run.specs.Runs.{AsksPlainly, EndsWithAnswer, HasAnswer, Prints, PrintsCheck, PrintsRefusal, Reports, ReportsCheck, ReportsFailure, ReportsOn, ReportsRefusal, ReportsUnreadable, TellsHelp};
+ghost use Rattle.program_run.specs.Runs.{EndsWithAnswer, HasAnswer, Prints, PrintsPlain, PrintsRefusal, ReportsAsked, ReportsFailure, ReportsOn, ReportsRefusal, ReportsUnreadable, TellsHelp};
 ghost use Rattle.program_run.specs.Statuses.{IsStatus};
 
 use crate::auditing::audit;
@@ -19,9 +22,10 @@ use crate::lines::{fault_text, refusal_text};
 use crate::refusals::{cache_refusal, chain_refusal, file_refusal, unreadable};
 use crate::report::{Report, Status, deliver, no_memory};
 use crate::showing::show;
-use command_line::{Words, WordsFault, words};
+use crate::terms::profile_of;
+use command_line::{ScratchWords, Words, WordsFault, words};
 use fault_lines::ReadProject;
-use mj_rules::{Answer, Project, answer_for, render};
+use mj_rules::{Answer, Project, answer_for_as, render};
 use std::alloc::{AllocError, Global};
 use std::io::Write;
 use std::rt::Files;
@@ -38,13 +42,17 @@ pub fn run<R: Files + AllocGlobal, T: Threads + Wait + Sync, W: Write, E: Write>
     err: &mut E,
 ) -> u8
     ensures status { IsStatus result }
-    ensures answer { (subcommand : Subcommand) (names : List (List ℕ))
-        → AsksPlainly (map string_bytes list.items) subcommand names → EndsWithAnswer result
-        → Prints subcommand names result (W.contents out.old) (W.contents out.new)
+    ensures answer { EndsWithAnswer result
+        → Prints (map string_bytes list.items) result (W.contents out.old) (W.contents out.new)
         (E.contents err.old) (E.contents err.new) }
-    ensures check { AsksCheck (map string_bytes list.items) → EndsWithAnswer result
-        → PrintsCheck (map string_bytes list.items) result (W.contents out.old)
-        (W.contents out.new) (E.contents err.old) (E.contents err.new) }
+    // What a check prints may be believed, whatever previous session it read, if that is one of some project and results
+    // with equal fingerprints are equal.
+    ensures believed { AsksFor (map string_bytes list.items) Subcommand.Check → EndsWithAnswer result
+        → PrintsBelieved (map string_bytes list.items) (W.contents out.old) (W.contents out.new) }
+    ensures plain { (subcommand : Subcommand) (names : List (List ℕ))
+        → files_for subcommand (map string_bytes list.items) ≡ Some names → EndsWithAnswer result
+        → PrintsPlain subcommand names result (W.contents out.old) (W.contents out.new)
+        (E.contents err.old) (E.contents err.new) }
     // Why an audit refuses a chain, by the bytes of the files that were opened, if their type tells them.
     ensures refused { result ≡ 3 → PrintsRefusal R.File.Read.remaining
         (map string_bytes list.items) (W.contents out.old) (W.contents out.new)
@@ -64,17 +72,14 @@ fn report_of<R: Files + AllocGlobal, T: Threads + Wait + Sync>(
     threads: &T,
     list: Vec<String>,
 ) -> Result<Report, AllocError>
-    ensures answer { (subcommand : Subcommand) (names : List (List ℕ))
-        → AsksPlainly (map string_bytes list.items) subcommand names → IfOk result (λ report.
-        HasAnswer report.status → Reports subcommand names report) }
-    ensures check { AsksCheck (map string_bytes list.items) → IfOk result (λ report.
-        HasAnswer report.status
-        → ReportsCheck (map string_bytes list.items) report ⊎ TellsHelp report) }
+    ensures answer { IfOk result (λ report. HasAnswer report.status
+        → ReportsAsked (map string_bytes list.items) report
+        ⊎ TellsHelp (map string_bytes list.items) report) }
     ensures refused { IfOk result (λ report. report.status ≡ Status.ChainRefused
         → ReportsRefusal R.File.Read.remaining (map string_bytes list.items) report) }
     // The report of an audit is `Refused` only because a file can't be read.
     ensures unreadable { (names : List (List ℕ))
-        → AsksPlainly (map string_bytes list.items) Subcommand.Audit names → IfOk result (λ report.
+        → files_for Subcommand.Audit (map string_bytes list.items) ≡ Some names → IfOk result (λ report.
         report.status ≡ Status.Refused
         → ReportsUnreadable R.File.Read.remaining names report) }
     // Why a run is refused.
@@ -94,39 +99,37 @@ fn perform<R: Files + AllocGlobal, T: Threads + Wait + Sync>(
     threads: &T,
     list: Vec<String>,
 ) -> Result<Report, Failure>
-    ensures reports { (subcommand : Subcommand) (names : List (List ℕ))
-        → files_for subcommand (map string_bytes list.items) ≡ Some names
-        → IfOk result (Reports subcommand names) }
-    ensures check { AsksCheck (map string_bytes list.items)
-        → IfOk result (ReportsCheck (map string_bytes list.items)) }
+    ensures reports { IfOk result (ReportsAsked (map string_bytes list.items)) }
     ensures answered { IfOk result (λ report. HasAnswer report.status) }
-    ensures plain { (subcommand : Subcommand) (names : List (List ℕ))
-        → AsksPlainly (map string_bytes list.items) subcommand names
+    ensures plain { (subcommand : Subcommand)
+        → IsTrue (asks_plainly subcommand (map string_bytes list.items))
         → IfErr result (λ failure. status_of_failure failure ≢ Status.Clean) }
     ensures refused { IfErr result
         (MayFail R.File.Read.remaining (map string_bytes list.items)) }
     ensures audit { (names : List (List ℕ))
-        → AsksPlainly (map string_bytes list.items) Subcommand.Audit names
+        → files_for Subcommand.Audit (map string_bytes list.items) ≡ Some names
         → IfErr result (λ failure. status_of_failure failure ≡ Status.Refused
         → StopsAt R.File.Read.remaining names failure) }
 {
     match words(rt.alloc(), list)? {
-        Words::Scratch(names) => scratch(rt, names),
+        Words::Scratch(asked) => scratch(rt, asked),
         Words::Check(asked) => check(rt, threads, asked),
         Words::Audit(names) => audit(rt, names),
-        Words::Show(name) => show(rt, name),
+        Words::Show(names) => show(rt, names),
     }
 }
 
-// The report on the files of these names.
-fn scratch<R: Files + AllocGlobal>(rt: &R, names: Vec<String>) -> Result<Report, Failure>
-    ensures reports { IfOk result (ReportsOn (map string_bytes names.items)) }
-    ensures failed { IfErr result (ScratchFails (map string_bytes names.items)) }
+// The report on these files, by the rules of the profile.
+fn scratch<R: Files + AllocGlobal>(rt: &R, asked: ScratchWords) -> Result<Report, Failure>
+    requires { IsScratchable asked }
+    ensures reports { IfOk result (ReportsOn asked.profile (map string_bytes asked.files.items)) }
+    ensures failed { IfErr result (ScratchFails (map string_bytes asked.files.items)) }
 {
     let alloc = rt.alloc();
-    let project = Project::new(alloc, read_files(rt, names)?)?;
+    let ScratchWords { profile, files } = asked;
+    let project = Project::new(alloc, read_files(rt, files)?)?;
     let read = ReadProject::new(alloc, &project)?;
-    let answer = answer_for(alloc, &project, read.trees())?;
+    let answer = answer_for_as(alloc, profile_of(profile), &project, read.trees())?;
     Ok(answer_report(alloc, &read, &answer)?)
 }
 
@@ -154,7 +157,8 @@ fn failure_report(alloc: Global, failure: Failure) -> Result<Report, AllocError>
     ensures status { IfOk result (λ report. report.status ≡ status_of_failure failure) }
     ensures no_answer { IfOk result (λ report.
         report.status ≢ Status.Clean → string_bytes report.answer ≡ []) }
-    ensures help { IfOk result (λ report. HasAnswer report.status → TellsHelp report) }
+    ensures help { IfOk result (λ report.
+        HasAnswer report.status → (string_bytes report.notes ≡ []) × (report.status ≡ Status.Clean)) }
     ensures notes { IfOk result (λ report. AreNotes failure (string_bytes report.notes)) }
     ensures told { IfOk result (λ report. report.status ≢ Status.OutOfMemory) }
 {

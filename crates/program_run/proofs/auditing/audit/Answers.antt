@@ -9,6 +9,7 @@ returns-in_ok-accepted_report-in-Ok-clause-reports g c =
     record {
       files = all.files;
       many = all.many;
+      profile = audited.profile;
       v = arc_value audited.answer;
       sessions = audited.sessions;
       runs = audited.runs;

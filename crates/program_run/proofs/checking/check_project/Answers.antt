@@ -11,7 +11,7 @@ returns-clause-reports g c = record {
   beginning = c.in_ok-past.field-0;
   begins = c.in_ok-past.ensures.begins;
   session = c.in_ok-session.session;
-  next = c.in_ok-session.ensures;
+  next = c.in_ok-session.ensures.made;
   tells = rw c.as_str.ensures.value at c.in_ok-report.ensures;
 }
 

@@ -16,6 +16,9 @@ returns-in-MissingSource-clause-added c = rw c.in-MissingSource.is (grouped c.ad
 pub returns-in-GreenWithoutPast-clause-added : goal.returns-in-GreenWithoutPast-clause-added
 returns-in-GreenWithoutPast-clause-added c = rw c.in-GreenWithoutPast.is (grouped c.add_two-in-GreenWithoutPast.result _ (string_bytes c.args.text.now) (codes "14.7 GreenWithoutPast") (two c.in-GreenWithoutPast.k c.in-GreenWithoutPast.n) c.add_two-in-GreenWithoutPast.ensures)
 
+pub returns-in-GreenAcrossProfiles-clause-added : goal.returns-in-GreenAcrossProfiles-clause-added
+returns-in-GreenAcrossProfiles-clause-added c = rw c.in-GreenAcrossProfiles.is (grouped c.add_two-in-GreenAcrossProfiles.result _ (string_bytes c.args.text.now) (codes "14.17 GreenAcrossProfiles") (two c.in-GreenAcrossProfiles.k c.in-GreenAcrossProfiles.n) c.add_two-in-GreenAcrossProfiles.ensures)
+
 pub returns-in-OtherEdges-clause-added : goal.returns-in-OtherEdges-clause-added
 returns-in-OtherEdges-clause-added c = rw c.in-OtherEdges.is (grouped c.add_two-in-OtherEdges.result _ (string_bytes c.args.text.now) (codes "14.8 OtherEdges") (two c.in-OtherEdges.k c.in-OtherEdges.n) c.add_two-in-OtherEdges.ensures)
 

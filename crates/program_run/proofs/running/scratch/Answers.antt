@@ -9,6 +9,8 @@ use Rattle.program_run.proofs.running.scratch.Goals as goal
 -- src/running.rt:55:1
 pub returns-clause-reports : goal.returns-clause-reports
 returns-clause-reports g c = record {
+  profile = c.profile_of.result;
+  numbered = c.profile_of.ensures;
   files = c.in_ok-project.project;
   answer = c.in_ok-answer.answer;
   named = ap names_of c.in_ok-project.ensures.accepted ∙ names_of_sources _ ∙ c.in_ok-read_files.ensures.named;
@@ -20,7 +22,7 @@ returns-clause-reports g c = record {
 
 pub returns-in_err-project-clause-failed : goal.returns-in_err-project-clause-failed
 returns-in_err-project-clause-failed g c = told_as c.from_residual-in_err-project.result (failure.Project c.in_err-project.field-0.0)
-    (ScratchFails (map string_bytes c.args.names.items)) c.from_residual-in_err-project.ensures.1
+    (ScratchFails (map string_bytes c.args.asked.files.items)) c.from_residual-in_err-project.ensures.1
     (record {
       files = sources_view c.in_ok-read_files.field-0.items;
       named = names_of_sources _ ∙ c.in_ok-read_files.ensures.named;

@@ -1,0 +1,56 @@
+-- What a check that printed its answer may be believed for.
+use Rattle.std.proofs.Common.{◌≡◌, ◌∙◌, inl, inr, ℕ, true, false, List, Option, Some, map, string_bytes, refl, sym, ap}
+use Rattle.std.specs.Prelude.{codes}
+use Rattle.std.specs.Str.{bytes_eq}
+use Rattle.std.proofs.lemmas.Option.{same_Some}
+use Rattle.sessions.specs.Sessions.{session_in}
+use Rattle.command_line.specs.CommandLine.{AsksFor, Asks}
+use Rattle.command_line.specs.Subcommands.{name_of}
+use Rattle.command_line.specs.declared.asked.CheckWords.{CheckWords}
+use Rattle.command_line.specs.declared.asked.Subcommand.{Subcommand}
+use Rattle.command_line.specs.declared.asked.Subcommand.TheVariants.{Scratch, Check, Audit, Show}
+use Rattle.command_line.specs.declared.asked.Words.{Words}
+use Rattle.command_line.specs.declared.asked.Words.TheVariants as words
+use Rattle.program_run.specs.Believed.{IsTextByRules, ChecksByRules, PrintsBelieved}
+use Rattle.program_run.specs.Checks.{ChecksAsked}
+use Rattle.program_run.specs.Runs.{IsWritten, Prints, Reports}
+use Rattle.program_run.specs.declared.report.Report.{Report}
+
+by_rules : (asked : CheckWords) (report : Report) (a b c d : Option (List ℕ)) → ChecksAsked asked report → IsWritten report a b c d → ChecksByRules asked a b
+by_rules asked report a b c d is written = record {
+  past = session_in is.checks.beginning.past;
+  made = is.checks.session;
+  text = string_bytes report.answer;
+  written = written.answer;
+  by_rules = λ stands. record {
+    profile = is.terms.profile;
+    numbered = is.profile;
+    files = is.checks.files;
+    named = is.checks.named;
+    answer = is.checks.tells.answer;
+    rules = (is.checks.next.by_rules stands).rules is.checks.tells.answer is.checks.tells.recorded;
+    text_is = is.checks.tells.text;
+  };
+}
+
+true_false : true ≡ false → ⊥
+true_false e = cc
+
+-- words that ask for a check ask for no subcommand of another name
+not_check : (given : List (List ℕ)) (other : Subcommand) → AsksFor given Check → AsksFor given other → bytes_eq (codes "check") (name_of other) ≡ false → ⊥
+not_check given other check asks differs =
+    let same : name_of Check ≡ name_of other = same_Some (name_of Check) (name_of other) (sym check ∙ asks) in
+    true_false (ap (λ name. bytes_eq (codes "check") name) same ∙ differs)
+
+asked_for : (given : List (List ℕ)) (report : Report) (a b c d : Option (List ℕ)) (asked : Words) → AsksFor given Check → Asks given asked → Reports asked report
+    → IsWritten report a b c d → PrintsBelieved given a b
+asked_for given report a b c d (words.Check asked) check asks reports written = inl (record { asked = asked; asks = asks; checks = by_rules asked report a b c d reports written })
+asked_for given report a b c d (words.Scratch asked) check asks reports written = absurd (not_check given Scratch check asks.subcommand refl)
+asked_for given report a b c d (words.Audit names) check asks reports written = absurd (not_check given Audit check asks.subcommand refl)
+asked_for given report a b c d (words.Show names) check asks reports written = absurd (not_check given Show check asks.subcommand refl)
+
+pub believed : (given : List (List ℕ)) (number : ℕ) (a b c d : Option (List ℕ)) → AsksFor given Check → Prints given number a b c d → PrintsBelieved given a b
+believed given number a b c d check prints = elim prints.reports [
+  | inl reports ↦ asked_for given prints.report a b c d reports.asked check reports.asks reports.reports prints.written
+  | inr help ↦ inr (record { report = prints.report; help = help; written = prints.written.answer })
+]
