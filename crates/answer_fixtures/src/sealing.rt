@@ -9,7 +9,7 @@ ghost use Rattle.answer_fixtures.specs.Telling.{Tell, IsTold, IsOpenable, IsSeal
 
 use crate::unfit::Unfit;
 use crate::values::{bytes_of, value_of};
-use fingerprint::{OpenFault, Print, Sealed, open_sealed, seal};
+use fingerprint::{OpenFault, Print, Sealed, open_sealed, seal_or_share};
 use item_ids::Kind;
 use result_bytes::{Refusal, Value};
 use std::alloc::{AllocError, AllocFailed, Global};
@@ -20,15 +20,21 @@ pub fn sealed_of(alloc: Global, kind: Kind, digits: &str) -> Result<Arc<Sealed>,
     ensures kind { IfOk result (λ answer. kind_of_value (arc_value answer) ≡ kind) }
     ensures told { IfOk result (λ answer. IsTold kind digits.now (arc_value answer)) }
 {
-    let value = value_of(alloc, kind, digits)?;
-    Ok(share(alloc, value)?)
+    sealed_beside(alloc, None, kind, digits)
 }
 
-/// The value, sealed and shared.
-fn share(alloc: Global, value: Value) -> Result<Arc<Sealed>, AllocError>
-    ensures { IfOk result (λ answer. arc_value answer ≡ value) }
+/// The result of the kind that these digits spell, sealed where this one is known.
+fn sealed_beside(
+    alloc: Global,
+    known: Option<&Arc<Sealed>>,
+    kind: Kind,
+    digits: &str,
+) -> Result<Arc<Sealed>, Unfit>
+    ensures kind { IfOk result (λ answer. kind_of_value (arc_value answer) ≡ kind) }
+    ensures told { IfOk result (λ answer. IsTold kind digits.now (arc_value answer)) }
 {
-    Ok(Arc::new(alloc, seal(alloc, value)?)?)
+    let value = value_of(alloc, kind, digits)?;
+    Ok(seal_or_share(alloc, value, known)?)
 }
 
 /// Whether these digits spell the result.
@@ -50,7 +56,20 @@ pub fn is_print(alloc: Global, print: Print, digits: &str) -> Result<bool, Alloc
 pub fn is_sealed(alloc: Global, kind: Kind, digits: &str, print: &str) -> Result<bool, Unfit>
     ensures { IfOk result (IsSealedAs kind digits.now print.now) }
 {
-    let sealed = sealed_of(alloc, kind, digits)?;
+    is_sealed_beside(alloc, None, kind, digits, print)
+}
+
+/// Whether it is so where this result is known.
+pub fn is_sealed_beside(
+    alloc: Global,
+    known: Option<&Arc<Sealed>>,
+    kind: Kind,
+    digits: &str,
+    print: &str,
+) -> Result<bool, Unfit>
+    ensures { IfOk result (IsSealedAs kind digits.now print.now) }
+{
+    let sealed = sealed_beside(alloc, known, kind, digits)?;
     let is_whole = sealed.value().kind() == kind && is_spelled(alloc, &sealed, digits)?;
     Ok(is_whole && is_print(alloc, sealed.print(), print)?)
 }

@@ -4,8 +4,7 @@ use Rattle.std.specs.Prelude.{Option, Some, Result, Ok, Err, IfOk, IfSome}
 use Rattle.std.specs.Arc.{arc_value}
 use Rattle.item_ids.specs.declared.key.Key.{Key}
 use Rattle.recorder.specs.Projects.{Project}
-use Rattle.query_rules.specs.Meaning.{mean}
-use Rattle.query_rules.specs.Reads.{reads}
+use Rattle.query_rules.specs.Queries.{queries}
 use Rattle.audit_graph.specs.declared.fault.AuditFault.{AuditFault}
 use Rattle.audit_replay.specs.Audits.{IsAccepted}
 use Rattle.audit_replay.specs.declared.chain.Audited.{Audited}
@@ -14,8 +13,8 @@ use Rattle.audit_fixtures.specs.Chains.{runs_told, said_of, IsAcceptedAs, AreAcc
 
 -- an audit that accepts says this
 pub said_accepts : (files : List (List ℕ)) (old new : List Key) (r : Result Audited AuditFault)
-    → IfOk r (λ a. (p : Project) × IsAccepted mean reads files old new p (arc_value a.answer) a.sessions a.runs) → IfOk (said_of r) (IsAcceptedAs files old new)
-said_accepts files old new (Ok a) h = record { project = h.0; answer = arc_value a.answer; accepted = h.1 }
+    → IfOk r (λ a. (p : Project) × IsAccepted queries files old new a.profile p (arc_value a.answer) a.sessions a.runs) → IfOk (said_of r) (IsAcceptedAs files old new)
+said_accepts files old new (Ok a) h = record { profile = a.profile; project = h.0; answer = arc_value a.answer; accepted = h.1 }
 said_accepts files old new (Err fault) h = tt
 
 -- with a runner that had run nothing

@@ -1,10 +1,10 @@
 -- Files of chains that short texts give, and what audits of them say.
-use Rattle.std.specs.Prelude.{◌≡◌, ◌⊎◌, ℕ, List, [], ◌∷◌, ◌++◌, length, map, sum, Option, None, Result, Ok, Err}
+use Rattle.std.specs.Prelude.{◌≡◌, ◌⊎◌, ℕ, List, [], ◌∷◌, ◌++◌, length, map, sum, Option, None, Result, Ok, Err, IfOk}
 use Rattle.item_ids.specs.declared.key.Key.{Key}
 use Rattle.result_bytes.specs.declared.value.Value.{Value}
 use Rattle.recorder.specs.Projects.{Project}
-use Rattle.query_rules.specs.Meaning.{mean}
-use Rattle.query_rules.specs.Reads.{reads}
+use Rattle.query_rules.specs.Queries.{queries}
+use Rattle.profiles.specs.declared.profile.Profile.{Profile}
 use Rattle.sessions.specs.Sessions.{SessionValue}
 use Rattle.sessions.specs.Spelling.{file_of}
 use Rattle.audit_graph.specs.declared.fault.AuditFault.{AuditFault}
@@ -40,9 +40,10 @@ said_of (Err fault) = Err fault
 
 -- the files are accepted by an audit that says this; the log of its runner was old and is new
 pub record IsAcceptedAs (files : List (List ℕ)) (old new : List Key) (said : ℕ × ℕ) : Type 0 where
+  pub profile : Profile
   pub project : Project
   pub answer : Value
-  pub accepted : IsAccepted mean reads files old new project answer said.0 said.1
+  pub accepted : IsAccepted queries files old new profile project answer said.0 said.1
 
 -- The files are accepted by an audit that finds as many sessions as there are, and runs as many
 -- records as are executed in them.
@@ -55,11 +56,17 @@ pub record AreAccepted (chain : List Change) (files : List (List ℕ)) : Type 0 
 pub record IsWithoutMemory (files : List (List ℕ)) : Type 0 where
   pub old : List Key
   pub new : List Key
-  pub refused : IsRefusedBehind mean reads files old new OutOfMemory
+  pub refused : IsRefusedBehind queries files old new OutOfMemory
 
 -- the files of the chain's sessions are accepted
 abbrev pub IsAudited : List Change → Type 0
 IsAudited chain = (files : List (List ℕ)) × AreFilesOf chain files × AreAccepted chain files
+
+-- an audit of them by a runner that had run nothing says this
+pub record IsSaidOf (chain : List Change) (said : Result (ℕ × ℕ) AuditFault) : Type 0 where
+  pub files : List (List ℕ)
+  pub files_of : AreFilesOf chain files
+  pub accepted : IfOk said (λ both. (log : List Key) × IsAcceptedAs files [] log both)
 
 -- they are accepted, or there is no memory for one of them
 abbrev pub IsAuditedOrStays : List Change → Type 0

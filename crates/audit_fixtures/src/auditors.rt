@@ -1,29 +1,36 @@
 //! Auditors that are refused memory: they stay so, and another one begins anew.
 ghost use Rattle.std.specs.Prelude.{◌≡◌, ◌⊎◌, map, IfOk, IsTrue};
-ghost use Rattle.audit_fixtures.specs.Chains.{IsAcceptedAs, AreAccepted, IsWithoutMemory, IsAudited, IsAuditedOrStays};
+ghost use Rattle.audit_fixtures.specs.Chains.{IsAcceptedAs, AreAccepted, IsWithoutMemory, IsAudited, IsAuditedOrStays, IsSaidOf};
 
 use crate::audits::{Said, says, told, wanted};
 use crate::chain::{begins, ends, files_of, runs_of, slices};
 use answer_fixtures::Unfit;
 use audit_graph::AuditFault;
 use audit_replay::Auditor;
+use devices::Feed;
 use providers::MiniJava;
-use session_file::Feed;
 use session_fixtures::{FailingFeed, Manner, twice};
 use std::alloc::Global;
 use table_fixtures::Change;
 
-/// A feed of these bytes that doesn't fail.
-pub(crate) fn plain(bytes: &[u8]) -> FailingFeed<'_>
+/// A feed of these bytes that doesn't fail, and gives so many in a call at most.
+fn in_pieces(bytes: &[u8], piece: usize) -> FailingFeed<'_>
     ensures { result.rest.now ≡ bytes.now }
 {
     FailingFeed::new(
         bytes,
         Manner {
-            piece: bytes.len(),
+            piece,
             failing: None,
         },
     )
+}
+
+/// A feed of these bytes that doesn't fail, and gives all of them in a call.
+pub(crate) fn plain(bytes: &[u8]) -> FailingFeed<'_>
+    ensures { result.rest.now ≡ bytes.now }
+{
+    in_pieces(bytes, bytes.len())
 }
 
 /// Whether an auditor that has refused answers the same again to each call, and neither reads nor runs anything: from the
@@ -92,27 +99,33 @@ pub fn auditor_stays(alloc: Global, chain: &[Change]) -> Result<bool, Unfit>
     Ok(is_taken_or_stays(alloc, chain, list.as_slice(), &mut runner))
 }
 
-/// What an auditor says that takes the files one by one.
-fn taken_in_turn(alloc: Global, files: &[&[u8]], runner: &mut MiniJava) -> Said
+/// What an auditor says that takes the files one by one, from feeds that give so many bytes in a call at most.
+fn taken_in_turn(alloc: Global, files: &[&[u8]], runner: &mut MiniJava, piece: usize) -> Said
     ensures { IfOk result (IsAcceptedAs (map (λ f. f.now) files.now) runner.old.log.items
         runner.new.log.items) }
 {
     let mut auditor = Auditor::new();
     for file in files {
-        auditor.take(alloc, runner, &mut plain(file))?;
+        auditor.take(alloc, runner, &mut in_pieces(file, piece))?;
     }
     told(auditor.end())
 }
 
 /// Whether an auditor takes the files and accepts them, or another one does with the same runner where memory was refused.
-fn is_taken(alloc: Global, chain: &[Change], files: &[&[u8]], runner: &mut MiniJava) -> bool
+fn is_taken(
+    alloc: Global,
+    chain: &[Change],
+    files: &[&[u8]],
+    runner: &mut MiniJava,
+    piece: usize,
+) -> bool
     ensures { IsTrue result → AreAccepted chain.now (map (λ f. f.now) files.now) }
 {
     let Some(wanted) = wanted(chain) else {
         return false;
     };
-    match taken_in_turn(alloc, files, runner) {
-        Err(AuditFault::OutOfMemory) => taken_in_turn(alloc, files, runner) == Ok(wanted),
+    match taken_in_turn(alloc, files, runner, piece) {
+        Err(AuditFault::OutOfMemory) => taken_in_turn(alloc, files, runner, piece) == Ok(wanted),
         said => said == Ok(wanted),
     }
 }
@@ -125,14 +138,31 @@ fn is_logged(chain: &[Change], runner: &MiniJava) -> bool {
     }
 }
 
+/// What an auditor says that takes the files of the chain's sessions from feeds that give so many bytes in a call at most.
+/// The log of its runner has just what is run.
+pub fn said_in_pieces(alloc: Global, chain: &[Change], piece: usize) -> Result<Said, Unfit>
+    ensures { IfOk result (IsSaidOf chain.now) }
+{
+    let files = files_of(alloc, chain)?;
+    let list = slices(alloc, files.as_slice())?;
+    let mut runner = MiniJava::new(alloc);
+    let said = taken_in_turn(alloc, list.as_slice(), &mut runner, piece);
+    if begins(chain, runner.log()) && is_logged(chain, &runner) {
+        Ok(said)
+    } else {
+        Err(Unfit)
+    }
+}
+
 /// Whether the files of the chain's sessions are taken one by one and accepted, and again from the first on where memory was
 /// refused, by another auditor with the same runner. The log of the runner then has all that is run behind a beginning of it.
-pub fn auditor_again(alloc: Global, chain: &[Change]) -> Result<bool, Unfit>
+/// The feeds give so many bytes in a call at most.
+pub fn auditor_again(alloc: Global, chain: &[Change], piece: usize) -> Result<bool, Unfit>
     ensures { IfOk result (λ b. IsTrue b → IsAudited chain.now) }
 {
     let files = twice(&|| files_of(alloc, chain))?;
     let list = twice(&|| slices(alloc, files.as_slice()))?;
     let mut runner = MiniJava::new(alloc);
-    let is_taken = is_taken(alloc, chain, list.as_slice(), &mut runner);
+    let is_taken = is_taken(alloc, chain, list.as_slice(), &mut runner, piece);
     Ok(is_taken && is_logged(chain, &runner))
 }

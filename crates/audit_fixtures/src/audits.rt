@@ -13,7 +13,7 @@ use std::alloc::Global;
 use table_fixtures::Change;
 
 /// What an audit says: how many sessions there are and records were run, or its refusal.
-pub(crate) type Said = Result<(usize, u128), AuditFault>;
+pub type Said = Result<(usize, u128), AuditFault>;
 
 pub(crate) fn told(audited: Result<Audited, AuditFault>) -> Said
     ensures { result ≡ said_of audited }

@@ -5,8 +5,8 @@ ghost use Rattle.sessions.specs.Spelling.{file_of};
 ghost use Rattle.audit_fixtures.specs.Chains.{runs_told, AreFilesOf};
 
 use answer_fixtures::{Unfit, is_key};
+use devices::MemorySink;
 use item_ids::Key;
-use session_file::MemorySink;
 use session_fixtures::{Kept, file_of_session};
 use sessions::Session;
 use std::alloc::{AllocError, AllocFailed, Global};

@@ -1,14 +1,15 @@
-//! Auditors over feeds that fail.
+//! Auditors over feeds that fail, and over files that are too long.
 
 use crate::auditors::{plain, stays};
 use crate::chain::files_of;
 use answer_fixtures::Unfit;
 use audit_graph::AuditFault;
 use audit_replay::Auditor;
+use devices::{Feed, MemorySink};
 use providers::MiniJava;
-use session_file::{Feed, FileFault, MemorySink};
+use session_file::FileFault;
 use session_fixtures::{Failing, FailingFeed, Manner};
-use std::alloc::Global;
+use std::alloc::{AllocError, Global};
 use table_fixtures::Change;
 
 /// An auditor that has taken these files.
@@ -98,4 +99,41 @@ pub fn fails_at_each_call(alloc: Global, chain: &[Change], piece: usize) -> Resu
 fn fails_in_both_ways(alloc: Global, before: &[MemorySink], file: &[u8], piece: usize) -> bool {
     fails_behind(alloc, before, file, piece, false)
         && fails_behind(alloc, before, file, piece, true)
+}
+
+/// The file and one byte behind it.
+fn longer(alloc: Global, file: &[u8]) -> Result<Vec<u8>, AllocError> {
+    let mut bytes = file.to_vec(alloc)?;
+    bytes.push(0)?;
+    Ok(bytes)
+}
+
+/// Why these bytes are refused behind these files. The auditor stays refused, and none of the records is run.
+fn fault_behind(alloc: Global, files: &[MemorySink], bytes: &[u8]) -> Option<AuditFault> {
+    let mut runner = MiniJava::new(alloc);
+    let mut auditor = taken(alloc, &mut runner, files)?;
+    let runs = runner.log().len();
+    let mut feed = plain(bytes);
+    let fault = auditor.take(alloc, &mut runner, &mut feed).err()?;
+    if runner.log().len() == runs && stays(alloc, auditor, &mut runner, &mut feed, bytes, fault) {
+        Some(fault)
+    } else {
+        None
+    }
+}
+
+/// Why an auditor refuses the file at this place of the chain where one byte follows it. It stays refused, and runs none of
+/// the file's records. None where it doesn't refuse so.
+pub fn fault_of_longer(
+    alloc: Global,
+    chain: &[Change],
+    at: usize,
+) -> Result<Option<AuditFault>, Unfit> {
+    let files = files_of(alloc, chain)?;
+    match (files.get(..at), files.get(at)) {
+        (Some(before), Some(file)) => {
+            Ok(fault_behind(alloc, before, &longer(alloc, file.bytes())?))
+        }
+        _ => Err(Unfit),
+    }
 }

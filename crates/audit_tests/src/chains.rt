@@ -1,12 +1,15 @@
 //! What audits say of chains of one session and of two.
 
 use crate::files::Turned;
-use crate::said::{Said, is_accepted_with, said_of_none, said_of_one, said_of_second, said_of_two};
+use crate::said::{
+    Said, is_accepted_with, said_of_none, said_of_one, said_of_second, said_of_two, said_of_two_as,
+};
 use answer_fixtures::Asked;
 use audit_graph::AuditFault;
 use item_ids::Kind;
+use profiles::Profile;
 use session_fixtures::Kept;
-use sessions::Mark;
+use sessions::{Form, Mark, Terms};
 use std::test::*;
 
 const HEADER: Asked<'static> = Asked(Kind::Header, "a", "");
@@ -229,6 +232,15 @@ const UNCHANGED: &Turned = &Turned {
 #[test]
 fn an_unchanged_session_is_accepted_and_nothing_of_it_is_run(rt: HostRuntime) {
     assert!(rt; said_of_two(rt.alloc(), FIRST, UNCHANGED) == Said::Accepted(2, 3));
+}
+
+#[test]
+fn what_does_not_go_by_the_profile_is_taken_over_from_another_one(rt: HostRuntime) {
+    let terms = Terms {
+        profile: Profile::Two,
+        form: Form::One,
+    };
+    assert!(rt; said_of_two_as(rt.alloc(), terms, FIRST, UNCHANGED) == Said::Accepted(2, 3));
 }
 
 // The check is green, with other edges than in that session.

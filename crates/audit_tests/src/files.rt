@@ -1,10 +1,11 @@
 //! Sessions of a project of one file `a`, which has the one byte `A`, and their files.
 
 use answer_fixtures::{Asked, Unfit};
+use devices::MemorySink;
 use item_ids::Kind;
-use session_file::{MemorySink, write};
-use session_fixtures::{Kept, digest_of, file_of, session_of};
-use sessions::{Mark, Session};
+use session_file::write;
+use session_fixtures::{Kept, digest_of, file_of, session_as};
+use sessions::{Mark, Session, Terms};
 use std::alloc::{AllocError, Global};
 
 /// So many records of the first session, from its first one, and others behind them. The records of a whole session
@@ -74,19 +75,25 @@ fn digest_of_first(alloc: Global, first: &Turned) -> Result<[u8; 32], Unfit> {
     digest_of(alloc, 0, [0; 32], records.as_slice())
 }
 
-/// The file of the second session of a chain.
+/// The file of the second session of a chain, of these terms.
 pub(crate) fn file_behind(
     alloc: Global,
+    terms: Terms,
     first: &Turned,
     second: &Turned,
 ) -> Result<MemorySink, Unfit> {
     let link = digest_of_first(alloc, first)?;
     let records = records_of(alloc, second)?;
-    file_with_link(alloc, link, records.as_slice())
+    file_with_link(alloc, terms, link, records.as_slice())
 }
 
-fn file_with_link(alloc: Global, link: [u8; 32], records: &[Kept]) -> Result<MemorySink, Unfit> {
-    let session = session_of(alloc, 1, link, records)?;
+fn file_with_link(
+    alloc: Global,
+    terms: Terms,
+    link: [u8; 32],
+    records: &[Kept],
+) -> Result<MemorySink, Unfit> {
+    let session = session_as(alloc, terms, 1, link, records)?;
     written(alloc, &session)
 }
 

@@ -12,4 +12,6 @@ mod files;
 #[cfg(test)]
 mod said;
 #[cfg(test)]
+mod terms;
+#[cfg(test)]
 mod texts;

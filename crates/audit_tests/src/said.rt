@@ -6,6 +6,7 @@ use audit_graph::AuditFault;
 use audit_replay::{Audited, audit};
 use item_ids::{Key, Kind};
 use runner_fixtures::SampleRunner;
+use sessions::Terms;
 use std::alloc::Global;
 
 /// What an audit says: how many sessions there are and records were run, or its refusal.
@@ -31,7 +32,12 @@ pub(crate) fn said_of_one(alloc: Global, first: &Turned) -> Said {
 
 /// What is said of the files of two sessions, the second behind the first.
 pub(crate) fn said_of_two(alloc: Global, first: &Turned, second: &Turned) -> Said {
-    match file_behind(alloc, first, second) {
+    said_of_two_as(alloc, Terms::first(), first, second)
+}
+
+/// The same, where the second has these terms.
+pub(crate) fn said_of_two_as(alloc: Global, terms: Terms, first: &Turned, second: &Turned) -> Said {
+    match file_behind(alloc, terms, first, second) {
         Ok(file) => said_with(alloc, first, file.bytes()),
         Err(_) => Said::Unfit,
     }
@@ -39,7 +45,7 @@ pub(crate) fn said_of_two(alloc: Global, first: &Turned, second: &Turned) -> Sai
 
 /// What is said of the file of a second session alone.
 pub(crate) fn said_of_second(alloc: Global, first: &Turned, second: &Turned) -> Said {
-    match file_behind(alloc, first, second) {
+    match file_behind(alloc, Terms::first(), first, second) {
         Ok(file) => said_of(alloc, &[file.bytes()]),
         Err(_) => Said::Unfit,
     }

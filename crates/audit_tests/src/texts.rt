@@ -19,6 +19,10 @@ const TEXTS: &[(AuditFault, &str)] = &[
         AuditFault::GreenWithoutPast(0, 9),
         "14.7 GreenWithoutPast(0, 9)",
     ),
+    (
+        AuditFault::GreenAcrossProfiles(1, 8),
+        "14.17 GreenAcrossProfiles(1, 8)",
+    ),
     (AuditFault::OtherEdges(1, 10), "14.8 OtherEdges(1, 10)"),
     (
         AuditFault::GreenOverRed(2, 9, 0),

@@ -1,4 +1,4 @@
-use answer_fixtures::{is_opened, is_print, is_sealed, open_fault};
+use answer_fixtures::{is_opened, is_print, is_sealed, is_sealed_beside, open_fault, sealed_of};
 use fingerprint::{OpenFault, Print};
 use item_ids::Kind;
 use result_bytes::Refusal;
@@ -16,6 +16,19 @@ const PRINT: &str = "5603f464e62d0ee9b83adcef05c37be471164ec3a036663119d6551a2fd
 #[test]
 fn a_value_is_sealed(rt: HostRuntime) -> Result<(), Fail> {
     assert!(rt; is_sealed(rt.alloc(), Kind::Header, DIGITS, PRINT)?);
+    Ok(())
+}
+
+// The superclasses of M, which has none.
+const SUPERS: &str = "07010000000000000001014d00";
+
+#[test]
+fn a_value_is_sealed_beside_a_known_result(rt: HostRuntime) -> Result<(), Fail> {
+    let alloc = rt.alloc();
+    let same = sealed_of(alloc, Kind::Header, DIGITS)?;
+    assert!(rt; is_sealed_beside(alloc, Some(&same), Kind::Header, DIGITS, PRINT)?);
+    let other = sealed_of(alloc, Kind::Supers, SUPERS)?;
+    assert!(rt; is_sealed_beside(alloc, Some(&other), Kind::Header, DIGITS, PRINT)?);
     Ok(())
 }
 

@@ -5,7 +5,9 @@
 #[cfg(test)]
 mod caches;
 #[cfg(test)]
-mod devices;
+mod chains;
+#[cfg(test)]
+mod failing;
 #[cfg(test)]
 mod first;
 #[cfg(test)]

@@ -1,7 +1,8 @@
 //! Files over writers that take a few bytes a call, and then none, without an error.
 
 use crate::first::first;
-use session_file::{FileFault, Sink, WriterSink};
+use devices::{Sink, WriterSink};
+use session_file::FileFault;
 use session_fixtures::{StallingWriter, file_of, write_to};
 use std::alloc::Global;
 use std::test::*;

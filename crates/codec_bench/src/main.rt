@@ -2,10 +2,11 @@
 //! canonical bytes of a tree or with those of a session's file. It ends with status 2 where the words or the bytes are no good.
 #![tactic(auto)]
 
+use devices::MemorySink;
 use fingerprint::seal;
 use item_ids::Kind;
 use result_bytes::{Value, decode, encode};
-use session_file::{MemorySink, write};
+use session_file::write;
 use sessions::Session;
 use std::alloc::Global;
 use std::io::ErrorKind;

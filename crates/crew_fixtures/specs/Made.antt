@@ -6,21 +6,23 @@ use Rattle.item_ids.specs.Keys.{kind_of, class_of}
 use Rattle.answer_fixtures.specs.Telling.{name_told}
 use Rattle.mj_project.specs.Projects.{SourceFile}
 use Rattle.recorder.specs.Projects.{Project}
-use Rattle.query_rules.specs.Meaning.{mean}
-use Rattle.query_rules.specs.Reads.{reads}
+use Rattle.query_rules.specs.Queries.{queries}
+use Rattle.sessions.specs.declared.terms.Terms.{Terms}
+use Rattle.sessions.specs.Terms.{first_terms}
 use Rattle.sessions.specs.declared.mark.Mark.{Mark}
 use Rattle.sessions.specs.declared.mark.Mark.TheVariants.{Executed, Green}
 use Rattle.sessions.specs.Marks.{mark_number}
 use Rattle.sessions.specs.Sessions.{RecordValue, SessionValue}
 use Rattle.sessions.specs.Spelling.{digest_of}
 use Rattle.job_table.specs.Tables.{TableValue}
-use Rattle.job_table.specs.Calls.{AskGives}
+use Rattle.job_table.specs.Calls.{opened, AskGives}
 use Rattle.job_table.specs.declared.fault.Asked.TheVariants.{Stopped}
 use Rattle.shared_table.specs.Given.{IsGiven}
 use Rattle.driver.specs.Sessions.{DriveGives, IsSessionOf}
 use Rattle.driver.specs.declared.fault.DriveFault.{DriveFault}
 use Rattle.driver.specs.declared.reports.Reports.{Reports}
 use Rattle.crew_fixtures.specs.declared.files.File.{File}
+use Rattle.crew_fixtures.specs.declared.making.BothTerms.{BothTerms}
 use Rattle.crew_fixtures.specs.declared.making.Edit.{Edit}
 use Rattle.crew_fixtures.specs.declared.making.Made.{Made}
 use Rattle.crew_fixtures.specs.declared.runs.Runs.{Runs}
@@ -53,12 +55,13 @@ many_of mark records = count_by (has_mark mark) records
 
 -- ---- sessions
 
--- It is a session of the project over the previous one by so many workers, of which this was made: the
--- SHA-256 of its file, how many records there are and have each mark, and how many events there were.
-pub record IsMadeOf (past : Option SessionValue) (p : Project) (workers : ℕ) (s : SessionValue)
-    (made : Made) : Type 0 where
+-- It is a session of these terms and of the project over the previous one by so many workers, of which
+-- this was made: the SHA-256 of its file, how many records there are and have each mark, and how many
+-- events there were.
+pub record IsMadeOf (terms : Terms) (past : Option SessionValue) (p : Project) (workers : ℕ)
+    (s : SessionValue) (made : Made) : Type 0 where
   pub reports : Reports
-  pub of : IsSessionOf mean reads past p workers s reports
+  pub of : IsSessionOf queries terms past p workers s reports
   pub digest : made.digest ≡ digest_of s
   pub records : made.records ≡ length s.records
   pub executed : made.executed ≡ many_of Executed s.records
@@ -66,31 +69,36 @@ pub record IsMadeOf (past : Option SessionValue) (p : Project) (workers : ℕ) (
   pub history : made.history ≡ reports.history
   pub events : made.events ≡ sum reports.events.items
 
--- this was made of a first session of one project, and of one over it of another
-pub record AreMade (p q : Project) (workers : ℕ) (first second : Made) : Type 0 where
+-- this was made of a first session of one project, and of one over it of another, each of its terms
+pub record AreMade (terms : BothTerms) (p q : Project) (workers : ℕ) (first second : Made) : Type 0 where
   pub first_session : SessionValue
-  pub first_made : IsMadeOf None p workers first_session first
+  pub first_made : IsMadeOf terms.first None p workers first_session first
   pub next_session : SessionValue
-  pub next_made : IsMadeOf (Some first_session) q workers next_session second
+  pub next_made : IsMadeOf terms.second (Some first_session) q workers next_session second
 
 -- there is a first session of the project by so many workers
 pub record IsMadeBy (p : Project) (workers : ℕ) : Type 0 where
   pub session : SessionValue
   pub reports : Reports
-  pub of : IsSessionOf mean reads None p workers session reports
+  pub of : IsSessionOf queries first_terms None p workers session reports
 
--- the SHA-256 of the file of a first session of the project
-pub record IsDigestOf (p : Project) (workers : ℕ) (digest : List ℕ) : Type 0 where
+-- the SHA-256 of the file of a session of these terms and of the project over the previous one
+pub record IsDigestOver (terms : Terms) (past : Option SessionValue) (p : Project) (workers : ℕ)
+    (digest : List ℕ) : Type 0 where
   pub session : SessionValue
   pub reports : Reports
-  pub of : IsSessionOf mean reads None p workers session reports
+  pub of : IsSessionOf queries terms past p workers session reports
   pub digest_is : digest ≡ digest_of session
+
+-- the same of a first session
+abbrev pub IsDigestOf : Project → ℕ → List ℕ → Type 0
+IsDigestOf p workers digest = IsDigestOver first_terms None p workers digest
 
 -- why there is no first session, or none where there is one
 abbrev pub IsFaultOf : Project → ℕ → Option DriveFault → Type 0
 IsFaultOf p workers None =
-    (s : SessionValue) × (r : Reports) × DriveGives mean reads None p workers (Ok (s, r))
-IsFaultOf p workers (Some fault) = DriveGives mean reads None p workers (Err fault)
+    (s : SessionValue) × (r : Reports) × DriveGives queries first_terms None p workers (Ok (s, r))
+IsFaultOf p workers (Some fault) = DriveGives queries first_terms None p workers (Err fault)
 
 -- ---- records that are executed
 
@@ -98,7 +106,7 @@ IsFaultOf p workers (Some fault) = DriveGives mean reads None p workers (Err fau
 pub record HasExecuted (past : Option SessionValue) (p : Project) (s : SessionValue) (runs : Runs)
     : Type 0 where
   pub reports : Reports
-  pub of : IsSessionOf mean reads past p 1 s reports
+  pub of : IsSessionOf queries first_terms past p 1 s reports
   pub executed : runs.executed ≡ many_of Executed s.records
 
 -- the same of a first session of one project, and of one over it of another
@@ -120,4 +128,5 @@ pub record FellowsStop (file : File) : Type 0 where
   pub key : Key
   pub kind : kind_of key ≡ kinds.Tree
   pub of_file : class_of key ≡ name_told file.0.now
-  pub stops : IsGiven None (file_told file ∷ []) (Stops key)
+  pub stops : IsGiven queries
+      (opened queries.by_profile first_terms None (file_told file ∷ [])) (Stops key)

@@ -1,7 +1,9 @@
 //! A runner that counts.
 ghost use Rattle.std.specs.Prelude.{◌≡◌};
+ghost use Rattle.query_rules.specs.Queries.{is_by_profile};
 
-use item_ids::Key;
+use item_ids::{Key, Kind};
+use profiles::Profile;
 use providers::MiniJava;
 use recorder::{Reader, Recorder, RunFault, Runner};
 use result_bytes::Value;
@@ -28,21 +30,25 @@ impl<'a> Counting<'a> {
 }
 
 impl Runner for Counting<'_> {
-    ghost use Rattle.query_rules.specs.Meaning.{mean};
-    ghost use Rattle.query_rules.specs.Reads.{reads};
+    ghost use Rattle.query_rules.specs.Queries.{queries};
     ghost use Rattle.providers.specs.Laws.{mini_java_laws};
 
-    ghost mean = { mean };
-
-    ghost reads = { reads };
+    ghost queries = { queries };
 
     ghost log = { λ r. r.runner.log.items };
 
     ghost laws = { mini_java_laws };
 
+    fn by_profile(kind: Kind) -> bool
+        ensures { result ≡ is_by_profile kind }
+    {
+        MiniJava::by_profile(kind)
+    }
+
     fn run<D: Reader>(
         &mut self,
         alloc: Global,
+        profile: Profile,
         key: &Key,
         recorder: &mut Recorder<D>,
     ) -> Result<Value, RunFault> {
@@ -50,6 +56,6 @@ impl Runner for Counting<'_> {
         if self.failing == Some(number) {
             return Err(RunFault::OutOfMemory);
         }
-        self.runner.run(alloc, key, recorder)
+        self.runner.run(alloc, profile, key, recorder)
     }
 }

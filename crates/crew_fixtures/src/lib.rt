@@ -15,7 +15,9 @@ mod waiting;
 
 pub use files::File;
 pub use large::{chain, one_body};
-pub use making::{Edit, Made, made_by, made_of_empty_classes, made_while_held, workers_meet};
+pub use making::{
+    BothTerms, Edit, Made, made_by, made_of_empty_classes, made_while_held, workers_meet,
+};
 pub use meeting::Meeting;
 pub use pairs::seats_meet;
 pub use runs::{Runs, digest_by, fault_of_failing, runs_in, runs_of};

@@ -1,8 +1,7 @@
 //! Sessions by several workers.
 ghost use Rattle.std.specs.Prelude.{◌≡◌, None, IfOk, IfSome, length, sum};
 ghost use Rattle.std.specs.Arc.{arc_value};
-ghost use Rattle.query_rules.specs.Meaning.{mean};
-ghost use Rattle.query_rules.specs.Reads.{reads};
+ghost use Rattle.query_rules.specs.Queries.{queries};
 ghost use Rattle.sessions.specs.Spelling.{digest_of};
 ghost use Rattle.sessions.specs.Sessions.{session_in};
 ghost use Rattle.driver.specs.Sessions.{IsSessionOf};
@@ -15,13 +14,20 @@ use crate::meeting::Meeting;
 use crate::runs::count_of;
 use answer_fixtures::Unfit;
 use item_ids::Kind;
-use mini_java::{Gate, Open, Reports, run_session};
+use mini_java::{Gate, Open, Reports, run_session, run_session_as};
 use mj_project::Project;
 use session_file::digest;
-use sessions::{Mark, Session};
+use sessions::{Mark, Session, Terms};
 use std::alloc::{AllocError, AllocFailed, Global};
 use std::sync::{Arc, Wait};
 use std::thread::Threads;
+
+/// The terms of a first session, and of the one over it.
+#[derive(Clone, Copy)]
+pub struct BothTerms {
+    pub first: Terms,
+    pub second: Terms,
+}
 
 /// A project of one file, and the text of this file after an edit.
 #[derive(Clone, Copy)]
@@ -82,19 +88,20 @@ pub(crate) fn share(alloc: Global, session: Session) -> Result<Arc<Session>, All
     Ok(Arc::new(alloc, session)?)
 }
 
-/// The session of a project over the previous one, by so many workers, and what was made of it.
+/// The session of these terms and of a project over the previous one, by so many workers, and what was made of it.
 fn session_over<T: Threads + Wait + Sync, G: Gate + Sync>(
     rt: &T,
     alloc: Global,
+    terms: Terms,
     past: Option<Arc<Session>>,
     project: &Project,
     workers: usize,
     gate: &G,
 ) -> Result<(Arc<Session>, Made), Unfit>
     ensures { IfOk result (λ both.
-        IsMadeOf (session_in past) project.now workers (arc_value both.0) both.1) }
+        IsMadeOf terms (session_in past) project.now workers (arc_value both.0) both.1) }
 {
-    match run_session(rt, alloc, past, project, workers, gate) {
+    match run_session_as(rt, alloc, past, project, terms, workers, gate) {
         Ok((session, reports)) => {
             let made = made_of(&session, &reports)?;
             Ok((share(alloc, session)?, made))
@@ -103,66 +110,90 @@ fn session_over<T: Threads + Wait + Sync, G: Gate + Sync>(
     }
 }
 
-/// What is made of a first session of one project, and of the one over it of another, by so many workers.
+/// What is made of a first session of one project, and of the one over it of another, each of its terms, by so many workers.
 fn made_of_both<T: Threads + Wait + Sync, G: Gate + Sync>(
     rt: &T,
     alloc: Global,
+    terms: BothTerms,
     first: &Project,
     second: &Project,
     workers: usize,
     gate: &G,
 ) -> Result<(Made, Made), Unfit>
-    ensures { IfOk result (λ both. AreMade first.now second.now workers both.0 both.1) }
+    ensures { IfOk result (λ both.
+        AreMade terms first.now second.now workers both.0 both.1) }
 {
-    let (past, first) = session_over(rt, alloc, None, first, workers, gate)?;
-    let (_session, second) = session_over(rt, alloc, Some(past), second, workers, gate)?;
+    let (past, first) = session_over(rt, alloc, terms.first, None, first, workers, gate)?;
+    let (_session, second) = session_over(
+        rt,
+        alloc,
+        terms.second,
+        Some(past),
+        second,
+        workers,
+        gate,
+    )?;
     Ok((first, second))
 }
 
-/// What is made of a first session of the project, and of the one over it after the edit, by so many workers.
+/// What is made of a first session of the project, and of the one over it after the edit, each of its terms, by so many
+/// workers.
 pub fn made_by<T: Threads + Wait + Sync>(
     rt: &T,
     alloc: Global,
+    terms: BothTerms,
     edit: &Edit,
     workers: usize,
 ) -> Result<(Made, Made), Unfit>
-    ensures { IfOk result (λ both. AreMade (before edit.now) (after edit.now) workers both.0 both.1) }
+    ensures { IfOk result (λ both.
+        AreMade terms (before edit.now) (after edit.now) workers both.0 both.1) }
 {
     let project = project_of(alloc, &[edit.file])?;
     let edited = project_of(alloc, &[File(edit.file.0, edit.edited)])?;
-    made_of_both(rt, alloc, &project, &edited, workers, &Open)
+    made_of_both(rt, alloc, terms, &project, &edited, workers, &Open)
 }
 
 /// What is made of a first session of a chain of so many classes, and of the one over it after the chain is cut in the middle,
-/// by so many workers, whose runs are held as this seed decides.
+/// each of its terms, by so many workers, whose runs are held as this seed decides.
 #[tactic(auto, using(crate::proofs::SomeProjects::of_some))]
 pub fn made_while_held<T: Threads + Wait + Sync>(
     rt: &T,
     alloc: Global,
+    terms: BothTerms,
     classes: usize,
     workers: usize,
     seed: u64,
 ) -> Result<(Made, Made), Unfit>
-    ensures { IfOk result (λ both. (p : Project) × (q : Project) × AreMade p q workers both.0 both.1) }
+    ensures { IfOk result (λ both. (p : Project) × (q : Project)
+        × AreMade terms p q workers both.0 both.1) }
 {
     let project = chain(alloc, classes)?;
     let edited = cut_chain(alloc, classes, classes / 2)?;
-    made_of_both(rt, alloc, &project, &edited, workers, &Holding::new(seed))
+    made_of_both(
+        rt,
+        alloc,
+        terms,
+        &project,
+        &edited,
+        workers,
+        &Holding::new(seed),
+    )
 }
 
 /// What is made of a first session of so many classes without members beside one with main, and of the one over it of the
-/// same files, by so many workers.
+/// same files, each of its terms, by so many workers.
 #[tactic(auto, using(crate::proofs::SomeProjects::of_one))]
 pub fn made_of_empty_classes<T: Threads + Wait + Sync>(
     rt: &T,
     alloc: Global,
+    terms: BothTerms,
     classes: usize,
     workers: usize,
 ) -> Result<(Made, Made), Unfit>
-    ensures { IfOk result (λ both. (p : Project) × AreMade p p workers both.0 both.1) }
+    ensures { IfOk result (λ both. (p : Project) × AreMade terms p p workers both.0 both.1) }
 {
     let project = empty_classes(alloc, classes)?;
-    made_of_both(rt, alloc, &project, &project, workers, &Open)
+    made_of_both(rt, alloc, terms, &project, &project, workers, &Open)
 }
 
 /// Whether in a session of these files by so many workers the first run of the kind that begins, held for so many turns at

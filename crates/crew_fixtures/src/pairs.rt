@@ -49,9 +49,8 @@ fn both_bring<J: Naming + Send + Sync, R: Runner + Drop + Send + Sync, T: Thread
     requires parts { blank.parts ≡ J.parts }
     requires two { blank.parts ≡ 2 }
     requires list { list.seen.book ≡ J.book }
-    requires past { table.past ≡ J.past }
-    requires project { table.project ≡ J.project }
-    requires opened { table.history ≡ [] }
+    requires opened { table ≡ J.opened }
+    requires first { table.history ≡ [] }
 {
     let (book, mut one) = blank.open::<J>();
     let first = worker_of(alloc, 0, first, Tally::new(one.split_off(1, 0)));

@@ -1,5 +1,6 @@
 //! Two seats at one table.
 ghost use Rattle.std.specs.Prelude.{◌≡◌, [], IfOk, IsTrue};
+ghost use Rattle.query_rules.specs.Queries.{queries};
 ghost use Rattle.shared_table.specs.Given.{IsGiven};
 ghost use Rattle.crew_fixtures.specs.Made.{FellowsStop, Stops};
 
@@ -31,10 +32,9 @@ fn stops<J: Naming, T: Wait>(
     requires parts { blank.parts ≡ J.parts }
     requires two { blank.parts ≡ 2 }
     requires list { list.seen.book ≡ J.book }
-    requires past { table.past ≡ J.past }
-    requires project { table.project ≡ J.project }
-    requires opened { table.history ≡ [] }
-    ensures { IsTrue result → IsGiven J.past J.project (Stops key.now) }
+    requires opened { table ≡ J.opened }
+    requires first { table.history ≡ [] }
+    ensures { IsTrue result → IsGiven queries J.opened (Stops key.now) }
 {
     let (book, mut one) = blank.open::<J>();
     let mut first = Tally::new(one.split_off(1, 0));
@@ -54,7 +54,7 @@ fn stops_after<J: Naming, R: Runner, T: Wait>(
     second: &mut Tally<J>,
     key: &Key,
 ) -> bool
-    ensures { IsTrue result → IsGiven J.past J.project (Stops key.now) }
+    ensures { IsTrue result → IsGiven R.queries J.opened (Stops key.now) }
 {
     fails(&mut shared.seat(alloc, rt, &Open, first), 0)
         && is_stopped(&mut shared.seat(alloc, rt, &Open, second), key)
@@ -70,7 +70,7 @@ fn is_stopped<J: Naming, R: Runner, T: Wait, G: Gate>(
     seat: &mut Seat<'_, J, R, T, G>,
     key: &Key,
 ) -> bool
-    ensures { IsTrue result → IsGiven J.past J.project (Stops key.now) }
+    ensures { IsTrue result → IsGiven R.queries J.opened (Stops key.now) }
 {
     match seat.ask(1, key) {
         Ok(Asking::Stopped) => true,

@@ -1,18 +1,44 @@
 //! Sessions by several workers: that they make the same files, and that their runs go on at the same time.
 
-use crate::texts::{EDITED, ONE, TWO};
+use crate::texts::{COVARIANT, EDITED, ONE, TWO};
 use answer_fixtures::Unfit;
 use crew_fixtures::{
-    Edit, File, Made, digest_by, fault_of_failing, fellows_stop, made_by, made_of_empty_classes,
-    made_while_held, seats_meet, workers_meet,
+    BothTerms, Edit, File, Made, digest_by, fault_of_failing, fellows_stop, made_by,
+    made_of_empty_classes, made_while_held, seats_meet, workers_meet,
 };
 use driver::Crew;
 use item_ids::Kind;
 use mini_java::DriveFault;
+use profiles::Profile;
+use sessions::{Form, Terms};
 use std::alloc::Global;
 use std::sync::Wait;
 use std::test::*;
 use std::thread::Threads;
+
+/// Profile 1 and form 1.
+const FIRST_TERMS: Terms = Terms {
+    profile: Profile::One,
+    form: Form::One,
+};
+
+/// Profile 2 and form 1.
+const SECOND_PROFILE: Terms = Terms {
+    profile: Profile::Two,
+    form: Form::One,
+};
+
+/// Profile 1 and form 2.
+const SECOND_FORM: Terms = Terms {
+    profile: Profile::One,
+    form: Form::Two,
+};
+
+/// Profile 1 and form 1 both times.
+const ALIKE: BothTerms = BothTerms {
+    first: FIRST_TERMS,
+    second: FIRST_TERMS,
+};
 
 /// A body is edited.
 const EDIT: Edit = Edit {
@@ -20,32 +46,115 @@ const EDIT: Edit = Edit {
     edited: EDITED,
 };
 
+/// Nothing is edited.
+const COVARIANT_EDIT: Edit = Edit {
+    file: File("M.java", COVARIANT),
+    edited: COVARIANT,
+};
+
+/// A first session and the one over it, each of its terms, and how many events each has.
+struct Row {
+    terms: BothTerms,
+    edit: Edit,
+    first: usize,
+    second: usize,
+}
+
+const ROWS: &[Row] = &[
+    // Of the 21 queries all are executed, three events for each; then ten are, and eleven are green, two events for each.
+    Row {
+        terms: ALIKE,
+        edit: EDIT,
+        first: 63,
+        second: 52,
+    },
+    Row {
+        terms: BothTerms {
+            first: SECOND_FORM,
+            second: SECOND_FORM,
+        },
+        edit: EDIT,
+        first: 63,
+        second: 52,
+    },
+    // Over the other profile the checks of both classes are executed besides, and nine are green.
+    Row {
+        terms: BothTerms {
+            first: SECOND_PROFILE,
+            second: SECOND_FORM,
+        },
+        edit: EDIT,
+        first: 63,
+        second: 54,
+    },
+    // Where nothing is edited these two alone are executed, and 19 are green.
+    Row {
+        terms: BothTerms {
+            first: FIRST_TERMS,
+            second: SECOND_PROFILE,
+        },
+        edit: Edit {
+            file: File("M.java", TWO),
+            edited: TWO,
+        },
+        first: 63,
+        second: 44,
+    },
+    // Of the 26 queries the checks of three classes, all faults of one class and the answer are executed, and 21 are green.
+    Row {
+        terms: BothTerms {
+            first: FIRST_TERMS,
+            second: SECOND_PROFILE,
+        },
+        edit: COVARIANT_EDIT,
+        first: 78,
+        second: 57,
+    },
+    Row {
+        terms: BothTerms {
+            first: SECOND_PROFILE,
+            second: SECOND_FORM,
+        },
+        edit: COVARIANT_EDIT,
+        first: 78,
+        second: 57,
+    },
+];
+
 /// Whether the history has so many events, and all are counted.
 fn has_events(made: &Made, count: usize) -> bool {
     made.history == count && made.events == count
 }
 
-/// Whether the sessions are those of one worker, and all events are counted. Of the 21 queries all are executed, three events
-/// for each; then ten are, and eleven are green, two events for each.
-fn are_alike(made: &(Made, Made), alone: &(Made, Made)) -> bool {
-    made.0 == alone.0 && made.1 == alone.1 && has_events(&made.0, 63) && has_events(&made.1, 52)
+/// Whether the sessions are those of one worker, and all events are counted.
+fn are_alike(made: &(Made, Made), alone: &(Made, Made), row: &Row) -> bool {
+    made.0 == alone.0
+        && made.1 == alone.1
+        && has_events(&made.0, row.first)
+        && has_events(&made.1, row.second)
 }
 
 /// Whether so many workers make sessions with just the files that one makes.
 fn are_same<T: Threads + Wait + Sync>(
     rt: &T,
     alloc: Global,
+    row: &Row,
     workers: usize,
 ) -> Result<bool, Unfit> {
-    let alone = made_by(rt, alloc, &EDIT, 1)?;
-    let made = made_by(rt, alloc, &EDIT, workers)?;
-    Ok(are_alike(&made, &alone))
+    let alone = made_by(rt, alloc, row.terms, &row.edit, 1)?;
+    let made = made_by(rt, alloc, row.terms, &row.edit, workers)?;
+    Ok(are_alike(&made, &alone, row))
 }
 
 #[test]
 fn workers_make_the_same_files(rt: HostRuntime) {
-    for workers in [1, 2, 8, 64] {
-        assert!(rt; are_same(&rt, rt.alloc(), workers) == Ok(true));
+    for row in ROWS {
+        for workers in [1, 2, 8, 64] {
+            assert!(rt;
+                are_same(&rt, rt.alloc(), row, workers) == Ok(true),
+                "{workers}"
+            );
+        }
     }
 }
 
@@ -101,13 +210,13 @@ fn are_counted<T: Threads + Wait + Sync>(
     workers: usize,
     others: &(Made, Made),
 ) -> Result<bool, Unfit> {
-    let made = made_of_empty_classes(rt, alloc, EMPTY_CLASSES, workers)?;
+    let made = made_of_empty_classes(rt, alloc, ALIKE, EMPTY_CLASSES, workers)?;
     Ok(are_as_counted(&made, others))
 }
 
 #[test]
 fn workers_count_each_event(rt: HostRuntime) -> Result<(), Unfit> {
-    let by_one = made_of_empty_classes(&rt, rt.alloc(), EMPTY_CLASSES, 1)?;
+    let by_one = made_of_empty_classes(&rt, rt.alloc(), ALIKE, EMPTY_CLASSES, 1)?;
     for workers in [1, 2, 8, 64] {
         assert!(rt;
             are_counted(&rt, rt.alloc(), workers, &by_one) == Ok(true),
@@ -216,6 +325,12 @@ fn left_out_jobs_are_done(rt: HostRuntime) {
     }
 }
 
+/// The second session is of the other profile and in form 2.
+const ACROSS: BothTerms = BothTerms {
+    first: SECOND_PROFILE,
+    second: SECOND_FORM,
+};
+
 /// Of so many classes is the project whose runs are held.
 const CLASSES: usize = 40;
 
@@ -229,30 +344,45 @@ fn have_files_of(made: &(Made, Made), others: &(Made, Made)) -> bool {
         && made.1.events == made.1.history
 }
 
-/// Whether the sessions of a project of many classes, made by so many workers whose runs are held as this seed decides, have
-/// the files of these.
+/// Whether the sessions of a project of many classes, each of its terms, made by so many workers whose runs are held as this
+/// seed decides, have the files of these.
 fn are_held_same<T: Threads + Wait + Sync>(
     rt: &T,
     alloc: Global,
+    terms: BothTerms,
     workers: usize,
     seed: u64,
     others: &(Made, Made),
 ) -> Result<bool, Unfit> {
-    let made = made_while_held(rt, alloc, CLASSES, workers, seed)?;
+    let made = made_while_held(rt, alloc, terms, CLASSES, workers, seed)?;
     Ok(have_files_of(&made, others))
+}
+
+/// Whether the files of these terms are the same by so many workers as by one, however long their runs are held.
+fn are_same_while_held<T: Threads + Wait + Sync>(
+    rt: &T,
+    alloc: Global,
+    terms: BothTerms,
+    workers: usize,
+) -> Result<bool, Unfit> {
+    let by_one = made_while_held(rt, alloc, terms, CLASSES, 1, 0)?;
+    for seed in SEEDS {
+        if !are_held_same(rt, alloc, terms, workers, seed, &by_one)? {
+            return Ok(false);
+        }
+    }
+    Ok(true)
 }
 
 /// The files are the same however long runs are held.
 #[test]
-fn held_workers_make_the_same_files(rt: HostRuntime) -> Result<(), Unfit> {
-    let by_one = made_while_held(&rt, rt.alloc(), CLASSES, 1, 0)?;
-    for seed in SEEDS {
+fn held_workers_make_the_same_files(rt: HostRuntime) {
+    for terms in [ALIKE, ACROSS] {
         for workers in [1, 2, 3, 8, 64] {
             assert!(rt;
-                are_held_same(&rt, rt.alloc(), workers, seed, &by_one) == Ok(true),
-                "{workers} workers, seed {seed}"
+                are_same_while_held(&rt, rt.alloc(), terms, workers) == Ok(true),
+                "{workers} workers"
             );
         }
     }
-    Ok(())
 }

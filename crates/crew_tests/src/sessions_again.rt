@@ -1,13 +1,94 @@
-//! Sessions that are refused memory, and made again.
+//! Sessions that are refused memory, and made again, and what a gate is told meanwhile.
 
 use crate::texts::ONE;
+use profiles::Profile;
 use session_fixtures::FIRST;
+use sessions::{Form, Terms};
+use std::alloc::Global;
+use std::sync::Wait;
 use std::test::*;
-use worker_fixtures::run_again;
+use std::thread::Threads;
+use table_fixtures::Change;
+use worker_fixtures::{ends_are_told_once, run_again};
+
+/// Sessions of the class that prints 1, one over the other: all ten queries are executed; in form 2 all are green; in
+/// profile 2 the check of the class is executed again; in profile 1 and form 2 it is once more.
+static CHAIN: [Change; 4] = [
+    Change {
+        terms: Terms {
+            profile: Profile::One,
+            form: Form::One,
+        },
+        records: FIRST,
+        executed: &[2, 3, 4, 5, 6, 7, 8, 9, 10, 11],
+        others: &[],
+    },
+    Change {
+        terms: Terms {
+            profile: Profile::One,
+            form: Form::Two,
+        },
+        records: FIRST,
+        executed: &[],
+        others: &[],
+    },
+    Change {
+        terms: Terms {
+            profile: Profile::Two,
+            form: Form::One,
+        },
+        records: FIRST,
+        executed: &[8],
+        others: &[],
+    },
+    Change {
+        terms: Terms {
+            profile: Profile::One,
+            form: Form::Two,
+        },
+        records: FIRST,
+        executed: &[8],
+        others: &[],
+    },
+];
+
+/// Whether the session of this number is made by 1, 2, 8 and 64 workers, and again where memory was refused.
+fn is_made_again<T: Threads + Wait + Sync>(rt: &T, alloc: Global, number: usize) -> bool {
+    let (Some(behind), Some(change)) = (CHAIN.get(..number), CHAIN.get(number)) else {
+        return false;
+    };
+    for workers in [1, 2, 8, 64] {
+        if run_again(rt, alloc, ONE, behind, change, workers) != Ok(true) {
+            return false;
+        }
+    }
+    true
+}
 
 #[test]
 fn sessions_are_made_again(rt: HostRuntime) {
+    assert!(rt; is_made_again(&rt, rt.alloc(), 0));
+}
+
+#[test]
+fn sessions_of_form_2_are_made_again(rt: HostRuntime) {
+    assert!(rt; is_made_again(&rt, rt.alloc(), 1));
+}
+
+#[test]
+fn sessions_over_another_profile_are_made_again(rt: HostRuntime) {
+    assert!(rt; is_made_again(&rt, rt.alloc(), 2));
+}
+
+#[test]
+fn sessions_of_form_2_over_another_profile_are_made_again(rt: HostRuntime) {
+    assert!(rt; is_made_again(&rt, rt.alloc(), 3));
+}
+
+/// Ten queries are run.
+#[test]
+fn a_gate_is_told_of_each_end_once(rt: HostRuntime) {
     for workers in [1, 2, 8] {
-        assert!(rt; run_again(&rt, rt.alloc(), ONE, FIRST, workers) == Ok(true));
+        assert!(rt; ends_are_told_once(&rt, rt.alloc(), ONE, workers, 10) == Ok(true));
     }
 }

@@ -1,20 +1,42 @@
-//! Sessions of one class whose text is edited, by their records.
+//! Sessions of one class, by their records: its text is edited, or the terms change.
 
+use profiles::Profile;
 use session_fixtures::FIRST;
+use sessions::{Form, Terms};
 use table_fixtures::{Change, Other};
 
 /// The text of the file of the first session.
 pub(crate) const ONE: &str =
     "class M { public static void main(String[] a) { System.out.println(1); } }";
 
+/// Profile 1 and form 1.
+pub(crate) const FIRST_TERMS: Terms = Terms {
+    profile: Profile::One,
+    form: Form::One,
+};
+
+/// Profile 1 and form 2.
+const SECOND_FORM: Terms = Terms {
+    profile: Profile::One,
+    form: Form::Two,
+};
+
+/// Profile 2 and form 2.
+const SECOND_TERMS: Terms = Terms {
+    profile: Profile::Two,
+    form: Form::Two,
+};
+
 /// What the class prints is edited, and edited back: 22 runs.
 static THERE_AND_BACK: [Change; 3] = [
     Change {
+        terms: FIRST_TERMS,
         records: FIRST,
         executed: &[2, 3, 4, 5, 6, 7, 8, 9, 10, 11],
         others: &[],
     },
     Change {
+        terms: FIRST_TERMS,
         records: FIRST,
         executed: &[2, 3, 4, 5, 9, 11],
         others: &[
@@ -33,6 +55,7 @@ static THERE_AND_BACK: [Change; 3] = [
         ],
     },
     Change {
+        terms: FIRST_TERMS,
         records: FIRST,
         executed: &[2, 3, 4, 5, 9, 11],
         others: &[],
@@ -43,6 +66,73 @@ static THERE_AND_BACK: [Change; 3] = [
 /// such a list writes it out, which is expensive to prove.
 pub(crate) fn there_and_back() -> &'static [Change; 3] {
     &THERE_AND_BACK
+}
+
+/// Nothing is edited in three sessions of form 2: the ten queries are run in the first one alone.
+static IN_FORM_2: [Change; 3] = [
+    Change {
+        terms: SECOND_FORM,
+        records: FIRST,
+        executed: &[2, 3, 4, 5, 6, 7, 8, 9, 10, 11],
+        others: &[],
+    },
+    Change {
+        terms: SECOND_FORM,
+        records: FIRST,
+        executed: &[],
+        others: &[],
+    },
+    Change {
+        terms: SECOND_FORM,
+        records: FIRST,
+        executed: &[],
+        others: &[],
+    },
+];
+
+/// Nothing is edited in five sessions of both profiles and both forms: the ten queries are run in the first one, and the
+/// check of the class in each that is of another profile than the one before it.
+static MIXED: [Change; 5] = [
+    Change {
+        terms: FIRST_TERMS,
+        records: FIRST,
+        executed: &[2, 3, 4, 5, 6, 7, 8, 9, 10, 11],
+        others: &[],
+    },
+    Change {
+        terms: SECOND_TERMS,
+        records: FIRST,
+        executed: &[8],
+        others: &[],
+    },
+    Change {
+        terms: SECOND_TERMS,
+        records: FIRST,
+        executed: &[],
+        others: &[],
+    },
+    Change {
+        terms: FIRST_TERMS,
+        records: FIRST,
+        executed: &[8],
+        others: &[],
+    },
+    Change {
+        terms: SECOND_FORM,
+        records: FIRST,
+        executed: &[],
+        others: &[],
+    },
+];
+
+/// The sessions of form 2.
+pub(crate) fn in_form_2() -> &'static [Change; 3] {
+    &IN_FORM_2
+}
+
+/// The sessions of both profiles and both forms.
+pub(crate) fn mixed() -> &'static [Change; 5] {
+    &MIXED
 }
 
 /// The first of these sessions: all ten queries are executed.

@@ -1,6 +1,6 @@
 //! The calls of tables, each made again where it is refused memory.
 
-use crate::chains::{ONE, executed, green, one_session};
+use crate::chains::{FIRST_TERMS, ONE, executed, green, one_session};
 use answer_fixtures::Asked;
 use item_ids::Kind;
 use job_table::{CloseFault, TableFault};
@@ -79,6 +79,7 @@ static FAILED: [Saying; 7] = [
 /// memory.
 fn are_answered(alloc: Global, chain: &'static [Change], sayings: &'static [Saying]) -> bool {
     let calls = Calls {
+        terms: FIRST_TERMS,
         chain,
         text: ONE,
         sayings,

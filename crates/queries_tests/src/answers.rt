@@ -2,6 +2,7 @@
 
 use answer_fixtures::{Asked, Unfit};
 use item_ids::Kind;
+use profiles::Profile;
 use query_fixtures::{Row, is_right};
 use run_fixtures::Given;
 use std::alloc::Global;
@@ -101,12 +102,17 @@ pub const ANSWER_OF_ONE: Given<'static> = Given(
     "0c00000000000000000000000000000001014d000000000000000000000000000000000000000000000000",
 );
 
-/// Whether each of the cases is right.
-pub(crate) fn are_right(alloc: Global, rows: &[Row]) -> Result<bool, Unfit> {
+/// Whether each of the cases is right in a profile.
+pub(crate) fn are_right_in(alloc: Global, profile: Profile, rows: &[Row]) -> Result<bool, Unfit> {
     for row in rows {
-        if !is_right(alloc, *row)? {
+        if !is_right(alloc, profile, *row)? {
             return Ok(false);
         }
     }
     Ok(true)
+}
+
+/// Whether each of the cases is right in profile 1.
+pub(crate) fn are_right(alloc: Global, rows: &[Row]) -> Result<bool, Unfit> {
+    are_right_in(alloc, Profile::One, rows)
 }

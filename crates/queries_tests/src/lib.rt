@@ -6,6 +6,8 @@ mod answers;
 #[cfg(test)]
 mod bodies;
 #[cfg(test)]
+mod overrides;
+#[cfg(test)]
 mod projects;
 #[cfg(test)]
 mod tables;

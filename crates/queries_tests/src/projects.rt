@@ -8,6 +8,7 @@ use crate::answers::{
 };
 use answer_fixtures::{Asked, Unfit};
 use item_ids::Kind;
+use profiles::Profile;
 use query_fixtures::{Row, brings_each, is_answer, is_lacking};
 use recorder::ReadFault;
 use run_fixtures::{Given, Kept};
@@ -324,7 +325,7 @@ fn is_refused_each(alloc: Global, row: &Row) -> Result<bool, Unfit> {
             fault: Some(ReadFault::NotHeld),
             refused: Some(next.0),
         };
-        if !is_lacking(alloc, row.query.0, kept)? {
+        if !is_lacking(alloc, Profile::One, row.query.0, kept)? {
             return Ok(false);
         }
     }
@@ -343,7 +344,7 @@ fn are_refused_each(alloc: Global, rows: &[Row]) -> Result<bool, Unfit> {
 
 #[test]
 fn reads_that_are_refused(rt: HostRuntime) -> Result<(), Fail> {
-    assert!(rt; is_lacking(rt.alloc(), BODY_MAIN.0, LACKING_MEMBERS)?);
+    assert!(rt; is_lacking(rt.alloc(), Profile::One, BODY_MAIN.0, LACKING_MEMBERS)?);
     for rows in &rows_of_two() {
         assert!(rt; are_refused_each(rt.alloc(), rows)?);
     }

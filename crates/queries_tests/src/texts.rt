@@ -3,6 +3,7 @@
 use crate::answers::{FILE_A, NO_HEADER_A, NO_HEADER_B, NO_TREE, are_right};
 use answer_fixtures::Asked;
 use item_ids::Kind;
+use profiles::Profile;
 use query_fixtures::{Row, is_lacking};
 use recorder::ReadFault;
 use run_fixtures::{Given, Kept};
@@ -143,7 +144,7 @@ static LACKING: [(Asked, Kept); 2] = [
 #[test]
 fn trees_that_are_refused(rt: HostRuntime) -> Result<(), Fail> {
     for (query, kept) in &LACKING {
-        assert!(rt; is_lacking(rt.alloc(), *query, *kept)?);
+        assert!(rt; is_lacking(rt.alloc(), Profile::One, *query, *kept)?);
     }
     Ok(())
 }

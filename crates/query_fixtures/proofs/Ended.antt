@@ -3,6 +3,7 @@ use Rattle.std.proofs.Common.{List, Bool, IsTrue, IfOk}
 use Rattle.std.specs.Prelude.{Result, Ok, Err, ◌↔◌}
 use Rattle.item_ids.specs.declared.key.Key.{Key}
 use Rattle.result_bytes.specs.declared.value.Value.{Value}
+use Rattle.profiles.specs.declared.profile.Profile.{Profile}
 use Rattle.recorder.specs.Recording.{Recording}
 use Rattle.recorder.specs.Runs.{IsRun}
 use Rattle.recorder.specs.declared.runner.RunFault.{RunFault}
@@ -13,9 +14,9 @@ use Rattle.run_fixtures.specs.declared.reads.Given.{Given}
 use Rattle.run_fixtures.specs.Reading.{ComesTo}
 use Rattle.query_fixtures.specs.Rows.{IsRunOf}
 
-ended : {D : Type 0} (query : Given) (given : List Given) (key : Key) (r : Recording D) (result : Result Value RunFault)
-    → IsKeyOf query.0 key → IsRun mean reads key r result → ComesTo query.1.now given result r.told → IsRunOf query given
-ended query given key r (Ok v) of_key run came = record {
+ended : {D : Type 0} (profile : Profile) (query : Given) (given : List Given) (key : Key) (r : Recording D) (result : Result Value RunFault)
+    → IsKeyOf query.0 key → IsRun (mean profile) (reads profile) key r result → ComesTo query.1.now given result r.told → IsRunOf profile query given
+ended profile query given key r (Ok v) of_key run came = record {
   key = key;
   of_key = of_key;
   told = r.told;
@@ -24,11 +25,18 @@ ended query given key r (Ok v) of_key run came = record {
   of_digits = came.value;
   backed = run.backed;
 }
-ended query given key r (Err e) of_key run came = absurd came.value
+ended profile query given key r (Err e) of_key run came = absurd came.value
 
 -- a run that comes to what the case says is a run of it
-pub come : {D E : Type 0} (query : Given) (given : List Given) (key : Key) (r : Recording D) (result : Result Value RunFault) (yes : Result Bool E)
-    → IsKeyOf query.0 key → IsRun mean reads key r result → IfOk yes (λ b. IsTrue b ↔ ComesTo query.1.now given result r.told)
-    → IfOk yes (λ b. IsTrue b → IsRunOf query given)
-come query given key r result (Ok b) of_key run came = λ is. ended query given key r result of_key run (came.0 is)
-come query given key r result (Err e) of_key run came = tt
+pub come : {D E : Type 0} (profile : Profile) (query : Given) (given : List Given) (key : Key) (r : Recording D) (result : Result Value RunFault) (yes : Result Bool E)
+    → IsKeyOf query.0 key → IsRun (mean profile) (reads profile) key r result → IfOk yes (λ b. IsTrue b ↔ ComesTo query.1.now given result r.told)
+    → IfOk yes (λ b. IsTrue b → IsRunOf profile query given)
+come profile query given key r result (Ok b) of_key run came = λ is. ended profile query given key r result of_key run (came.0 is)
+come profile query given key r result (Err e) of_key run came = tt
+
+-- the same of what is a run in every profile
+pub come_in_each : {D E : Type 0} (query : Given) (given : List Given) (key : Key) (r : Recording D) (result : Result Value RunFault) (yes : Result Bool E)
+    → IsKeyOf query.0 key → ((profile : Profile) → IsRun (mean profile) (reads profile) key r result) → IfOk yes (λ b. IsTrue b ↔ ComesTo query.1.now given result r.told)
+    → IfOk yes (λ b. IsTrue b → (profile : Profile) → IsRunOf profile query given)
+come_in_each query given key r result (Ok b) of_key run came = λ is profile. ended profile query given key r result of_key (run profile) (came.0 is)
+come_in_each query given key r result (Err e) of_key run came = tt

@@ -1,7 +1,8 @@
-//! A driver of queries: it runs what is asked of a project and keeps each result by its key, with no session and no table
+//! A driver of queries: it runs what is asked of a project in profile 1 and keeps each result by its key, with no session and no table
 //! of jobs.
 ghost use Rattle.std.specs.Prelude.{◌≡◌, IfOk};
 ghost use Rattle.std.specs.Arc.{arc_value};
+ghost use Rattle.profiles.specs.declared.profile.Profile.TheVariants.{One};
 
 use crate::steps::take_step;
 use fingerprint::Sealed;
@@ -12,7 +13,7 @@ use std::alloc::{AllocError, Global};
 use std::marker::Model;
 use std::sync::Arc;
 
-/// Evaluates queries of a project without a session. The run of a query is repeated for each key that it reads and
+/// Evaluates queries of a project in profile 1 without a session. The run of a query is repeated for each key that it reads and
 /// whose result isn't held yet. Contracts see the project.
 #[derive(Drop)]
 pub struct Driver<R: Runner> {
@@ -24,6 +25,7 @@ pub struct Driver<R: Runner> {
 
 impl<R: Runner> Model for Driver<R> {
     ghost use Rattle.mj_project.specs.Projects.{IsProject};
+    ghost use Rattle.profiles.specs.declared.profile.Profile.TheVariants.{One};
     ghost use Rattle.recorder.specs.Backed.{GivesEach};
     ghost use Rattle.recorder.specs.Projects.{Project};
 
@@ -31,7 +33,7 @@ impl<R: Runner> Model for Driver<R> {
 
     ghost view = { λ d. d.inputs };
 
-    ghost invariant = { λ d. IsProject d.inputs × GivesEach (R.mean d.inputs) d.held };
+    ghost invariant = { λ d. IsProject d.inputs × GivesEach (R.queries.mean One d.inputs) d.held };
 }
 
 impl<R: Runner> Driver<R> {
@@ -51,7 +53,7 @@ impl<R: Runner> Driver<R> {
 
     /// The result of a key, which is what the runner means by it in this project.
     pub fn result(&mut self, key: &Key) -> Result<Arc<Sealed>, RunFault>
-        ensures result { IfOk result (λ a. arc_value a ≡ R.mean self.old key.now) }
+        ensures result { IfOk result (λ a. arc_value a ≡ R.queries.mean One self.old key.now) }
         ensures same { self.new ≡ self.old }
     {
         self.bring(key)?;

@@ -1,6 +1,7 @@
-//! Results of MiniJava's queries, evaluated by a driver.
+//! Results of MiniJava's queries in profile 1, evaluated by a driver.
 ghost use Rattle.std.specs.Prelude.{◌≡◌, IsTrue, IfOk, All};
 ghost use Rattle.result_bytes.specs.Values.{canon};
+ghost use Rattle.profiles.specs.declared.profile.Profile.TheVariants.{One};
 ghost use Rattle.query_rules.specs.Meaning.{mean};
 ghost use Rattle.answer_fixtures.specs.Telling.{Tell, one_file};
 ghost use Rattle.query_fixtures.specs.Rows.{Means, IsAnswerTold};
@@ -39,7 +40,7 @@ fn comes_to(
     digits: &str,
 ) -> Result<bool, Unfit>
     ensures told { IfOk result (λ b. IsTrue b
-        → Tell digits.now (canon (mean driver.old key.now))) }
+        → Tell digits.now (canon (mean One driver.old key.now))) }
     ensures same { driver.new ≡ driver.old }
 {
     match driver.result(key) {
@@ -50,7 +51,7 @@ fn comes_to(
 
 /// Whether the driver evaluates the key that is given to its result.
 fn brings(alloc: Global, driver: &mut Driver<MiniJava>, wanted: Given) -> Result<bool, Unfit>
-    ensures told { IfOk result (λ b. IsTrue b → Means driver.old wanted.entry) }
+    ensures told { IfOk result (λ b. IsTrue b → Means One driver.old wanted.entry) }
     ensures same { driver.new ≡ driver.old }
 {
     let key = key_of(alloc, wanted.0)?;
@@ -60,7 +61,7 @@ fn brings(alloc: Global, driver: &mut Driver<MiniJava>, wanted: Given) -> Result
 /// Whether the driver evaluates each case's query to its value.
 fn brings_all(alloc: Global, driver: &mut Driver<MiniJava>, rows: &[Row]) -> Result<bool, Unfit>
     ensures { IfOk result (λ b. IsTrue b
-        → All (λ row. Means driver.old row.query) rows.now) }
+        → All (λ row. Means One driver.old row.query) rows.now) }
 {
     for row in rows {
         if !brings(alloc, driver, row.query)? {
@@ -73,7 +74,7 @@ fn brings_all(alloc: Global, driver: &mut Driver<MiniJava>, rows: &[Row]) -> Res
 /// Whether one driver of the project of one file, `M.java` with this text, evaluates each case's query to its value.
 pub fn brings_each(alloc: Global, text: &str, rows: &[Row]) -> Result<bool, Unfit>
     ensures { IfOk result (λ b. IsTrue b
-        → All (λ row. Means (one_file text.now) row.query) rows.now) }
+        → All (λ row. Means One (one_file text.now) row.query) rows.now) }
 {
     let mut driver = driver_of(alloc, text)?;
     brings_all(alloc, &mut driver, rows)
@@ -82,7 +83,7 @@ pub fn brings_each(alloc: Global, text: &str, rows: &[Row]) -> Result<bool, Unfi
 /// Whether a driver of the project of one file, `M.java` with this text, evaluates Answer to the result that these
 /// digits spell.
 pub fn is_answer(alloc: Global, text: &str, digits: &str) -> Result<bool, Unfit>
-    ensures { IfOk result (λ b. IsTrue b → IsAnswerTold (one_file text.now) digits.now) }
+    ensures { IfOk result (λ b. IsTrue b → IsAnswerTold One (one_file text.now) digits.now) }
 {
     let mut driver = driver_of(alloc, text)?;
     comes_to(alloc, &mut driver, &Key::Answer, digits)

@@ -2,6 +2,7 @@
 ghost use Rattle.std.specs.Prelude.{◌≡◌, ◌<◌, IsTrue, IfOk};
 ghost use Rattle.item_ids.specs.Keys.{kind_of};
 ghost use Rattle.item_ids.specs.declared.kind.Kind.TheVariants.{CheckBody};
+ghost use Rattle.profiles.specs.declared.profile.Profile.{Profile};
 ghost use Rattle.recorder.specs.Backed.{rank as rank_of};
 ghost use Rattle.answer_fixtures.specs.Telling.{IsKeyOf};
 ghost use Rattle.query_fixtures.specs.Rows.{IsRunOf, IsLackingRun};
@@ -9,6 +10,7 @@ ghost use Rattle.query_fixtures.specs.Rows.{IsRunOf, IsLackingRun};
 use answer_fixtures::{Asked, Unfit, is_key, key_of};
 use body_query::check_body;
 use item_ids::{Key, Kind, rank};
+use profiles::Profile;
 use providers::MiniJava;
 use recorder::{AnswerList, Recorder, Runner};
 use run_fixtures::{Given, Kept, comes_to, list_of, wants};
@@ -42,16 +44,17 @@ fn has_logged(runner: &MiniJava, asked: Asked) -> bool {
 fn is_run(
     alloc: Global,
     runner: &mut MiniJava,
+    profile: Profile,
     key: &Key,
     list: AnswerList,
     row: Row,
 ) -> Result<bool, Unfit>
     requires no_input { 0 < rank_of key.now }
     requires told { IsKeyOf row.query.0 key.now }
-    ensures { IfOk result (λ b. IsTrue b → IsRunOf row.entry.query row.entry.reads.now) }
+    ensures { IfOk result (λ b. IsTrue b → IsRunOf profile row.entry.query row.entry.reads.now) }
 {
     let mut recorder = Recorder::new(alloc, list);
-    let result = runner.run(alloc, key, &mut recorder);
+    let result = runner.run(alloc, profile, key, &mut recorder);
     let is_right = comes_to(alloc, result, recorder, row.query.1, row.reads);
     if has_logged(runner, row.query.0) {
         is_right
@@ -61,22 +64,22 @@ fn is_run(
 }
 
 /// Whether the key's run over the case's answers reads just them, in their order, comes to the value, and is logged.
-fn is_right_of(alloc: Global, key: &Key, row: Row) -> Result<bool, Unfit>
+fn is_right_of(alloc: Global, profile: Profile, key: &Key, row: Row) -> Result<bool, Unfit>
     requires no_input { 0 < rank_of key.now }
     requires told { IsKeyOf row.query.0 key.now }
-    ensures { IfOk result (λ b. IsTrue b → IsRunOf row.entry.query row.entry.reads.now) }
+    ensures { IfOk result (λ b. IsTrue b → IsRunOf profile row.entry.query row.entry.reads.now) }
 {
     let list = list_of(alloc, row.reads)?;
     let mut runner = MiniJava::new(alloc);
-    is_run(alloc, &mut runner, key, list, row)
+    is_run(alloc, &mut runner, profile, key, list, row)
 }
 
-/// Whether the case's query, run over its answers, reads just them, in their order, comes to its value, and is logged.
-pub fn is_right(alloc: Global, row: Row) -> Result<bool, Unfit>
-    ensures { IfOk result (λ b. IsTrue b → IsRunOf row.entry.query row.entry.reads.now) }
+/// Whether the case's query, run in a profile over its answers, reads just them, in their order, comes to its value, and is logged.
+pub fn is_right(alloc: Global, profile: Profile, row: Row) -> Result<bool, Unfit>
+    ensures { IfOk result (λ b. IsTrue b → IsRunOf profile row.entry.query row.entry.reads.now) }
 {
     let key = query_of(alloc, row.query.0)?;
-    is_right_of(alloc, &key, row)
+    is_right_of(alloc, profile, &key, row)
 }
 
 /// Whether the runner's run over the list is refused an answer that isn't there and is logged, and its recorder keeps
@@ -84,6 +87,7 @@ pub fn is_right(alloc: Global, row: Row) -> Result<bool, Unfit>
 fn is_refused(
     alloc: Global,
     runner: &mut MiniJava,
+    profile: Profile,
     key: &Key,
     list: AnswerList,
     query: Asked,
@@ -91,10 +95,10 @@ fn is_refused(
 ) -> Result<bool, Unfit>
     requires no_input { 0 < rank_of key.now }
     requires told { IsKeyOf query key.now }
-    ensures { IfOk result (λ b. IsTrue b → IsLackingRun query.entry kept.entry) }
+    ensures { IfOk result (λ b. IsTrue b → IsLackingRun profile query.entry kept.entry) }
 {
     let mut recorder = Recorder::new(alloc, list);
-    let result = runner.run(alloc, key, &mut recorder);
+    let result = runner.run(alloc, profile, key, &mut recorder);
     let is_kept = wants(alloc, result, recorder, kept);
     if has_logged(runner, query) {
         is_kept
@@ -104,29 +108,36 @@ fn is_refused(
 }
 
 /// Whether the key's run over the answers that are kept is refused another one, and is logged.
-fn is_lacking_of(alloc: Global, key: &Key, query: Asked, kept: Kept) -> Result<bool, Unfit>
+fn is_lacking_of(
+    alloc: Global,
+    profile: Profile,
+    key: &Key,
+    query: Asked,
+    kept: Kept,
+) -> Result<bool, Unfit>
     requires no_input { 0 < rank_of key.now }
     requires told { IsKeyOf query key.now }
-    ensures { IfOk result (λ b. IsTrue b → IsLackingRun query.entry kept.entry) }
+    ensures { IfOk result (λ b. IsTrue b → IsLackingRun profile query.entry kept.entry) }
 {
     let list = list_of(alloc, kept.reads)?;
     let mut runner = MiniJava::new(alloc);
-    is_refused(alloc, &mut runner, key, list, query, kept)
+    is_refused(alloc, &mut runner, profile, key, list, query, kept)
 }
 
-/// Whether the run of the query over the answers that are kept is refused another one, and is logged.
-pub fn is_lacking(alloc: Global, query: Asked, kept: Kept) -> Result<bool, Unfit>
-    ensures { IfOk result (λ b. IsTrue b → IsLackingRun query.entry kept.entry) }
+/// Whether the run of the query in a profile over the answers that are kept is refused another one, and is logged.
+pub fn is_lacking(alloc: Global, profile: Profile, query: Asked, kept: Kept) -> Result<bool, Unfit>
+    ensures { IfOk result (λ b. IsTrue b → IsLackingRun profile query.entry kept.entry) }
 {
     let key = query_of(alloc, query)?;
-    is_lacking_of(alloc, &key, query, kept)
+    is_lacking_of(alloc, profile, &key, query, kept)
 }
 
 /// Whether the check of the body over the list reads just the case's answers, in their order, and comes to the value.
 fn is_body_check(alloc: Global, key: &Key, list: AnswerList, row: Row) -> Result<bool, Unfit>
     requires body { kind_of key.now ≡ CheckBody }
     requires told { IsKeyOf row.query.0 key.now }
-    ensures { IfOk result (λ b. IsTrue b → IsRunOf row.entry.query row.entry.reads.now) }
+    ensures { IfOk result (λ b. IsTrue b → (profile : Profile)
+        → IsRunOf profile row.entry.query row.entry.reads.now) }
 {
     let mut recorder = Recorder::new(alloc, list);
     let result = check_body(alloc, key, &mut recorder);
@@ -137,7 +148,8 @@ fn is_body_check(alloc: Global, key: &Key, list: AnswerList, row: Row) -> Result
 /// the value.
 fn is_checked_of(alloc: Global, key: &Key, row: Row) -> Result<bool, Unfit>
     requires { IsKeyOf row.query.0 key.now }
-    ensures { IfOk result (λ b. IsTrue b → IsRunOf row.entry.query row.entry.reads.now) }
+    ensures { IfOk result (λ b. IsTrue b → (profile : Profile)
+        → IsRunOf profile row.entry.query row.entry.reads.now) }
 {
     if key.kind() != Kind::CheckBody {
         return Err(Unfit);
@@ -149,7 +161,8 @@ fn is_checked_of(alloc: Global, key: &Key, row: Row) -> Result<bool, Unfit>
 /// Whether the case's query is one of a body, and its check without a runner, over the case's answers, reads just them,
 /// in their order, and comes to its value.
 pub fn is_checked(alloc: Global, row: Row) -> Result<bool, Unfit>
-    ensures { IfOk result (λ b. IsTrue b → IsRunOf row.entry.query row.entry.reads.now) }
+    ensures { IfOk result (λ b. IsTrue b → (profile : Profile)
+        → IsRunOf profile row.entry.query row.entry.reads.now) }
 {
     let key = query_of(alloc, row.query.0)?;
     is_checked_of(alloc, &key, row)

@@ -1,14 +1,16 @@
-//! Steps: one run of a query over what is held.
+//! Steps: one run of a query in profile 1 over what is held.
 ghost use Rattle.std.specs.Prelude.{◌≡◌, ◌<◌, [], None, IfOk};
 ghost use Rattle.recorder.specs.Backed.{rank as rank_of, GivesEach};
 ghost use Rattle.item_ids.specs.declared.key.Key.{Key};
 ghost use Rattle.result_bytes.specs.declared.value.Value.{Value};
 ghost use Rattle.mj_project.specs.Projects.{IsProject};
+ghost use Rattle.profiles.specs.declared.profile.Profile.TheVariants.{One};
 ghost use Rattle.recorder.specs.Projects.{Project};
 ghost use Rattle.query_fixtures.specs.Steps.{IsStepOf};
 
 use fingerprint::Sealed;
 use item_ids::Key;
+use profiles::Profile;
 use project_inputs::Inputs;
 use recorder::{AnswerList, ReadFault, Recorder, RunFault, Runner, record};
 use std::alloc::Global;
@@ -45,10 +47,10 @@ fn run_once<R: Runner>(
     requires unread { recorder.old.told ≡ [] }
     requires unrefused { recorder.old.refused ≡ None }
     ensures same { recorder.new.inner ≡ recorder.old.inner }
-    ensures means { (p : Project) → IsProject p → GivesEach (R.mean p) recorder.old.inner
-        → IfOk result (IsStepOf (R.mean p) key.now) }
+    ensures means { (p : Project) → IsProject p → GivesEach (R.queries.mean One p) recorder.old.inner
+        → IfOk result (IsStepOf (R.queries.mean One p) key.now) }
 {
-    match record(alloc, runner, key, recorder) {
+    match record(alloc, runner, Profile::One, key, recorder) {
         Ok(outcome) => {
             recorder.reads();
             Ok(Step::Done(Arc::try_clone(outcome.sealed())?))
@@ -66,8 +68,8 @@ fn run_over<R: Runner>(
 ) -> Result<Step, RunFault>
     requires no_input { 0 < rank_of key.now }
     ensures same { held.new ≡ held.old }
-    ensures means { (p : Project) → IsProject p → GivesEach (R.mean p) held.old
-        → IfOk result (IsStepOf (R.mean p) key.now) }
+    ensures means { (p : Project) → IsProject p → GivesEach (R.queries.mean One p) held.old
+        → IfOk result (IsStepOf (R.queries.mean One p) key.now) }
 {
     let list = mem::replace(held, AnswerList::new(alloc));
     let mut recorder = Recorder::new(alloc, list);
@@ -84,10 +86,10 @@ fn step_of<R: Runner>(
     held: &mut AnswerList,
     key: &Key,
 ) -> Result<Step, RunFault>
-    requires held { GivesEach (R.mean inputs.now) held.old }
+    requires held { GivesEach (R.queries.mean One inputs.now) held.old }
     requires project { IsProject inputs.now }
     ensures same { held.new ≡ held.old }
-    ensures means { IfOk result (IsStepOf (R.mean inputs.now) key.now) }
+    ensures means { IfOk result (IsStepOf (R.queries.mean One inputs.now) key.now) }
 {
     match inputs.get(key) {
         Some(sealed) => Ok(Step::Done(Arc::try_clone(sealed)?)),
@@ -103,9 +105,9 @@ pub fn take_step<R: Runner>(
     held: &mut AnswerList,
     key: &Key,
 ) -> Result<Option<Key>, RunFault>
-    requires held { GivesEach (R.mean inputs.now) held.old }
+    requires held { GivesEach (R.queries.mean One inputs.now) held.old }
     requires project { IsProject inputs.now }
-    ensures held { GivesEach (R.mean inputs.now) held.new }
+    ensures held { GivesEach (R.queries.mean One inputs.now) held.new }
 {
     match step_of(alloc, inputs, runner, held, key)? {
         Step::Done(sealed) => {

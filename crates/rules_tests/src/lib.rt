@@ -8,6 +8,8 @@ mod chains;
 #[cfg(test)]
 mod made;
 #[cfg(test)]
+mod overrides;
+#[cfg(test)]
 mod projects;
 #[cfg(test)]
 mod typing;

@@ -6,6 +6,7 @@ ghost use Rattle.recorder.specs.Runs.{IsOutcome};
 use answer_fixtures::Unfit;
 use fingerprint::Sealed;
 use item_ids::Key;
+use profiles::Profile;
 use recorder::{Outcome, ReadFault, Reader, Recorder, RunFault, Runner, record};
 use std::alloc::Global;
 use std::sync::Arc;
@@ -52,20 +53,23 @@ fn outcome_if<R: Runner>(
     }
 }
 
-/// The outcome of a run over a reader that is lent, which its lender has back. The run has one and refuses no read.
+/// The outcome of a run in a profile over a reader that is lent, which its lender has back. The run has one and refuses no read.
 pub(crate) fn record_over<R: Runner, S: Reader>(
     alloc: Global,
     runner: &mut R,
+    profile: Profile,
     key: &Key,
     store: &mut S,
 ) -> Result<Outcome<R>, Unfit>
     requires no_input { 0 < rank_of key.now }
     ensures key { IfOk result (λ o. o.key ≡ key.now) }
-    ensures outcome { IfOk result (λ o. IsOutcome R.mean R.reads o) }
+    ensures profile { IfOk result (λ o. o.profile ≡ profile) }
+    ensures outcome { IfOk result
+        (λ o. IsOutcome (R.queries.mean profile) (R.queries.reads profile) o) }
     ensures follows { S.follows store.old store.new }
 {
     let mut recorder = Recorder::new(alloc, Lent { store });
-    let outcome = record(alloc, runner, key, &mut recorder);
+    let outcome = record(alloc, runner, profile, key, &mut recorder);
     let is_unrefused = recorder.fault().is_none() && recorder.refused_key().is_none();
     let back = recorder.into_reader();
     let Lent { store: _store } = back;

@@ -14,4 +14,4 @@ pub use counting::{Ask, answers_after, count_after, keeps_after};
 pub use reads::{Given, are_reads, has_read_copy, is_copy_of};
 pub use refusals::{Kept, keeps, leaves, leaves_refused};
 pub use results::{comes_to, wants};
-pub use runs::{gives, gives_over_lent, is_log_empty, outcome_of};
+pub use runs::{gives, gives_over_lent, is_log_empty, outcome_of, tells_profile};

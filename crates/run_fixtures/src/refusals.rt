@@ -12,6 +12,7 @@ use crate::reads::{Given, are_reads};
 use crate::runs::query_of;
 use answer_fixtures::{Asked, Unfit, is_key};
 use item_ids::Key;
+use profiles::Profile;
 use recorder::{ReadFault, Reader, Recorder, RunFault, record};
 use runner_fixtures::{Refusing, SampleRunner};
 use std::alloc::Global;
@@ -73,7 +74,7 @@ fn is_ended<D: Reader>(
     ensures follows { D.follows recorder.old.inner recorder.new.inner }
 {
     let mut runner = SampleRunner::new(alloc);
-    let end = record(alloc, &mut runner, key, recorder).err();
+    let end = record(alloc, &mut runner, Profile::One, key, recorder).err();
     end == Some(RunFault::Read(fault)) && is_logged(runner.log(), asked)
 }
 

@@ -1,6 +1,5 @@
 //! What a query's program does over a list of answers.
 ghost use Rattle.std.specs.Prelude.{◌≡◌, ◌↔◌, IsTrue, IfOk};
-ghost use Rattle.std.specs.Arc.{arc_value};
 ghost use Rattle.result_bytes.specs.Values.{canon};
 ghost use Rattle.answer_fixtures.specs.Telling.{Tell};
 ghost use Rattle.run_fixtures.specs.Reading.{ComesTo, Wants};
@@ -8,24 +7,16 @@ ghost use Rattle.run_fixtures.specs.Reading.{ComesTo, Wants};
 use crate::reads::{Given, are_reads};
 use crate::refusals::{Kept, keeps};
 use answer_fixtures::{Unfit, is_spelled};
-use fingerprint::{Sealed, seal};
+use fingerprint::seal;
 use recorder::{AnswerList, ReadFault, Recorder, RunFault};
 use result_bytes::Value;
-use std::alloc::{AllocError, Global};
-use std::sync::Arc;
-
-/// The value, sealed and shared.
-fn share(alloc: Global, value: Value) -> Result<Arc<Sealed>, AllocError>
-    ensures { IfOk result (λ sealed. arc_value sealed ≡ value) }
-{
-    Ok(Arc::new(alloc, seal(alloc, value)?)?)
-}
+use std::alloc::Global;
 
 /// Whether the digits spell the value.
 fn has_digits(alloc: Global, value: Value, digits: &str) -> Result<bool, Unfit>
     ensures { IfOk result (λ b. IsTrue b ↔ Tell digits.now (canon value)) }
 {
-    let sealed = share(alloc, value)?;
+    let sealed = seal(alloc, value)?;
     is_spelled(alloc, &sealed, digits)
 }
 

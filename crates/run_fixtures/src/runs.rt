@@ -12,6 +12,7 @@ use crate::lent::record_over;
 use crate::reads::{Given, are_reads};
 use answer_fixtures::{Asked, Unfit, is_key, is_spelled, key_of};
 use item_ids::{Key, rank};
+use profiles::Profile;
 use recorder::{AnswerList, Outcome};
 use runner_fixtures::SampleRunner;
 use std::alloc::Global;
@@ -27,44 +28,50 @@ pub(crate) fn query_of(alloc: Global, asked: Asked) -> Result<Key, Unfit>
     key_of(alloc, asked)
 }
 
-/// The outcome of a run of the key over the list, which is lent.
+/// The outcome of a run of the key in a profile over the list, which is lent.
 fn outcome_over(
     alloc: Global,
+    profile: Profile,
     key: &Key,
     list: &mut AnswerList,
 ) -> Result<Outcome<SampleRunner>, Unfit>
     requires { 0 < rank_of key.now }
     ensures key { IfOk result (λ o. o.key ≡ key.now) }
+    ensures profile { IfOk result (λ o. o.profile ≡ profile) }
     ensures outcome { IfOk result (λ o. IsOutcome sample_mean sample_reads o) }
 {
     let mut runner = SampleRunner::new(alloc);
-    record_over(alloc, &mut runner, key, list)
+    record_over(alloc, &mut runner, profile, key, list)
 }
 
-/// The outcome of a run of the query over the list, which is lent.
+/// The outcome of a run of the query in a profile over the list, which is lent.
 fn outcome_by(
     alloc: Global,
+    profile: Profile,
     asked: Asked,
     list: &mut AnswerList,
 ) -> Result<Outcome<SampleRunner>, Unfit>
     ensures key { IfOk result (λ o. IsKeyOf asked.entry o.key) }
+    ensures profile { IfOk result (λ o. o.profile ≡ profile) }
     ensures outcome { IfOk result (λ o. IsOutcome sample_mean sample_reads o) }
 {
     let key = query_of(alloc, asked)?;
-    outcome_over(alloc, &key, list)
+    outcome_over(alloc, profile, &key, list)
 }
 
-/// The outcome of a run of the query over these answers, where no read is refused.
+/// The outcome of a run of the query in a profile over these answers, where no read is refused.
 pub fn outcome_of(
     alloc: Global,
+    profile: Profile,
     asked: Asked,
     given: &[Given],
 ) -> Result<Outcome<SampleRunner>, Unfit>
     ensures key { IfOk result (λ o. IsKeyOf asked.entry o.key) }
+    ensures profile { IfOk result (λ o. o.profile ≡ profile) }
     ensures outcome { IfOk result (λ o. IsOutcome sample_mean sample_reads o) }
 {
     let mut list = list_of(alloc, given)?;
-    outcome_by(alloc, asked, &mut list)
+    outcome_by(alloc, profile, asked, &mut list)
 }
 
 /// Whether the outcome is of this key, has this result, and read just these answers in this order.
@@ -88,7 +95,7 @@ fn is_outcome(
 pub fn gives(alloc: Global, run: Given, reads: &[Given]) -> Result<bool, Unfit>
     ensures { IfOk result (IsGiven run.entry reads.now) }
 {
-    let outcome = outcome_of(alloc, run.0, reads)?;
+    let outcome = outcome_of(alloc, Profile::One, run.0, reads)?;
     is_outcome(alloc, &outcome, run, reads)
 }
 
@@ -101,7 +108,7 @@ fn gives_by(
 ) -> Result<bool, Unfit>
     ensures { IfOk result (IsGiven run.entry reads.now) }
 {
-    let outcome = outcome_by(alloc, run.0, list)?;
+    let outcome = outcome_by(alloc, Profile::One, run.0, list)?;
     is_outcome(alloc, &outcome, run, reads)
 }
 
@@ -115,6 +122,19 @@ pub fn gives_over_lent(alloc: Global, run: Given, reads: &[Given]) -> Result<boo
         Ok(true) => gives_by(alloc, run, reads, &mut list),
         other => other,
     }
+}
+
+/// Whether the outcome of a run of the query in a profile over these answers tells the profile.
+pub fn tells_profile(
+    alloc: Global,
+    profile: Profile,
+    asked: Asked,
+    given: &[Given],
+) -> Result<bool, Unfit>
+    ensures { IfOk result (λ b. IsTrue b) }
+{
+    let outcome = outcome_of(alloc, profile, asked, given)?;
+    Ok(outcome.profile().is(profile))
 }
 
 /// Whether a new runner has logged nothing.

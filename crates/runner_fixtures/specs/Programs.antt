@@ -6,6 +6,7 @@ use Rattle.result_bytes.specs.Payloads.{HeaderValue, SignatureValue}
 use Rattle.result_bytes.specs.declared.value.Value.{Value}
 use Rattle.result_bytes.specs.declared.value.Value.TheVariants.{Files, Source, Header, Sig, CheckClass, CheckBody}
 use Rattle.recorder.specs.Projects.{Project}
+use Rattle.recorder.specs.Backed.{Queries}
 use Rattle.recorder.specs.Programs.{Prog, Ret, Ask, asks, each}
 use Rattle.runner_fixtures.specs.Phrases.{Phrase, Phrases, Named, Called, NoMore, More, phrase_for}
 use Rattle.runner_fixtures.specs.Meaning.{header_value, is_main, signature_of, faults_if, empty_of, sample_mean}
@@ -103,3 +104,11 @@ prog_of q = steps_of q Ret
 
 abbrev pub sample_reads : Project → Key → List Key
 sample_reads p q = asks (prog_of q) (sample_mean p) []
+
+-- no kind goes by the profile
+abbrev pub sample_queries : Queries
+sample_queries = record {
+  by_profile = λ kind. false;
+  mean = λ profile. sample_mean;
+  reads = λ profile. sample_reads;
+}

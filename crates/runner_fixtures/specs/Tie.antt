@@ -7,12 +7,12 @@ use Rattle.result_bytes.specs.Payloads.{HeaderValue}
 use Rattle.result_bytes.specs.declared.value.Value.TheVariants.{Header, Sig, CheckClass, CheckBody}
 use Rattle.mj_project.specs.Projects.{names_of}
 use Rattle.recorder.specs.Projects.{Project}
-use Rattle.recorder.specs.Backed.{rank, RunnerLaws}
+use Rattle.recorder.specs.Backed.{rank, AreLawful}
 use Rattle.recorder.specs.Programs.{Prog, Ret, Ask, runs, asks, Fits, Tied}
-use Rattle.recorder.proofs.Rules.{program_laws, fold_of, each_runs, each_fits}
+use Rattle.recorder.proofs.Rules.{program_laws, programs_alike, fold_of, each_runs, each_fits}
 use Rattle.runner_fixtures.specs.Phrases.{Phrase, Phrases, Named, Called, NoMore, More, phrase_for}
 use Rattle.runner_fixtures.specs.Meaning.{header_at, signature_of, signature_at, is_main, any_main, meet, type_of, types_of, faults_if, sample_mean}
-use Rattle.runner_fixtures.specs.Programs.{names_in, header_in, signature_in, header_steps, sig_rest, sig_steps, main_step, class_steps, meet_step, phrase_step, phrases_step, body_steps, steps_of, prog_of, sample_reads}
+use Rattle.runner_fixtures.specs.Programs.{names_in, header_in, signature_in, header_steps, sig_rest, sig_steps, main_step, class_steps, meet_step, phrase_step, phrases_step, body_steps, steps_of, prog_of, sample_reads, sample_queries}
 
 -- ---- what each program computes
 
@@ -190,5 +190,8 @@ sample_tied = record {
   each = λ q a. record { means = λ p i. means p q a; asked = λ p i. refl; fits = fits q a };
 }
 
-pub sample_laws : RunnerLaws sample_mean sample_reads
-sample_laws = program_laws prog_of sample_mean sample_reads sample_tied
+pub sample_laws : AreLawful sample_queries
+sample_laws = record {
+  each = λ a. program_laws prog_of sample_mean sample_reads sample_tied;
+  across = λ a b q apart. programs_alike prog_of prog_of sample_mean sample_reads sample_mean sample_reads sample_tied sample_tied q refl;
+}

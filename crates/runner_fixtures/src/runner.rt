@@ -7,8 +7,9 @@ ghost use Rattle.runner_fixtures.specs.Programs.{steps_of};
 use crate::checks::{check_body, check_class};
 use crate::headers::{run_header, run_signature};
 use answer_bytes::{Faults, WholeAnswer};
-use item_ids::Key;
+use item_ids::{Key, Kind};
 use mj_answer::Answer;
+use profiles::Profile;
 use recorder::{Reader, Recorder, RunFault, Runner};
 use result_bytes::{Index, Value};
 use std::alloc::{AllocError, AllocFailed, Global};
@@ -85,21 +86,23 @@ fn note(alloc: Global, log: &mut Vec<Key>, key: &Key) -> Result<(), AllocError>
 }
 
 impl Runner for SampleRunner {
-    ghost use Rattle.runner_fixtures.specs.Meaning.{sample_mean};
-    ghost use Rattle.runner_fixtures.specs.Programs.{sample_reads};
+    ghost use Rattle.runner_fixtures.specs.Programs.{sample_queries};
     ghost use Rattle.runner_fixtures.specs.Tie.{sample_laws};
 
-    ghost mean = { sample_mean };
-
-    ghost reads = { sample_reads };
+    ghost queries = { sample_queries };
 
     ghost log = { λ r. r.log.items };
 
     ghost laws = { sample_laws };
 
+    fn by_profile(_kind: Kind) -> bool {
+        false
+    }
+
     fn run<D: Reader>(
         &mut self,
         alloc: Global,
+        _profile: Profile,
         key: &Key,
         recorder: &mut Recorder<D>,
     ) -> Result<Value, RunFault> {

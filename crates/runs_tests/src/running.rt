@@ -1,7 +1,8 @@
 use answer_fixtures::Asked;
 use item_ids::Kind;
+use profiles::Profile;
 use recorder::ReadFault;
-use run_fixtures::{Given, Kept, gives, is_log_empty, leaves, leaves_refused};
+use run_fixtures::{Given, Kept, gives, is_log_empty, leaves, leaves_refused, tells_profile};
 use std::test::*;
 
 /// A run: its key and its result, and the answers that it reads, in their order.
@@ -144,6 +145,14 @@ const RUNS: &[Run] = &[
 fn runs_give_results(rt: HostRuntime) -> Result<(), Fail> {
     for run in RUNS {
         assert!(rt; gives(rt.alloc(), run.gives, run.reads)?);
+    }
+    Ok(())
+}
+
+#[test]
+fn outcomes_tell_profiles(rt: HostRuntime) -> Result<(), Fail> {
+    for profile in [Profile::One, Profile::Two] {
+        assert!(rt; tells_profile(rt.alloc(), profile, HEADER_A.0, &[SOURCE_A])?);
     }
     Ok(())
 }

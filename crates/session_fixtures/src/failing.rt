@@ -1,8 +1,8 @@
 //! Devices that move a few bytes a call, and fail at one of their calls.
 ghost use Rattle.std.specs.Prelude.{◌≡◌, ◌<◌, [], IfOk};
-ghost use Rattle.session_file.specs.Devices.{Counts, one_more};
+ghost use Rattle.devices.specs.Devices.{Counts, one_more};
 
-use session_file::{DeviceFault, Feed, Sink};
+use devices::{DeviceFault, Feed, Sink};
 use std::alloc::Global;
 
 /// At which of its calls, counted from 0, a device fails, and whether it fails from then on.

@@ -1,18 +1,19 @@
 //! Files of sessions.
-ghost use Rattle.std.specs.Prelude.{◌≡◌, ℕ, List, Ok, Err, IsTrue, IfOk, IfErr, IfSome, MatchOption};
+ghost use Rattle.std.specs.Prelude.{◌≡◌, ℕ, List, replicate, Ok, Err, IsTrue, IfOk, IfErr, IfSome, MatchOption};
 ghost use Rattle.sessions.specs.Sessions.{SessionValue, IsSession};
 ghost use Rattle.sessions.specs.Spelling.{file_of, digest_of};
-ghost use Rattle.session_file.specs.Devices.{Counts, Puts};
+ghost use Rattle.devices.specs.Devices.{Counts, Puts};
 ghost use Rattle.session_file.specs.Feeding.{CountsDevice, Given};
 ghost use Rattle.session_file.specs.Reading.{IsUnlessMemory, file_at};
 ghost use Rattle.session_file.specs.declared.fault.FileFault.{FileFault as SpecFault};
 ghost use Rattle.session_file.specs.declared.fault.FileFault.TheVariants.{Device, OutOfMemory};
 ghost use Rattle.session_fixtures.specs.Telling.{IsToldSession, IsFirstOf, IsFileOf};
 
-use crate::records::{Kept, session_of};
+use crate::records::{Kept, session_as, session_of};
 use answer_fixtures::Unfit;
-use session_file::{Feed, FileFault, MemorySink, Sink, digest, read, read_from, write};
-use sessions::Session;
+use devices::{Feed, MemorySink, Sink};
+use session_file::{FileFault, digest, read, read_from, write};
+use sessions::{Session, Terms};
 use std::alloc::Global;
 
 /// Writes the session of these records, the first of a chain, to a sink, and answers what came of it.
@@ -39,6 +40,16 @@ pub fn file_of(alloc: Global, kept: &[Kept]) -> Result<MemorySink, Unfit>
         × (sink.bytes.items ≡ file_of s)) }
 {
     let session = session_of(alloc, 0, [0; 32], kept)?;
+    file_of_session(alloc, &session)
+}
+
+/// The file of the session of these terms, this number and these records, behind no session.
+pub fn file_as(alloc: Global, terms: Terms, number: u32, kept: &[Kept]) -> Result<MemorySink, Unfit>
+    ensures { IfOk result (λ sink. (s : SessionValue)
+        × IsToldSession number (replicate 32 0) kept.now s × (s.terms ≡ terms)
+        × (sink.bytes.items ≡ file_of s)) }
+{
+    let session = session_as(alloc, terms, number, [0; 32], kept)?;
     file_of_session(alloc, &session)
 }
 

@@ -6,7 +6,7 @@ ghost use Rattle.session_fixtures.specs.Telling.{IsRecordOf, AreRecordsOf, IsTol
 
 use answer_fixtures::{Asked, Unfit, key_of, sealed_of};
 use item_ids::Key;
-use sessions::{Mark, Record, Session};
+use sessions::{Mark, Record, Session, Terms};
 use std::alloc::{AllocError, AllocFailed, Global};
 
 /// A record of a session: its key, how it became done, the indices of the records that it read, and the canonical
@@ -28,8 +28,22 @@ pub fn session_of(
 ) -> Result<Session, Unfit>
     ensures { IfOk result (IsToldSession number link kept.now) }
 {
+    session_as(alloc, Terms::first(), number, link, kept)
+}
+
+/// The session of these terms, this number, link and records.
+pub fn session_as(
+    alloc: Global,
+    terms: Terms,
+    number: u32,
+    link: [u8; 32],
+    kept: &[Kept],
+) -> Result<Session, Unfit>
+    ensures told { IfOk result (IsToldSession number link kept.now) }
+    ensures terms { IfOk result (λ s. s.terms ≡ terms) }
+{
     let records = records_of(alloc, kept)?;
-    match Session::new(alloc, number, link, records) {
+    match Session::new_as(alloc, terms, number, link, records) {
         Ok(session) => Ok(session),
         Err(_) => Err(Unfit),
     }

@@ -1,7 +1,8 @@
 //! Files over sinks and feeds that fail at each of their calls.
 
 use crate::first::{file_of_first, first};
-use session_file::{Feed, FileFault, Sink};
+use devices::{Feed, Sink};
+use session_file::FileFault;
 use session_fixtures::{
     Failing, FailingFeed, FailingSink, Manner, digest_of, digest_of_taken, file_fault_of, file_of,
     write_to,

@@ -1,7 +1,7 @@
 //! The records of a first session.
 
 use answer_fixtures::Unfit;
-use session_file::MemorySink;
+use devices::MemorySink;
 use session_fixtures::{FIRST, Kept, file_of};
 use std::alloc::Global;
 

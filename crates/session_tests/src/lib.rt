@@ -6,6 +6,8 @@ mod failing;
 #[cfg(test)]
 mod first;
 #[cfg(test)]
+mod forms;
+#[cfg(test)]
 mod reading;
 #[cfg(test)]
 mod writing;

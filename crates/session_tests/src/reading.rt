@@ -2,7 +2,7 @@
 
 use crate::first::{file_of_first, first};
 use session_file::FileFault;
-use session_fixtures::{file_fault_of, file_of, is_read_again};
+use session_fixtures::{fault_over, file_fault_of, file_of, is_read_again};
 use std::alloc::Global;
 use std::test::*;
 
@@ -20,6 +20,26 @@ fn files_are_read(rt: HostRuntime) {
     }
 }
 
+/// Whether the bytes are refused so, with the first session before them and without: a file of form 1 takes nothing from
+/// it.
+fn is_fault(alloc: Global, bytes: &[u8], fault: Option<FileFault>) -> bool {
+    file_fault_of(alloc, bytes) == fault && fault_over(alloc, first(), bytes) == Ok(fault)
+}
+
+fn is_read_over(alloc: Global, count: usize) -> bool {
+    match file_of_first(alloc, count) {
+        Ok(file) => is_fault(alloc, file.bytes(), None),
+        Err(_) => false,
+    }
+}
+
+#[test]
+fn files_of_form_1_are_read_over_any_session(rt: HostRuntime) {
+    for count in [0, 2, 12] {
+        assert!(rt; is_read_over(rt.alloc(), count));
+    }
+}
+
 /// How the first file cut to so many bytes is refused.
 fn fault_of_cut(count: usize) -> FileFault {
     if count < 4 {
@@ -31,7 +51,7 @@ fn fault_of_cut(count: usize) -> FileFault {
 
 fn is_cut_refused(alloc: Global, file: &[u8], count: usize) -> bool {
     match file.get(..count) {
-        Some(front) => file_fault_of(alloc, front) == Some(fault_of_cut(count)),
+        Some(front) => is_fault(alloc, front, Some(fault_of_cut(count))),
         None => false,
     }
 }
@@ -53,7 +73,7 @@ struct Changed {
 }
 
 const CHANGED: &[Changed] = &[
-    // The four bytes at the front, the version, and the number 10,240.
+    // The four bytes at the front, both bytes of the version, and the number 10,240.
     Changed {
         at: 3,
         byte: 0x48,
@@ -61,6 +81,11 @@ const CHANGED: &[Changed] = &[
     },
     Changed {
         at: 5,
+        byte: 3,
+        fault: FileFault::Version,
+    },
+    Changed {
+        at: 4,
         byte: 2,
         fault: FileFault::Version,
     },
@@ -150,7 +175,17 @@ const CHANGED: &[Changed] = &[
         byte: 0xff,
         fault: FileFault::BadEdge(0, 0),
     },
-    // The link, and the digest.
+    // Other versions, the link, and the digest.
+    Changed {
+        at: 5,
+        byte: 2,
+        fault: FileFault::BadDigest,
+    },
+    Changed {
+        at: 4,
+        byte: 1,
+        fault: FileFault::BadDigest,
+    },
     Changed {
         at: 10,
         byte: 1,
@@ -176,7 +211,7 @@ fn has_changed(bytes: &mut [u8], row: &Changed) -> bool {
 fn is_refused(alloc: Global, file: &[u8], row: &Changed) -> bool {
     match file.to_vec(alloc) {
         Ok(mut bytes) => {
-            has_changed(&mut bytes, row) && file_fault_of(alloc, &bytes) == Some(row.fault)
+            has_changed(&mut bytes, row) && is_fault(alloc, &bytes, Some(row.fault))
         }
         Err(_) => false,
     }
@@ -194,7 +229,7 @@ fn changed_files_are_refused(rt: HostRuntime) -> Result<(), Fail> {
 fn is_trailing_refused(alloc: Global, file: &[u8]) -> bool {
     match file.to_vec(alloc) {
         Ok(mut bytes) => {
-            bytes.push(0).is_ok() && file_fault_of(alloc, &bytes) == Some(FileFault::Trailing)
+            bytes.push(0).is_ok() && is_fault(alloc, &bytes, Some(FileFault::Trailing))
         }
         Err(_) => false,
     }

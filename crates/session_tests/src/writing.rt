@@ -95,6 +95,7 @@ const TEXTS: &[(FileFault, &str)] = &[
     (FileFault::Device, "11.10 Device"),
     (FileFault::BadKey(3), "11.11 BadKey(3)"),
     (FileFault::Number, "11.12 Number"),
+    (FileFault::NoPastResult(3), "11.13 NoPastResult(3)"),
     (FileFault::OutOfMemory, "out of memory"),
 ];
 

@@ -12,7 +12,7 @@ use Rattle.table_fixtures.specs.declared.driving.Counts.{Counts}
 use Rattle.table_fixtures.specs.Reported.{IsMade, HasCounts, IsReported}
 
 module _ (past : Option SessionValue) (p : Project) (counts : Counts) (s : SessionValue) (r : Reports) (holds : Bool)
-    (made : IsMade past p counts.workers s r) (told : IsTrue holds → HasCounts counts r) where
+    (made : IsMade counts.terms past p counts.workers s r) (told : IsTrue holds → HasCounts counts r) where
   pub reported : (shared : Result (Option (Arc SessionValue Global)) Unfit)
       → IfOk shared (λ o. IfSome o (λ a. arc_value a ≡ s)) → IfOk shared (λ o. IfSome o (λ _. IsTrue holds))
       → IfOk shared (λ o. IfSome o (λ a. IsReported past p counts (arc_value a)))

@@ -1,5 +1,5 @@
 -- What calls of a table say, whole histories of tables, and replays.
-use Rattle.std.specs.Prelude.{◌≡◌, ℕ, ◌-◌, Bool, true, false, List, [], ◌∷◌, length, slice_get, Option, Some, None, Result, Ok, Err}
+use Rattle.std.specs.Prelude.{◌≡◌, ◌⊎◌, ℕ, ◌-◌, Bool, true, false, List, [], ◌∷◌, length, slice_get, Option, Some, None, Result, Ok, Err}
 use Rattle.std.specs.declared.alloc.Global.{Global}
 use Rattle.std.specs.declared.sync.Arc.{Arc}
 use Rattle.item_ids.specs.declared.key.Key.{Key}
@@ -12,6 +12,9 @@ use Rattle.sessions.specs.declared.mark.Mark.TheVariants.{Input, Executed, Green
 use Rattle.sessions.specs.Sessions.{SessionValue}
 use Rattle.sessions.specs.Spelling.{digest_of, next_link}
 use Rattle.graph_rules.specs.Steps.{Event, Claim, Begin, Finish, IsDoneWith}
+use Rattle.profiles.specs.declared.profile.Profile.{Profile}
+use Rattle.query_rules.specs.Queries.{queries}
+use Rattle.sessions.specs.declared.terms.Terms.{Terms}
 use Rattle.job_table.specs.Tables.{TableValue, state_of}
 use Rattle.job_table.specs.Calls.{AskGives, MarkGives, BeginGives, FinishGives, FailGives}
 use Rattle.job_table.specs.Closes.{CloseGives}
@@ -65,10 +68,10 @@ abbrev pub SaysOfBegin : ℕ → Key → Said → TableValue → TableValue → 
 SaysOfBegin w q said t u =
     (a : Result (Unit {0}) TableFault) × BeginGives t w q a u × (said ≡ said_of a)
 
--- to the outcome of the record's run
-abbrev pub SaysOfFinish : List Kept → Kept → ℕ → Said → TableValue → TableValue → Type 0
-SaysOfFinish records kept w said t u =
-    (o : OutcomeValue) × IsRunOf records kept o
+-- to the outcome of the record's run in the profile
+abbrev pub SaysOfFinish : Profile → List Kept → Kept → ℕ → Said → TableValue → TableValue → Type 0
+SaysOfFinish profile records kept w said t u =
+    (o : OutcomeValue) × IsRunOf profile records kept o
     × (a : Result (Unit {0}) TableFault) × FinishGives t w o a u × (said ≡ said_of a)
 
 abbrev pub SaysOfFail : ℕ → Said → TableValue → TableValue → Type 0
@@ -88,8 +91,8 @@ abbrev pub Says : Call → ℕ → Key → Said → TableValue → TableValue �
 Says calls.Ask w q said t u = SaysOfAsk w q said t u
 Says calls.Mark w q said t u = SaysOfMark w q said t u
 Says calls.Begin w q said t u = SaysOfBegin w q said t u
-Says (calls.Finish records) w q said t u =
-    (kept : Kept) × IsLast records.now kept × SaysOfFinish records.now kept w said t u
+Says (calls.Finish profile records) w q said t u =
+    (kept : Kept) × IsLast records.now kept × SaysOfFinish profile records.now kept w said t u
 Says calls.Fail w q said t u = SaysOfFail w said t u
 Says calls.Close w q said t u = SaysOfClose said t × (u ≡ t)
 
@@ -103,7 +106,7 @@ pub record IsSaid (saying : Saying) (t u : TableValue) : Type 0 where
 -- each of the calls in turn says what it should
 pub record AreSaid (calls : Calls) : Type 0 where
   pub start : TableValue
-  pub opened : IsTableOf calls.chain.now calls.text.now start
+  pub opened : IsTableOf calls.terms calls.chain.now calls.text.now start
   pub end : TableValue
   pub said : InTurn IsSaid calls.sayings.now start end
 
@@ -117,12 +120,12 @@ IsTakenOver q t u = (b : TableValue) × SaysOfAsk 0 q Yours t b × SaysOfMark 0 
 abbrev pub IsBegun : Key → TableValue → TableValue → Type 0
 IsBegun q t u = (b : TableValue) × SaysOfAsk 0 q Yours t b × SaysOfBegin 0 q Done b u
 
--- the record's key is evaluated, as the mark says
+-- the record's key is evaluated in the table's profile, as the mark says
 abbrev pub IsBroughtBy : Mark → List Kept → Kept → Key → TableValue → TableValue → Type 0
 IsBroughtBy Input records kept q t u = u ≡ t
 IsBroughtBy Green records kept q t u = IsTakenOver q t u
 IsBroughtBy Executed records kept q t u =
-    (b : TableValue) × IsBegun q t b × SaysOfFinish records kept 0 Done b u
+    (b : TableValue) × IsBegun q t b × SaysOfFinish b.terms.profile records kept 0 Done b u
 
 -- the key is done with the result that the digits spell
 abbrev pub IsDoneAs : Key → List ℕ → TableValue → Type 0
@@ -142,27 +145,30 @@ pub record AreBrought (records beside : List Kept) (t u : TableValue) : Type 0 w
   pub beside_brought : InTurn (IsBrought records) beside middle u
 
 -- The file of the table's previous session has the digest of the chain's last one, and the table
--- closes with a session that has the file of the next one of these records.
-pub record ClosesAs (chain : List Change) (records : List Kept) (t : TableValue) : Type 0 where
+-- closes with a session that has the file of the next one of these terms and records.
+pub record ClosesAs (terms : Terms) (chain : List Change) (records : List Kept) (t : TableValue)
+    : Type 0 where
   pub past : Option SessionValue
   pub last : IsLastOf chain past
   pub behind : next_link t.past ≡ next_link past
   pub session : SessionValue
   pub closed : CloseGives t (Ok session)
   pub wanted : SessionValue
-  pub told : IsNextOf past records wanted
+  pub told : IsNextOf terms past records wanted
   pub same : digest_of session ≡ digest_of wanted
 
--- how many events the replay has over this previous session, or why there is none
-abbrev pub EndsSo : Option SessionValue → Project → List Event → Result ℕ ReplayFault → Type 0
-EndsSo past p events (Ok n) =
-    (t : TableValue) × ReplayGives past p events (Ok t) × (n ≡ length t.history)
-EndsSo past p events (Err fault) = ReplayGives past p events (Err fault)
+-- how many events the replay has in a table of these terms over this previous session, or why there
+-- is none
+abbrev pub EndsSo : Terms → Option SessionValue → Project → List Event → Result ℕ ReplayFault → Type 0
+EndsSo terms past p events (Ok n) =
+    (t : TableValue) × ReplayGives queries.by_profile terms past p events (Ok t)
+    × (n ≡ length t.history)
+EndsSo terms past p events (Err fault) = ReplayGives queries.by_profile terms past p events (Err fault)
 
--- the replay of the table's events, over its previous session in a project of this text, leads to
--- as many
+-- the replay of the table's events, by its terms and over its previous session in a project of this
+-- text, leads to as many
 abbrev pub IsReplayed : List ℕ → TableValue → Type 0
-IsReplayed text t = EndsSo t.past (one_file text) t.history (Ok (length t.history))
+IsReplayed text t = EndsSo t.terms t.past (one_file text) t.history (Ok (length t.history))
 
 -- These records and those beside them lead from t to u by this many events, which can be replayed,
 -- and u closes with just the records.
@@ -170,14 +176,14 @@ pub record IsLed (history : History) (records : List Kept) (t u : TableValue) : 
   pub brought : AreBrought records history.beside.now t u
   pub events : length u.history ≡ history.events
   pub replayed : IsReplayed history.text.now u
-  pub closed : ClosesAs history.chain.now records u
+  pub closed : ClosesAs history.change.terms history.chain.now records u
 
 -- the session is made as the history says
 pub record IsHistory (history : History) : Type 0 where
   pub records : List Kept
   pub changed : AreChanged history.change records
   pub start : TableValue
-  pub opened : IsTableOf history.chain.now history.text.now start
+  pub opened : IsTableOf history.change.terms history.chain.now history.text.now start
   pub end : TableValue
   pub led : IsLed history records start end
 
@@ -189,17 +195,22 @@ run_events true q o = Claim 0 q ∷ Begin 0 q ∷ Finish 0 o ∷ []
 run_events false q o = Claim 0 q ∷ Finish 0 o ∷ []
 
 -- the events of a run of the last record's key
-pub record AreEventsOf (replay : Replay) (events : List Event) : Type 0 where
+pub record AreEventsOfRun (replay : Replay) (events : List Event) : Type 0 where
   pub kept : Kept
   pub last : IsLast replay.records.now kept
   pub key : Key
   pub of_key : IsKeyOf kept.key key
   pub outcome : OutcomeValue
-  pub run : IsRunOf replay.records.now kept outcome
+  pub run : IsRunOf replay.profile replay.records.now kept outcome
   pub are : events ≡ run_events replay.begins key outcome
+
+-- the same, or none where there is no record
+abbrev pub AreEventsOf : Replay → List Event → Type 0
+AreEventsOf replay events =
+    ((length replay.records.now ≡ 0) × (events ≡ [])) ⊎ AreEventsOfRun replay events
 
 -- the replay of the events that are given ends like this
 pub record IsReplay (replay : Replay) (ending : Result ℕ ReplayFault) : Type 0 where
   pub events : List Event
   pub of_replay : AreEventsOf replay events
-  pub ends : EndsSo None (one_file replay.text.now) events ending
+  pub ends : EndsSo replay.terms None (one_file replay.text.now) events ending

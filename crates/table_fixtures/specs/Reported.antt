@@ -1,8 +1,9 @@
 -- Sessions that are run, what is reported of them, and why there is none.
 use Rattle.std.specs.Prelude.{◌≡◌, ℕ, [], replicate, Option, Some, None, Ok, Err}
 use Rattle.recorder.specs.Projects.{Project}
-use Rattle.query_rules.specs.Meaning.{mean}
-use Rattle.query_rules.specs.Reads.{reads}
+use Rattle.query_rules.specs.Queries.{queries}
+use Rattle.sessions.specs.declared.terms.Terms.{Terms}
+use Rattle.sessions.specs.Terms.{first_terms}
 use Rattle.sessions.specs.Sessions.{SessionValue}
 use Rattle.driver.specs.Sessions.{DriveGives}
 use Rattle.driver.specs.declared.fault.DriveFault.{DriveFault}
@@ -10,10 +11,10 @@ use Rattle.driver.specs.declared.reports.Reports.{Reports}
 use Rattle.session_fixtures.specs.Telling.{IsToldSession}
 use Rattle.table_fixtures.specs.declared.driving.Counts.{Counts}
 
--- a session of the project over this previous session by so many workers, with what is reported of
--- it
-abbrev pub IsMade : Option SessionValue → Project → ℕ → SessionValue → Reports → Type 0
-IsMade past p workers s r = DriveGives mean reads past p workers (Ok (s, r))
+-- a session of these terms and of the project over this previous session by so many workers, with
+-- what is reported of it
+abbrev pub IsMade : Terms → Option SessionValue → Project → ℕ → SessionValue → Reports → Type 0
+IsMade terms past p workers s r = DriveGives queries terms past p workers (Ok (s, r))
 
 -- the reports have these counts
 pub record HasCounts (counts : Counts) (r : Reports) : Type 0 where
@@ -24,7 +25,7 @@ pub record HasCounts (counts : Counts) (r : Reports) : Type 0 where
 pub record IsReported (past : Option SessionValue) (p : Project) (counts : Counts)
     (s : SessionValue) : Type 0 where
   pub reports : Reports
-  pub made : IsMade past p counts.workers s reports
+  pub made : IsMade counts.terms past p counts.workers s reports
   pub counted : HasCounts counts reports
 
 -- a first session of the project, and one over it, whose reports have these counts
@@ -43,8 +44,9 @@ IsPastOf (Some number) (Some s) = IsToldSession number (replicate 32 0) [] s
 
 -- why there is no session over this previous session, or none where there is one
 abbrev pub IsFaultOver : Option SessionValue → Project → ℕ → Option DriveFault → Type 0
-IsFaultOver past p workers None = (s : SessionValue) × (r : Reports) × IsMade past p workers s r
-IsFaultOver past p workers (Some fault) = DriveGives mean reads past p workers (Err fault)
+IsFaultOver past p workers None =
+    (s : SessionValue) × (r : Reports) × IsMade first_terms past p workers s r
+IsFaultOver past p workers (Some fault) = DriveGives queries first_terms past p workers (Err fault)
 
 -- the same over the previous session of this number
 pub record IsFaultOf (number : Option ℕ) (p : Project) (workers : ℕ) (fault : Option DriveFault)

@@ -5,6 +5,9 @@ use Rattle.recorder.specs.Backed.{ReadValue}
 use Rattle.recorder.specs.Runs.{OutcomeValue, IsOutcome}
 use Rattle.query_rules.specs.Meaning.{mean}
 use Rattle.query_rules.specs.Reads.{reads}
+use Rattle.query_rules.specs.Queries.{queries}
+use Rattle.profiles.specs.declared.profile.Profile.{Profile}
+use Rattle.sessions.specs.declared.terms.Terms.{Terms}
 use Rattle.sessions.specs.declared.mark.Mark.{Mark}
 use Rattle.sessions.specs.declared.mark.Mark.TheVariants.{Input, Executed, Green}
 use Rattle.sessions.specs.Sessions.{SessionValue, next_number}
@@ -35,13 +38,16 @@ pub record IsAnswerAt (records : List Kept) (at : ℕ) (answer : ReadValue) : Ty
 abbrev pub AreAnswersAt : List Kept → List ℕ → List ReadValue → Type 0
 AreAnswersAt records edges answers = AllZip (IsAnswerAt records) edges answers
 
--- the outcome of a run of the record's key, which reads answers of the record's edges only
-pub record IsRunOf (records : List Kept) (kept : Kept) (o : OutcomeValue) : Type 0 where
+-- the outcome of a run of the record's key in the profile, which reads answers of the record's edges
+-- only
+pub record IsRunOf (profile : Profile) (records : List Kept) (kept : Kept) (o : OutcomeValue)
+    : Type 0 where
   pub key : IsKeyOf kept.key o.key
+  pub profile_is : o.profile ≡ profile
   pub answers : List ReadValue
   pub of_edges : AreAnswersAt records kept.edges.now answers
   pub read : AllByRecursion (λ t. Contains answers t) o.told
-  pub outcome : IsOutcome mean reads o
+  pub outcome : IsOutcome (mean profile) (reads profile) o
 
 -- ---- sessions by what changed
 
@@ -71,16 +77,18 @@ abbrev pub AreChanged : Change → List Kept → Type 0
 AreChanged change records =
     AllZip (λ x. IsChanged change x.0 x.1) (enumerate_from 0 change.records.now) records
 
--- the session of these records behind another one, or the first
-abbrev pub IsNextOf : Option SessionValue → List Kept → SessionValue → Type 0
-IsNextOf past records s = IsToldSession (next_number past) (next_link past) records s
+-- the session of these terms and records behind another one, or the first
+pub record IsNextOf (terms : Terms) (past : Option SessionValue) (records : List Kept)
+    (s : SessionValue) : Type 0 where
+  pub told : IsToldSession (next_number past) (next_link past) records s
+  pub terms_are : s.terms ≡ terms
 
 -- after is the session with these changes, behind the one before
 pub record IsBehind (change : Change) (before after : Option SessionValue) : Type 0 where
   pub records : List Kept
   pub changed : AreChanged change records
   pub session : SessionValue
-  pub told : IsNextOf before records session
+  pub told : IsNextOf change.terms before records session
   pub after_is : after ≡ Some session
 
 -- the last session of the chain, or none where the chain is empty
@@ -89,8 +97,9 @@ IsLastOf chain past = InTurn IsBehind chain None past
 
 -- ---- tables
 
--- a table of a project of this text, just opened behind the chain
-pub record IsTableOf (chain : List Change) (text : List ℕ) (t : TableValue) : Type 0 where
+-- a table of these terms and of a project of this text, just opened behind the chain
+pub record IsTableOf (terms : Terms) (chain : List Change) (text : List ℕ) (t : TableValue)
+    : Type 0 where
   pub past : Option SessionValue
   pub last : IsLastOf chain past
-  pub opened : OpenGives past (one_file text) (Ok t)
+  pub opened : OpenGives queries.by_profile terms past (one_file text) (Ok t)

@@ -1,6 +1,7 @@
 //! Calls of a table that are made once more where they are refused memory, if that left the events as they were.
 ghost use Rattle.std.specs.Prelude.{◌≡◌, map, IfOk};
 ghost use Rattle.std.specs.Arc.{arc_value};
+ghost use Rattle.query_rules.specs.Queries.{queries};
 ghost use Rattle.sessions.specs.Sessions.{session_in};
 ghost use Rattle.job_table.specs.Kept.{event_of};
 ghost use Rattle.job_table.specs.Calls.{AskGives, MarkGives, BeginGives, FinishGives};
@@ -14,7 +15,7 @@ use job_table::{Asked, CloseFault, Event, ReplayFault, Table, TableFault};
 use mj_project::Project;
 use providers::MiniJava;
 use recorder::Outcome;
-use sessions::Session;
+use sessions::{Session, Terms};
 use std::alloc::{AllocError, Global};
 use std::sync::Arc;
 
@@ -88,17 +89,21 @@ fn own(past: &Option<Arc<Session>>) -> Result<Option<Arc<Session>>, AllocError>
     }
 }
 
-/// Replays the events over the previous session in the project.
+/// Replays the events in a table of these terms over the previous session in the project.
 pub(crate) fn replay(
     alloc: Global,
+    terms: Terms,
     past: &Option<Arc<Session>>,
     project: &Project,
     list: &[Event<MiniJava>],
 ) -> Result<Result<Table<MiniJava>, ReplayFault>, AllocError>
-    ensures { IfOk result (ReplayGives (session_in past.now) project.now (map event_of list.now)) }
+    ensures { IfOk result (ReplayGives queries.by_profile terms (session_in past.now)
+        project.now (map event_of list.now)) }
 {
-    match Table::replay(alloc, own(past)?, project, list) {
-        Err(ReplayFault::OutOfMemory) => Ok(Table::replay(alloc, own(past)?, project, list)),
+    match Table::replay_as(alloc, own(past)?, project, list, terms) {
+        Err(ReplayFault::OutOfMemory) => {
+            Ok(Table::replay_as(alloc, own(past)?, project, list, terms))
+        }
         told => Ok(told),
     }
 }

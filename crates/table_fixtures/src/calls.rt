@@ -12,18 +12,20 @@ use crate::tables::table_of;
 use answer_fixtures::{Asked, Unfit, key_of};
 use item_ids::Key;
 use job_table::{Asked as Told, CloseFault, Table, TableFault};
+use profiles::Profile;
 use providers::MiniJava;
 use session_fixtures::Kept;
+use sessions::Terms;
 use std::alloc::Global;
 
-/// A call of a table, by its name. The outcome of a finished run is that of the key of the last of these records, which
-/// reads those of its edges.
+/// A call of a table, by its name. The outcome of a finished run is that of the key of the last of these records in a
+/// profile, which reads those of its edges.
 #[derive(Clone, Copy)]
 pub enum Call {
     Ask,
     Mark,
     Begin,
-    Finish(&'static [Kept]),
+    Finish(Profile, &'static [Kept]),
     Fail,
     Close,
 }
@@ -49,9 +51,10 @@ pub struct Saying {
     pub events: usize,
 }
 
-/// The calls in turn of a table of this text, opened behind a chain of sessions.
+/// The calls in turn of a table of these terms and of this text, opened behind a chain of sessions.
 #[derive(Clone, Copy)]
 pub struct Calls {
+    pub terms: Terms,
     pub chain: &'static [Change],
     pub text: &'static str,
     pub sayings: &'static [Saying],
@@ -94,18 +97,19 @@ fn answer_of(called: Result<(), TableFault>) -> Said
     }
 }
 
-/// What the table says to the outcome of the record's run.
+/// What the table says to the outcome of the record's run in a profile.
 pub(crate) fn finish(
     alloc: Global,
     table: &mut Table<MiniJava>,
     worker: u32,
+    profile: Profile,
     records: &[Kept],
     kept: &Kept,
 ) -> Result<Said, Unfit>
     ensures { IfOk result (λ said.
-        SaysOfFinish records.now kept.now worker said table.old table.new) }
+        SaysOfFinish profile records.now kept.now worker said table.old table.new) }
 {
-    let outcome = outcome_of(alloc, records, kept)?;
+    let outcome = outcome_of(alloc, profile, records, kept)?;
     Ok(answer_of(again::finish(table, worker, outcome)?))
 }
 
@@ -113,13 +117,14 @@ fn finish_last(
     alloc: Global,
     table: &mut Table<MiniJava>,
     worker: u32,
+    profile: Profile,
     records: &[Kept],
 ) -> Result<Said, Unfit>
     ensures { IfOk result (λ said. (kept : SpecKept) × IsLast records.now kept
-        × SaysOfFinish records.now kept worker said table.old table.new) }
+        × SaysOfFinish profile records.now kept worker said table.old table.new) }
 {
     match records.last() {
-        Some(kept) => finish(alloc, table, worker, records, kept),
+        Some(kept) => finish(alloc, table, worker, profile, records, kept),
         None => Err(Unfit),
     }
 }
@@ -153,7 +158,9 @@ fn answer_to(
         Call::Ask => Ok(ask(table, saying.worker, key)),
         Call::Mark => Ok(mark(table, saying.worker, key)),
         Call::Begin => Ok(begin(table, saying.worker, key)),
-        Call::Finish(records) => finish_last(alloc, table, saying.worker, records),
+        Call::Finish(profile, records) => {
+            finish_last(alloc, table, saying.worker, profile, records)
+        }
         Call::Fail => Ok(fail(table, saying.worker)),
         Call::Close => Ok(close(table)),
     }
@@ -211,6 +218,6 @@ fn all_say(alloc: Global, table: &mut Table<MiniJava>, sayings: &[Saying]) -> Re
 pub fn are_said(alloc: Global, calls: &Calls) -> Result<bool, Unfit>
     ensures { IfOk result (λ b. IsTrue b → AreSaid calls.now) }
 {
-    let mut table = table_of(alloc, calls.chain, calls.text)?;
+    let mut table = table_of(alloc, calls.terms, calls.chain, calls.text)?;
     all_say(alloc, &mut table, calls.sayings)
 }

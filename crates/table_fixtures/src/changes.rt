@@ -1,5 +1,5 @@
 //! Sessions by what changed.
-ghost use Rattle.std.specs.Prelude.{◌≡◌, ◌==◌, find, option_copied, IfOk};
+ghost use Rattle.std.specs.Prelude.{◌≡◌, ◌==◌, find, option_copied, Some, IfOk};
 ghost use Rattle.std.specs.Arc.{arc_value};
 ghost use Rattle.std.specs.List.{list_any};
 ghost use Rattle.sessions.specs.Spelling.{digest_of, next_link};
@@ -8,15 +8,16 @@ ghost use Rattle.table_fixtures.specs.Told.{mark_told, digits_told, IsChanged, A
 
 use answer_fixtures::Unfit;
 use session_file::digest;
-use session_fixtures::{Kept, session_of};
-use sessions::{Mark, Session};
+use session_fixtures::{Kept, session_as};
+use sessions::{Mark, Session, Terms};
 use std::alloc::{AllocError, AllocFailed, Global};
 use std::sync::Arc;
 
-/// A session with the keys and edges of a list of records: which of them are executed, where the others are inputs or
-/// green, and which have another result than the list says.
+/// A session of these terms with the keys and edges of a list of records: which of them are executed, where the others
+/// are inputs or green, and which have another result than the list says.
 #[derive(Clone, Copy)]
 pub struct Change {
+    pub terms: Terms,
     pub records: &'static [Kept],
     pub executed: &'static [usize],
     pub others: &'static [Other],
@@ -106,27 +107,35 @@ pub(crate) fn link_behind(past: &Option<Arc<Session>>) -> [u8; 32]
     }
 }
 
-/// The session of these records behind this one.
+/// The session of these terms and records behind this one.
 fn session_behind(
     alloc: Global,
+    terms: Terms,
     past: &Option<Arc<Session>>,
     records: &[Kept],
 ) -> Result<Session, Unfit>
-    ensures { IfOk result (IsNextOf (session_in past.now) records.now) }
+    ensures { IfOk result (IsNextOf terms (session_in past.now) records.now) }
 {
-    session_of(alloc, number_behind(past), link_behind(past), records)
+    session_as(
+        alloc,
+        terms,
+        number_behind(past),
+        link_behind(past),
+        records,
+    )
 }
 
-/// The digest of the file of the session of these records behind this one.
+/// The digest of the file of the session of these terms and records behind this one.
 pub(crate) fn digest_behind(
     alloc: Global,
+    terms: Terms,
     past: &Option<Arc<Session>>,
     records: &[Kept],
 ) -> Result<[u8; 32], Unfit>
     ensures { IfOk result (λ digest. (s : SessionValue)
-        × IsNextOf (session_in past.now) records.now s × (digest ≡ digest_of s)) }
+        × IsNextOf terms (session_in past.now) records.now s × (digest ≡ digest_of s)) }
 {
-    let session = session_behind(alloc, past, records)?;
+    let session = session_behind(alloc, terms, past, records)?;
     Ok(digest(&session))
 }
 
@@ -146,12 +155,25 @@ pub fn past_behind(
     ensures { IfOk result (λ after. IsBehind change.now (session_in past.now) (session_in after)) }
 {
     let records = records_of(alloc, change)?;
-    let session = session_behind(alloc, past, records.as_slice())?;
+    let session = session_behind(alloc, change.terms, past, records.as_slice())?;
     Ok(Some(share(alloc, session)?))
 }
 
+/// The digest of the file of the session after this one, with these changes.
+pub fn digest_of_change(
+    alloc: Global,
+    past: &Option<Arc<Session>>,
+    change: &Change,
+) -> Result<[u8; 32], Unfit>
+    ensures { IfOk result (λ digest. (s : SessionValue)
+        × IsBehind change.now (session_in past.now) (Some s) × (digest ≡ digest_of s)) }
+{
+    let records = records_of(alloc, change)?;
+    digest_behind(alloc, change.terms, past, records.as_slice())
+}
+
 /// The last session of a chain, or `None` where there is none.
-pub(crate) fn past_of(alloc: Global, chain: &[Change]) -> Result<Option<Arc<Session>>, Unfit>
+pub fn past_of(alloc: Global, chain: &[Change]) -> Result<Option<Arc<Session>>, Unfit>
     ensures { IfOk result (λ past. IsLastOf chain.now (session_in past)) }
 {
     let mut past = None;

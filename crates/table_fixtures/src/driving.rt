@@ -8,17 +8,19 @@ ghost use Rattle.table_fixtures.specs.Reported.{HasCounts, IsReported, AreReport
 
 use crate::changes::share;
 use answer_fixtures::{Unfit, project_of};
-use mini_java::{DriveFault, Open, Reports, run_session};
+use mini_java::{DriveFault, Open, Reports, run_session, run_session_as};
 use mj_project::Project;
 use session_fixtures::session_of;
-use sessions::Session;
+use sessions::{Session, Terms};
 use std::alloc::Global;
 use std::sync::{Arc, Wait};
 use std::thread::Threads;
 
-/// What is reported of a session by so many workers: how many events each made, by its number, and how many there are.
+/// What is reported of a session of these terms by so many workers: how many events each made, by its number, and how many
+/// there are.
 #[derive(Clone, Copy)]
 pub struct Counts {
+    pub terms: Terms,
     pub workers: usize,
     pub events: &'static [usize],
     pub history: usize,
@@ -49,7 +51,15 @@ fn session_over<T: Threads + Wait + Sync>(
     ensures { IfOk result (λ made. IfSome made (λ s.
         IsReported (session_in past) project.now counts.now (arc_value s))) }
 {
-    match run_session(rt, alloc, past, project, counts.workers, &Open) {
+    match run_session_as(
+        rt,
+        alloc,
+        past,
+        project,
+        counts.terms,
+        counts.workers,
+        &Open,
+    ) {
         Ok((session, reports)) => session_if(alloc, session, tells(&reports, counts)),
         Err(_) => Err(Unfit),
     }

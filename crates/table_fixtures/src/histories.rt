@@ -4,8 +4,9 @@ ghost use Rattle.sessions.specs.Sessions.{SessionValue, session_in};
 ghost use Rattle.sessions.specs.Spelling.{digest_of, next_link};
 ghost use Rattle.answer_fixtures.specs.Telling.{IsKeyOf};
 ghost use Rattle.job_table.specs.Closes.{CloseGives};
+ghost use Rattle.table_fixtures.specs.declared.calls.Said.TheVariants.{Done};
 ghost use Rattle.table_fixtures.specs.Told.{InTurn, AreChanged};
-ghost use Rattle.table_fixtures.specs.Called.{IsTakenOver, IsBegun, IsBroughtBy, IsDoneAs, IsBrought, AreBrought, EndsSo, IsReplayed, ClosesAs, IsLed, IsHistory};
+ghost use Rattle.table_fixtures.specs.Called.{SaysOfFinish, IsTakenOver, IsBegun, IsBroughtBy, IsDoneAs, IsBrought, AreBrought, EndsSo, IsReplayed, ClosesAs, IsLed, IsHistory};
 
 use crate::again;
 use crate::calls::{Said, ask, begin, events, finish, mark};
@@ -19,7 +20,7 @@ use mj_project::Project;
 use providers::MiniJava;
 use session_file::digest;
 use session_fixtures::Kept;
-use sessions::{Mark, Session};
+use sessions::{Mark, Session, Terms};
 use std::alloc::{AllocError, Global};
 use std::sync::Arc;
 
@@ -48,7 +49,22 @@ fn is_begun(table: &mut Table<MiniJava>, key: &Key) -> bool
     ask(table, 0, key) == Said::Yours && begin(table, 0, key) == Said::Done
 }
 
-/// Claims the record's key, and marks it or runs it over the answers of its edges, as the record says.
+/// Ends the run of the record's key in the table's profile.
+fn is_ended(
+    alloc: Global,
+    table: &mut Table<MiniJava>,
+    records: &[Kept],
+    kept: &Kept,
+) -> Result<bool, Unfit>
+    ensures { IfOk result (λ b. IsTrue b
+        → SaysOfFinish table.old.terms.profile records.now kept.now 0 Done table.old table.new) }
+{
+    let profile = table.terms().profile;
+    Ok(finish(alloc, table, 0, profile, records, kept)? == Said::Done)
+}
+
+/// Claims the record's key, and marks it, or runs it in the table's profile over the answers of its edges, as the record
+/// says.
 fn is_brought(
     alloc: Global,
     table: &mut Table<MiniJava>,
@@ -62,9 +78,7 @@ fn is_brought(
     match kept.mark {
         Mark::Input => Ok(true),
         Mark::Green => Ok(is_marked(table, key)),
-        Mark::Executed => {
-            Ok(is_begun(table, key) && finish(alloc, table, 0, records, kept)? == Said::Done)
-        }
+        Mark::Executed => Ok(is_begun(table, key) && is_ended(alloc, table, records, kept)?),
     }
 }
 
@@ -162,31 +176,33 @@ fn is_behind(table: &Table<MiniJava>, past: &Option<Arc<Session>>) -> Result<boo
 }
 
 /// Whether the table was opened over the last session of the chain, by the digest of its file, and closes with just
-/// these records.
+/// these terms and records.
 fn closes(
     alloc: Global,
     table: &Table<MiniJava>,
+    terms: Terms,
     chain: &[Change],
     records: &[Kept],
 ) -> Result<bool, Unfit>
-    ensures { IfOk result (λ b. IsTrue b → ClosesAs chain.now records.now table.now) }
+    ensures { IfOk result (λ b. IsTrue b → ClosesAs terms chain.now records.now table.now) }
 {
     let past = past_of(alloc, chain)?;
-    let wanted = digest_behind(alloc, &past, records)?;
+    let wanted = digest_behind(alloc, terms, &past, records)?;
     Ok(is_behind(table, &past)? && closes_with(table, wanted))
 }
 
-/// Whether a replay of the table's events, over its previous session in the project, leads to as many.
+/// Whether a replay of the table's events, by its terms and over its previous session in the project, leads to as many.
 fn is_replayed_in(alloc: Global, table: &Table<MiniJava>, project: &Project) -> Result<bool, Unfit>
-    ensures { IfOk result (λ b. IsTrue b → EndsSo table.now.past project.now table.now.history
-        (Ok (length table.now.history))) }
+    ensures { IfOk result (λ b. IsTrue b → EndsSo table.now.terms table.now.past project.now
+        table.now.history (Ok (length table.now.history))) }
 {
     let past = table.past()?;
-    let ending = replay_in(alloc, &past, project, table.history())?;
+    let ending = replay_in(alloc, table.terms(), &past, project, table.history())?;
     Ok(ending == Ok(events(table)))
 }
 
-/// Whether a replay of the table's events, over its previous session in a project of this text, leads to as many.
+/// Whether a replay of the table's events, by its terms and over its previous session in a project of this text, leads
+/// to as many.
 fn is_replayed(alloc: Global, table: &Table<MiniJava>, text: &str) -> Result<bool, Unfit>
     ensures { IfOk result (λ b. IsTrue b → IsReplayed text.now table.now) }
 {
@@ -208,7 +224,7 @@ fn is_led(
         are_brought(alloc, table, records, history.beside)?
             && events(table) == history.events
             && is_replayed(alloc, table, history.text)?
-            && closes(alloc, table, history.chain, records)?,
+            && closes(alloc, table, history.change.terms, history.chain, records)?,
     )
 }
 
@@ -216,13 +232,13 @@ fn is_of_records(alloc: Global, history: &History, records: &[Kept]) -> Result<b
     requires { AreChanged history.now.change records.now }
     ensures { IfOk result (λ b. IsTrue b → IsHistory history.now) }
 {
-    let mut table = table_of(alloc, history.chain, history.text)?;
+    let mut table = table_of(alloc, history.change.terms, history.chain, history.text)?;
     is_led(alloc, &mut table, history, records)
 }
 
 /// Whether the session is made as the history says: each of its keys is claimed and marked or run as its record says,
 /// and is done with the record's result; this many events lead there, and their replay leads there too; and the table
-/// closes with just these records.
+/// closes with just these terms and records.
 pub fn is_history(alloc: Global, history: &History) -> Result<bool, Unfit>
     ensures { IfOk result (λ b. IsTrue b → IsHistory history.now) }
 {

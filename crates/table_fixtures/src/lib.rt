@@ -12,7 +12,7 @@ mod runs;
 mod tables;
 
 pub use calls::{Call, Calls, Said, Saying, are_said};
-pub use changes::{Change, Other, past_behind};
+pub use changes::{Change, Other, digest_of_change, past_behind, past_of};
 pub use driving::{Counts, Unmade, are_reported, drive_fault};
 pub use histories::{History, is_history};
 pub use replays::{Replay, replay_of};

@@ -6,7 +6,7 @@ ghost use Rattle.sessions.specs.Sessions.{session_in};
 ghost use Rattle.graph_rules.specs.Steps.{Event as SpecEvent, Finish};
 ghost use Rattle.answer_fixtures.specs.Telling.{IsKeyOf, one_file};
 ghost use Rattle.job_table.specs.Kept.{event_of};
-ghost use Rattle.table_fixtures.specs.Called.{IsLast, run_events, AreEventsOf, EndsSo, IsReplay};
+ghost use Rattle.table_fixtures.specs.Called.{IsLast, run_events, AreEventsOf, AreEventsOfRun, EndsSo, IsReplay};
 
 use crate::again::replay;
 use crate::calls::events;
@@ -15,18 +15,22 @@ use answer_fixtures::{Unfit, key_of, project_of};
 use item_ids::Key;
 use job_table::{Event, ReplayFault};
 use mj_project::Project;
+use profiles::Profile;
 use providers::MiniJava;
 use recorder::Outcome;
 use session_fixtures::Kept;
-use sessions::Session;
+use sessions::{Session, Terms};
 use std::alloc::{AllocError, AllocFailed, Global};
 use std::sync::Arc;
 
-/// The events of a run by the worker 0 in a project of this text: the key of the last of these records is claimed and
-/// finished over the answers of its edges, with a begin between them or without.
+/// The events of a run by the worker 0 in a project of this text, for a table of these terms: the key of the last of
+/// these records is claimed and finished over the answers of its edges, in a profile, with a begin between them or
+/// without. None where there are no records.
 #[derive(Clone, Copy)]
 pub struct Replay {
+    pub terms: Terms,
     pub text: &'static str,
+    pub profile: Profile,
     pub records: &'static [Kept],
     pub begins: bool,
 }
@@ -72,9 +76,9 @@ fn run_of(
 fn events_with(alloc: Global, key: &Key, replay: &Replay, kept: &Kept) -> Result<Events, Unfit>
     requires last { IsLast replay.now.records.now kept.now }
     requires told { IsKeyOf kept.now.key key.now }
-    ensures { IfOk result (λ events. AreEventsOf replay.now (map event_of events.items)) }
+    ensures { IfOk result (λ events. AreEventsOfRun replay.now (map event_of events.items)) }
 {
-    match outcome_of(alloc, replay.records, kept) {
+    match outcome_of(alloc, replay.profile, replay.records, kept) {
         Ok(outcome) => Ok(run_of(alloc, key, replay.begins, outcome)?),
         Err(fault) => Err(fault),
     }
@@ -83,7 +87,7 @@ fn events_with(alloc: Global, key: &Key, replay: &Replay, kept: &Kept) -> Result
 /// The events of the run of a record's key.
 fn events_by(alloc: Global, replay: &Replay, kept: &Kept) -> Result<Events, Unfit>
     requires { IsLast replay.now.records.now kept.now }
-    ensures { IfOk result (λ events. AreEventsOf replay.now (map event_of events.items)) }
+    ensures { IfOk result (λ events. AreEventsOfRun replay.now (map event_of events.items)) }
 {
     let key = key_of(alloc, kept.key)?;
     events_with(alloc, &key, replay, kept)
@@ -94,20 +98,21 @@ fn events_of(alloc: Global, replay: &Replay) -> Result<Events, Unfit>
 {
     match replay.records.last() {
         Some(kept) => events_by(alloc, replay, kept),
-        None => Err(Unfit),
+        None => Ok(Vec::new(alloc)),
     }
 }
 
-/// How many events the replay has over the previous session in a project, or why there is none.
+/// How many events the replay has in a table of these terms over the previous session in a project, or why there is none.
 pub(crate) fn replay_in(
     alloc: Global,
+    terms: Terms,
     past: &Option<Arc<Session>>,
     project: &Project,
     list: &[Event<MiniJava>],
 ) -> Result<Result<usize, ReplayFault>, AllocError>
-    ensures { IfOk result (EndsSo (session_in past.now) project.now (map event_of list.now)) }
+    ensures { IfOk result (EndsSo terms (session_in past.now) project.now (map event_of list.now)) }
 {
-    match replay(alloc, past, project, list)? {
+    match replay(alloc, terms, past, project, list)? {
         Ok(table) => Ok(Ok(events(&table))),
         Err(fault) => Ok(Err(fault)),
     }
@@ -119,10 +124,10 @@ fn replay_over(
     replay: &Replay,
 ) -> Result<Result<usize, ReplayFault>, Unfit>
     ensures { IfOk result (λ ending. (events : List SpecEvent) × AreEventsOf replay.now events
-        × EndsSo None project.now events ending) }
+        × EndsSo replay.now.terms None project.now events ending) }
 {
     let events = events_of(alloc, replay)?;
-    Ok(replay_in(alloc, &None, project, &events)?)
+    Ok(replay_in(alloc, replay.terms, &None, project, &events)?)
 }
 
 /// How many events the replay has with no previous session, or why there is none.

@@ -11,6 +11,7 @@ ghost use Rattle.table_fixtures.specs.Told.{IsAnswerAt, AreAnswersAt, IsRunOf};
 
 use answer_fixtures::{Asked, Unfit, key_of, sealed_of};
 use item_ids::{Key, rank};
+use profiles::Profile;
 use providers::MiniJava;
 use recorder::{AnswerList, Outcome, Recorder, record};
 use session_fixtures::Kept;
@@ -85,10 +86,11 @@ fn share(alloc: Global, outcome: Outcome<MiniJava>) -> Result<Arc<Outcome<MiniJa
     Ok(Arc::new(alloc, outcome)?)
 }
 
-/// The outcome of the key's run, to be shared.
+/// The outcome of the key's run in a profile, to be shared.
 fn outcome_by(
     alloc: Global,
     runner: &mut MiniJava,
+    profile: Profile,
     key: &Key,
     recorder: &mut Recorder<AnswerList>,
 ) -> Result<Arc<Outcome<MiniJava>>, Unfit>
@@ -96,11 +98,12 @@ fn outcome_by(
     requires unread { recorder.old.told ≡ [] }
     requires unrefused { recorder.old.refused ≡ None }
     ensures key { IfOk result (λ o. (arc_value o).key ≡ key.now) }
+    ensures profile { IfOk result (λ o. (arc_value o).profile ≡ profile) }
     ensures read { IfOk result (λ o.
         AllByRecursion (λ t. Contains recorder.old.inner t) (arc_value o).told) }
-    ensures outcome { IfOk result (λ o. IsOutcome mean reads (arc_value o)) }
+    ensures outcome { IfOk result (λ o. IsOutcome (mean profile) (reads profile) (arc_value o)) }
 {
-    match record(alloc, runner, key, recorder) {
+    match record(alloc, runner, profile, key, recorder) {
         Ok(outcome) => {
             // What was read is answered by the list, by the recorder's type.
             let _reads = recorder.reads();
@@ -110,41 +113,50 @@ fn outcome_by(
     }
 }
 
-/// The outcome of the key's run over the list.
-fn outcome_over(alloc: Global, key: &Key, list: AnswerList) -> Result<Arc<Outcome<MiniJava>>, Unfit>
+/// The outcome of the key's run in a profile over the list.
+fn outcome_over(
+    alloc: Global,
+    profile: Profile,
+    key: &Key,
+    list: AnswerList,
+) -> Result<Arc<Outcome<MiniJava>>, Unfit>
     requires { 0 < rank_of key.now }
     ensures key { IfOk result (λ o. (arc_value o).key ≡ key.now) }
+    ensures profile { IfOk result (λ o. (arc_value o).profile ≡ profile) }
     ensures read { IfOk result (λ o. AllByRecursion (λ t. Contains list t) (arc_value o).told) }
-    ensures outcome { IfOk result (λ o. IsOutcome mean reads (arc_value o)) }
+    ensures outcome { IfOk result (λ o. IsOutcome (mean profile) (reads profile) (arc_value o)) }
 {
     let mut runner = MiniJava::new(alloc);
     let mut recorder = Recorder::new(alloc, list);
-    outcome_by(alloc, &mut runner, key, &mut recorder)
+    outcome_by(alloc, &mut runner, profile, key, &mut recorder)
 }
 
-/// The outcome of the key's run over the answers of the record's edges, which are indices of these records.
+/// The outcome of the key's run in a profile over the answers of the record's edges, which are indices of these records.
 fn outcome_with(
     alloc: Global,
+    profile: Profile,
     key: &Key,
     records: &[Kept],
     kept: &Kept,
 ) -> Result<Arc<Outcome<MiniJava>>, Unfit>
     requires no_input { 0 < rank_of key.now }
     requires told { IsKeyOf kept.now.key key.now }
-    ensures { IfOk result (λ o. IsRunOf records.now kept.now (arc_value o)) }
+    ensures { IfOk result (λ o. IsRunOf profile records.now kept.now (arc_value o)) }
 {
     let list = answers_of(alloc, records, kept.edges)?;
-    outcome_over(alloc, key, list)
+    outcome_over(alloc, profile, key, list)
 }
 
-/// The outcome of a run of the record's key over the answers of its edges, which are indices of these records.
+/// The outcome of a run in a profile of the record's key over the answers of its edges, which are indices of these
+/// records.
 pub(crate) fn outcome_of(
     alloc: Global,
+    profile: Profile,
     records: &[Kept],
     kept: &Kept,
 ) -> Result<Arc<Outcome<MiniJava>>, Unfit>
-    ensures { IfOk result (λ o. IsRunOf records.now kept.now (arc_value o)) }
+    ensures { IfOk result (λ o. IsRunOf profile records.now kept.now (arc_value o)) }
 {
     let key = query_of(alloc, kept.key)?;
-    outcome_with(alloc, &key, records, kept)
+    outcome_with(alloc, profile, &key, records, kept)
 }

@@ -2,6 +2,7 @@
 ghost use Rattle.std.specs.Prelude.{Option, IfOk, Ok};
 ghost use Rattle.sessions.specs.Sessions.{SessionValue};
 ghost use Rattle.answer_fixtures.specs.Telling.{one_file};
+ghost use Rattle.query_rules.specs.Queries.{queries};
 ghost use Rattle.job_table.specs.Calls.{OpenGives};
 ghost use Rattle.table_fixtures.specs.Told.{IsLastOf, IsTableOf};
 
@@ -10,26 +11,33 @@ use answer_fixtures::{Unfit, project_of};
 use job_table::Table;
 use mj_project::Project;
 use providers::MiniJava;
+use sessions::Terms;
 use std::alloc::Global;
 
-/// The table of a project of this text, opened behind a chain of sessions.
+/// The table of these terms and of a project of this text, opened behind a chain of sessions.
 pub(crate) fn table_of(
     alloc: Global,
+    terms: Terms,
     chain: &[Change],
     text: &str,
 ) -> Result<Table<MiniJava>, Unfit>
-    ensures { IfOk result (IsTableOf chain.now text.now) }
+    ensures { IfOk result (IsTableOf terms chain.now text.now) }
 {
     let project = project_of(alloc, text)?;
-    table_over(alloc, chain, &project)
+    table_over(alloc, terms, chain, &project)
 }
 
-fn table_over(alloc: Global, chain: &[Change], project: &Project) -> Result<Table<MiniJava>, Unfit>
+fn table_over(
+    alloc: Global,
+    terms: Terms,
+    chain: &[Change],
+    project: &Project,
+) -> Result<Table<MiniJava>, Unfit>
     ensures { IfOk result (λ t. (past : Option SessionValue) × IsLastOf chain.now past
-        × OpenGives past project.now (Ok t)) }
+        × OpenGives queries.by_profile terms past project.now (Ok t)) }
 {
     let past = past_of(alloc, chain)?;
-    match Table::open(alloc, past, project) {
+    match Table::open_as(alloc, past, project, terms) {
         Ok(table) => Ok(table),
         Err(_) => Err(Unfit),
     }

@@ -1,16 +1,18 @@
 //! The calls of tables in turn, and what each says.
 
-use crate::records::{COMMENTED, ONE, PLAIN, TRUE, sessions_of_one};
+use crate::records::{COMMENTED, FIRST_TERMS, ONE, PLAIN, SECOND_PROFILE, TRUE, sessions_of_one};
 use answer_fixtures::{Asked, Unfit};
 use item_ids::Kind;
 use job_table::{CloseFault, ReplayFault, TableFault};
+use profiles::Profile;
+use sessions::Terms;
 use std::alloc::Global;
 use std::test::*;
 use table_fixtures::{Call, Calls, Replay, Said, Saying, are_said, replay_of};
 
-const TREE: Asked<'static> = Asked(Kind::Tree, "M.java", "");
+pub(crate) const TREE: Asked<'static> = Asked(Kind::Tree, "M.java", "");
 
-const INDEX: Asked<'static> = Asked(Kind::Index, "", "");
+pub(crate) const INDEX: Asked<'static> = Asked(Kind::Index, "", "");
 
 const ANSWER: Asked<'static> = Asked(Kind::Answer, "", "");
 
@@ -161,7 +163,7 @@ const BEHIND: &[Saying] = &[
         events: 3,
     },
     Saying {
-        call: Call::Finish(COMMENTED),
+        call: Call::Finish(Profile::One, COMMENTED),
         worker: 0,
         key: TREE,
         said: Said::Done,
@@ -216,14 +218,14 @@ const STALE: &[Saying] = &[
         events: 2,
     },
     Saying {
-        call: Call::Finish(TRUE),
+        call: Call::Finish(Profile::One, TRUE),
         worker: 0,
         key: TREE,
         said: Said::Refused(TableFault::StaleRead(0)),
         events: 2,
     },
     Saying {
-        call: Call::Finish(PLAIN),
+        call: Call::Finish(Profile::One, PLAIN),
         worker: 0,
         key: TREE,
         said: Said::Done,
@@ -231,30 +233,35 @@ const STALE: &[Saying] = &[
     },
 ];
 
-/// A table of this text behind so many sessions of one class, and its calls.
-struct Row {
-    behind: usize,
-    text: &'static str,
-    sayings: &'static [Saying],
+/// A table of these terms and of this text behind so many sessions of one class, and its calls.
+pub(crate) struct Row {
+    pub(crate) terms: Terms,
+    pub(crate) behind: usize,
+    pub(crate) text: &'static str,
+    pub(crate) sayings: &'static [Saying],
 }
 
 static TABLES: [Row; 4] = [
     Row {
+        terms: FIRST_TERMS,
         behind: 0,
         text: ONE,
         sayings: FAILED,
     },
     Row {
+        terms: FIRST_TERMS,
         behind: 1,
         text: "class M { public static void main(String[] a) { System.out.println(1); } } // x",
         sayings: BEHIND,
     },
     Row {
+        terms: FIRST_TERMS,
         behind: 0,
         text: ONE,
         sayings: OPENED,
     },
     Row {
+        terms: FIRST_TERMS,
         behind: 0,
         text: ONE,
         sayings: STALE,
@@ -262,10 +269,11 @@ static TABLES: [Row; 4] = [
 ];
 
 /// Whether each call says what it should.
-fn is_answered(alloc: Global, row: &Row) -> Result<bool, Unfit> {
+pub(crate) fn is_answered(alloc: Global, row: &Row) -> Result<bool, Unfit> {
     match sessions_of_one().get(..row.behind) {
         Some(chain) => {
             let calls = Calls {
+                terms: row.terms,
                 chain,
                 text: row.text,
                 sayings: row.sayings,
@@ -285,16 +293,38 @@ fn calls_say(rt: HostRuntime) {
 
 /// A claim, a begin and a finish of one key.
 static RUN: Replay = Replay {
+    terms: FIRST_TERMS,
     text: ONE,
+    profile: Profile::One,
     records: PLAIN,
     begins: true,
 };
 
 /// A claim and then a finish.
 static NOT_BEGUN: Replay = Replay {
+    terms: FIRST_TERMS,
     text: ONE,
+    profile: Profile::One,
     records: PLAIN,
     begins: false,
+};
+
+/// No event, in profile 2.
+static NOTHING: Replay = Replay {
+    terms: SECOND_PROFILE,
+    text: ONE,
+    profile: Profile::Two,
+    records: &[],
+    begins: true,
+};
+
+/// A run in profile 1, in a table of profile 2: the finish is no step.
+static OTHERWISE: Replay = Replay {
+    terms: SECOND_PROFILE,
+    text: ONE,
+    profile: Profile::One,
+    records: PLAIN,
+    begins: true,
 };
 
 /// Whether the replay ends so.
@@ -306,4 +336,6 @@ fn is_replay(rt: HostRuntime, replay: &Replay, end: Result<usize, ReplayFault>) 
 fn events_are_replayed(rt: HostRuntime) {
     assert!(rt; is_replay(rt, &RUN, Ok(3)));
     assert!(rt; is_replay(rt, &NOT_BEGUN, Err(ReplayFault::Illegal(1))));
+    assert!(rt; is_replay(rt, &NOTHING, Ok(0)));
+    assert!(rt; is_replay(rt, &OTHERWISE, Err(ReplayFault::Illegal(2))));
 }

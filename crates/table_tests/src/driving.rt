@@ -1,6 +1,6 @@
 //! What is reported of sessions that are run, why there is none, and the texts of those faults.
 
-use crate::records::ONE;
+use crate::records::{FIRST_TERMS, ONE, SECOND_PROFILE};
 use mark_green::Fault;
 use mini_java::DriveFault;
 use std::alloc::Global;
@@ -9,23 +9,89 @@ use std::test::*;
 use std::thread::Threads;
 use table_fixtures::{Counts, Unmade, are_reported, drive_fault};
 
-/// Ten queries are executed, three events for each.
-const FIRST: Counts = Counts {
-    workers: 1,
-    events: &[30],
-    history: 30,
-};
+/// What is reported of a first session of this text and of one over it, by one worker.
+struct Row {
+    text: &'static str,
+    first: Counts,
+    again: Counts,
+}
 
-/// They are green then, two events for each.
-const AGAIN: Counts = Counts {
-    workers: 1,
-    events: &[20],
-    history: 20,
-};
+/// A class overrides a method with one that returns a subclass. That is a fault in profile 1, and none in profile 2.
+const COVARIANT: &str =
+    "class M { public static void main(String[] a) { System.out.println(1); } } class A { public A g() { return this; } } class B extends A { public B g() { return this; } }";
+
+const ROWS: &[Row] = &[
+    // Ten queries are executed, three events for each. They are green then, two events for each.
+    Row {
+        text: ONE,
+        first: Counts {
+            terms: FIRST_TERMS,
+            workers: 1,
+            events: &[30],
+            history: 30,
+        },
+        again: Counts {
+            terms: FIRST_TERMS,
+            workers: 1,
+            events: &[20],
+            history: 20,
+        },
+    },
+    // In the other profile the class is checked again, and nine are green.
+    Row {
+        text: ONE,
+        first: Counts {
+            terms: FIRST_TERMS,
+            workers: 1,
+            events: &[30],
+            history: 30,
+        },
+        again: Counts {
+            terms: SECOND_PROFILE,
+            workers: 1,
+            events: &[21],
+            history: 21,
+        },
+    },
+    Row {
+        text: ONE,
+        first: Counts {
+            terms: SECOND_PROFILE,
+            workers: 1,
+            events: &[30],
+            history: 30,
+        },
+        again: Counts {
+            terms: FIRST_TERMS,
+            workers: 1,
+            events: &[21],
+            history: 21,
+        },
+    },
+    // Of 26 queries the checks of three classes, all faults of one class and the answer are executed, and 21 are green.
+    Row {
+        text: COVARIANT,
+        first: Counts {
+            terms: FIRST_TERMS,
+            workers: 1,
+            events: &[78],
+            history: 78,
+        },
+        again: Counts {
+            terms: SECOND_PROFILE,
+            workers: 1,
+            events: &[57],
+            history: 57,
+        },
+    },
+];
 
 #[test]
 fn sessions_are_reported(rt: HostRuntime) {
-    assert!(rt; are_reported(&rt, rt.alloc(), ONE, &FIRST, &AGAIN) == Ok(true));
+    for row in ROWS {
+        let reported = are_reported(&rt, rt.alloc(), row.text, &row.first, &row.again);
+        assert!(rt; reported == Ok(true));
+    }
 }
 
 /// A session that is refused, and why.

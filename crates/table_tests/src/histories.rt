@@ -1,16 +1,22 @@
 //! Whole sessions: which keys are executed, how many events lead there, and what the table closes with.
 
-use crate::records::{MISSING, ONE, SESSIONS_OF_TWO, TWO, sessions_of_one};
+use crate::records::{
+    FIRST_TERMS, MISSING, ONE, SECOND_PROFILE, SESSIONS_ACROSS, SESSIONS_OF_TWO, TWO,
+    sessions_of_one,
+};
 use answer_fixtures::Unfit;
+use profiles::Profile;
 use session_fixtures::Kept;
+use sessions::{Form, Terms};
 use std::alloc::Global;
 use std::test::*;
 use table_fixtures::{Change, History, Other, is_history};
 
-/// A session of a project of this text behind so many sessions of a chain, with the keys and edges of the chain's first:
-/// which records are executed, which have another result, what is run beside them and reached by nothing, and how many
-/// events lead there.
+/// A session of these terms and of a project of this text behind so many sessions of a chain, with the keys and edges of
+/// the chain's first: which records are executed, which have another result, what is run beside them and reached by
+/// nothing, and how many events lead there.
 struct Row {
+    terms: Terms,
     behind: usize,
     text: &'static str,
     executed: &'static [usize],
@@ -27,6 +33,7 @@ fn is_led(alloc: Global, chain: &'static [Change], row: &Row) -> Result<bool, Un
                 chain: behind,
                 text: row.text,
                 change: Change {
+                    terms: row.terms,
                     records: first.records,
                     executed: row.executed,
                     others: row.others,
@@ -43,6 +50,7 @@ fn is_led(alloc: Global, chain: &'static [Change], row: &Row) -> Result<bool, Un
 static ROWS_OF_ONE: [Row; 6] = [
     // A first session: all ten queries are executed, three events for each.
     Row {
+        terms: FIRST_TERMS,
         behind: 0,
         text: ONE,
         executed: &[2, 3, 4, 5, 6, 7, 8, 9, 10, 11],
@@ -52,6 +60,7 @@ static ROWS_OF_ONE: [Row; 6] = [
     },
     // One more query is executed, which nothing reaches, and is left out.
     Row {
+        terms: FIRST_TERMS,
         behind: 0,
         text: ONE,
         executed: &[2, 3, 4, 5, 6, 7, 8, 9, 10, 11],
@@ -61,6 +70,7 @@ static ROWS_OF_ONE: [Row; 6] = [
     },
     // Nothing is changed: all ten are green, two events for each.
     Row {
+        terms: FIRST_TERMS,
         behind: 1,
         text: ONE,
         executed: &[],
@@ -70,6 +80,7 @@ static ROWS_OF_ONE: [Row; 6] = [
     },
     // A comment is added: the tree alone is executed, and is as it was. Nine are green.
     Row {
+        terms: FIRST_TERMS,
         behind: 1,
         text: "class M { public static void main(String[] a) { System.out.println(1); } } // x",
         executed: &[2],
@@ -83,6 +94,7 @@ static ROWS_OF_ONE: [Row; 6] = [
     // The class prints 2: the tree, the index, the header, the method, the check of its body and the answer are executed.
     // Four are green.
     Row {
+        terms: FIRST_TERMS,
         behind: 1,
         text: "class M { public static void main(String[] a) { System.out.println(2); } }",
         executed: &[2, 3, 4, 5, 9, 11],
@@ -105,6 +117,7 @@ static ROWS_OF_ONE: [Row; 6] = [
     },
     // It prints 1 again: the same are executed, since the previous session is looked at alone.
     Row {
+        terms: FIRST_TERMS,
         behind: 2,
         text: ONE,
         executed: &[2, 3, 4, 5, 9, 11],
@@ -124,6 +137,7 @@ fn sessions_of_one_class(rt: HostRuntime) {
 static ROWS_OF_TWO: [Row; 2] = [
     // A first session: all twenty-one queries are executed.
     Row {
+        terms: FIRST_TERMS,
         behind: 0,
         text: TWO,
         executed: &[
@@ -136,6 +150,7 @@ static ROWS_OF_TWO: [Row; 2] = [
     // One method returns 3: the tree, the index, both headers, the three methods, the types and the body of the edited
     // method, and the answer are executed. Eleven are green.
     Row {
+        terms: FIRST_TERMS,
         behind: 1,
         text: "class M { public static void main(String[] a) { System.out.println(new A().f()); } } class A { public int f() { return 3; } public int g() { return 2; } }",
         executed: &[2, 3, 4, 5, 6, 7, 8, 9, 17, 22],
@@ -162,5 +177,91 @@ static ROWS_OF_TWO: [Row; 2] = [
 fn sessions_of_two_classes(rt: HostRuntime) {
     for row in &ROWS_OF_TWO {
         assert!(rt; is_led(rt.alloc(), &SESSIONS_OF_TWO, row) == Ok(true));
+    }
+}
+
+static ROWS_ACROSS: [Row; 6] = [
+    // A first session in profile 2: all ten queries are executed.
+    Row {
+        terms: SECOND_PROFILE,
+        behind: 0,
+        text: ONE,
+        executed: &[2, 3, 4, 5, 6, 7, 8, 9, 10, 11],
+        others: &[],
+        beside: &[],
+        events: 30,
+    },
+    // One in profile 2 over one in profile 1: the check of the class is executed, three events, and nine are green.
+    Row {
+        terms: SECOND_PROFILE,
+        behind: 1,
+        text: ONE,
+        executed: &[8],
+        others: &[],
+        beside: &[],
+        events: 21,
+    },
+    // The class prints 2 besides: the check of its declarations is executed besides the six others.
+    Row {
+        terms: SECOND_PROFILE,
+        behind: 1,
+        text: "class M { public static void main(String[] a) { System.out.println(2); } }",
+        executed: &[2, 3, 4, 5, 8, 9, 11],
+        others: &[
+            Other {
+                at: 1,
+                digits: "0101000000000000004a636c617373204d207b207075626c69632073746174696320766f6964206d61696e28537472696e675b5d206129207b2053797374656d2e6f75742e7072696e746c6e2832293b207d207d",
+            },
+            Other {
+                at: 2,
+                digits: "020101014d030000000b0800000011000000020000000000000000",
+            },
+            Other {
+                at: 5,
+                digits: "050100030000000b080000001100000002",
+            },
+        ],
+        beside: &[],
+        events: 27,
+    },
+    // One in form 2, of the same profile: all ten are green.
+    Row {
+        terms: Terms {
+            profile: Profile::One,
+            form: Form::Two,
+        },
+        behind: 1,
+        text: ONE,
+        executed: &[],
+        others: &[],
+        beside: &[],
+        events: 20,
+    },
+    // Profile 1 again, over the one in profile 2: the check of the class is executed again.
+    Row {
+        terms: FIRST_TERMS,
+        behind: 2,
+        text: ONE,
+        executed: &[8],
+        others: &[],
+        beside: &[],
+        events: 21,
+    },
+    // Profile 2 over profile 2: all ten are green, whatever the form is.
+    Row {
+        terms: SECOND_PROFILE,
+        behind: 2,
+        text: ONE,
+        executed: &[],
+        others: &[],
+        beside: &[],
+        events: 20,
+    },
+];
+
+#[test]
+fn sessions_over_another_profile(rt: HostRuntime) {
+    for row in &ROWS_ACROSS {
+        assert!(rt; is_led(rt.alloc(), &SESSIONS_ACROSS, row) == Ok(true));
     }
 }

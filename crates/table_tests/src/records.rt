@@ -2,8 +2,9 @@
 
 use answer_fixtures::Asked;
 use item_ids::Kind;
+use profiles::Profile;
 use session_fixtures::{FIRST, Kept};
-use sessions::Mark;
+use sessions::{Form, Mark, Terms};
 use table_fixtures::{Change, Other};
 
 /// A main class that prints 1.
@@ -14,15 +15,29 @@ pub(crate) const ONE: &str =
 pub(crate) const TWO: &str =
     "class M { public static void main(String[] a) { System.out.println(new A().f()); } } class A { public int f() { return 1; } public int g() { return 2; } }";
 
+/// Profile 1 and form 1.
+pub(crate) const FIRST_TERMS: Terms = Terms {
+    profile: Profile::One,
+    form: Form::One,
+};
+
+/// Profile 2 and form 1.
+pub(crate) const SECOND_PROFILE: Terms = Terms {
+    profile: Profile::Two,
+    form: Form::One,
+};
+
 /// A chain of sessions of the class that prints 1: all ten queries are executed; and then, where it prints 2, the tree,
 /// the index, the header, the method, the check of its body and the answer.
 static SESSIONS_OF_ONE: [Change; 2] = [
     Change {
+        terms: FIRST_TERMS,
         records: FIRST,
         executed: &[2, 3, 4, 5, 6, 7, 8, 9, 10, 11],
         others: &[],
     },
     Change {
+        terms: FIRST_TERMS,
         records: FIRST,
         executed: &[2, 3, 4, 5, 9, 11],
         others: &[
@@ -47,6 +62,26 @@ static SESSIONS_OF_ONE: [Change; 2] = [
 pub(crate) fn sessions_of_one() -> &'static [Change; 2] {
     &SESSIONS_OF_ONE
 }
+
+/// A chain of sessions of the class that prints 1, the second of which is in profile 2 and form 2: the class is checked
+/// again.
+pub(crate) static SESSIONS_ACROSS: [Change; 2] = [
+    Change {
+        terms: FIRST_TERMS,
+        records: FIRST,
+        executed: &[2, 3, 4, 5, 6, 7, 8, 9, 10, 11],
+        others: &[],
+    },
+    Change {
+        terms: Terms {
+            profile: Profile::Two,
+            form: Form::Two,
+        },
+        records: FIRST,
+        executed: &[8],
+        others: &[],
+    },
+];
 
 /// The first session of the two classes.
 const FIRST_OF_TWO: &[Kept] = &[
@@ -192,6 +227,7 @@ const FIRST_OF_TWO: &[Kept] = &[
 
 /// A chain of one session of the two classes: all twenty-one queries are executed.
 pub(crate) static SESSIONS_OF_TWO: [Change; 1] = [Change {
+    terms: FIRST_TERMS,
     records: FIRST_OF_TWO,
     executed: &[
         2, 3, 4, 5, 6, 7, 8, 9, 10, 11, 12, 13, 14, 15, 16, 17, 18, 19, 20, 21, 22,
@@ -262,6 +298,28 @@ pub(crate) const PLAIN: &[Kept] = &[
         mark: Mark::Executed,
         edges: &[1],
         digits: "020101014d030000000b0800000011000000010000000000000000",
+    },
+];
+
+/// The check of the class that prints 1, and what it reads.
+pub(crate) const CHECKED: &[Kept] = &[
+    Kept {
+        key: Asked(Kind::Header, "M", ""),
+        mark: Mark::Green,
+        edges: &[],
+        digits: "0401010000000000000000000000000000000000",
+    },
+    Kept {
+        key: Asked(Kind::Supers, "M", ""),
+        mark: Mark::Green,
+        edges: &[],
+        digits: "07010000000000000001014d00",
+    },
+    Kept {
+        key: Asked(Kind::CheckClass, "M", ""),
+        mark: Mark::Executed,
+        edges: &[0, 1],
+        digits: "090000000000000000",
     },
 ];
 

@@ -20,6 +20,8 @@ const OF_CALLS: &[(TableFault, &str)] = &[
     (TableFault::NothingChanged, "9.6 NothingChanged"),
     (TableFault::StaleRead(0), "9.7 StaleRead(0)"),
     (TableFault::Failed, "9.8 Failed"),
+    (TableFault::AcrossProfiles, "9.13 AcrossProfiles"),
+    (TableFault::OtherProfile, "9.14 OtherProfile"),
 ];
 
 #[test]

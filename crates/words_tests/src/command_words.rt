@@ -40,7 +40,11 @@ const FILES: &[(&[&str], Subcommand, &[&str])] = &[
         &["b", "audit", "", "b"],
     ),
     (&["mjrg", "show", ""], Subcommand::Show, &[""]),
-    (&["mjrg", "show", "--", "--"], Subcommand::Show, &["--"]),
+    (
+        &["mjrg", "show", "a", "--", "b", "--"],
+        Subcommand::Show,
+        &["a", "b", "--"],
+    ),
 ];
 
 /// Whether the texts are these.
@@ -52,17 +56,19 @@ fn are_texts(texts: &[String], want: &[&str]) -> bool {
             .all(|(text, word)| text.as_str() == *word)
 }
 
-/// Whether these words ask for the subcommand with these files.
+/// Whether these words ask for the subcommand with these files, and for profile 1.
 fn are_asked(words: &Words, subcommand: Subcommand, want: &[&str]) -> bool {
     match words {
-        Words::Scratch(files) => {
-            subcommand == Subcommand::Scratch && are_texts(files.as_slice(), want)
+        Words::Scratch(asked) => {
+            subcommand == Subcommand::Scratch
+                && asked.profile == 1
+                && are_texts(asked.files.as_slice(), want)
         }
         Words::Audit(files) => {
             subcommand == Subcommand::Audit && are_texts(files.as_slice(), want)
         }
         Words::Check(_) => false,
-        Words::Show(file) => subcommand == Subcommand::Show && want == [file.as_str()].as_slice(),
+        Words::Show(files) => subcommand == Subcommand::Show && are_texts(files.as_slice(), want),
     }
 }
 
@@ -88,71 +94,187 @@ fn reads_the_files(rt: HostRuntime) -> Result<(), Fail> {
     Ok(())
 }
 
-/// Command lines of `check`, the folder of the cache, how many workers they give, and the files.
-const CHECKS: &[(&[&str], &str, usize, &[&str])] = &[
+/// Command lines of `scratch`, the profile that they give, and the files.
+const SCRATCHES: &[(&[&str], u8, &[&str])] = &[
     (
-        &["mjrg", "check", "--cache", "c", "M.java"],
-        "c",
-        1,
+        &["mjrg", "scratch", "--profile", "2", "M.java"],
+        2,
         &["M.java"],
     ),
     (
-        &["mjrg", "check", "b", "--jobs", "64", "a", "--cache=", "b"],
-        "",
-        64,
-        &["b", "a", "b"],
-    ),
-    (
-        &["mjrg", "check", "--jobs=+07", "--cache=--jobs=8=", "-"],
-        "--jobs=8=",
-        7,
-        &["-"],
-    ),
-    (
-        &["mjrg", "check", "--cache", "-", "a", "--", "--jobs", "--"],
-        "-",
+        &["mjrg", "scratch", "b", "--profile=+01", "a"],
         1,
-        &["a", "--jobs", "--"],
+        &["b", "a"],
     ),
     (
-        &["mjrg", "check", "--cache", "check", "--jobs", "2", "check"],
-        "check",
+        &[
+            "mjrg",
+            "scratch",
+            "2",
+            "--profile=2",
+            "--",
+            "--profile",
+            "1",
+        ],
         2,
-        &["check"],
+        &["2", "--profile", "1"],
     ),
 ];
 
-/// Whether these words ask for a check with this cache, so many workers and these files.
-fn is_check(words: &Words, cache: &str, jobs: usize, want: &[&str]) -> bool {
+/// Whether this command line asks to check these files from scratch in this profile.
+fn name_scratch(alloc: Global, given: &[&str], profile: u8, want: &[&str]) -> Result<bool, Fail> {
+    match words(alloc, list(alloc, given)?)? {
+        Words::Scratch(asked) => {
+            Ok(asked.profile == profile && are_texts(asked.files.as_slice(), want))
+        }
+        _ => Ok(false),
+    }
+}
+
+#[test]
+fn reads_the_profile_of_a_scratch(rt: HostRuntime) -> Result<(), Fail> {
+    for (given, profile, want) in SCRATCHES {
+        assert!(rt;
+            name_scratch(rt.alloc(), given, *profile, want)?,
+            "{given:?}"
+        );
+    }
+    Ok(())
+}
+
+/// What a command line of `check` gives.
+struct Check {
+    given: &'static [&'static str],
+    cache: &'static str,
+    jobs: usize,
+    profile: u8,
+    form: u8,
+    files: &'static [&'static str],
+}
+
+const CHECKS: &[Check] = &[
+    Check {
+        given: &["mjrg", "check", "--cache", "c", "M.java"],
+        cache: "c",
+        jobs: 1,
+        profile: 1,
+        form: 1,
+        files: &["M.java"],
+    },
+    Check {
+        given: &["mjrg", "check", "b", "--jobs", "64", "a", "--cache=", "b"],
+        cache: "",
+        jobs: 64,
+        profile: 1,
+        form: 1,
+        files: &["b", "a", "b"],
+    },
+    Check {
+        given: &["mjrg", "check", "--jobs=+07", "--cache=--jobs=8=", "-"],
+        cache: "--jobs=8=",
+        jobs: 7,
+        profile: 1,
+        form: 1,
+        files: &["-"],
+    },
+    Check {
+        given: &["mjrg", "check", "--cache", "-", "a", "--", "--jobs", "--"],
+        cache: "-",
+        jobs: 1,
+        profile: 1,
+        form: 1,
+        files: &["a", "--jobs", "--"],
+    },
+    Check {
+        given: &[
+            "mjrg",
+            "check",
+            "--form",
+            "2",
+            "--cache",
+            "check",
+            "--profile=1",
+            "check",
+        ],
+        cache: "check",
+        jobs: 1,
+        profile: 1,
+        form: 2,
+        files: &["check"],
+    },
+    Check {
+        given: &[
+            "mjrg",
+            "check",
+            "--profile",
+            "2",
+            "a",
+            "--cache=--form",
+            "--form=1",
+            "--jobs=2",
+        ],
+        cache: "--form",
+        jobs: 2,
+        profile: 2,
+        form: 1,
+        files: &["a"],
+    },
+];
+
+/// Whether these words ask for this check.
+fn is_check(words: &Words, want: &Check) -> bool {
     match words {
         Words::Check(asked) => {
-            asked.cache.as_str() == cache
-                && asked.jobs == jobs
-                && are_texts(asked.files.as_slice(), want)
+            asked.cache.as_str() == want.cache
+                && asked.jobs == want.jobs
+                && asked.profile == want.profile
+                && asked.form == want.form
+                && are_texts(asked.files.as_slice(), want.files)
         }
         _ => false,
     }
 }
 
-/// Whether this command line asks for such a check.
-fn name_check(
-    alloc: Global,
-    given: &[&str],
-    cache: &str,
-    jobs: usize,
-    want: &[&str],
-) -> Result<bool, Fail> {
-    let words = words(alloc, list(alloc, given)?)?;
-    Ok(is_check(&words, cache, jobs, want))
+/// Whether its command line asks for this check.
+fn name_check(alloc: Global, want: &Check) -> Result<bool, Fail> {
+    let words = words(alloc, list(alloc, want.given)?)?;
+    Ok(is_check(&words, want))
 }
 
 #[test]
 fn reads_the_options_of_a_check(rt: HostRuntime) -> Result<(), Fail> {
-    for (given, cache, jobs, want) in CHECKS {
-        assert!(rt;
-            name_check(rt.alloc(), given, cache, *jobs, want)?,
-            "{given:?}"
-        );
+    for want in CHECKS {
+        assert!(rt; name_check(rt.alloc(), want)?, "{:?}", want.given);
+    }
+    Ok(())
+}
+
+/// Command lines that are refused: a number that there isn't, one given twice, an option of another subcommand.
+const REFUSED: &[&[&str]] = &[
+    &["mjrg", "scratch", "--profile", "3", "M.java"],
+    &["mjrg", "scratch", "--profile=0", "M.java"],
+    &["mjrg", "scratch", "--profile", "M.java"],
+    &["mjrg", "scratch", "--profile=1", "--profile=1", "M.java"],
+    &["mjrg", "scratch", "--form=1", "M.java"],
+    &["mjrg", "check", "--cache=c", "--form=3", "M.java"],
+    &["mjrg", "check", "--profile=2", "M.java"],
+    &["mjrg", "audit", "--profile=1", "a"],
+    &["mjrg", "show", "--form=1", "a"],
+    &["mjrg", "show"],
+];
+
+/// Whether a command line is refused with a text.
+fn is_refused(alloc: Global, given: &[&str]) -> Result<bool, Fail> {
+    match words(alloc, list(alloc, given)?) {
+        Err(WordsFault::Refused(text)) => Ok(text.starts_with("error: ")),
+        _ => Ok(false),
+    }
+}
+
+#[test]
+fn refuses_other_options(rt: HostRuntime) -> Result<(), Fail> {
+    for given in REFUSED {
+        assert!(rt; is_refused(rt.alloc(), given)?, "{given:?}");
     }
     Ok(())
 }
@@ -201,7 +323,7 @@ fn tells_of_other_words(rt: HostRuntime) -> Result<(), Fail> {
 }
 
 /// The text on the version, under whatever name the program runs.
-const VERSION: &str = "mjrg 0.1.0\nsession files: version 1\nlanguage: profile 1\n";
+const VERSION: &str = "mjrg 0.1.0\nsession files: forms 1 and 2\nlanguage: profiles 1 and 2\n";
 
 /// Command lines that ask for the version.
 const VERSIONS: &[&[&str]] = &[

@@ -95,9 +95,8 @@ fn stop<J: Naming, T: Wait>(
     requires parts { blank.parts ≡ J.parts }
     requires two { blank.parts ≡ 2 }
     requires list { list.seen.book ≡ J.book }
-    requires past { table.past ≡ J.past }
-    requires project { table.project ≡ J.project }
-    requires opened { table.history ≡ [] }
+    requires opened { table ≡ J.opened }
+    requires first { table.history ≡ [] }
 {
     let (book, mut one) = blank.open::<J>();
     let mut first = Tally::new(one.split_off(1, 0));

@@ -1,23 +1,28 @@
 //! Sessions by several workers, one of whom is refused memory.
-ghost use Rattle.std.specs.Prelude.{IfOk, IsTrue};
-ghost use Rattle.crew_fixtures.specs.Made.{IsDigestOf};
+ghost use Rattle.std.specs.Prelude.{◌≡◌, IfOk, IfSome, IsTrue};
+ghost use Rattle.query_rules.specs.Queries.{is_by_profile};
+ghost use Rattle.sessions.specs.Sessions.{session_in};
+ghost use Rattle.crew_fixtures.specs.Made.{IsDigestOver};
 ghost use Rattle.worker_fixtures.specs.Workers.{IsFaultOfSome, IsMadeAs};
 
 use answer_fixtures::{Unfit, project_of};
 use driver::{Crew, DriveFault, Open, drive};
-use item_ids::Key;
-use mini_java::run_session;
+use item_ids::{Key, Kind};
+use mini_java::run_session_as;
 use mj_project::Project;
+use profiles::Profile;
 use providers::MiniJava;
 use recorder::{Reader, Recorder, RunFault, Runner};
 use result_bytes::Value;
 use session_file::digest;
-use session_fixtures::{Kept, digest_of, twice};
+use session_fixtures::twice;
+use sessions::{Session, Terms};
 use std::alloc::{AllocError, Global};
-use std::sync::Wait;
 use std::sync::atomic::{AtomicU64, Ordering};
+use std::sync::{Arc, Wait};
 use std::thread;
 use std::thread::Threads;
+use table_fixtures::{Change, digest_of_change, past_of};
 
 /// The runners of a session: how many were made, which of them fails, and whether it has begun to.
 #[derive(Drop)]
@@ -59,21 +64,25 @@ impl<'a> Waiting<'a> {
 }
 
 impl Runner for Waiting<'_> {
-    ghost use Rattle.query_rules.specs.Meaning.{mean};
-    ghost use Rattle.query_rules.specs.Reads.{reads};
+    ghost use Rattle.query_rules.specs.Queries.{queries};
     ghost use Rattle.providers.specs.Laws.{mini_java_laws};
 
-    ghost mean = { mean };
-
-    ghost reads = { reads };
+    ghost queries = { queries };
 
     ghost log = { λ r. r.runner.log.items };
 
     ghost laws = { mini_java_laws };
 
+    fn by_profile(kind: Kind) -> bool
+        ensures { result ≡ is_by_profile kind }
+    {
+        MiniJava::by_profile(kind)
+    }
+
     fn run<D: Reader>(
         &mut self,
         alloc: Global,
+        profile: Profile,
         key: &Key,
         recorder: &mut Recorder<D>,
     ) -> Result<Value, RunFault> {
@@ -82,7 +91,7 @@ impl Runner for Waiting<'_> {
             return Err(RunFault::OutOfMemory);
         }
         self.wait();
-        self.runner.run(alloc, key, recorder)
+        self.runner.run(alloc, profile, key, recorder)
     }
 }
 
@@ -136,35 +145,56 @@ pub fn fault_of_worker<T: Threads + Wait + Sync>(
     }
 }
 
-/// The SHA-256 of the file of a first session by so many workers.
+/// One more owner of the previous session.
+fn own(past: &Option<Arc<Session>>) -> Option<Option<Arc<Session>>>
+    ensures { IfSome result (λ own. session_in own ≡ session_in past.now) }
+{
+    match past {
+        Some(past) => match Arc::try_clone(past) {
+            Ok(past) => Some(Some(past)),
+            Err(_) => None,
+        },
+        None => Some(None),
+    }
+}
+
+/// The SHA-256 of the file of a session of these terms over the previous one by so many workers.
 fn run<T: Threads + Wait + Sync>(
     rt: &T,
     alloc: Global,
+    terms: Terms,
+    past: &Option<Arc<Session>>,
     project: &Project,
     workers: usize,
 ) -> Result<[u8; 32], DriveFault>
-    ensures { IfOk result (IsDigestOf project.now workers) }
+    ensures { IfOk result (IsDigestOver terms (session_in past.now) project.now workers) }
 {
-    match run_session(rt, alloc, None, project, workers, &Open) {
+    let Some(past) = own(past) else {
+        return Err(DriveFault::OutOfMemory);
+    };
+    match run_session_as(rt, alloc, past, project, terms, workers, &Open) {
         Ok((session, _)) => Ok(digest(&session)),
         Err(fault) => Err(fault),
     }
 }
 
-/// Whether a first session by so many workers is that of these records, and once more where memory was refused.
+/// Whether a session over the last one of the chain by so many workers is the one with these changes, and once more where
+/// memory was refused.
 pub fn run_again<T: Threads + Wait + Sync>(
     rt: &T,
     alloc: Global,
     text: &str,
-    records: &[Kept],
+    chain: &[Change],
+    change: &Change,
     workers: usize,
 ) -> Result<bool, Unfit>
-    ensures { IfOk result (λ b. IsTrue b → IsMadeAs text.now records.now workers) }
+    ensures { IfOk result (λ b. IsTrue b → IsMadeAs text.now chain.now change.now workers) }
 {
     let project = twice(&|| project_of(alloc, text))?;
-    let wanted = twice(&|| digest_of(alloc, 0, [0; 32], records))?;
-    let made = match run(rt, alloc, &project, workers) {
-        Err(DriveFault::OutOfMemory) => run(rt, alloc, &project, workers),
+    let past = twice(&|| past_of(alloc, chain))?;
+    let wanted = twice(&|| digest_of_change(alloc, &past, change))?;
+    let made = match run(rt, alloc, change.terms, &past, &project, workers) {
+        Err(DriveFault::OutOfMemory) => run(rt, alloc, change.terms, &past, &project, workers),
         made => made,
     };
     Ok(made == Ok(wanted))

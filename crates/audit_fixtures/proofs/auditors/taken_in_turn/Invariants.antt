@@ -1,9 +1,8 @@
 use Rattle.std.proofs.Common.{take, map}
-use Rattle.query_rules.specs.Meaning.{mean}
-use Rattle.query_rules.specs.Reads.{reads}
+use Rattle.query_rules.specs.Queries.{queries}
 use Rattle.audit_replay.specs.Sums.{AreSummed}
 use Rattle.audit_fixtures.proofs.auditors.taken_in_turn.Given as goal
 
 abbrev pub invariant-loop-file : goal.invariant-loop-file
 invariant-loop-file l =
-    AreSummed mean reads (take l.file-index (map (λ f. f.now) l.files)) l.initial.runner.log.items l.runner.log.items l.auditor.state
+    AreSummed queries (take l.file-index (map (λ f. f.now) l.files)) l.initial.runner.log.items l.runner.log.items l.auditor.state

@@ -1,7 +1,7 @@
 use Rattle.std.proofs.Common.{◌<◌, ◌≤◌, ℕ, List, [], None, length, map, subst, arith}
 use Rattle.std.proofs.lemmas.List.{take_all}
 use Rattle.sessions.specs.Sessions.{session_in}
-use Rattle.session_file.specs.declared.memory.MemorySink.{MemorySink}
+use Rattle.devices.specs.declared.memory.MemorySink.{MemorySink}
 use Rattle.table_fixtures.specs.declared.changes.Change.{Change}
 use Rattle.table_fixtures.specs.Told.{InTurn}
 use Rattle.table_fixtures.proofs.Turns.{one_further}

@@ -1,6 +1,5 @@
 use Rattle.std.proofs.Common.{ap, length, sym, subst, ◌∙◌}
-use Rattle.query_rules.specs.Meaning.{mean}
-use Rattle.query_rules.specs.Reads.{reads}
+use Rattle.query_rules.specs.Queries.{queries}
 use Rattle.sessions.specs.Sessions.{SessionValue, session_in}
 use Rattle.sessions.specs.Spelling.{digest_of}
 use Rattle.sessions.specs.declared.mark.Mark.TheVariants.{Executed, Green}
@@ -13,7 +12,7 @@ returns-in_ok-share-in-Ok g c =
     let same = sym c.in_ok-share-in-Ok.ensures in
     record {
       reports = c.in-Ok.reports;
-      of = subst (λ (s : SessionValue). IsSessionOf mean reads (session_in c.args.past) c.args.project.now c.args.workers s c.in-Ok.reports) same c.in-Ok.ensures.gives.2;
+      of = subst (λ (s : SessionValue). IsSessionOf queries c.args.terms (session_in c.args.past) c.args.project.now c.args.workers s c.in-Ok.reports) same c.in-Ok.ensures.gives.2;
       digest = c.in_ok-made-in-Ok.ensures.digest ∙ ap digest_of same;
       records = c.in_ok-made-in-Ok.ensures.records ∙ ap (λ (s : SessionValue). length s.records) same;
       executed = c.in_ok-made-in-Ok.ensures.executed ∙ ap (λ (s : SessionValue). many_of Executed s.records) same;

@@ -15,3 +15,6 @@ returns-clause-run g c =
       ok = c.run_kind.ensures.ok;
       err = c.run_kind.ensures.err;
     })
+
+pub returns-clause-across : goal.returns-clause-across
+returns-clause-across g c = λ apart other. returns-clause-run g c

@@ -1,9 +1,10 @@
 //! Devices that take a few bytes a call, and that fail.
 ghost use Rattle.std.specs.Prelude.{◌≡◌};
-ghost use Rattle.session_file.specs.Devices.{one_more};
+ghost use Rattle.devices.specs.Devices.{one_more};
 
 use crate::first::first;
-use session_file::{DeviceFault, Feed, FileFault, MemoryFeed, ReaderFeed, Sink, WriterSink};
+use devices::{DeviceFault, Feed, MemoryFeed, ReaderFeed, Sink, WriterSink};
+use session_file::FileFault;
 use session_fixtures::{file_of, write_to};
 use std::alloc::Global;
 use std::test::*;
