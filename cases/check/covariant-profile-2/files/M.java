@@ -1,0 +1,1 @@
+class M { public static void main(String[] a) { System.out.println(1); } } class A { public A g() { return this; } } class B extends A { public B g() { return this; } }

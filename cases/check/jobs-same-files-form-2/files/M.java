@@ -1,0 +1,1 @@
+class M { public static void main(String[] a) { System.out.println(new A().f()); } } class A { public int f() { return 1; } public int g() { return 2; } }

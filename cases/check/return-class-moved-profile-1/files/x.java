@@ -1,0 +1,2 @@
+class X { }
+class Y extends X { }

@@ -1,0 +1,3 @@
+class A { public M g() { return new M(); } }
+class B extends A { public C g() { return new C(); } }
+class C extends M { }

@@ -1,0 +1,1 @@
+class A { public A g(int x) { return this; } } class B extends A { public B g(boolean x) { return this; } }

@@ -1,0 +1,1 @@
+class A { public B g() { return new B(); } } class B extends A { public A g() { return this; } }

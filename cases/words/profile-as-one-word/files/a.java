@@ -1,0 +1,1 @@
+class A { public A g() { return this; } } class B extends A { public B g() { return this; } }
