@@ -1,7 +1,7 @@
 #!/usr/bin/env python3
 """Times `mjrg audit` of a first session, of ten and of a hundred unchanged ones and of ten with one body edited each, on 400
-classes with 2,000 methods, and of three unchanged ones of projects of other shapes, beside `sha256sum` of the files and
-`mjrg scratch`, in one run, and tells how much memory it has at most. Nothing is asserted."""
+classes with 2,000 methods, and of three unchanged ones of projects of other shapes, each in form 1 and in form 2, beside
+`sha256sum` of the files and `mjrg scratch`, in one run, and tells how much memory it has at most. Nothing is asserted."""
 import argparse
 import sys
 import tempfile
@@ -11,9 +11,12 @@ sys.dont_write_bytecode = True
 from incremental import check, edit_body, measured, project, session_files, summed  # noqa: E402
 from measuring import program_path  # noqa: E402
 from shapes import SHAPES  # noqa: E402
+from terms import lengthen  # noqa: E402
 
 TOP = Path(__file__).resolve().parent.parent
 SESSIONS, MANY, FEW = 10, 100, 3
+# What the lines say of the form, and the words for it.
+FORMS = {"": [], " in form 2": ["--form", "2"]}
 
 
 def told(about, program, folder, names, files, runs):
@@ -28,43 +31,41 @@ def told(about, program, folder, names, files, runs):
     return seconds, peak
 
 
-def stay(folder, names, number):
-    """Leaves all files as they are."""
-
-
-def chain(program, folder, names, count, change):
-    """Makes a chain of so many sessions of these files, and answers the session files."""
-    for number in range(count):
-        change(folder, names, number)
-        check(program, folder, names)
+def unchanged_chain(program, folder, names, count, words):
+    """Makes a chain of so many sessions of these files, all but the first unchanged, and answers the session files."""
+    for _ in range(2):
+        check(program, folder, names, *words)
+    lengthen(folder, count)
     return session_files(folder)
 
 
-def unchanged(program, runs):
+def unchanged(program, runs, form, words):
     with tempfile.TemporaryDirectory() as folder:
         names = project(folder)
-        files = chain(program, folder, names, MANY, stay)
-        told("a first session", program, folder, names, files[:1], runs)
-        few = told(f"{SESSIONS} unchanged sessions", program, folder, names, files[:SESSIONS], runs)
-        many = told(f"{MANY} unchanged sessions", program, folder, names, files, runs)
-    print(f"{MANY} sessions beside {SESSIONS}: {many[0] / few[0]:.2f} times as long, {many[1] / few[1]:.2f} times the memory")
+        files = unchanged_chain(program, folder, names, MANY, words)
+        told(f"a first session{form}", program, folder, names, files[:1], runs)
+        few = told(f"{SESSIONS} unchanged sessions{form}", program, folder, names, files[:SESSIONS], runs)
+        many = told(f"{MANY} unchanged sessions{form}", program, folder, names, files, runs)
+    longer, greater = many[0] / few[0], many[1] / few[1]
+    print(f"{MANY} sessions beside {SESSIONS}{form}: {longer:.2f} times as long, {greater:.2f} times the memory", flush=True)
 
 
-def edited(program, runs):
+def edited(program, runs, form, words):
     with tempfile.TemporaryDirectory() as folder:
         names = project(folder)
-        edit = lambda folder, names, number: edit_body(folder, names[number + 1], number + 7)  # noqa: E731
-        files = chain(program, folder, names, SESSIONS, edit)
-        told(f"{SESSIONS} sessions with a body edited each", program, folder, names, files, runs)
+        for number in range(SESSIONS):
+            edit_body(folder, names[number + 1], number + 7)
+            check(program, folder, names, *words)
+        told(f"{SESSIONS} sessions with a body edited each{form}", program, folder, names, session_files(folder), runs)
 
 
-def by_shapes(program, runs):
+def by_shapes(program, runs, form, words):
     """An audit of a few unchanged sessions of each shape."""
     for shape, write in SHAPES.items():
         with tempfile.TemporaryDirectory() as folder:
             names = write(folder)
-            files = chain(program, folder, names, FEW, stay)
-            told(f"{FEW} unchanged sessions of {shape}", program, folder, names, files, runs)
+            files = unchanged_chain(program, folder, names, FEW, words)
+            told(f"{FEW} unchanged sessions of {shape}{form}", program, folder, names, files, runs)
 
 
 def main():
@@ -73,11 +74,12 @@ def main():
     parser.add_argument("--only", choices=["chains", "shapes"], help="one of both parts")
     parser.add_argument("--runs", type=int, default=3, help="runs of which the shortest counts")
     given = parser.parse_args()
-    if given.only != "shapes":
-        unchanged(given.program, given.runs)
-        edited(given.program, given.runs)
-    if given.only != "chains":
-        by_shapes(given.program, given.runs)
+    for form, words in FORMS.items():
+        if given.only != "shapes":
+            unchanged(given.program, given.runs, form, words)
+            edited(given.program, given.runs, form, words)
+        if given.only != "chains":
+            by_shapes(given.program, given.runs, form, words)
 
 
 if __name__ == "__main__":

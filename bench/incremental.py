@@ -1,9 +1,13 @@
 #!/usr/bin/env python3
-"""Times `mjrg check` on projects that change, in one run: first by shapes of projects, then by numbers of workers.
+"""Times `mjrg check` on projects that change, in one run: by shapes of projects, by profile and form, and by numbers of
+workers.
 
 Of each shape (400 classes with 2,000 methods, 4,096 files of a class each, a body that names 8,000 classes, a chain of 400
 classes) a line each for `scratch`, a first check, and one behind it of the same files, of files of which a body was edited,
 and of files in which a class got a field; each with how many times as long as `scratch` it takes.
+
+Of the first of these a check of unchanged sources over a session of another profile, the bytes of an unchanged session in
+both forms, and an unchanged check behind 1, 2, 10 and 50 sessions of form 2, each beside an unchanged check in form 1.
 
 By 1, 2, 4 and 8 workers (--jobs) a first session and an unchanged one, each beside the time of the first number of workers.
 The runs take turns, and the least of each counts. Nothing is asserted but that all workers make the same files.
@@ -19,6 +23,7 @@ sys.dont_write_bytecode = True
 from measuring import A_LITERAL, measured, program_path  # noqa: E402
 from projects import write_project  # noqa: E402
 from rechecks import by_shapes  # noqa: E402
+from terms import by_terms  # noqa: E402
 
 TOP = Path(__file__).resolve().parent.parent
 
@@ -42,8 +47,8 @@ def add_field(folder, name):
     path.write_text(path.read_text().replace("{\n", "{\n    boolean added;\n", 1))
 
 
-def check(program, folder, names):
-    return measured([program, "check", "--cache", "cache", *names], folder)
+def check(program, folder, names, *words):
+    return measured([program, "check", "--cache", "cache", *words, *names], folder)
 
 
 def session_files(folder):
@@ -100,13 +105,15 @@ def by_workers(program, numbers, runs):
 def main():
     parser = argparse.ArgumentParser(description=__doc__, formatter_class=argparse.RawDescriptionHelpFormatter)
     parser.add_argument("program", nargs="?", type=program_path, default=str(TOP / "mjrg"))
-    parser.add_argument("--only", choices=["shapes", "jobs"], help="one of both parts")
+    parser.add_argument("--only", choices=["shapes", "terms", "jobs"], help="one of the parts")
     parser.add_argument("--jobs", type=int, nargs="+", default=[1, 2, 4, 8], help="numbers of workers")
     parser.add_argument("--runs", type=int, default=3, help="runs of which the shortest counts")
     given = parser.parse_args()
-    if given.only != "jobs":
+    if given.only in (None, "shapes"):
         by_shapes(given.program, given.runs)
-    if given.only != "shapes":
+    if given.only in (None, "terms"):
+        by_terms(given.program, given.runs)
+    if given.only in (None, "jobs"):
         by_workers(given.program, given.jobs, given.runs)
 
 

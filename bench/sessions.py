@@ -24,6 +24,8 @@ from measuring import measured as one_run, program_path  # noqa: E402
 TOP = Path(__file__).resolve().parent.parent
 
 FILES = 2000
+# What stands in front of a session of form 1, which is written as 0, and of profile 1.
+HEAD = b"MJRG" + bytes([0, 1])
 
 
 def eight(number):
@@ -47,7 +49,7 @@ def session(size):
     files = [f"file{number:04}.java" for number in range(FILES)]
     records = [record(0, "", b"\x00" + items([name(file) for file in files]))]
     records += [record(1, file, source(number, size // FILES)) for number, file in enumerate(files)]
-    body = b"MJRG\x00\x01" + (0).to_bytes(4, "big") + bytes(32) + items(records)
+    body = HEAD + (0).to_bytes(4, "big") + bytes(32) + items(records)
     return body + hashlib.sha256(body).digest()
 
 

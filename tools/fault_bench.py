@@ -17,9 +17,13 @@ BUILT = TOP / "crates" / "cli" / "out" / "cli"
 SECONDS = 60
 M1 = "class M { public static void main(String[] a) { System.out.println(%s); } }"
 TWO = "class A { public int f() { return %s; } public int g() { return 2; } }"
+OVERRIDING = "class A { public A g() { return this; } } class B extends A { public B g() { return this; } }"
 CLASSES = 40
 # The classes of a chain, each with a field and a method, in a file of its own session.
 CHAIN = 400
+# The terms of three sessions: all in form 2, and of both profiles and forms, with the last one in form 2.
+IN_FORM_2 = ["--form 2"] * 3
+MIXED = ["--form 1", "--profile 2 --form 2", "--form 2"]
 # How many lines are written on what is wrong with one command at most.
 LINES = 5
 
@@ -59,23 +63,35 @@ def worked():
     }
 
 
+def overriding():
+    """Two versions of a class whose method overrides one with another class as its return type, as profile 2 allows."""
+    return [[("M.java", M1 % text + OVERRIDING)] for text in ("1", "2")]
+
+
+def golden_test(name):
+    """The files of a golden test."""
+    return [[(path.name, path.read_text()) for path in sorted((TOP / "cases" / name / "files").iterdir())]]
+
+
 def longer():
     """The same of larger projects."""
-    return {**{path.name: examples_of(path.name) for path in sorted((TOP / "examples").iterdir()) if path.is_dir()},
-            "40 classes": many_classes()}
+    names = sorted({path.parent.name for path in (TOP / "examples").glob("*/*.java")})
+    return {**{name: examples_of(name) for name in names}, "40 classes": many_classes()}
 
 
 class Command:
     """Words for the program, with the versions of the project that were checked before and the one that is there.
 
-    With `cut` the last session's file was cut to so many bytes; with `ways` the command is run in these ways alone."""
+    Those checks had the words `terms`, a text for each, or none. With `cut` the files of sessions, by their numbers,
+    were cut to so many bytes; with `ways` the command is run in these ways alone."""
 
-    def __init__(self, name, project, words, checked=(), version=0, cut=None, ways=None):
-        self.name, self.project, self.checked, self.version, self.cut = name, project, checked, version, cut
-        self.ways = ways
-        files = [file for file, _ in project[version]]
+    def __init__(self, name, project, words, checked=(), version=0, terms=(), cut=None, ways=None):
+        self.name, self.project, self.version = name, project, version
+        self.before = list(zip(checked, (text.split() for text in terms or [""] * len(checked)), strict=True))
+        self.cut, self.ways = cut or {}, ways
         self.chain = [f"cache/c0000/s{number:04}.mjrg" for number in range(len(checked))]
-        self.words = words + {"audit": self.chain, "show": self.chain[-1:], "help": []}.get(words[0], files)
+        names = [file for file, _ in project[version]]
+        self.words = words + {"audit": self.chain, "show": self.chain, "help": []}.get(words[0], names)
 
 
 def commands(projects):
@@ -108,15 +124,34 @@ def others():
             Command("audit of a chain that begins again", one, ["audit", "cache/c0000/s0000.mjrg"], [0, 1, 0]),
             Command("audit of many classes", chain_of_classes(), ["audit"], [0], ways=["by bytes"]),
             Command("no sentence", [[("M.java", M1 % "1" + "class {"), ("N.java", "/* /*")]], ["scratch"]),
-            Command("check over a session that is cut", one, check, [0, 0], cut=100),
-            Command("check with faults over a session that is cut", faulty, check, [0], cut=0),
-            Command("audit of a session that is cut", one, ["audit"], [0, 1, 0], cut=1000),
-            Command("show of a session that is cut", one, ["show"], [0], cut=1000)]
+            Command("check over a session that is cut", one, check, [0, 0], cut={1: 100}),
+            Command("check with faults over a session that is cut", faulty, check, [0], cut={0: 0}),
+            Command("audit of a session that is cut", one, ["audit"], [0, 1, 0], cut={2: 1000}),
+            Command("show of a session that is cut", one, ["show"], [0], cut={0: 1000}),
+            Command("scratch of a golden test", golden_test("examples/factorial"), ["scratch"])]
+
+
+def of_terms():
+    """Commands in profile 2 and in form 2, or over sessions of these."""
+    made, project, check = [], overriding(), ["check", "--cache", "cache"]
+    for jobs in ("1", "2"):
+        by = [*check, "--jobs", jobs]
+        made += [Command(f"check over another profile with {jobs}", project, [*by, "--profile", "2"], [0]),
+                 Command(f"check back through form 2 with {jobs}, unchanged", project, [*by, "--form", "2"],
+                         [0, 1, 0], terms=IN_FORM_2),
+                 Command(f"check back through form 2 with {jobs}, edited", project, [*by, "--form", "2"],
+                         [0, 0, 0], 1, terms=IN_FORM_2)]
+    return [*made, Command("scratch in profile 2", project, ["scratch", "--profile", "2"]),
+            Command("check back through both profiles", project, [*check, "--profile", "2"], [0, 1, 1], terms=MIXED),
+            Command("check back through form 2 that is cut", project, check, [0, 0, 0], terms=IN_FORM_2, cut={1: 500}),
+            Command("audit in form 2", project, ["audit"], [0, 1, 0], terms=IN_FORM_2),
+            Command("audit of both profiles and forms", project, ["audit"], [0, 0, 1], terms=MIXED),
+            Command("show in form 2", project, ["show"], [0, 1, 0], terms=IN_FORM_2)]
 
 
 Outcome = collections.namedtuple("Outcome", "status error output files folders")
-Counts = collections.namedtuple("Counts", "allocations refused calls failed first opened")
-COUNTS = f"={len(Counts._fields)}Q"
+Counts = collections.namedtuple("Counts", "allocations refused calls failed first opened path")
+COUNTS = "=6Q256s"
 
 
 class Faults:
@@ -134,7 +169,8 @@ class Faults:
         return {"LD_PRELOAD": self.shim, "FAULTS_FD": str(self.file), **numbers}
 
     def counts(self):
-        return Counts(*struct.unpack(COUNTS, self.shared))
+        *numbers, path = struct.unpack(COUNTS, self.shared)
+        return Counts(*numbers, path.rstrip(b"\0").decode())
 
 
 class Bench:
@@ -143,20 +179,22 @@ class Bench:
     def __init__(self, program, shim, command, folder):
         self.command, self.folder, self.faults = command, Path(folder), Faults(shim, folder)
         self.words, self.before = [str(program), *command.words], {}
-        for version in command.checked:
-            self.write(version)
-            subprocess.run([program, "check", "--cache", "cache", *(name for name, _ in command.project[version])],
-                           cwd=folder, capture_output=True, check=False)
+        for version, terms in command.before:
+            names = self.write(version)
+            subprocess.run([program, "check", "--cache", "cache", *terms, *names], cwd=folder, capture_output=True,
+                           check=False)
         self.write(command.version)
-        if command.cut is not None:
-            os.truncate(self.folder / command.chain[-1], command.cut)
+        for number, size in command.cut.items():
+            os.truncate(self.folder / command.chain[number], size)
         self.before = self.entries()
         self.right = self.run(self.words)
         self.clear()
 
     def write(self, version):
+        """Writes a version of the project. Returns the names of its files."""
         for name, text in self.command.project[version]:
             (self.folder / name).write_text(text)
+        return [name for name, _ in self.command.project[version]]
 
     def entries(self):
         """The bytes of each file of the cache, and None for each folder, by path."""
@@ -229,7 +267,8 @@ def asked(parser, options):
     if compiler() is None:
         parser.error("there is no C compiler for tools/faults.c")
     projects = {**worked(), **(longer() if options.long else {})}
-    return program, [command for command in commands(projects) + others() if options.only in command.name]
+    made = commands(projects) + others() + of_terms()
+    return program, [command for command in made if options.only in command.name]
 
 
 def compiler():

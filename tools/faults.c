@@ -18,6 +18,7 @@
 #include <stddef.h>
 #include <stdint.h>
 #include <stdlib.h>
+#include <string.h>
 #include <sys/mman.h>
 #include <sys/stat.h>
 #include <sys/syscall.h>
@@ -31,9 +32,10 @@ extern void *__libc_memalign(size_t, size_t);
 typedef int creating(pthread_t *, const pthread_attr_t *, void *(*)(void *), void *);
 
 /* `first` is the first call that failed: by its letter, or for a write its stream or 3; `opened` is how many files were to be
-   opened for reading, up to that call. */
+   opened for reading, up to that call, and `path` the beginning of the last one's path. */
 struct counts {
     uint64_t allocations, refused, calls, failed, first, opened;
+    char path[256];
 };
 
 static struct counts *counts;
@@ -115,8 +117,6 @@ static int fails(uint64_t call) {
     if (!counts || (fail_nothing != UINT64_MAX && call > 3))
         return 0;
     at = __atomic_add_fetch(&counts->calls, 1, __ATOMIC_SEQ_CST);
-    if (call == 'o' && !__atomic_load_n(&counts->failed, __ATOMIC_SEQ_CST))
-        __atomic_add_fetch(&counts->opened, 1, __ATOMIC_SEQ_CST);
     if (at < fail_from || at > fail_to)
         return 0;
     __atomic_add_fetch(&counts->failed, 1, __ATOMIC_SEQ_CST);
@@ -127,6 +127,17 @@ static int fails(uint64_t call) {
         raise(SIGKILL);
     errno = (int)fail_with;
     return 1;
+}
+
+/* Counts an open, and says whether it fails. */
+static int open_fails(const char *path, int how) {
+    if (how & O_CREAT)
+        return fails('n');
+    if (counts && !__atomic_load_n(&counts->failed, __ATOMIC_SEQ_CST)) {
+        __atomic_add_fetch(&counts->opened, 1, __ATOMIC_SEQ_CST);
+        strncpy(counts->path, path, sizeof counts->path - 1);
+    }
+    return fails('o');
 }
 
 static size_t shortened(size_t bytes) {
@@ -154,7 +165,7 @@ int openat(int folder, const char *path, int how, ...) {
     va_start(rest, how);
     allows = how & (O_CREAT | O_TMPFILE) ? va_arg(rest, int) : 0;
     va_end(rest);
-    return fails(how & O_CREAT ? 'n' : 'o') ? -1 : (int)syscall(SYS_openat, folder, path, how, allows);
+    return open_fails(path, how) ? -1 : (int)syscall(SYS_openat, folder, path, how, allows);
 }
 
 int open(const char *path, int how, ...) {
@@ -164,7 +175,7 @@ int open(const char *path, int how, ...) {
     va_start(rest, how);
     allows = how & (O_CREAT | O_TMPFILE) ? va_arg(rest, int) : 0;
     va_end(rest);
-    return fails(how & O_CREAT ? 'n' : 'o') ? -1 : (int)syscall(SYS_openat, AT_FDCWD, path, how, allows);
+    return open_fails(path, how) ? -1 : (int)syscall(SYS_openat, AT_FDCWD, path, how, allows);
 }
 
 int mkdir(const char *path, mode_t allows) {

@@ -1,12 +1,13 @@
 """Random changes of chains of session files, each by a method of Forgery, for tools/forge.
 
-Prints, links and digests are made right again when the files are spelled, unless they are what is changed.
+The sessions of a chain may be of different profiles and forms. Prints, links and digests are made right again when the
+files are spelled, unless they are what is changed.
 """
 import copy
 import random
 
-from session_format import (CHECK_BODY, CHECK_CLASS, DIAGS, EXECUTED, GREEN, HEADER, INDEX, INPUT, METHOD, NO_LINK,
-                            SUPERS, Record, chain, count, sha256, sources)
+from session_format import (CHECK_BODY, CHECK_CLASS, DIAGS, EXECUTED, FORMS, GREEN, HEADER, INDEX, INPUT, METHOD,
+                            NO_LINK, PROFILES, SUPERS, Record, chain, count, sha256, sources)
 
 
 class Forgery:
@@ -114,6 +115,19 @@ class Forgery:
         other = right[:at] + bytes([right[at] ^ (1 << self.chance.randrange(8))]) + right[at + 1:]
         record.forged_print = self.chance.choice([other, self.another(record).print()])
 
+    def print_of_a_green_record_in_form_2(self):
+        """One bit of it, where the file has no result that could tell."""
+        records = [record for session in self.sessions if session.form == 2 for record in session.records]
+        record = self.chance.choice([record for record in records if record.mark == GREEN])
+        right = record.print()
+        record.forged_print = bytes([right[0] ^ 1]) + right[1:]
+
+    def class_check_green_across_profiles(self):
+        """As if the profile made no difference to what is declared."""
+        over = [after for before, after in zip(self.sessions, self.sessions[1:]) if after.profile != before.profile]
+        checks = [record for record in self.chance.choice(over).records if record.kind == CHECK_CLASS]
+        self.chance.choice(checks).mark = GREEN
+
     # Records.
 
     def record_left_out(self):
@@ -170,7 +184,15 @@ class Forgery:
     # Sessions.
 
     def version(self):
-        self.session.version = self.chance.choice([0, 2, 3, 256, 257, 65535])
+        """Another version, where the records are spelled in the form that they had."""
+        self.session.version = self.chance.choice([0, 1, 2, 3, 256, 257, 258, 259, 65535])
+
+    def profile(self):
+        self.session.profile = self.chance.choice([profile for profile in PROFILES if profile != self.session.profile])
+
+    def form(self):
+        """The other form, in which the records are spelled too."""
+        self.session.form = self.chance.choice([form for form in FORMS if form != self.session.form])
 
     def number(self):
         self.session.number = self.chance.choice([0, 1, 2, 3, 9999, 10000, 2**32 - 1])

@@ -2,6 +2,7 @@
 
 Most of what is written is right, since phrases are made by the types that stand there, and some of it is at fault:
 names that aren't declared, types that aren't accepted, cycles of classes, repeated names, files that are no sentence.
+Where a class overrides a method it returns the same type, a class below it or above it, or any other type.
 """
 import copy
 import random
@@ -139,6 +140,7 @@ class Project:
         for of in self.classes():
             for _ in range(self.chance.randint(0, 3)):
                 self.add_method(of)
+            self.add_override(of)
         self.fill_main()
         self.versions = []
 
@@ -155,17 +157,52 @@ class Project:
 
     def add_class(self):
         names = [of.name for of in self.classes()]
-        extends = self.chance.choice(names) if names and self.chance.random() < 0.5 else None
+        extends = self.chance.choice(names) if names and self.chance.random() < 0.7 else None
         of = Class(self.new_name("C"), extends)
         self.chance.choice(self.files).classes.append(of)
         for _ in range(self.chance.randint(0, 3)):
             of.fields.append((self.chance.choice(self.types()), self.new_name("f")))
 
-    def add_method(self, of):
-        formals = [(self.chance.choice(self.types()), f"p{place}") for place in range(self.chance.randint(0, 2))]
-        method = Method(self.new_name("m"), self.chance.choice(self.types()), formals)
+    def formals(self):
+        return [(self.chance.choice(self.types()), f"p{place}") for place in range(self.chance.randint(0, 2))]
+
+    def add_method(self, of, method=None):
+        """Adds this method to a class, or a new one."""
+        method = method or Method(self.new_name("m"), self.chance.choice(self.types()), self.formals())
         self.fill(of, method)
         of.methods.append(method)
+
+    def above(self, name):
+        """The classes whose members the class of this name has besides its own, the nearest first."""
+        declared, found = {of.name: of for of in reversed(self.classes())}, []
+        while name in declared:
+            found.append(declared.pop(name))
+            name = found[-1].extends
+        return found[1:]
+
+    def related(self, kind):
+        """A type to return where this one is returned above: a class below it, itself or a class above it, or any type."""
+        if self.chance.random() < 0.1:
+            return self.chance.choice(self.types())
+        below = [of.name for of in self.classes() if kind in [above.name for above in self.above(of.name)]]
+        return self.chance.choice([kind, *below, *below, *(of.name for of in self.above(kind))])
+
+    def overridden(self, of, above):
+        """A method of a class above which the class doesn't have itself, or as often a new one, which returns the class
+        above or any other type."""
+        names = {method.name for method in of.methods}
+        there = [method for method in above.methods if method.name not in names]
+        if there and self.chance.random() < 0.5:
+            return self.chance.choice(there)
+        self.add_method(above, Method(self.new_name("m"), self.chance.choice([above.name, *self.types()]), self.formals()))
+        return above.methods[-1]
+
+    def add_override(self, of):
+        """Adds a method that overrides one of a class above, where there is a class, most often of the same parameters."""
+        for above in self.one(self.above(of.name)):
+            found = self.overridden(of, above)
+            formals = list(found.formals) if self.chance.random() < 0.9 else self.formals()
+            self.add_method(of, Method(found.name, self.related(found.result), formals))
 
     def fill(self, of, method):
         """Writes a body into the method."""
@@ -202,7 +239,11 @@ class Project:
 
     def edit_types(self):
         for _, method in self.one(self.methods()):
-            method.result = self.chance.choice(self.types())
+            method.result = self.chance.choice([self.related(method.result), *self.types()])
+
+    def edit_override(self):
+        for of in self.one(self.classes()):
+            self.add_override(of)
 
     def edit_method(self):
         for of in self.one(self.classes()):
@@ -257,6 +298,6 @@ class Project:
             self.files = copy.deepcopy(self.chance.choice(self.versions))
         elif turn > 0.25:
             for _ in range(self.chance.choice([1, 1, 2, 3])):
-                self.chance.choice([self.edit_literal, self.edit_body, self.edit_types, self.edit_method,
-                                    self.edit_field, self.edit_superclass, self.edit_classes, self.edit_files,
-                                    self.edit_comment, self.edit_sentence, self.fill_main])()
+                self.chance.choice([self.edit_literal, self.edit_body, self.edit_types, self.edit_override,
+                                    self.edit_method, self.edit_field, self.edit_superclass, self.edit_classes,
+                                    self.edit_files, self.edit_comment, self.edit_sentence, self.fill_main])()

@@ -1,7 +1,8 @@
 """Session files by their byte format alone: records and sessions, spelled as a file, and read back from one.
 
 tools/sessions and tools/forge use it. Nothing is asked of the program, and little is tested here: a session may be
-spelled that is none, and of what is read just the lengths are looked at.
+spelled that is none, and of what is read just the version and the lengths are looked at, and in form 2 that the
+previous session has each green record's result.
 """
 import hashlib
 import struct
@@ -9,6 +10,8 @@ from dataclasses import dataclass
 
 INPUT, EXECUTED, GREEN = 0, 1, 2
 NO_LINK = bytes(32)
+# The numbers of the profiles and of the forms.
+PROFILES = FORMS = (1, 2)
 # Kinds by their numbers.
 (FILES, SOURCE, TREE, INDEX, HEADER, METHOD, SIG, SUPERS, MEMBERS, CHECK_CLASS, CHECK_BODY, DIAGS,
  ANSWER) = range(13)
@@ -33,6 +36,11 @@ def sha256(data):
     return hashlib.sha256(data).digest()
 
 
+def ends_with_print(form, mark):
+    """Whether a record ends with its print: in form 2 a green one has no result in its file."""
+    return form == 2 and mark == GREEN
+
+
 @dataclass
 class Record:
     """A record of a key, with its edges by index. Its print is that of the result, unless another one is forged."""
@@ -51,30 +59,40 @@ class Record:
     def print(self):
         return sha256(self.result) if self.forged_print is None else self.forged_print
 
-    def spelled(self):
-        return (bytes([self.kind]) + name(self.class_name) + name(self.member) + bytes([self.mark])
-                + items([count(edge) for edge in self.edges]) + self.print()
-                + count(len(self.result)) + self.result)
+    def spelled(self, form):
+        told = (bytes([self.kind]) + name(self.class_name) + name(self.member) + bytes([self.mark])
+                + items([count(edge) for edge in self.edges]) + self.print())
+        return told if ends_with_print(form, self.mark) else told + count(len(self.result)) + self.result
 
 
 @dataclass
 class Session:
-    """A session, whose number and link are those of its place in a chain, and whose count of records is right,
-    unless others are forged."""
+    """A session, whose version is that of its profile and form, whose number and link are those of its place in a
+    chain, and whose count of records is right, unless others are forged."""
 
     records: list
-    version: int = 1
+    profile: int = 1
+    form: int = 1
+    version: int = None
     number: int = None
     link: bytes = None
     record_count: int = None
 
+    def told_version(self):
+        """The version, whose first byte counts the forms from 0, and whose second byte is the profile."""
+        return 256 * (self.form - 1) + self.profile if self.version is None else self.version
+
     def spelled(self, number, link):
         """The session's file, of this place in a chain."""
-        head = b"MJRG" + struct.pack(">HI", self.version, number if self.number is None else self.number)
+        head = b"MJRG" + struct.pack(">HI", self.told_version(), number if self.number is None else self.number)
         told = len(self.records) if self.record_count is None else self.record_count
         body = head + (link if self.link is None else self.link) + count(told)
-        body += b"".join(record.spelled() for record in self.records)
+        body += b"".join(record.spelled(self.form) for record in self.records)
         return body + sha256(body)
+
+    def results(self):
+        """The result of each key."""
+        return {record.key(): record.result for record in self.records}
 
     def without(self, place):
         """Leaves a record out, and the edges to it."""
@@ -117,18 +135,49 @@ class Bytes:
         return self.take(self.number(1))
 
 
-def read_record(data):
+def past_result(past, key, fingerprint):
+    """The result that the previous session has of a key, which has to have this print."""
+    result = past.get(key)
+    if result is None or sha256(result) != fingerprint:
+        raise ValueError("a green record has no result in the previous session")
+    return result
+
+
+def read_record(data, form, past):
+    """A record of this form, over the results of the previous session."""
     kind, class_name, member, mark = data.number(1), data.name(), data.name(), data.number(1)
     edges = [data.number(8) for _ in range(data.number(8))]
-    data.take(32)
-    return Record(kind, class_name, member, mark, edges, data.take(data.number(8)))
+    fingerprint = data.take(32)
+    if ends_with_print(form, mark):
+        result = past_result(past, (kind, class_name, member), fingerprint)
+    else:
+        result = data.take(data.number(8))
+    return Record(kind, class_name, member, mark, edges, result)
 
 
-def read(file):
-    """The session whose file this is."""
+def is_of_form_2(file):
+    """Whether these are the bytes, or the first ones, of a file that is read over the previous session."""
+    return file[:6] in [b"MJRG" + bytes([1, profile]) for profile in PROFILES]
+
+
+def read(file, past=None):
+    """The session whose file this is, read over the previous session, which form 2 alone needs."""
     data = Bytes(file)
-    data.take(4 + 2 + 4 + 32)
-    return Session([read_record(data) for _ in range(data.number(8))])
+    data.take(4)
+    form, profile = data.number(1) + 1, data.number(1)
+    if form not in FORMS or profile not in PROFILES:
+        raise ValueError("the version is none that is known")
+    data.take(4 + 32)
+    results = past.results() if past else {}
+    return Session([read_record(data, form, results) for _ in range(data.number(8))], profile, form)
+
+
+def read_chain(files):
+    """The sessions whose files these are, each read over the one before."""
+    sessions = []
+    for file in files:
+        sessions.append(read(file, sessions[-1] if sessions else None))
+    return sessions
 
 
 def names_of(files):
