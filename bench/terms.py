@@ -1,6 +1,7 @@
 """Times checks of unchanged sources over a session of another profile, and behind sessions of form 2, of 400 classes with
 2,000 methods, beside an unchanged check in one profile and form 1."""
 import hashlib
+import multiprocessing
 import shutil
 import tempfile
 from pathlib import Path
@@ -30,7 +31,17 @@ def once_more(file, before):
 
 
 def lengthen(folder, count):
-    """Makes a chain, whose last session is an unchanged one, so many sessions long."""
+    """Makes a chain, whose last session is an unchanged one, so many sessions long. Another process does it: what a program
+    has at most is told together with what this process had when it started it."""
+    writer = multiprocessing.Process(target=write_sessions, args=(folder, count))
+    writer.start()
+    writer.join()
+    if writer.exitcode != 0:
+        raise OSError(f"no chain of {count} sessions can be written")
+
+
+def write_sessions(folder, count):
+    """Writes the sessions behind those that are there, each an unchanged one."""
     there = len(list(session_path(folder, 0).parent.iterdir()))
     unchanged = before = session_path(folder, there - 1).read_bytes()
     for number in range(there, count):
