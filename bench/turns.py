@@ -1,22 +1,30 @@
 #!/usr/bin/env python3
 """Runs two programs in turns, an older and a newer one, on projects of each shape, and compares their least times.
 
-  bench/turns.py OLD NEW [--runs 5] [--only WORDS]
+  bench/turns.py OLD NEW [--runs 5] [--only WORDS] [--instructions]
 
 Both run `scratch`, a first check, an unchanged one, one after a body was edited and one after a field was added, and an
 audit of three unchanged sessions, which the older one has written. The turns begin with the one and with the other. A
 line each has the least seconds of both, and how many times as long the newer one takes. Nothing is asserted.
+
+With --instructions each runs once under valgrind, which counts instructions: they are the same in each run, whatever else the
+machine does, and tell nothing of memory and devices.
 """
 import argparse
+import re
 import shutil
+import subprocess
 import sys
 import tempfile
 from pathlib import Path
 
 sys.dont_write_bytecode = True
 from measuring import measured, program_path  # noqa: E402
-from rechecks import checked, times_of  # noqa: E402
+from rechecks import EDITS, checked, times_of  # noqa: E402
 from shapes import SHAPES  # noqa: E402
+
+# What valgrind says of all instructions.
+COUNT = re.compile(r"I +refs: +([\d,]+)")
 
 AUDITED = 3
 
@@ -41,6 +49,40 @@ def least_times(programs, folder, names, runs):
     return least
 
 
+def instructions(words, folder):
+    """How many instructions a run takes."""
+    tool = ["valgrind", "--tool=cachegrind", "--cache-sim=no", "--cachegrind-out-file=/dev/null"]
+    done = subprocess.run([*tool, *words], cwd=folder, stdin=subprocess.DEVNULL, stdout=subprocess.DEVNULL,
+                          stderr=subprocess.PIPE, text=True)
+    found = COUNT.search(done.stderr)
+    if found is None:
+        sys.exit(f"valgrind counts nothing of {words[0]}: {done.stderr[-400:]}")
+    return int(found[1].replace(",", ""))
+
+
+def counted(program, folder, names):
+    """The instructions of `scratch`, of a first check, of an unchanged one, and of one after a class got a field."""
+    path, text = Path(folder, names[-1]), Path(folder, names[-1]).read_text()
+    check = [program, "check", "--cache", "cache", *names]
+    counts = {"scratch": instructions([program, "scratch", *names], folder),
+              "first": instructions(check, folder), "unchanged": instructions(check, folder)}
+    path.write_text(EDITS["a field added"](text, 7))
+    counts["a field added"] = instructions(check, folder)
+    path.write_text(text)
+    shutil.rmtree(Path(folder, "cache"))
+    return counts
+
+
+def compare_counts(programs, shape):
+    """Prints a line for each run of a shape, with the instructions of both programs."""
+    with tempfile.TemporaryDirectory() as folder:
+        names = SHAPES[shape](folder)
+        old, new = (counted(program, folder, names) for program in programs)
+    print(shape)
+    for title, count in old.items():
+        print(f"  {title}: {count:,} and {new[title]:,} instructions, {new[title] / count:.4f} times", flush=True)
+
+
 def compared(programs, shape, runs):
     """Prints a line for each run of a shape."""
     with tempfile.TemporaryDirectory() as folder:
@@ -55,9 +97,14 @@ def main():
     parser.add_argument("programs", nargs=2, type=program_path, metavar=("OLD", "NEW"))
     parser.add_argument("--runs", type=int, default=5, help="runs of which the shortest counts")
     parser.add_argument("--only", metavar="WORDS", default="", help="the shapes whose names have these words")
+    parser.add_argument("--instructions", action="store_true", help="count them, by valgrind, in place of seconds")
     given = parser.parse_args()
     for shape in SHAPES:
-        if given.only in shape:
+        if given.only not in shape:
+            continue
+        if given.instructions:
+            compare_counts(given.programs, shape)
+        else:
             compared(given.programs, shape, given.runs)
 
 
