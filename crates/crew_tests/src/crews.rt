@@ -140,22 +140,24 @@ fn are_same<T: Threads + Wait + Sync>(
     alloc: Global,
     row: &Row,
     workers: usize,
+    alone: &(Made, Made),
 ) -> Result<bool, Unfit> {
-    let alone = made_by(rt, alloc, row.terms, &row.edit, 1)?;
     let made = made_by(rt, alloc, row.terms, &row.edit, workers)?;
-    Ok(are_alike(&made, &alone, row))
+    Ok(are_alike(&made, alone, row))
 }
 
 #[test]
-fn workers_make_the_same_files(rt: HostRuntime) {
+fn workers_make_the_same_files(rt: HostRuntime) -> Result<(), Unfit> {
     for row in ROWS {
+        let alone = made_by(&rt, rt.alloc(), row.terms, &row.edit, 1)?;
         for workers in [1, 2, 8, 64] {
             assert!(rt;
-                are_same(&rt, rt.alloc(), row, workers) == Ok(true),
+                are_same(&rt, rt.alloc(), row, workers, &alone) == Ok(true),
                 "{workers}"
             );
         }
     }
+    Ok(())
 }
 
 /// How many records of a session are executed and green, and how many events there are.
@@ -358,16 +360,16 @@ fn are_held_same<T: Threads + Wait + Sync>(
     Ok(have_files_of(&made, others))
 }
 
-/// Whether the files of these terms are the same by so many workers as by one, however long their runs are held.
+/// Whether these are the files by so many workers, however long their runs are held.
 fn are_same_while_held<T: Threads + Wait + Sync>(
     rt: &T,
     alloc: Global,
     terms: BothTerms,
     workers: usize,
+    others: &(Made, Made),
 ) -> Result<bool, Unfit> {
-    let by_one = made_while_held(rt, alloc, terms, CLASSES, 1, 0)?;
     for seed in SEEDS {
-        if !are_held_same(rt, alloc, terms, workers, seed, &by_one)? {
+        if !are_held_same(rt, alloc, terms, workers, seed, others)? {
             return Ok(false);
         }
     }
@@ -376,13 +378,15 @@ fn are_same_while_held<T: Threads + Wait + Sync>(
 
 /// The files are the same however long runs are held.
 #[test]
-fn held_workers_make_the_same_files(rt: HostRuntime) {
+fn held_workers_make_the_same_files(rt: HostRuntime) -> Result<(), Unfit> {
     for terms in [ALIKE, ACROSS] {
+        let by_one = made_while_held(&rt, rt.alloc(), terms, CLASSES, 1, 0)?;
         for workers in [1, 2, 3, 8, 64] {
             assert!(rt;
-                are_same_while_held(&rt, rt.alloc(), terms, workers) == Ok(true),
+                are_same_while_held(&rt, rt.alloc(), terms, workers, &by_one) == Ok(true),
                 "{workers} workers"
             );
         }
     }
+    Ok(())
 }
