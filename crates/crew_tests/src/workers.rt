@@ -6,9 +6,9 @@ use worker_fixtures::{all_stop, fault_of_worker};
 
 #[test]
 fn all_others_stop(rt: HostRuntime) {
-    for workers in [2, 8, 64] {
+    for workers in [2u32, 8, 64] {
         for failing in 0..workers {
-            assert!(rt; all_stop(&rt, rt.alloc(), workers, failing) == Ok(true));
+            assert!(rt; all_stop(&rt, rt.alloc(), workers as usize, failing) == Ok(true));
         }
     }
 }
