@@ -60,16 +60,22 @@ def instructions(words, folder):
     return int(found[1].replace(",", ""))
 
 
-def counted(program, folder, names):
-    """The instructions of `scratch`, of a first check, of an unchanged one, and of one after a class got a field."""
+def counted(program, folder, names, files):
+    """The instructions of `scratch`, of a first check, of one behind it after each edit, and of an audit of these session files."""
+    counts = {"scratch": instructions([program, "scratch", *names], folder)}
     path, text = Path(folder, names[-1]), Path(folder, names[-1]).read_text()
     check = [program, "check", "--cache", "cache", *names]
-    counts = {"scratch": instructions([program, "scratch", *names], folder),
-              "first": instructions(check, folder), "unchanged": instructions(check, folder)}
-    path.write_text(EDITS["a field added"](text, 7))
-    counts["a field added"] = instructions(check, folder)
-    path.write_text(text)
+    for title, edit in EDITS.items():
+        if Path(folder, "cache").exists():
+            # The first session stays, and what an edit's check has written behind it goes.
+            Path(folder, "cache", "c0000", "s0001.mjrg").unlink()
+        else:
+            counts["first"] = instructions(check, folder)
+        path.write_text(edit(text, 7))
+        counts[title] = instructions(check, folder)
+        path.write_text(text)
     shutil.rmtree(Path(folder, "cache"))
+    counts["audit"] = instructions([program, "audit", *files], folder)
     return counts
 
 
@@ -77,7 +83,8 @@ def compare_counts(programs, shape):
     """Prints a line for each run of a shape, with the instructions of both programs."""
     with tempfile.TemporaryDirectory() as folder:
         names = SHAPES[shape](folder)
-        old, new = (counted(program, folder, names) for program in programs)
+        files = chain(programs[0], folder, names)
+        old, new = (counted(program, folder, names, files) for program in programs)
     print(shape)
     for title, count in old.items():
         print(f"  {title}: {count:,} and {new[title]:,} instructions, {new[title] / count:.4f} times", flush=True)

@@ -1,5 +1,4 @@
 pub mod Entries
-pub mod KeptRules
 pub mod Meant
 pub mod SourceRules
 pub mod PlanRules

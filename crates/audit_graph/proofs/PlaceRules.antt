@@ -1,22 +1,18 @@
 -- Records that are looked for, and sources that are named.
-use Rattle.std.proofs.Common.{◌≡◌, ◌≢◌, inl, inr, ℕ, suc, zero, ◌+◌, ◌<◌, ◌≤◌, Bool, true, false, ◌||◌, List, [], ◌∷◌, ◌++◌, map, take, length, position, get_or, Option, Some, None, is_some, All, true≢false, refl, sym, ap, ◌∙◌, subst, arith}
-use Rattle.std.specs.Prelude.{Contains, HoldsAt, MatchOption, IfSome, IfNone, if◌then◌else◌, ◌↔◌}
-use Rattle.std.specs.List.{AllByRecursion, list_any}
-use Rattle.std.specs.Ordering.{is_eq, eq_by_cmp}
-use Rattle.std.proofs.lemmas.List.{take_more, take_all, get_or-map, length-map, map-append}
-use Rattle.std.proofs.lemmas.List.Elements.{All-from_recursion, Contains-append_left, Contains-push, Contains-push_cases}
+use Rattle.std.proofs.Common.{◌≡◌, inl, inr, ℕ, suc, zero, ◌+◌, ◌<◌, ◌≤◌, Bool, true, false, List, [], ◌∷◌, ◌++◌, take, length, get_or, refl, sym, ap, ◌∙◌, subst, arith}
+use Rattle.std.specs.Prelude.{Contains, if◌then◌else◌, ◌↔◌}
+use Rattle.std.specs.List.{AllByRecursion}
+use Rattle.std.specs.Ordering.{is_eq}
+use Rattle.std.proofs.lemmas.List.{take_more, take_all}
+use Rattle.std.proofs.lemmas.List.Elements.{Contains-append_left, Contains-push, Contains-push_cases}
 use Rattle.item_ids.specs.declared.key.Key.{Key}
-use Rattle.item_ids.specs.declared.key.Key.TheVariants as keys
 use Rattle.item_ids.specs.declared.kind.Kind.TheVariants as kinds
 use Rattle.item_ids.specs.Keys.{key_cmp, kind_of}
-use Rattle.item_ids.proofs.Apart.{test_same, test_itself, key_itself}
-use Rattle.indexmap.specs.IndexSet.{insert_key}
-use Rattle.graph_rules.proofs.KeySets.{found_key}
+use Rattle.item_ids.proofs.Apart.{test_same, test_itself}
 use Rattle.result_bytes.specs.declared.value.Value.{Value}
 use Rattle.result_bytes.specs.declared.value.Value.TheVariants as values
 use Rattle.result_bytes.specs.Values.{kind_of_value}
-use Rattle.sessions.specs.Sessions.{Entry, RecordValue, SessionValue, IsSession, IsAbove, FitsBehind, AreRecords, entry_at, entry_of, entries}
-use Rattle.sessions.proofs.EntryRules.{entry_here, no_entry}
+use Rattle.sessions.specs.Sessions.{Entry, RecordValue, SessionValue, entry_of, entries}
 use Rattle.audit_graph.specs.Firsts.{IsFirstWithout}
 use Rattle.audit_graph.specs.Sources.{IsAdmitted, IsNoStray}
 use Rattle.audit_graph.proofs.Entries.{entry_there, one_more}
@@ -25,53 +21,6 @@ pub any_default : (xs : List RecordValue) (i : ℕ) (d e : RecordValue) → i < 
 any_default [] i d e lt = absurd (omega arith)
 any_default (x ∷ xs) zero d e lt = refl
 any_default (x ∷ xs) (suc i) d e lt = any_default xs i d e (omega arith)
-
-pub find_found : (s : SessionValue) → IsSession s → (q : Key) (o : Option ℕ) → IfSome o (λ i. i < length s.records) → IfSome o (HoldsAt (λ r. r.key ≡ q) s.records) → IfNone o (All (λ r. r.key ≢ q) s.records)
-    → MatchOption o (entry_at s q ≡ None) (λ i. HoldsAt (λ r. entry_at s q ≡ Some (entry_of s.records r)) s.records i)
-find_found s session q None w f n = no_entry s q n
-find_found s session q (Some i) w f n = λ d. entry_here s session q i (get_or s.records i d) w (any_default s.records i d (get_or s.records i d) w) (f d)
-
--- ---- keys in the set of a session's keys
-
-module _ (rs : List RecordValue) (q : Key) where
-  pub set_within : (o : Option ℕ) → IfSome o (λ i. i < length (map (λ r. r.key) rs)) → IfSome o (λ i. i < length rs)
-  set_within None lt = lt
-  set_within (Some i) lt = omega (arith, lt, length-map rs (λ (r : RecordValue). r.key))
-
-  pub set_found : (o : Option ℕ) → IfSome o (λ i. i < length rs) → o ≡ position (eq_by_cmp key_cmp q) (map (λ r. r.key) rs) → IfSome o (HoldsAt (λ r. r.key ≡ q) rs)
-  set_found None lt is = lt
-  set_found (Some i) lt is = λ d. sym (get_or-map (λ (r : RecordValue). r.key) rs i d keys.Files lt) ∙ found_key (map (λ r. r.key) rs) q i (sym is)
-
-none_named : (rs : List RecordValue) (q : Key) → list_any (eq_by_cmp key_cmp q) (map (λ r. r.key) rs) ≡ false → AllByRecursion (λ r. r.key ≢ q) rs
-none_named [] q h = tt
-none_named (r ∷ rs) q h =
-    (elim (eq_by_cmp key_cmp q r.key) as (λ b. eq_by_cmp key_cmp q r.key ≡ b → (b || list_any (eq_by_cmp key_cmp q) (map (λ r. r.key) rs)) ≡ false → AllByRecursion (λ r. r.key ≢ q) (r ∷ rs)) [
-      | true ↦ λ _ e. absurd (true≢false e)
-      | false ↦ λ is rest. ((λ same. true≢false (sym (test_itself q r.key (sym same)) ∙ is)), none_named rs q rest)
-    ]) refl h
-
-pub set_none : (rs : List RecordValue) (q : Key) (o : Option ℕ) → is_some o ≡ list_any (eq_by_cmp key_cmp q) (map (λ r. r.key) rs) → IfNone o (All (λ r. r.key ≢ q) rs)
-set_none rs q None e = All-from_recursion (λ r. r.key ≢ q) rs (none_named rs q (sym e))
-set_none rs q (Some i) e = tt
-
--- the key of a record isn't among those in front
-none_in_front : (front : List RecordValue) (k : Key) → IsAbove front k → list_any (eq_by_cmp key_cmp k) (map (λ r. r.key) front) ≡ false
-none_in_front [] k above = refl
-none_in_front (r ∷ front) k above =
-    (elim (eq_by_cmp key_cmp k r.key) as (λ b. eq_by_cmp key_cmp k r.key ≡ b → (b || list_any (eq_by_cmp key_cmp k) (map (λ r. r.key) front)) ≡ false) [
-      | true ↦ λ is. absurd (let same = key_itself r.key k (sym (test_same k r.key is)) in let less = above.0 in cc)
-      | false ↦ λ _. none_in_front front k above.1
-    ]) refl
-
--- so it goes last
-pub set_grows : (rs : List RecordValue) → AreRecords rs → (i : ℕ) (r : RecordValue) → i < length rs → r ≡ get_or rs i r
-    → insert_key (eq_by_cmp key_cmp) (map (λ r. r.key) (take i rs)) r.key ≡ map (λ r. r.key) (take (i + 1) rs)
-set_grows rs are i r lt is =
-    let fits : FitsBehind (take i rs) r = subst (FitsBehind (take i rs)) (sym is) (are i r lt) in
-    let last : insert_key (eq_by_cmp key_cmp) (map (λ r. r.key) (take i rs)) r.key ≡ map (λ r. r.key) (take i rs) ++ r.key ∷ []
-    = ap (λ (b : Bool). if b then map (λ r. r.key) (take i rs) else map (λ r. r.key) (take i rs) ++ r.key ∷ []) (none_in_front (take i rs) r.key fits.above) in
-    let front : take (i + 1) rs ≡ take i rs ++ r ∷ [] = take_more rs i r lt ∙ ap (λ (x : RecordValue). take i rs ++ x ∷ []) (sym is) in
-    last ∙ sym (map-append (λ (r : RecordValue). r.key) (take i rs) (r ∷ [])) ∙ ap (map (λ (r : RecordValue). r.key)) (sym front)
 
 -- a value of the kind of Files is one
 pub is_files : (v : Value) → kind_of_value v ≡ kinds.Files → (names : List (List ℕ)) × (v ≡ values.Files names)

@@ -1,4 +1,3 @@
-pub mod Kept
 pub mod Firsts
 pub mod Chains
 pub mod Sources

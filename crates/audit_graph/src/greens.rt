@@ -1,10 +1,9 @@
 //! Green records over the previous session.
-ghost use Rattle.std.specs.Prelude.{◌≡◌, ◌≢◌, ◌<◌, length, true, Option, Some, None, MatchBool, MatchOption};
+ghost use Rattle.std.specs.Prelude.{◌≡◌, ◌≢◌, ◌<◌, length, true, Some, None, MatchBool, MatchOption};
 ghost use Rattle.std.specs.Option.{option_copied};
 ghost use Rattle.std.specs.List.{AllByRecursion};
 ghost use Rattle.sessions.specs.declared.mark.Mark.TheVariants.{Green};
-ghost use Rattle.sessions.specs.Sessions.{SessionValue, AreInside, key_at, entry_at, entry_of};
-ghost use Rattle.audit_graph.specs.Kept.{IsPastOf, ArePastOf};
+ghost use Rattle.sessions.specs.Sessions.{AreInside, key_at, entry_at, entry_of};
 ghost use Rattle.graph_rules.specs.Settings.{has_kind, crossing_kinds};
 ghost use Rattle.graph_rules.specs.Next.{StandsIn};
 ghost use Rattle.audit_graph.specs.Firsts.{IsFirstWithout};
@@ -16,7 +15,7 @@ use crate::places::{key_of, print_of};
 use fingerprint::Print;
 use item_ids::{Key, Kind, keys_in_order};
 use recorder::Runner;
-use sessions::{Mark, Record, Session};
+use sessions::{Finder, Mark, Record, Session};
 
 /// Why a green record doesn't stand in the previous session: the first of these reasons.
 #[derive(Clone, Copy)]
@@ -34,15 +33,19 @@ pub enum Lack {
 }
 
 /// The first green record that doesn't stand in the previous session, and why.
-pub(crate) fn first_lack<R: Runner>(past: Option<&Past>, session: &Session) -> Option<(usize, Lack)>
-    ensures { (was : Option SessionValue) → ArePastOf (option_copied past.entry) was
-        → MatchOption result
-        (GreensStand (setting_behind R.queries.by_profile was session.now) (entry_at session.now))
-        (λ x. IsFirstLack (setting_behind R.queries.by_profile was session.now) session.now x.0
-        x.1) }
+pub(crate) fn first_lack<R: Runner>(
+    past: Option<&Past<'_>>,
+    session: &Session,
+) -> Option<(usize, Lack)>
+    ensures { MatchOption result
+        (GreensStand (setting_behind R.queries.by_profile (option_copied past.entry) session.now)
+        (entry_at session.now))
+        (λ x. IsFirstLack (setting_behind R.queries.by_profile (option_copied past.entry)
+        session.now) session.now x.0 x.1) }
 {
+    let mut finder = Finder::new();
     for (n, item) in session.records().iter().enumerate() {
-        if let Some(why) = lack_if_green::<R>(past, session, item) {
+        if let Some(why) = lack_if_green::<R>(past, &mut finder, session, item) {
             return Some((n, why));
         }
     }
@@ -50,34 +53,42 @@ pub(crate) fn first_lack<R: Runner>(past: Option<&Past>, session: &Session) -> O
 }
 
 /// Why a record doesn't stand in the previous session, where it is green.
-fn lack_if_green<R: Runner>(past: Option<&Past>, session: &Session, item: &Record) -> Option<Lack>
+fn lack_if_green<R: Runner>(
+    past: Option<&Past<'_>>,
+    finder: &mut Finder,
+    session: &Session,
+    item: &Record,
+) -> Option<Lack>
     requires { AreInside session.now.records item.now.edges }
-    ensures { (was : Option SessionValue) → ArePastOf (option_copied past.entry) was
-        → MatchOption result
-        (StandsIfGreen (setting_behind R.queries.by_profile was session.now) (entry_at session.now)
-        (entry_of session.now.records item.now))
+    ensures { MatchOption result
+        (StandsIfGreen (setting_behind R.queries.by_profile (option_copied past.entry) session.now)
+        (entry_at session.now) (entry_of session.now.records item.now))
         (λ why. (item.now.mark ≡ Green)
-        × IsLack (setting_behind R.queries.by_profile was session.now) (entry_at session.now)
-        (entry_of session.now.records item.now) why) }
+        × IsLack (setting_behind R.queries.by_profile (option_copied past.entry) session.now)
+        (entry_at session.now) (entry_of session.now.records item.now) why) }
 {
     match (item.mark(), past) {
-        (Mark::Green, Some(past)) => find_lack::<R>(past, session, item),
+        (Mark::Green, Some(past)) => find_lack::<R>(past, finder, session, item),
         (Mark::Green, None) => Some(Lack::WithoutPast),
         (Mark::Input | Mark::Executed, _) => None,
     }
 }
 
 /// Why a record doesn't stand in the previous session.
-fn find_lack<R: Runner>(past: &Past, session: &Session, item: &Record) -> Option<Lack>
+fn find_lack<R: Runner>(
+    past: &Past<'_>,
+    finder: &mut Finder,
+    session: &Session,
+    item: &Record,
+) -> Option<Lack>
     requires { AreInside session.now.records item.now.edges }
-    ensures { (was : SessionValue) → IsPastOf past.now was
-        → MatchOption result
-        (StandsIn (setting_behind R.queries.by_profile (Some was) session.now)
+    ensures { MatchOption result
+        (StandsIn (setting_behind R.queries.by_profile (Some past.now) session.now)
         (entry_at session.now) (entry_of session.now.records item.now))
-        (IsLack (setting_behind R.queries.by_profile (Some was) session.now)
+        (IsLack (setting_behind R.queries.by_profile (Some past.now) session.now)
         (entry_at session.now) (entry_of session.now.records item.now)) }
 {
-    let Some(at) = past.find(item.key()) else {
+    let Some(at) = past.find(finder, item.key()) else {
         return Some(Lack::WithoutPast);
     };
     if crosses::<R>(past, session, item.key().kind()) {
@@ -98,22 +109,20 @@ fn find_lack<R: Runner>(past: &Past, session: &Session, item: &Record) -> Option
 
 /// Whether nothing of this kind is taken over from the previous session, since the kind goes by the profile and the
 /// session has another one.
-fn crosses<R: Runner>(past: &Past, session: &Session, kind: Kind) -> bool
-    ensures { (was : SessionValue) → IsPastOf past.now was
-        → result ≡ has_kind
-        (crossing_kinds R.queries.by_profile session.now.terms.profile (Some was)) kind }
+fn crosses<R: Runner>(past: &Past<'_>, session: &Session, kind: Kind) -> bool
+    ensures { result ≡ has_kind
+        (crossing_kinds R.queries.by_profile session.now.terms.profile (Some past.now)) kind }
 {
     !past.profile().is(session.terms().profile) && R::by_profile(kind)
 }
 
 /// Whether edges of the previous session and of the session lead to the same keys.
-fn are_same(past: &Past, old: &[usize], session: &Session, edges: &[usize]) -> bool
+fn are_same(past: &Past<'_>, old: &[usize], session: &Session, edges: &[usize]) -> bool
     requires old { AllByRecursion (λ e. e < length past.now.records) old.now }
     requires edges { AreInside session.now.records edges.now }
-    ensures same { (was : SessionValue) → IsPastOf past.now was
-        → MatchBool result
-        (keys_at was.records old.now ≡ keys_at session.now.records edges.now)
-        (keys_at was.records old.now ≢ keys_at session.now.records edges.now) }
+    ensures same { MatchBool result
+        (keys_at past.now.records old.now ≡ keys_at session.now.records edges.now)
+        (keys_at past.now.records old.now ≢ keys_at session.now.records edges.now) }
     ensures long { result ≡ true → length old.now ≡ length edges.now }
 {
     if old.len() != edges.len() {
@@ -128,16 +137,15 @@ fn are_same(past: &Past, old: &[usize], session: &Session, edges: &[usize]) -> b
 }
 
 /// The place of the first edge that has another fingerprint in the previous session.
-fn first_red(past: &Past, old: &[usize], session: &Session, edges: &[usize]) -> Option<usize>
+fn first_red(past: &Past<'_>, old: &[usize], session: &Session, edges: &[usize]) -> Option<usize>
     requires old { AllByRecursion (λ e. e < length past.now.records) old.now }
     requires edges { AreInside session.now.records edges.now }
     requires long { length old.now ≡ length edges.now }
-    ensures { (was : SessionValue) → IsPastOf past.now was
-        → keys_at was.records old.now ≡ keys_at session.now.records edges.now
+    ensures { keys_at past.now.records old.now ≡ keys_at session.now.records edges.now
         → MatchOption result
-        (AllByRecursion (HasSamePrint (entry_at was) (entry_at session.now))
+        (AllByRecursion (HasSamePrint (entry_at past.now) (entry_at session.now))
         (keys_at session.now.records edges.now))
-        (IsFirstWithout (HasSamePrint (entry_at was) (entry_at session.now))
+        (IsFirstWithout (HasSamePrint (entry_at past.now) (entry_at session.now))
         (keys_at session.now.records edges.now)) }
 {
     for (i, edge) in edges.iter().enumerate() {

@@ -1,113 +1,70 @@
-//! What is kept of the previous session.
-ghost use Rattle.std.specs.Prelude.{◌≡◌, ◌<◌, None, Some, IfOk, IfSome, MatchOption, HoldsAt, length, map};
+//! The previous session, as an audit sees it.
+ghost use Rattle.std.specs.Prelude.{◌≡◌, ◌<◌, None, Some, IfSome, MatchOption, HoldsAt, length};
 ghost use Rattle.std.specs.List.{AllByRecursion};
-ghost use Rattle.sessions.specs.Sessions.{SessionValue, AreRecords, key_at, entry_at, entry_of};
+ghost use Rattle.sessions.specs.Sessions.{IsSession, key_at, entry_at, entry_of};
+ghost use Rattle.sessions.specs.Spelling.{digest_of};
 ghost use Rattle.graph_rules.specs.Pasts.{print_in};
-ghost use Rattle.audit_graph.specs.Kept.{IsPastOf, kept_of};
 
+use crate::places::{key_of, print_of};
 use fingerprint::Print;
-use indexmap::IndexSet;
 use item_ids::Key;
 use profiles::Profile;
 use session_file::digest;
-use sessions::{Record, Session};
-use std::alloc::{AllocError, Global};
+use sessions::{Finder, Session};
 use std::marker::Model;
 
-/// What is kept of a record beside its key: its edges and its fingerprint.
+/// What the audit of the next session asks of a session: its profile, its number, the SHA-256 of its file, and the key,
+/// edges and fingerprint of each record. The session is lent, so nothing of it is copied, and its results aren't shown.
 #[derive(Drop)]
-struct Kept {
-    edges: Vec<usize>,
-    print: Print,
-}
-
-impl Model for Kept {
-    ghost use Rattle.audit_graph.specs.Kept.{KeptRecord};
-
-    ghost Value = { KeptRecord };
-
-    ghost view = { λ k. record { edges = k.edges.items; print = k.print.0 } };
-}
-
-/// What the audit of the next session needs of a session: its profile, its number, the SHA-256 of its file, and the key,
-/// edges and fingerprint of each record. It holds no results.
-pub struct Past {
-    profile: Profile,
-    number: u32,
+pub struct Past<'a> {
+    session: &'a Session,
     digest: [u8; 32],
-    keys: IndexSet<Key>,
-    records: Vec<Kept>,
 }
 
-impl Drop for Past {
-    fn drop(self) {
-        let Past {
-            profile: _,
-            number: _,
-            digest: _,
-            keys: _,
-            records: _,
-        } = self;
-    }
-}
-
-impl Model for Past {
+impl<'a> Model for Past<'a> {
+    ghost use Rattle.std.specs.Prelude.{◌≡◌};
+    ghost use Rattle.std.specs.Coded.{codes};
+    ghost use Rattle.result_bytes.specs.contracts.value.Value as value_contracts;
     ghost use Rattle.sessions.specs.Sessions.{SessionValue};
-    ghost use Rattle.audit_graph.specs.Kept.{KeptSession, IsPastOf};
+    ghost use Rattle.sessions.specs.Spelling.{digest_of};
 
-    ghost Value = { KeptSession };
+    ghost Value = { SessionValue };
 
-    ghost view = { λ p. record {
-      profile = p.profile;
-      number = p.number;
-      digest = p.digest;
-      keys = p.keys.keys;
-      records = p.records.items;
-    } };
+    ghost coded = { Prim.hlevel (codes, value_contracts.the_row.coded) };
 
-    ghost invariant = { λ p. (was : SessionValue) × IsPastOf (record {
-      profile = p.profile;
-      number = p.number;
-      digest = p.digest;
-      keys = p.keys.keys;
-      records = p.records.items;
-    })
-        was };
+    ghost view = { λ p. p.session.now };
+
+    ghost invariant = { λ p. p.digest ≡ digest_of p.session.now };
 }
 
-impl Past {
-    /// What the audit of the next session needs of this one.
-    pub fn of(alloc: Global, session: &Session) -> Result<Self, AllocError>
-        ensures { IfOk result (λ past. IsPastOf past session.now) }
+impl<'a> Past<'a> {
+    /// What the audit of the next session asks of this one.
+    pub fn of(session: &'a Session) -> Self
+        ensures { result ≡ session.now }
     {
-        let keys = key_set(alloc, session.records())?;
-        let records = kept_records(alloc, session.records())?;
-        Ok(Past {
-            profile: session.terms().profile,
-            number: session.number(),
+        Past {
+            session,
             digest: digest(session),
-            keys,
-            records,
-        })
+        }
     }
 
     /// The profile that it was made in.
     pub fn profile(&self) -> Profile
-        ensures { result ≡ self.now.profile }
+        ensures { result ≡ self.now.terms.profile }
     {
-        self.profile
+        self.session.terms().profile
     }
 
     /// Its number in the chain.
     pub fn number(&self) -> u32
         ensures { result ≡ self.now.number }
     {
-        self.number
+        self.session.number()
     }
 
     /// The SHA-256 of its file.
     pub fn digest(&self) -> &[u8; 32]
-        ensures { result.now ≡ self.now.digest }
+        ensures { result.now ≡ digest_of self.now }
     {
         &self.digest
     }
@@ -115,72 +72,41 @@ impl Past {
     /// The key of the record at an index.
     pub fn key(&self, i: usize) -> &Key
         requires { i < length self.now.records }
-        ensures { (was : SessionValue) → IsPastOf self.now was
-            → result.now ≡ key_at was.records i }
+        ensures { result.now ≡ key_at self.now.records i }
     {
-        &self.keys[i]
+        key_of(self.session, i)
     }
 
     /// The indices of the records of the keys that the one at an index read, in order.
     pub fn edges(&self, i: usize) -> &[usize]
         requires { i < length self.now.records }
-        ensures edges { (was : SessionValue) → IsPastOf self.now was
-            → HoldsAt (λ r. result.now ≡ r.edges) was.records i }
+        ensures edges { HoldsAt (λ r. result.now ≡ r.edges) self.now.records i }
         ensures inside { AllByRecursion (λ e. e < length self.now.records) result.now }
     {
-        self.records[i].edges.as_slice()
+        self.session.records()[i].edges()
     }
 
     /// The fingerprint of the result at an index.
     pub fn print(&self, i: usize) -> Print
         requires { i < length self.now.records }
-        ensures { (was : SessionValue) → IsPastOf self.now was
-            → Some result.0 ≡ print_in (entry_at was) (key_at was.records i) }
+        ensures { Some result.0 ≡ print_in (entry_at self.now) (key_at self.now.records i) }
     {
-        self.records[i].print
+        print_of(self.session, i)
     }
 
     /// The index of the record of a key.
-    pub fn find(&self, key: &Key) -> Option<usize>
+    pub fn find(&self, finder: &mut Finder, key: &Key) -> Option<usize>
         ensures within { IfSome result (λ i. i < length self.now.records) }
-        ensures found { (was : SessionValue) → IsPastOf self.now was
-            → MatchOption result (entry_at was key.now ≡ None)
-            (λ i. HoldsAt (λ r. entry_at was key.now ≡ Some (entry_of was.records r))
-            was.records i) }
+        ensures found { MatchOption result (entry_at self.now key.now ≡ None)
+            (λ i. HoldsAt (λ r. entry_at self.now key.now ≡ Some (entry_of self.now.records r))
+            self.now.records i) }
+        ensures session { IsSession self.now }
     {
-        self.keys.get_index_of(key)
+        // A session keeps in its type what its records are.
+        let _records = self.session.records();
+        match finder.find(self.session, key) {
+            Some((i, _)) => Some(i),
+            None => None,
+        }
     }
-}
-
-/// The keys of the records, in their order.
-fn key_set(alloc: Global, records: &[Record]) -> Result<IndexSet<Key>, AllocError>
-    requires { AreRecords records.now }
-    ensures { IfOk result (λ set. set.keys ≡ map (λ r. r.key) records.now) }
-{
-    let mut keys = IndexSet::with_capacity(alloc, records.len())?;
-    for record in records {
-        keys.insert(record.key().copy(alloc)?)?;
-    }
-    Ok(keys)
-}
-
-/// What is kept of the records beside their keys, in their order.
-fn kept_records(alloc: Global, records: &[Record]) -> Result<Vec<Kept>, AllocError>
-    ensures { IfOk result (λ v. v.items ≡ map kept_of records.now) }
-{
-    let mut kept = Vec::with_capacity(alloc, records.len())?;
-    for record in records {
-        kept.push(kept_record(alloc, record)?)?;
-    }
-    Ok(kept)
-}
-
-/// What is kept of a record.
-fn kept_record(alloc: Global, item: &Record) -> Result<Kept, AllocError>
-    ensures { IfOk result (λ kept. kept ≡ kept_of item.now) }
-{
-    Ok(Kept {
-        edges: item.edges().to_vec(alloc)?,
-        print: item.sealed().print(),
-    })
 }

@@ -1,9 +1,8 @@
 //! The check of one session over the one before.
-ghost use Rattle.std.specs.Prelude.{◌≡◌, ◌↔◌, IsTrue, IfOk, Option};
-ghost use Rattle.sessions.specs.Sessions.{SessionValue, entry_at};
+ghost use Rattle.std.specs.Prelude.{◌≡◌, ◌↔◌, IsTrue, IfOk};
+ghost use Rattle.sessions.specs.Sessions.{entry_at};
 ghost use Rattle.sessions.specs.Spelling.{next_link};
 ghost use Rattle.audit_graph.specs.Sources.{HasSources};
-ghost use Rattle.audit_graph.specs.Kept.{ArePastOf};
 ghost use Rattle.std.specs.Option.{option_copied};
 ghost use Rattle.audit_graph.specs.Chains.{IsLinked};
 ghost use Rattle.audit_graph.specs.Plans.{executed_in};
@@ -22,12 +21,12 @@ use std::alloc::Global;
 /// and its green records. The runner tells which kinds go by the profile. The plan is what is left to run.
 pub fn check_step<R: Runner>(
     alloc: Global,
-    past: Option<&Past>,
+    past: Option<&Past<'_>>,
     k: usize,
     session: &Session,
 ) -> Result<Plan, AuditFault>
-    ensures gives { (was : Option SessionValue) → ArePastOf (option_copied past.entry) was
-        → CheckStepGives R.queries.by_profile was k session.now result }
+    ensures gives { CheckStepGives R.queries.by_profile (option_copied past.entry) k session.now
+        result }
     ensures sources { IfOk result
         (λ _. (session.now.number ≡ k) × HasSources (entry_at session.now)) }
     ensures plan { IfOk result (λ plan. plan ≡ executed_in session.now) }
@@ -48,18 +47,16 @@ pub fn check_step<R: Runner>(
 }
 
 /// Whether the session has this number and the link that follows the previous session.
-fn is_linked(past: Option<&Past>, k: usize, session: &Session) -> bool
-    ensures linked { (was : Option SessionValue) → ArePastOf (option_copied past.entry) was
-        → IsTrue result ↔ IsLinked was k session.now }
+fn is_linked(past: Option<&Past<'_>>, k: usize, session: &Session) -> bool
+    ensures linked { IsTrue result ↔ IsLinked (option_copied past.entry) k session.now }
     ensures number { IsTrue result → session.now.number ≡ k }
 {
     session.number() as usize == k && *session.link() == link_behind(past)
 }
 
 /// The link that follows the previous session.
-fn link_behind(past: Option<&Past>) -> [u8; 32]
-    ensures { (was : Option SessionValue) → ArePastOf (option_copied past.entry) was
-        → result ≡ next_link was }
+fn link_behind(past: Option<&Past<'_>>) -> [u8; 32]
+    ensures { result ≡ next_link (option_copied past.entry) }
 {
     match past {
         Some(past) => *past.digest(),

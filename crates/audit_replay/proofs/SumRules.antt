@@ -14,7 +14,6 @@ use Rattle.session_file.specs.Feeding.{Given}
 use Rattle.graph_rules.specs.Next.{IsRightAfter}
 use Rattle.audit_graph.specs.Chains.{IsLinked, AreLinked}
 use Rattle.audit_graph.specs.Plans.{executed_in}
-use Rattle.audit_graph.specs.Kept.{ArePastOf}
 use Rattle.audit_graph.specs.declared.fault.AuditFault.{AuditFault}
 use Rattle.audit_graph.specs.declared.fault.AuditFault.TheVariants.{File, OutOfMemory}
 use Rattle.audit_replay.specs.Logs.{executed_keys, all_executed_keys, GrowsWithin}
@@ -30,12 +29,6 @@ use Rattle.audit_replay.proofs.ApartRules.{one_by_print}
 use Rattle.audit_replay.proofs.ChainRules.{right_behind}
 
 -- ---- what is kept
-
-pub past_kept : (last : Option Last) (s : Option SessionValue) → IsLast last s → ArePastOf (option_map (λ (l : Last). l.past) last) s
-past_kept None None i = tt
-past_kept (Some l) (Some s) i = i.past
-past_kept None (Some s) i = absurd i
-past_kept (Some l) None i = absurd i
 
 pub session_kept : (last : Option Last) (s : Option SessionValue) → IsLast last s → option_map (λ (l : Last). l.session) last ≡ s
 session_kept None None i = refl
@@ -79,9 +72,11 @@ chain_more queries laws ss s c session p apart = record {
 }
 
 module _ (queries : Queries) (laws : AreLawful queries) (old new : Sum) (s : SessionValue) (session : IsSession s) (taken : IsTakenFrom (option_map (λ (l : Last). l.session) old.last) s) (runs : ℕ)
-    (gives : (was : Option SessionValue) → ArePastOf (option_map (λ (l : Last). l.past) old.last) was → IsTakenFrom was s → SessionGives queries was old.count s (Ok runs)) where
+    (prev : Option SessionValue) (is_prev : prev ≡ option_map (λ (l : Last). l.session) old.last) (gives : IsTakenFrom prev s → SessionGives queries prev old.count s (Ok runs)) where
   gives_behind : (ss : List SessionValue) → IsSumOf old ss → SessionGives queries (last_of None ss) old.count s (Ok runs)
-  gives_behind ss a = gives (last_of None ss) (past_kept old.last (last_of None ss) a.last) (subst (λ (p : Option SessionValue). IsTakenFrom p s) (session_kept old.last (last_of None ss) a.last) taken)
+  gives_behind ss a =
+      subst (λ (p : Option SessionValue). SessionGives queries p old.count s (Ok runs)) (is_prev ∙ session_kept old.last (last_of None ss) a.last)
+      (gives (subst (λ (p : Option SessionValue). IsTakenFrom p s) (sym is_prev) taken))
 
   passes_behind : (ss : List SessionValue) → IsSumOf old ss → Passes queries (last_of None ss) (length ss) s
   passes_behind ss a = subst (λ (n : ℕ). Passes queries (last_of None ss) n s) a.count (gives_behind ss a).0
@@ -128,11 +123,12 @@ module _ (queries : Queries) (kept : Sum) (ss : List SessionValue) (a : IsSumOf 
     taken : IsTakenFrom (last_of None ss) s
     taken = subst (λ (p : Option SessionValue). IsTakenFrom p s) (session_kept kept.last (last_of None ss) a.last) kept_taken
 
-    pub session_refuses : (fault : AuditFault) → ((was : Option SessionValue) → ArePastOf (option_map (λ (l : Last). l.past) kept.last) was → IsTakenFrom was s → SessionGives queries was kept.count s (Err fault))
+    pub session_refuses : (fault : AuditFault) (prev : Option SessionValue) → prev ≡ option_map (λ (l : Last). l.session) kept.last → (IsTakenFrom prev s → SessionGives queries prev kept.count s (Err fault))
         → GrowsWithin (executed_keys s) log_old log_new → TakeRefuses queries ss bytes log_old log_new fault
-    session_refuses fault gives log = inr (session_refused queries (last_of None ss) (length ss) s bytes log_old log_new
+    session_refuses fault prev is_prev gives log = inr (session_refused queries (last_of None ss) (length ss) s bytes log_old log_new
         (record { session = session; taken = taken; spelled = sym spelled; log = log }) fault
-        (subst (λ (n : ℕ). SessionRefuses queries (last_of None ss) n s fault) a.count (gives (last_of None ss) (past_kept kept.last (last_of None ss) a.last) taken)))
+        (subst (λ (n : ℕ). SessionRefuses queries (last_of None ss) n s fault) a.count (subst (λ (p : Option SessionValue). SessionRefuses queries p kept.count s fault) (is_prev ∙ session_kept kept.last (last_of None ss) a.last)
+        (gives (subst (λ (p : Option SessionValue). IsTakenFrom p s) (sym is_prev) kept_taken)))))
 
     pub memory_refuses : log_new ≡ log_old ++ executed_keys s → TakeRefuses queries ss bytes log_old log_new OutOfMemory
     memory_refuses log = inr (inr (
@@ -154,8 +150,8 @@ session_counts queries past k s (File j f) r n = absurd (elim r [
 session_counts queries past k s fault r n = refl
 
 pub session_counted : (queries : Queries) (kept : Sum) (ss : List SessionValue) → IsSumOf kept ss → (s : SessionValue) → IsTakenFrom (option_map (λ (l : Last). l.session) kept.last) s → (fault : AuditFault)
-    → ((was : Option SessionValue) → ArePastOf (option_map (λ (l : Last). l.past) kept.last) was → IsTakenFrom was s → SessionGives queries was kept.count s (Err fault))
+    → (prev : Option SessionValue) → prev ≡ option_map (λ (l : Last). l.session) kept.last → (IsTakenFrom prev s → SessionGives queries prev kept.count s (Err fault))
     → (old new : ℕ) → new ≡ old → CountsFault fault old new
-session_counted queries kept ss a s taken fault gives old new same =
+session_counted queries kept ss a s taken fault prev is_prev gives old new same =
     subst (λ (n : ℕ). CountsFault fault old n) (sym same)
-    (session_counts queries (last_of None ss) kept.count s fault (gives (last_of None ss) (past_kept kept.last (last_of None ss) a.last) (subst (λ (p : Option SessionValue). IsTakenFrom p s) (session_kept kept.last (last_of None ss) a.last) taken)) old)
+    (session_counts queries prev kept.count s fault (gives (subst (λ (p : Option SessionValue). IsTakenFrom p s) (sym is_prev) taken)) old)

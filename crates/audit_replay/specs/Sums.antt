@@ -18,7 +18,6 @@ use Rattle.session_file.specs.declared.fault.FileFault.TheVariants as files
 use Rattle.graph_rules.specs.Pasts.{Past}
 use Rattle.graph_rules.specs.Next.{AreSources}
 use Rattle.audit_graph.specs.Sources.{HasSources}
-use Rattle.audit_graph.specs.Kept.{IsPastOf}
 use Rattle.audit_graph.specs.declared.fault.AuditFault.{AuditFault}
 use Rattle.audit_graph.specs.declared.fault.AuditFault.TheVariants.{EmptyChain, File, NoAnswer, SourcesDiffer, OutOfMemory}
 use Rattle.audit_replay.specs.Logs.{executed_keys, all_executed_keys}
@@ -49,11 +48,9 @@ abbrev pub IsAnswer : SessionValue → Option (Arc Value Global) → Type 0
 IsAnswer s answer = MatchOption answer (entry_at s Answer ≡ None)
     (λ a. HasValue (entry_at s) Answer (arc_value a))
 
--- the session, which holds the files of a project, is kept, with its `Past`, its inputs and its
--- answer
+-- the session, which holds the files of a project, is kept, with its inputs and its answer
 pub record IsLastOf (kept : Last) (s : SessionValue) : Type 0 where
   pub session : kept.session ≡ s
-  pub past : IsPastOf kept.past s
   pub sources : HasSources (entry_at s)
   pub inputs : AreInputs (entry_at s) (arc_value kept.inputs.names)
       (map arc_value kept.inputs.texts.items)

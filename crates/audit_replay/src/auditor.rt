@@ -142,7 +142,7 @@ fn take_session<R: Runner, F: Feed>(
         Ok(session) => session,
         Err(fault) => return Err(fault),
     };
-    let runs = match audit_session(alloc, runner, kept.past(), kept.count, &session) {
+    let runs = match audit_session(alloc, runner, kept.session(), kept.count, &session) {
         Ok(runs) => runs,
         Err(fault) => return Err(fault),
     };

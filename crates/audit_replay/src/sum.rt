@@ -7,7 +7,6 @@ ghost use Rattle.audit_replay.specs.Sums.{IsAnswer, IsLastOf};
 
 use crate::answer::answer_of;
 use crate::inputs::Inputs;
-use audit_graph::Past;
 use fingerprint::Sealed;
 use profiles::Profile;
 use sessions::Session;
@@ -22,32 +21,21 @@ pub(crate) struct Sum {
     pub(crate) last: Option<Last>,
 }
 
-/// A session, with its `Past`, its inputs and its answer.
+/// A session, with its inputs and its answer.
 #[derive(Drop)]
 pub(crate) struct Last {
     session: Session,
-    past: Past,
     inputs: Inputs,
     answer: Option<Arc<Sealed>>,
 }
 
 impl Sum {
-    /// The session that the next one is read over.
+    /// The session that the next one is read and audited over.
     pub(crate) fn session(&self) -> Option<&Session>
         ensures { option_copied result ≡ option_map (λ last. last.session) self.now.last }
     {
         match &self.last {
             Some(last) => Some(&last.session),
-            None => None,
-        }
-    }
-
-    /// The `Past` that the next session is audited over.
-    pub(crate) fn past(&self) -> Option<&Past>
-        ensures { option_copied result ≡ option_map (λ last. last.past) self.now.last }
-    {
-        match &self.last {
-            Some(last) => Some(&last.past),
             None => None,
         }
     }
@@ -61,10 +49,8 @@ impl Last {
     {
         let answer = shared_answer(&session)?;
         let inputs = Inputs::of(alloc, &session)?;
-        let past = Past::of(alloc, &session)?;
         Ok(Last {
             session,
-            past,
             inputs,
             answer,
         })

@@ -58,6 +58,7 @@ fn read_items<F: Format>(
         items.push(item)?;
         rest = after;
     }
+    items.shrink_to_fit();
     Ok((items, rest))
 }
 
@@ -93,6 +94,7 @@ fn read_ascending_items<F: Ordered>(
         items.push(item)?;
         rest = after;
     }
+    items.shrink_to_fit();
     Ok((items, rest))
 }
 

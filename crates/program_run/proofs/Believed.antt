@@ -1,5 +1,5 @@
 -- What a check that printed its answer may be believed for.
-use Rattle.std.proofs.Common.{◌≡◌, ◌∙◌, inl, inr, ℕ, true, false, List, Option, Some, map, string_bytes, refl, sym, ap}
+use Rattle.std.proofs.Common.{◌≡◌, ◌∙◌, inl, inr, ℕ, true, false, List, Option, string_bytes, refl, sym, ap}
 use Rattle.std.specs.Prelude.{codes}
 use Rattle.std.specs.Str.{bytes_eq}
 use Rattle.std.proofs.lemmas.Option.{same_Some}
@@ -11,7 +11,7 @@ use Rattle.command_line.specs.declared.asked.Subcommand.{Subcommand}
 use Rattle.command_line.specs.declared.asked.Subcommand.TheVariants.{Scratch, Check, Audit, Show}
 use Rattle.command_line.specs.declared.asked.Words.{Words}
 use Rattle.command_line.specs.declared.asked.Words.TheVariants as words
-use Rattle.program_run.specs.Believed.{IsTextByRules, ChecksByRules, PrintsBelieved}
+use Rattle.program_run.specs.Believed.{ChecksByRules, PrintsBelieved}
 use Rattle.program_run.specs.Checks.{ChecksAsked}
 use Rattle.program_run.specs.Runs.{IsWritten, Prints, Reports}
 use Rattle.program_run.specs.declared.report.Report.{Report}

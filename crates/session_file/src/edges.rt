@@ -58,5 +58,6 @@ fn read_items<F: Feed>(
         }
         edges.push(edge)?;
     }
+    edges.shrink_to_fit();
     Ok(edges)
 }

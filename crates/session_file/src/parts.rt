@@ -103,6 +103,7 @@ pub(crate) fn bytes<F: Feed>(
         piece(feed, hash, &mut text, step as usize)?;
         left -= step;
     }
+    text.shrink_to_fit();
     Ok(text)
 }
 

@@ -1,10 +1,9 @@
 use Rattle.std.proofs.Common.{◌≡◌, take, map, length}
-use Rattle.sessions.specs.Sessions.{SessionValue, key_at}
-use Rattle.audit_graph.specs.Kept.{IsPastOf}
+use Rattle.sessions.specs.Sessions.{key_at}
 use Rattle.audit_graph.proofs.greens.are_same.Given as goal
 
 abbrev pub invariant-loop-i : goal.invariant-loop-i
 invariant-loop-i l = record {
   as_long : length l.old ≡ length l.edges;
-  same : (was : SessionValue) → IsPastOf l.past was → map (key_at was.records) (take l.i l.old) ≡ map (key_at l.session.records) (take l.i l.edges);
+  same : map (key_at l.past.records) (take l.i l.old) ≡ map (key_at l.session.records) (take l.i l.edges);
 }

@@ -4,13 +4,13 @@ use Rattle.audit_graph.proofs.GreenRules.{red_here, red_more}
 use Rattle.audit_graph.proofs.greens.first_red.Goals as goal
 
 pub returns-then-not-same_print : goal.returns-then-not-same_print
-returns-then-not-same_print c = λ was p all.
+returns-then-not-same_print c = λ all.
     let lt : c.loop-i.i < length c.args.edges.now = omega arith in
-    red_here (key_at was.records) (key_at c.args.session.now.records) c.args.old.now c.args.edges.now (entry_at was) (entry_at c.args.session.now)
-    all c.loop-i.i lt c.print.result.0 c.print_of.result.0 (c.print.ensures was p) c.print_of.ensures (c.loop-i.invariant was p all) c.if-not-same_print.ensures
+    red_here (key_at c.args.past.now.records) (key_at c.args.session.now.records) c.args.old.now c.args.edges.now (entry_at c.args.past.now) (entry_at c.args.session.now)
+    all c.loop-i.i lt c.print.result.0 c.print_of.result.0 c.print.ensures c.print_of.ensures (c.loop-i.invariant all) c.if-not-same_print.ensures
 
 pub loop-i-preserved : goal.loop-i-preserved
-loop-i-preserved c = λ was p all.
+loop-i-preserved c = λ all.
     let lt : c.loop-i.i < length c.args.edges.now = omega arith in
-    red_more (key_at was.records) (key_at c.args.session.now.records) c.args.old.now c.args.edges.now (entry_at was) (entry_at c.args.session.now)
-    all c.loop-i.i lt c.print.result.0 c.print_of.result.0 (c.print.ensures was p) c.print_of.ensures (c.loop-i.invariant was p all) c.if-not-same_print.ensures
+    red_more (key_at c.args.past.now.records) (key_at c.args.session.now.records) c.args.old.now c.args.edges.now (entry_at c.args.past.now) (entry_at c.args.session.now)
+    all c.loop-i.i lt c.print.result.0 c.print_of.result.0 c.print.ensures c.print_of.ensures (c.loop-i.invariant all) c.if-not-same_print.ensures

@@ -13,7 +13,7 @@ pub loop-preserved : goal.loop-preserved
 loop-preserved g c = rw c.in_ok-push.ensures.items (goes_on g.F.Ordered.item_reading (is_after g.F.Ordered.precedes) c.loop.items.items c.args.count c.loop.counter c.loop.rest.now c.in_ok-item.item c.in_ok-item.after.now _ c.loop-test.true (g.met.F.Ordered.tells.reads _ _ _ c.in_ok-item.ensures) (sym (rw c.deref.ensures.value at c.is_after-admitted.ensures) ∙ c.if-not-admitted.false) c.loop.invariant)
 
 pub returns : goal.returns
-returns g c = is_done g.F.Ordered.item_reading (is_after g.F.Ordered.precedes) c.loop.items.items c.args.count c.loop.counter c.loop.rest.now _ c.loop-test.false c.loop.invariant
+returns g c = rw c.shrink_to_fit.ensures.items (is_done g.F.Ordered.item_reading (is_after g.F.Ordered.precedes) c.loop.items.items c.args.count c.loop.counter c.loop.rest.now _ c.loop-test.false c.loop.invariant)
 
 pub returns-then-not-admitted : goal.returns-then-not-admitted
 returns-then-not-admitted g c = rw c.not_canonical.ensures (is_refused g.F.Ordered.item_reading (is_after g.F.Ordered.precedes) c.loop.items.items c.args.count c.loop.counter c.loop.rest.now c.in_ok-item.item c.in_ok-item.after.now _ c.loop-test.true (g.met.F.Ordered.tells.reads _ _ _ c.in_ok-item.ensures) (sym (rw c.deref.ensures.value at c.is_after-admitted.ensures) ∙ c.if-not-admitted.true) c.loop.invariant)

@@ -16,5 +16,5 @@ loop-preserved g c =
 
 pub returns : goal.returns
 returns g c =
-    rw (g.F.Format.view.all_is c.loop.items.items)
+    rw (c.shrink_to_fit.ensures.items, g.F.Format.view.all_is c.loop.items.items)
     (is_done g.F.Format.reading any (map g.F.Format.view.one c.loop.items.items) c.args.count c.loop.counter c.loop.rest.now _ c.loop-test.false c.loop.invariant)

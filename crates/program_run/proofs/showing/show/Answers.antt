@@ -1,4 +1,4 @@
-use Rattle.std.proofs.Common.{◌≡◌, ◌<◌, ◌∙◌, length, map, string_bytes, vec_len, sym, ap, subst}
+use Rattle.std.proofs.Common.{◌≡◌, ◌<◌, ◌∙◌, length, string_bytes, vec_len, sym, ap, subst}
 use Rattle.program_run.specs.Audits.{IsLastOf}
 use Rattle.program_run.proofs.Shown.{is_none}
 use Rattle.program_run.proofs.Taking.{many_map}

@@ -31,4 +31,4 @@ loop-preserved g c =
     }
 
 pub returns-clause-value : goal.returns-clause-value
-returns-clause-value g c = leads_done c.loop.edges.items c.loop.invariant.lead (λ rest. edges_done c.args.front.now c.args.key.now c.loop.edges.items c.args.count c.loop.counter rest c.loop-test.false)
+returns-clause-value g c = rw c.shrink_to_fit.ensures.items (leads_done c.loop.edges.items c.loop.invariant.lead (λ rest. edges_done c.args.front.now c.args.key.now c.loop.edges.items c.args.count c.loop.counter rest c.loop-test.false))

@@ -10,4 +10,4 @@ returns-in_err-piece-clause-value g c =
 pub returns-clause-value : goal.returns-clause-value
 returns-clause-value g c =
     let len : length c.loop-left.text.items ≡ c.args.count = omega arith in
-    bytes_took c.args.count c.loop-left.invariant.moved len
+    rw c.shrink_to_fit.ensures.items (bytes_took c.args.count c.loop-left.invariant.moved len)
