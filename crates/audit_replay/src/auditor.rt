@@ -1,9 +1,10 @@
 //! The audit of one session after the other.
-ghost use Rattle.std.specs.Prelude.{◌≡◌, ◌≢◌, ◌↔◌, ℕ, List, [], Ok, Err, IfOk, IfErr, IsTrue, OnOk};
+ghost use Rattle.std.specs.Prelude.{◌≡◌, ◌≢◌, ◌↔◌, ℕ, List, [], None, Ok, Err, IfOk, IfErr, IsTrue, OnOk};
+ghost use Rattle.std.specs.Option.{option_copied};
 ghost use Rattle.sessions.specs.Sessions.{SessionValue};
 ghost use Rattle.graph_rules.specs.Next.{AreSources};
 ghost use Rattle.audit_graph.specs.declared.fault.AuditFault.{AuditFault as Fault};
-ghost use Rattle.audit_replay.specs.Audits.{last_entry};
+ghost use Rattle.audit_replay.specs.Audits.{last_entry, last_of};
 ghost use Rattle.audit_replay.specs.Logs.{RunsPart};
 ghost use Rattle.audit_replay.specs.Sums.{CountsTake, EndGives, EndGivesAgainst, IsSumOf, Sums, TakeRefuses, Takes};
 
@@ -15,6 +16,7 @@ use audit_graph::AuditFault;
 use devices::Feed;
 use mj_project::Project;
 use recorder::Runner;
+use sessions::Session;
 use std::alloc::Global;
 use std::marker::PhantomData;
 
@@ -80,6 +82,17 @@ impl<R: Runner> Auditor<R> {
                 self.state = Err(fault);
                 Err(fault)
             }
+        }
+    }
+
+    /// The session that was taken last, if there is one.
+    pub fn session(&self) -> Option<&Session>
+        ensures { (ss : List SessionValue) → Sums self.now.state ss
+            → option_copied result ≡ last_of None ss }
+    {
+        match &self.state {
+            Ok(kept) => kept.session(),
+            Err(_) => None,
         }
     }
 

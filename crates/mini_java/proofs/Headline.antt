@@ -23,7 +23,7 @@ use Rattle.audit_graph.specs.declared.fault.AuditFault.{AuditFault}
 use Rattle.audit_replay.specs.Audits.{IsAccepted, AreApart, AuditRefuses, HaveFiles, last_of, last_entry, HasValue}
 use Rattle.audit_replay.proofs.ChainRules.{all_right}
 use Rattle.audit_replay.proofs.AcceptedRules.{means_accepted, meant_by_last}
-use Rattle.mini_java.specs.Headline.{ChainRefuses, IsAcceptedChain, IsOfTheRules}
+use Rattle.mini_java.specs.Headline.{ChainRefuses, IsAcceptedAgainst, IsAcceptedChain, IsOfTheRules}
 
 means_the_rules : (profile : Profile) (p : Project) → mean profile p Answer ≡ values.Answer (rules_of profile p)
 unfolding mean
@@ -69,6 +69,11 @@ module _ (files : List (List ℕ)) (log : List Key) (profile : Profile) (p : Pro
     value = answer_value answer (held_kind (last_of None accepted.sessions)
         (last_is None accepted.sessions accepted.passed.each (λ s same. absurd (none-some s same))) answer accepted.held);
   }
+
+  -- over this very project
+  pub accepted_against : IsAccepted queries files [] log profile p answer count runs → IsAcceptedAgainst p files profile answer count runs
+  unfolding from_nothing
+  accepted_against accepted = record { accepted = from_nothing accepted; same = refl }
 
   pub accepted_chain : (old : List Key) → IsAccepted queries files old log profile p answer count runs → old ≡ [] → IsAcceptedChain files profile answer count runs
   accepted_chain old accepted none = from_nothing (subst (λ (before : List Key). IsAccepted queries files before log profile p answer count runs) none accepted)

@@ -14,14 +14,15 @@ use Rattle.graph_rules.specs.Next.{AreSources}
 use Rattle.audit_graph.specs.declared.fault.AuditFault.{AuditFault}
 use Rattle.audit_replay.specs.Passes.{FileRefuses}
 use Rattle.audit_replay.specs.Audits.{AreApart, AreRight, HaveFiles, IsLastProfile, last_of, last_entry}
-use Rattle.audit_replay.specs.Sums.{AreSummed, EndGives, IsDeviceFault, Sums, TakeRefuses, Takes}
+use Rattle.audit_replay.specs.Sums.{AreSummed, EndGives, EndGivesAgainst, IsDeviceFault, Sums, TakeRefuses, Takes}
 use Rattle.audit_replay.specs.declared.chain.Audited.{Audited}
 use Rattle.audit_replay.specs.declared.sum.Sum.{Sum}
-use Rattle.audit_replay.proofs.SumEnds.{audit_accepts, audit_last, audit_right, audit_means, audit_refuses, behind, summed_more, summed_none}
-use Rattle.mini_java.specs.Headline.{ChainRefuses, IsAcceptedChain, IsOfTheRules}
+use Rattle.audit_replay.proofs.FileRules.{file_passed}
+use Rattle.audit_replay.proofs.SumEnds.{against_accepts, against_means, against_refuses, audit_accepts, audit_last, audit_right, audit_means, audit_refuses, behind, summed_none}
+use Rattle.mini_java.specs.Headline.{ChainRefuses, ChainRefusesAgainst, IsAcceptedAgainst, IsAcceptedChain, IsOfTheRules}
 use Rattle.mini_java.specs.Taken.{RefusesBehind, TakesFile}
 use Rattle.mini_java.specs.declared.auditor.ChainAuditor.{ChainAuditor}
-use Rattle.mini_java.proofs.Headline.{accepted_chain, is_of_the_rules}
+use Rattle.mini_java.proofs.Headline.{accepted_against, accepted_chain, is_of_the_rules}
 
 pub none_taken : (log : List Key) → log ≡ [] → (state : Result Sum AuditFault) → Sums state [] → AreSummed queries [] [] log state
 none_taken log none state sums = subst (λ (before : List Key). AreSummed queries [] before log state) none (summed_none queries log state sums)
@@ -34,7 +35,14 @@ pub takes_file : (old new : ChainAuditor) (held left : List ℕ → Type 0) {A :
 takes_file old new held left (Ok a) t = (
   file_of t.0,
   record {
-    taken = λ files h. summed_more queries files (file_of t.0) [] old.runner.log.items new.runner.log.items old.auditor.state new.auditor.state held left t.0 h refl t.1;
+    session = t.0;
+    taken = λ files was. record {
+      sessions = was.sessions ++ t.0 ∷ [];
+      passed = file_passed queries files (file_of t.0) [] old.runner.log.items new.runner.log.items was.sessions was.passed t.0 t.1.session refl
+          (t.1.passes was.sessions was.sums) t.1.log;
+      sums = t.1.sums was.sessions was.sums;
+    };
+    behind = λ files was. refl;
     whole = t.1.whole;
     given = t.1.given;
   },
@@ -95,3 +103,29 @@ module _ (log : List Key) (state : Result Sum AuditFault) where
     log = log;
     refused = audit_refuses queries mini_java_laws files [] log state t (Err fault) (gives t.sessions t.sums);
   }
+
+  -- ---- against a project
+
+  module _ (p : Project) where
+    pub against_accepted : (r : Result Audited AuditFault) → ((ss : List SessionValue) → Sums state ss → EndGivesAgainst queries ss p r)
+        → IfOk r (λ a. (files : List (List ℕ)) → AreSummed queries files [] log state → IsAcceptedAgainst p files a.profile (arc_value a.answer) a.sessions a.runs)
+    against_accepted (Ok a) gives = λ files t.
+        accepted_against files log a.profile p (arc_value a.answer) a.sessions a.runs
+        (against_accepts queries mini_java_laws files [] log state t p (Ok a) (gives t.sessions t.sums))
+    against_accepted (Err fault) gives = tt
+
+    pub against_headline : AnswerLaw → (r : Result Audited AuditFault) → ((ss : List SessionValue) → Sums state ss → EndGivesAgainst queries ss p r)
+        → IfOk r (λ a. (files : List (List ℕ)) (ss : List SessionValue) → AreSummed queries files [] log state → HaveFiles ss files → AreApart ss
+        → IsOfTheRules a.profile p (arc_value a.answer))
+    against_headline law (Ok a) gives = λ files ss t f apart.
+        is_of_the_rules law a.profile p (arc_value a.answer)
+        (against_means queries mini_java_laws files [] log state t p (Ok a) (gives t.sessions t.sums) ss f apart)
+    against_headline law (Err fault) gives = tt
+
+    pub against_refused : (r : Result Audited AuditFault) → ((ss : List SessionValue) → Sums state ss → EndGivesAgainst queries ss p r)
+        → IfErr r (λ fault. (files : List (List ℕ)) → AreSummed queries files [] log state → ChainRefusesAgainst p files fault)
+    against_refused (Ok a) gives = tt
+    against_refused (Err fault) gives = λ files t. record {
+      log = log;
+      refused = against_refuses queries mini_java_laws files [] log state t p (Err fault) (gives t.sessions t.sums);
+    }

@@ -14,7 +14,7 @@ use Rattle.sessions.specs.Sessions.{SessionValue}
 use Rattle.graph_rules.specs.Next.{AreSources}
 use Rattle.audit_graph.specs.Chains.{IsChain}
 use Rattle.audit_graph.specs.declared.fault.AuditFault.{AuditFault}
-use Rattle.audit_replay.specs.Audits.{ArePassedFiles, AuditRefuses, HasValue, IsLastProfile, last_entry}
+use Rattle.audit_replay.specs.Audits.{ArePassedFiles, AuditRefuses, AuditRefusesAgainst, HasValue, IsLastProfile, last_entry}
 
 -- it is the answer that the static rules of the profile give the files
 pub record IsOfTheRules (profile : Profile) (files : Project) (v : Value) : Type 0 where
@@ -43,3 +43,16 @@ pub record IsAcceptedChain (files : List (List ℕ)) (profile : Profile) (answer
 pub record ChainRefuses (files : List (List ℕ)) (fault : AuditFault) : Type 0 where
   pub log : List Key
   pub refused : AuditRefuses queries files [] log fault
+
+-- The audit accepts the files so, and the last session's files are those of this very project.
+pub record IsAcceptedAgainst (project : Project) (files : List (List ℕ)) (profile : Profile)
+    (answer : Value) (count runs : ℕ) : Type 0 where
+  pub accepted : IsAcceptedChain files profile answer count runs
+  pub same : accepted.project ≡ project
+
+-- the same audit refuses the files, or accepts them and the last session's files aren't those of the
+-- project
+pub record ChainRefusesAgainst (project : Project) (files : List (List ℕ))
+    (fault : AuditFault) : Type 0 where
+  pub log : List Key
+  pub refused : AuditRefusesAgainst queries files [] log project fault

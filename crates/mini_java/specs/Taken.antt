@@ -1,6 +1,7 @@
 -- What an auditor of MiniJava sessions has taken, and what one more call says about it.
 use Rattle.std.specs.Prelude.{◌≡◌, ◌⊎◌, ℕ, List, [], ◌∷◌, ◌++◌, length, Err}
 use Rattle.query_rules.specs.Queries.{queries}
+use Rattle.sessions.specs.Sessions.{SessionValue}
 use Rattle.session_file.specs.Feeding.{Given}
 use Rattle.audit_graph.specs.declared.fault.AuditFault.{AuditFault}
 use Rattle.audit_replay.specs.Sums.{AreSummed, IsDeviceFault}
@@ -16,10 +17,14 @@ HasTaken files a = AreSummed queries files [] a.runner.log.items a.auditor.state
 abbrev pub HasRefused : AuditFault → ChainAuditor → Type 0
 HasRefused fault a = a.auditor.state ≡ Err fault
 
--- The file was taken behind those taken before. It is all that the feed held, where that is told.
+-- The file was taken behind those taken before, and its session stands behind theirs. It is all that
+-- the feed held, where that is told.
 pub record TakesFile (old new : ChainAuditor) (held left : List ℕ → Type 0) (file : List ℕ)
     : Type 0 where
+  pub session : SessionValue
   pub taken : (files : List (List ℕ)) → HasTaken files old → HasTaken (files ++ file ∷ []) new
+  pub behind : (files : List (List ℕ)) (was : HasTaken files old)
+      → (taken files was).sessions ≡ was.sessions ++ session ∷ []
   pub whole : (bytes : List ℕ) → held bytes → bytes ≡ file
   pub given : Given held left file
 

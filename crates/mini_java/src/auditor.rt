@@ -1,21 +1,24 @@
 //! The audit of one file after the other by MiniJava's queries.
-ghost use Rattle.std.specs.Prelude.{◌≡◌, ℕ, List, [], map, OnOk, IfOk, IfErr};
+ghost use Rattle.std.specs.Prelude.{◌≡◌, ℕ, List, [], None, map, OnOk, IfOk, IfErr};
 ghost use Rattle.std.specs.Arc.{arc_value};
+ghost use Rattle.std.specs.Option.{option_copied};
 ghost use Rattle.recorder.specs.Projects.{Project};
 ghost use Rattle.sessions.specs.Sessions.{SessionValue};
 ghost use Rattle.graph_rules.specs.Next.{AreSources};
 ghost use Rattle.query_rules.specs.Queries.{queries};
 ghost use Rattle.audit_graph.specs.declared.fault.AuditFault.{AuditFault as Fault};
-ghost use Rattle.audit_replay.specs.Audits.{AreApart, AreRight, HaveFiles, IsLastProfile, last_entry};
+ghost use Rattle.audit_replay.specs.Audits.{AreApart, AreRight, HaveFiles, IsLastProfile, last_entry, last_of};
 ghost use Rattle.audit_replay.specs.Sums.{CountsTake};
-ghost use Rattle.mini_java.specs.Headline.{ChainRefuses, IsAcceptedChain, IsOfTheRules};
+ghost use Rattle.mini_java.specs.Headline.{ChainRefuses, ChainRefusesAgainst, IsAcceptedAgainst, IsAcceptedChain, IsOfTheRules};
 ghost use Rattle.mini_java.specs.Taken.{HasRefused, HasTaken, RefusesBehind, TakesFile};
 
 use audit_graph::AuditFault;
 use audit_replay::{Audited, Auditor};
 use devices::Feed;
+use mj_project::Project;
 use mj_rules::answer_laws;
 use providers::MiniJava;
+use sessions::Session;
 use std::alloc::Global;
 
 /// Audits the files of a chain of sessions of MiniJava projects one by one, without holding them. Once it has refused it
@@ -58,6 +61,14 @@ impl ChainAuditor {
         self.auditor.take(alloc, &mut self.runner, feed)
     }
 
+    /// The session of the file that was taken last, if there is one.
+    pub fn session(&self) -> Option<&Session>
+        ensures { (files : List (List ℕ)) (taken : HasTaken files self.now)
+            → option_copied result ≡ last_of None taken.sessions }
+    {
+        self.auditor.session()
+    }
+
     /// The profile and the answer that the chain of the files taken ends with, how many there are, and how many records
     /// were run.
     pub fn end(self) -> Result<Audited, AuditFault>
@@ -85,5 +96,25 @@ impl ChainAuditor {
         answer_laws();
         let ChainAuditor { auditor, .. } = self;
         auditor.end()
+    }
+
+    /// The same, if the last session's files are those of the project, and else `SourcesDiffer`.
+    pub fn end_against(self, project: &Project) -> Result<Audited, AuditFault>
+        // What was checked.
+        ensures accepted { IfOk result (λ a. (files : List (List ℕ)) → HasTaken files self
+            → IsAcceptedAgainst project.now files a.profile (arc_value a.answer) a.sessions a.runs) }
+        // Where no two different results in the files share a fingerprint, the answer is what the static rules of the
+        // profile give the project.
+        ensures headline { IfOk result (λ a. (files : List (List ℕ)) (sessions : List SessionValue)
+            → HasTaken files self → HaveFiles sessions files → AreApart sessions
+            → IsOfTheRules a.profile project.now (arc_value a.answer)) }
+        ensures refused { IfErr result (λ fault. (files : List (List ℕ)) → HasTaken files self
+            → ChainRefusesAgainst project.now files fault) }
+        ensures again { (fault : Fault) → HasRefused fault self → result ≡ Err fault }
+    {
+        // The answer that the queries mean is that of the rules.
+        answer_laws();
+        let ChainAuditor { auditor, .. } = self;
+        auditor.end_against(project)
     }
 }
