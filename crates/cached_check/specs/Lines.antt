@@ -20,9 +20,10 @@ abbrev pub many_of : Mark → List RecordValue → ℕ
 many_of mark records = count_by (has_mark mark) records
 
 -- 3 executed, 7 green
-abbrev pub counts_with : ℕ → ℕ → List ℕ
-counts_with executed green =
-    decimal executed ++ codes " executed, " ++ decimal green ++ codes " green"
+abbrev pub counts_of : SessionValue → List ℕ
+counts_of s =
+    decimal (many_of Executed s.records) ++ codes " executed, "
+    ++ decimal (many_of Green s.records) ++ codes " green"
 
 -- session 1: 3 executed, 7 green
 abbrev pub line_with : ℕ → List ℕ → List ℕ
@@ -30,8 +31,7 @@ line_with number counts = codes "session " ++ decimal number ++ codes ": " ++ co
 
 -- the number of the session, and how many of its records were run and how many taken over
 abbrev pub summary_line : SessionValue → List ℕ
-summary_line s =
-    line_with s.number (counts_with (many_of Executed s.records) (many_of Green s.records))
+summary_line s = line_with s.number (counts_of s)
 
 -- why no session follows a file
 abbrev pub IsWhyText : Why → List ℕ → Type 0

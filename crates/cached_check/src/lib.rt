@@ -14,4 +14,4 @@ pub use beginning::{Beginning, begin, begin_behind, keep};
 pub use fault::CheckFault;
 pub use laws::first_stands_apart;
 pub use next::next_session;
-pub use words::summary_text;
+pub use words::{counts_text, summary_text};

@@ -1,7 +1,7 @@
 //! The lines about a session, and about a file that it doesn't follow.
 ghost use Rattle.std.specs.Prelude.{◌≡◌, IfOk, string_bytes};
 ghost use Rattle.session_cache.specs.Starts.{IsPlace};
-ghost use Rattle.cached_check.specs.Lines.{IsNoteText, IsWhyText, counts_with, has_mark, line_with, many_of, summary_line};
+ghost use Rattle.cached_check.specs.Lines.{IsNoteText, IsWhyText, counts_of, has_mark, line_with, many_of, summary_line};
 
 use session_cache::{Note, Why};
 use session_file::FileFault;
@@ -46,9 +46,7 @@ fn refused_text(alloc: Global, fault: FileFault) -> Result<String, AllocError>
 pub fn summary_text(alloc: Global, session: &Session) -> Result<String, AllocError>
     ensures { IfOk result (λ text. string_bytes text ≡ summary_line session.now) }
 {
-    let executed = count(session, Mark::Executed);
-    let green = count(session, Mark::Green);
-    let counts = counts_text(alloc, executed, green)?;
+    let counts = counts_text(alloc, session)?;
     line(alloc, session.number(), counts.as_str())
 }
 
@@ -61,10 +59,12 @@ fn line(alloc: Global, number: u32, counts: &str) -> Result<String, AllocError>
     Ok(text)
 }
 
-/// How many records were run and how many taken over.
-fn counts_text(alloc: Global, executed: usize, green: usize) -> Result<String, AllocError>
-    ensures { IfOk result (λ text. string_bytes text ≡ counts_with executed green) }
+/// How many of a session's records were executed and how many are green, as `3 executed, 7 green`.
+pub fn counts_text(alloc: Global, session: &Session) -> Result<String, AllocError>
+    ensures { IfOk result (λ text. string_bytes text ≡ counts_of session.now) }
 {
+    let executed = count(session, Mark::Executed);
+    let green = count(session, Mark::Green);
     let mut text = String::new(alloc);
     write!(text, "{executed} executed, {green} green")?;
     Ok(text)

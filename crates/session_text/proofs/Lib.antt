@@ -1,2 +1,3 @@
 pub mod Added
 mod Lines
+mod First

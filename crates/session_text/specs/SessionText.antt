@@ -42,6 +42,15 @@ key_text key =
     kind_word (kind_of key) ++ codes " " ++ name_word (class_of key) ++ codes " "
     ++ name_word (member_of key)
 
+-- a space and the name, where there is one
+abbrev pub and_name : Option (List ℕ) → List ℕ
+and_name None = []
+and_name (Some name) = codes " " ++ name
+
+-- the kind, and then the names that the key has: `CheckBody M main`, `Diags M`, `Answer`
+abbrev pub key_words : Key → List ℕ
+key_words key = kind_word (kind_of key) ++ and_name (class_of key) ++ and_name (member_of key)
+
 -- 4, 8, 9
 abbrev pub edges_text : List ℕ → List ℕ
 edges_text [] = []
