@@ -1,0 +1,3 @@
+pub mod Sentences
+pub mod Words
+pub mod Explained
