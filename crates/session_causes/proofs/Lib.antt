@@ -1,0 +1,7 @@
+mod Added
+mod Found
+mod CauseRules
+mod Merging
+mod KeyRules
+mod Telling
+mod TrailRules

@@ -1,0 +1,86 @@
+-- What the parts of the work promise.
+use Rattle.std.specs.Prelude.{◌≡◌, ℕ, ◌+◌, ◌<◌, ◌≤◌, Bool, true, false, List, [], ◌∷◌, Option, Some, None, Contains, MatchOption, if◌then◌else◌}
+use Rattle.std.specs.List.{AllByRecursion}
+use Rattle.std.specs.declared.cmp.Ordering.{Ordering}
+use Rattle.std.specs.declared.cmp.Ordering.TheVariants.{Less, Equal, Greater}
+use Rattle.item_ids.specs.declared.key.Key.{Key}
+use Rattle.item_ids.specs.declared.kind.Kind.{Kind}
+use Rattle.item_ids.specs.Keys.{key_cmp, kind_of}
+use Rattle.mj_answer.specs.Order.{IsAscendingBy}
+use Rattle.sessions.specs.declared.mark.Mark.{Mark}
+use Rattle.sessions.specs.declared.mark.Mark.TheVariants as marks
+use Rattle.sessions.specs.Marks.{is_input}
+use Rattle.sessions.specs.Sessions.{RecordValue, SessionValue}
+use Rattle.graph_rules.specs.Graphs.{KeyBefore}
+use Rattle.session_causes.specs.declared.cause.Cause.{Cause}
+use Rattle.session_causes.specs.declared.cause.Cause.TheVariants.{New, Changed, Gone, Same, Green, Red, OtherProfile, NothingChanged}
+use Rattle.session_causes.specs.declared.cause.Why.{Why}
+use Rattle.session_causes.specs.declared.keys.Step.{Step}
+use Rattle.session_causes.specs.Causes.{IsOfEither}
+
+-- ---- causes
+
+-- of a key that the session before hasn't
+abbrev pub fresh_cause : Mark → Cause
+fresh_cause marks.Input = New
+fresh_cause marks.Executed = New
+fresh_cause marks.Green = Green
+
+-- of a query that was executed again, by its first red key
+abbrev pub IsRunCause : Option Key → Bool → Cause → Type 0
+IsRunCause red crosses (Red e) = red ≡ Some e.now
+IsRunCause red crosses OtherProfile = (red ≡ None) × (crosses ≡ true)
+IsRunCause red crosses NothingChanged = (red ≡ None) × (crosses ≡ false)
+IsRunCause red crosses _ = ⊥
+
+-- the cause of a key of this kind is told
+abbrev pub is_told : Kind → Cause → Bool
+is_told kind New = true
+is_told kind Changed = true
+is_told kind Gone = is_input kind
+is_told kind Same = false
+is_told kind Green = false
+is_told kind (Red e) = true
+is_told kind OtherProfile = true
+is_told kind NothingChanged = true
+
+-- what is said of a key, where it is told
+abbrev pub told_part : Why → List Why
+told_part why = if is_told (kind_of why.key.now) why.cause then why ∷ [] else []
+
+-- ---- keys
+
+-- the records of the session before, where there is one
+abbrev pub records_in : Option SessionValue → List RecordValue
+records_in None = []
+records_in (Some was) = was.records
+
+-- the keys of which one of the sessions has a record, in their order
+pub record AreKeysOfEither (was : Option SessionValue) (now : SessionValue)
+    (keys : List Key) : Type 0 where
+  pub ascending : IsAscendingBy KeyBefore keys
+  pub each : AllByRecursion (IsOfEither was now) keys
+  pub all : (q : Key) → IsOfEither was now q → Contains keys q
+
+-- The step passes the key, in as many of the records of the session before, and of this one.
+abbrev pub Passes : Key → ℕ → ℕ → Step → Type 0
+Passes key past now step = (step.key.now ≡ key) × (step.past ≡ past) × (step.now ≡ now)
+
+-- the step passes the lesser key
+abbrev pub PassesLesser : Key → Key → Ordering → Step → Type 0
+PassesLesser had key Less step = Passes had 1 0 step
+PassesLesser had key Equal step = Passes key 1 1 step
+PassesLesser had key Greater step = Passes key 0 1 step
+
+-- the next step over the keys that stand in front, and none where none does
+abbrev pub IsStep : Option Key → Option Key → Option Step → Type 0
+IsStep None None step = step ≡ None
+IsStep (Some had) None step = MatchOption step ⊥ (Passes had 1 0)
+IsStep None (Some key) step = MatchOption step ⊥ (Passes key 0 1)
+IsStep (Some had) (Some key) step = MatchOption step ⊥ (PassesLesser had key (key_cmp had key))
+
+-- the step leads on, and not past the ends
+pub record FitsIn (many count i j : ℕ) (step : Step) : Type 0 where
+  pub past : i + step.past ≤ many
+  pub now : j + step.now ≤ count
+  pub on : i + j < i + step.past + (j + step.now)
