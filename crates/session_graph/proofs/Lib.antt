@@ -1,0 +1,3 @@
+mod Escapes
+mod Flags
+mod Walk

@@ -1,0 +1,4 @@
+pub mod Flags
+pub mod Shades
+pub mod Within
+pub mod SessionGraph
