@@ -3,7 +3,6 @@ use Rattle.std.specs.Prelude.{◌≡◌, ◌≢◌, ◌++◌, ℕ, List, map, fl
 use Rattle.std.specs.Str.{bytes_eq}
 use Rattle.mj_lexer.specs.declared.token.Token.{Token}
 use Rattle.mj_lexer.specs.Lexing.{tokens_of}
-use Rattle.mj_lexer.specs.Places.{line_of, column_of}
 use Rattle.mj_tree.specs.Trees.{Name}
 use Rattle.mj_tree.specs.declared.place.Place.{Place}
 use Rattle.mj_tree.specs.declared.place.Place.TheVariants as places
@@ -18,37 +17,38 @@ use Rattle.mj_classes.specs.Declarations.{decl}
 use Rattle.mj_project.specs.Projects.{SourceFile}
 use Rattle.mj_rules.specs.Sentences.{classes_in}
 use Rattle.fault_lines.specs.Pairs.{Pairwise}
+use Rattle.fault_lines.specs.Places.{TextPlace, in_text}
 use Rattle.fault_lines.specs.declared.lines.FaultLine.{FaultLine}
 
--- ---- lines and columns in a text
+-- ---- bytes in a text
 
--- the line and the column of a byte, both counted from 1
-abbrev pub line_column : List ℕ → ℕ → ℕ × ℕ
-line_column text at = (line_of text at, column_of text at)
+-- the first byte of a token
+abbrev pub token_byte : List Token → ℕ → Option ℕ
+token_byte ts number = option_map (λ t. t.start) (slice_get ts number)
 
--- those of a token of the text
-abbrev pub token_spot : List ℕ → List Token → ℕ → Option (ℕ × ℕ)
-token_spot text ts number = option_map (λ t. line_column text t.start) (slice_get ts number)
+abbrev pub byte_among : ℕ → Place → List Token → Option ℕ
+byte_among class place ts = option_and_then (token_byte ts) (token_of ts class place)
 
-abbrev pub spot_among : List ℕ → ℕ → Place → List Token → Option (ℕ × ℕ)
-spot_among text class place ts = option_and_then (token_spot text ts) (token_of ts class place)
+-- that of the token of a place in the class with this number
+unfoldable pub byte_in : List ℕ → ℕ → Place → Option ℕ
+byte_in text class place = option_and_then (byte_among class place) (tokens_of text)
 
--- those of the token of a place in the class with this number
-unfoldable pub spot_in : List ℕ → ℕ → Place → Option (ℕ × ℕ)
-spot_in text class place = option_and_then (spot_among text class place) (tokens_of text)
+-- a place in the class with this number
+abbrev pub place_in : List ℕ → ℕ → Place → Option TextPlace
+place_in text class place = in_text text (byte_in text class place)
 
--- those of the byte of the text's error
-pub record IsStopSpot (text : List ℕ) (at : Option (ℕ × ℕ)) : Type 0 where
+-- the byte of the text's error
+pub record IsStopPlace (text : List ℕ) (at : Option TextPlace) : Type 0 where
   pub stop : Option ℕ
   pub is_stop : IsStop text stop
-  pub at_stop : at ≡ option_map (line_column text) stop
+  pub at_stop : at ≡ in_text text stop
 
 -- ---- files
 
--- a file's name, and a line and a column in it
+-- a file's name, and a place in its text
 pub record Spot : Type 0 where
   pub file : Option (List ℕ)
-  pub at : Option (ℕ × ℕ)
+  pub at : Option TextPlace
 
 abbrev pub nowhere : Spot
 nowhere = record { file = None; at = None }
@@ -57,7 +57,7 @@ nowhere = record { file = None; at = None }
 abbrev pub spot_in_file : Option SourceFile → ℕ → Place → Spot
 spot_in_file None class place = nowhere
 spot_in_file (Some f) class place =
-    record { file = Some f.name; at = spot_in f.bytes class place }
+    record { file = Some f.name; at = place_in f.bytes class place }
 
 -- a place in a class
 abbrev pub spot_in_class : List SourceFile → Option ClassDecl → Place → Spot
@@ -72,8 +72,8 @@ file_named files name = find (λ f. bytes_eq f.name name) files
 -- no sentence where its error is.
 pub record IsFileSpot (f : SourceFile) (code : Code) (spot : Spot) : Type 0 where
   pub file : spot.file ≡ Some f.name
-  pub main : code ≡ E103 → spot.at ≡ spot_in f.bytes 0 places.Class
-  pub stop : code ≢ E103 → IsStopSpot f.bytes spot.at
+  pub main : code ≡ E103 → spot.at ≡ place_in f.bytes 0 places.Class
+  pub stop : code ≢ E103 → IsStopPlace f.bytes spot.at
 
 abbrev pub IsSpotOfFile : Option SourceFile → Code → Spot → Type 0
 IsSpotOfFile None code spot = spot ≡ nowhere

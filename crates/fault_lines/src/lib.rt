@@ -3,8 +3,10 @@
 #![tactic(auto)]
 
 mod lines;
+mod places;
 mod sources;
 mod texts;
 
 pub use lines::{FaultLine, fault_lines};
+pub use places::SourcePlace;
 pub use sources::ReadProject;

@@ -6,6 +6,7 @@ ghost use Rattle.mj_rules.specs.Sentences.{classes_in};
 ghost use Rattle.fault_lines.specs.Pairs.{Pairwise};
 ghost use Rattle.fault_lines.specs.FaultLines.{Finding, of_project, of_class, spot_in_file, spot_in_class, nowhere, IsFileSpot, IsLineOf, AreLinesOf, spot_of_line};
 
+use crate::places::SourcePlace;
 use crate::sources::ReadProject;
 use crate::texts::{IndexedText, Texts};
 use mj_answer::{Answer, ClassAnswer, Code, Diagnostic};
@@ -19,8 +20,8 @@ use std::alloc::{AllocError, Global};
 pub struct FaultLine<'a> {
     /// The name of its file; none for a diagnostic of the project.
     pub file: Option<&'a str>,
-    /// Its line and its column in the file, both counted from 1, if it has a place there.
-    pub at: Option<(usize, usize)>,
+    /// Its place in the file's text, if it has one.
+    pub at: Option<SourcePlace<'a>>,
     pub code: Code,
 }
 
@@ -42,7 +43,7 @@ fn file_line<'a>(text: &IndexedText<'a, '_>, code: Code) -> FaultLine<'a>
     ensures spot { IsFileSpot text.now code (spot_of_line result) }
 {
     let at = if code == Code::E103 {
-        text.spot(0, &Place::Class)
+        text.place(0, &Place::Class)
     } else {
         text.stop()
     };
@@ -65,7 +66,7 @@ fn place_line<'a>(
 {
     FaultLine {
         file: Some(text.name()),
-        at: text.spot(class, place),
+        at: text.place(class, place),
         code,
     }
 }

@@ -5,8 +5,9 @@ ghost use Rattle.std.specs.BTreeMap.{get};
 ghost use Rattle.std.specs.Cmp.Lexicographic.{slice_cmp};
 ghost use Rattle.std.specs.Ordering.{nat_cmp};
 ghost use Rattle.mj_project.specs.Projects.{names_of, IsFileName};
-ghost use Rattle.fault_lines.specs.FaultLines.{spot_in, token_spot, file_named, IsStopSpot};
+ghost use Rattle.fault_lines.specs.FaultLines.{byte_in, place_in, token_byte, file_named, IsStopPlace};
 
+use crate::places::SourcePlace;
 use crate::sources::ReadText;
 use file_index::{LinedText, TokenIndex};
 use mj_lexer::{Name, Token};
@@ -66,29 +67,37 @@ impl<'a, 't> IndexedText<'a, 't> {
         self.name
     }
 
-    /// The line and the column of a place in the class with this number.
-    pub fn spot(&self, class: usize, place: &Place) -> Option<(usize, usize)>
-        ensures { result ≡ spot_in self.now.bytes class place.now }
+    /// The first byte of the token of a place in the class with this number.
+    fn byte_of(&self, class: usize, place: &Place) -> Option<usize>
+        ensures { result ≡ byte_in self.now.bytes class place.now }
     {
         let number = self.tokens.locate(class, place)?;
-        token_spot(&self.lines, self.tokens.tokens(), number)
+        token_byte(self.tokens.tokens(), number)
     }
 
-    /// The line and the column of the file's error.
-    pub fn stop(&self) -> Option<(usize, usize)>
-        ensures { IsStopSpot self.now.bytes result }
+    /// A place in the class with this number.
+    pub fn place(&self, class: usize, place: &Place) -> Option<SourcePlace<'a>>
+        ensures { result ≡ place_in self.now.bytes class place.now }
     {
-        let at = self.stop?;
-        Some(self.lines.line_col(at))
+        let byte = self.byte_of(class, place)?;
+        Some(SourcePlace::new(&self.lines, byte))
+    }
+
+    /// The place of the file's error.
+    pub fn stop(&self) -> Option<SourcePlace<'a>>
+        ensures { IsStopPlace self.now.bytes result }
+    {
+        let byte = self.stop?;
+        Some(SourcePlace::new(&self.lines, byte))
     }
 }
 
-/// The line and the column of the token with this number.
-fn token_spot(lines: &LinedText, tokens: &[Token], number: usize) -> Option<(usize, usize)>
-    ensures { result ≡ token_spot lines.now tokens.now number }
+/// The first byte of the token with this number.
+fn token_byte(tokens: &[Token], number: usize) -> Option<usize>
+    ensures { result ≡ token_byte tokens.now number }
 {
     match tokens.get(number) {
-        Some(token) => Some(lines.line_col(token.start)),
+        Some(token) => Some(token.start),
         None => None,
     }
 }
