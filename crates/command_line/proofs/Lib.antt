@@ -2,6 +2,7 @@ mod ToldRows
 pub mod Faults
 pub mod Options
 pub mod Rules
+mod Uses
 pub mod Walks
 pub mod PlainWords
 pub mod ProgramWords

@@ -1,5 +1,5 @@
 -- Words with no option, and with FILEs that are enough, are taken.
-use Rattle.std.proofs.Common.{◌≡◌, ◌∙◌, ◌≤◌, ◌<◌, ◌&&◌, ◌||◌, ◌==◌, ◌++◌, ℕ, Bool, true, false, List, [], ◌∷◌, Some, None, codes, refl, sym, ap, length, arith, append-nil, append_assoc, map, nat_lt, not, subst, true≢false}
+use Rattle.std.proofs.Common.{◌≡◌, ◌∙◌, ◌≤◌, ◌<◌, ◌&&◌, ◌||◌, ◌==◌, ◌++◌, ℕ, Bool, true, false, List, [], ◌∷◌, Option, Some, None, codes, refl, sym, ap, length, arith, append-nil, append_assoc, map, nat_lt, not, subst, true≢false}
 use Rattle.std.specs.Prelude.{fold, if◌then◌else◌}
 use Rattle.std.specs.List.{list_any}
 use Rattle.std.specs.Option.{option_map_or}
@@ -18,8 +18,9 @@ use Rattle.command_line.specs.Given.{Given, given_by, given_in, values_of}
 use Rattle.command_line.specs.Plain.{dashes, files_of, has_option, is_option}
 use Rattle.command_line.specs.Subcommands.{is_one_or_more}
 use Rattle.command_line.proofs.Options.{help, not_long, plain_fault, plain_met}
-use Rattle.command_line.proofs.Rules.{Opt, file, file_by_id, rule, rules_with, shape_with}
-use Rattle.command_line.proofs.Walks.{Pending, dashes_walked, file_kinds_are, file_taken, held, level, no_command, no_defaults, nothing, pending_of, plain_is, rows_before, some, state, trailing_word, waiting_of, with_file, with_files}
+use Rattle.command_line.proofs.Rules.{Flag, Opt, file, file_by_id, flag_as, rule, rules_with, shape_with}
+use Rattle.command_line.proofs.Uses.{defaults_are, flag_part, with_defaults, with_files}
+use Rattle.command_line.proofs.Walks.{Pending, dashes_walked, file_kinds_are, file_taken, held, level, no_command, nothing, pending_of, plain_is, rows_before, some, state, trailing_word, waiting_of, with_file}
 
 neither : (a b : Bool) → (a || b) ≡ false → (a ≡ false) × (b ≡ false)
 neither false b none = (refl, none)
@@ -68,57 +69,57 @@ plain_options name words none = ap (values_of (Some name)) (plain_given words no
 
 -- ---- the walk over them
 
-module _ (command : Text) (opts : List Opt) where
+module _ (command : Text) (opts : List Opt) (flag : Option Flag) where
   abbrev s : Shape
-  s = shape_with command opts
+  s = shape_with command opts flag
 
   abbrev rules : List Rule
-  rules = rules_with opts
+  rules = rules_with opts flag
 
-  abbrev pending : List Text → Pending opts
+  abbrev pending : List Text → Pending opts flag
   pending [] = nothing
   pending (f ∷ files) = some f files
 
   abbrev held_at : List Text → Held
-  held_at files = held command opts [] (pending files)
+  held_at files = held command opts flag [] (pending files)
 
   -- these FILEs were read
   abbrev at : List Text → Bool → Walk
-  at files t = state command opts [] (pending files) t
+  at files t = state command opts flag [] (pending files) t
 
-  abbrev file_at : List Row → Pending opts → Bool → Walk
-  file_at rows p t = state command opts rows p t
+  abbrev file_at : List Row → Pending opts flag → Bool → Walk
+  file_at rows p t = state command opts flag rows p t
 
-  file_next : (files : List Text) (t : Bool) (word : Text) → file_at (rows_before command opts [] (pending files)) (with_file command opts (pending files) word) t ≡ at (files ++ word ∷ []) t
+  file_next : (files : List Text) (t : Bool) (word : Text) → file_at (rows_before command opts flag [] (pending files)) (with_file command opts flag (pending files) word) t ≡ at (files ++ word ∷ []) t
   file_next [] t word = refl
   file_next (f ∷ files) t word = refl
 
   next_file : (files : List Text) (t : Bool) (word : Text) → after_step rules word (at files t) (held_at files) value ≡ at (files ++ word ∷ []) t
-  next_file files t word = file_taken command opts [] (pending files) t word ∙ file_next files t word
+  next_file files t word = file_taken command opts flag [] (pending files) t word ∙ file_next files t word
 
   file_passes : (files : List Text) → step_fault s 1 (held_at files) value ≡ []
-  file_passes [] = file_kinds_are command opts [] nothing
-  file_passes (f ∷ files) = file_kinds_are command opts [] (some f files)
+  file_passes [] = file_kinds_are command opts flag [] nothing
+  file_passes (f ∷ files) = file_kinds_are command opts flag [] (some f files)
 
   trailing_taken : (files : List Text) (word : Text) → walked rules [] (at files true) word ≡ at (files ++ word ∷ []) true
-  trailing_taken files word = trailing_word command opts [] (pending files) word ∙ file_next files true word
+  trailing_taken files word = trailing_word command opts flag [] (pending files) word ∙ file_next files true word
 
   abbrev met_at : List Text → Text → Held × Step
-  met_at files word = word_met rules [] false (waiting_of command opts (pending files)) 1 word (held_at files)
+  met_at files word = word_met rules [] false (waiting_of command opts flag (pending files)) 1 word (held_at files)
 
   abbrev faults_at : List Text → Text → Kinds
-  faults_at files word = word_fault s [] false (waiting_of command opts (pending files)) word (held_at files)
+  faults_at files word = word_fault s [] false (waiting_of command opts flag (pending files)) word (held_at files)
 
   value_is : (files : List Text) (word : Text) → is_option word ≡ false → bytes_eq word dashes ≡ false → met_at files word ≡ (held_at files, value)
   value_is [] word other no_dashes =
-      plain_met s [] (waiting_of command opts nothing) 1 word [] None (no_command command opts nothing word) no_dashes other ∙ plain_is command opts [] nothing word
+      plain_met s [] (waiting_of command opts flag nothing) 1 word [] None (no_command command opts flag nothing word) no_dashes other ∙ plain_is command opts flag [] nothing word
   value_is (f ∷ files) word other no_dashes =
-      plain_met s [] (waiting_of command opts (some f files)) 1 word [] (pending_of command opts (some f files)) (no_command command opts (some f files) word) no_dashes other
-      ∙ plain_is command opts [] (some f files) word
+      plain_met s [] (waiting_of command opts flag (some f files)) 1 word [] (pending_of command opts flag (some f files)) (no_command command opts flag (some f files) word) no_dashes other
+      ∙ plain_is command opts flag [] (some f files) word
 
   word_passes : (files : List Text) (word : Text) → is_option word ≡ false → bytes_eq word dashes ≡ false → faults_at files word ≡ []
   word_passes files word other no_dashes =
-      plain_fault s [] (waiting_of command opts (pending files)) 1 word [] (pending_of command opts (pending files)) (no_command command opts (pending files) word) no_dashes other
+      plain_fault s [] (waiting_of command opts flag (pending files)) 1 word [] (pending_of command opts flag (pending files)) (no_command command opts flag (pending files) word) no_dashes other
 
   abbrev turn_of : List Text → Kinds → Held × Step → Kinds
   turn_of files kinds met = or_else kinds (step_fault s 1 met.0 met.1)
@@ -136,7 +137,7 @@ module _ (command : Text) (opts : List Opt) where
   -- `--`
   abbrev dashes_if : Bool → List Text → Text → Held × Step
   dashes_if t files word =
-      if t then (held_at files, trailing 1) else long_or_other rules (waiting_of command opts (pending files)) word (long_of word) (held_at files)
+      if t then (held_at files, trailing 1) else long_or_other rules (waiting_of command opts flag (pending files)) word (long_of word) (held_at files)
 
   abbrev fault_if : Bool → List Text → Text → Kinds
   fault_if t files word = if t then [] else flag_word_fault rules false (long_of word) word (held_at files)
@@ -188,7 +189,7 @@ module _ (command : Text) (opts : List Opt) where
       → option_if t word rest ≡ false → Pass (at files false) (word ∷ rest) (files ++ files_if t word rest)
   pass_by files word rest true is later none =
       pass_behind (at files false) (at files true) word rest (files ++ rest) (dashes_pass files word is)
-      (dashes_walked command opts [] (pending files) word rest is) (trailing_pass files rest)
+      (dashes_walked command opts flag [] (pending files) word rest is) (trailing_pass files rest)
   pass_by files word rest false is later none =
       let parts = neither (is_option word) (has_option rest) none in
       pass_behind (at files false) (at (files ++ word ∷ []) false) word rest (files ++ word ∷ files_of rest) (plain_passes files word parts.0 is) (plain_taken files word parts.0 is)
@@ -225,16 +226,31 @@ none_is : (t : Bool) (kinds : Kinds) → none_if t kinds ≡ []
 none_is true kinds = refl
 none_is false kinds = refl
 
-no_default_faults : (opts : List Opt) (rows : List Row) → defaults_fault rows (rules_with opts) ≡ []
+-- the defaults pass
+end_passes_by : (rows : List Row) → defaults_fault rows (rules_with [] None) ≡ []
 unfolding defaults_fault
-no_default_faults [] rows =
+end_passes_by rows =
     let next = with_default rows file in
     ap (λ k. or_else k (or_else (default_fault next help) [])) (none_is (has_row (codes "FILE") rows) (given_default_fault file []))
     ∙ ap (λ k. or_else k []) (none_is (has_row (codes "help") next) (given_default_fault help []))
-no_default_faults (o ∷ rest) rows =
+
+abbrev flag_if : Bool → Kinds
+flag_if t = if t || false then [] else []
+
+flag_is : (t : Bool) → flag_if t ≡ []
+flag_is true = refl
+flag_is false = refl
+
+no_default_faults : (opts : List Opt) (flag : Option Flag) (rows : List Row) → defaults_fault rows (rules_with opts flag) ≡ []
+unfolding defaults_fault
+no_default_faults [] (Some g) rows =
+    ap (λ k. or_else k (defaults_fault (with_default rows (flag_as g)) (rules_with [] None))) (flag_is (has_row g.name rows))
+    ∙ end_passes_by (with_default rows (flag_as g))
+no_default_faults [] None rows = end_passes_by rows
+no_default_faults (o ∷ rest) flag rows =
     let next = with_default rows (rule o) in
-    ap (λ k. or_else k (defaults_fault next (rules_with rest))) (none_is (has_row o.name rows) (given_default_fault (rule o) []))
-    ∙ no_default_faults rest next
+    ap (λ k. or_else k (defaults_fault next (rules_with rest flag))) (none_is (has_row o.name rows) (given_default_fault (rule o) []))
+    ∙ no_default_faults rest flag next
 
 -- no option has to be given
 abbrev pub are_optional : List Opt → Type 0
@@ -243,51 +259,57 @@ are_optional opts = list_any (λ o. o.required) opts ≡ false
 abbrev is_wanted : List Row → Rule → Bool
 is_wanted rows a = a.required && not (is_given a.id rows)
 
-nothing_wanted : (opts : List Opt) (rows : List Row) → are_optional opts → is_given (codes "FILE") rows ≡ true → list_any (is_wanted rows) (rules_with opts) ≡ false
-nothing_wanted [] rows optional given = ap (λ t. not t || (false || false)) given
-nothing_wanted (o ∷ rest) rows optional given =
+nothing_wanted : (opts : List Opt) (flag : Option Flag) (rows : List Row) → are_optional opts → is_given (codes "FILE") rows ≡ true → list_any (is_wanted rows) (rules_with opts flag) ≡ false
+nothing_wanted [] (Some g) rows optional given = ap (λ t. not t || (false || false)) given
+nothing_wanted [] None rows optional given = ap (λ t. not t || (false || false)) given
+nothing_wanted (o ∷ rest) flag rows optional given =
     let parts = neither o.required (list_any (λ x. x.required) rest) optional in
-    ap (λ t. (t && not (is_given o.name rows)) || list_any (is_wanted rows) (rules_with rest)) parts.0
-    ∙ nothing_wanted rest rows parts.1 given
+    ap (λ t. (t && not (is_given o.name rows)) || list_any (is_wanted rows) (rules_with rest flag)) parts.0
+    ∙ nothing_wanted rest flag rows parts.1 given
 
-module _ (command : Text) (opts : List Opt) (optional : are_optional opts) where
+files_are_given : (f : Text) (files : List Text) (flag : Option Flag) → is_given (codes "FILE") (with_defaults flag (with_files f files [])) ≡ true
+files_are_given f files (Some g) = rw (flag_part g) refl
+files_are_given f files None = refl
+
+module _ (command : Text) (opts : List Opt) (flag : Option Flag) (optional : are_optional opts) where
   abbrev end_fault : Held → Kinds
-  end_fault h = or_else (settle_fault (rules_with opts) false h)
-      (or_else (defaults_fault (settled (rules_with opts) h).rows (rules_with opts))
-      (check_fault (shape_with command opts) (finished (rules_with opts) h) false))
+  end_fault h = or_else (settle_fault (rules_with opts flag) false h)
+      (or_else (defaults_fault (settled (rules_with opts flag) h).rows (rules_with opts flag))
+      (check_fault (shape_with command opts flag) (finished (rules_with opts flag) h) false))
 
   abbrev wanted_fault : Bool → Kinds
   wanted_fault t = if t then MissingRequiredArgument ∷ [] else []
 
   module _ (f : Text) (files : List Text) (most : length (f ∷ files) ≤ usize_max) where
     abbrev h : Held
-    h = held command opts [] (some f files)
+    h = held command opts flag [] (some f files)
 
-    settle_is : settle_fault (rules_with opts) false h ≡ []
-    settle_is = ap (λ a. option_map_or (λ r. use_fault false r (f ∷ files) []) a []) (file_by_id opts) ∙ several_pass f files most
+    settle_is : settle_fault (rules_with opts flag) false h ≡ []
+    settle_is = ap (λ a. option_map_or (λ r. use_fault false r (f ∷ files) []) a []) (file_by_id opts flag) ∙ several_pass f files most
 
-    rows_are : finished (rules_with opts) h ≡ with_files f files []
-    rows_are = no_defaults opts (settled (rules_with opts) h).rows ∙ ap (λ a. used_by_id a (f ∷ files) []) (file_by_id opts)
+    rows_are : finished (rules_with opts flag) h ≡ with_defaults flag (with_files f files [])
+    rows_are = defaults_are opts flag (settled (rules_with opts flag) h).rows
+        ∙ ap (λ a. with_defaults flag (used_by_id a (f ∷ files) [])) (file_by_id opts flag)
 
-    check_is : check_fault (shape_with command opts) (finished (rules_with opts) h) false ≡ []
+    check_is : check_fault (shape_with command opts flag) (finished (rules_with opts flag) h) false ≡ []
     check_is =
-        ap (λ rows. check_fault (shape_with command opts) rows false) rows_are
-        ∙ ap wanted_fault (nothing_wanted opts (with_files f files []) optional refl)
+        ap (λ rows. check_fault (shape_with command opts flag) rows false) rows_are
+        ∙ ap wanted_fault (nothing_wanted opts flag (with_defaults flag (with_files f files [])) optional (files_are_given f files flag))
 
     files_pass : end_fault h ≡ []
     files_pass =
-        ap (λ k. or_else k (or_else (defaults_fault (settled (rules_with opts) h).rows (rules_with opts)) (check_fault (shape_with command opts) (finished (rules_with opts) h) false))) settle_is
-        ∙ (ap (λ k. or_else k (check_fault (shape_with command opts) (finished (rules_with opts) h) false)) (no_default_faults opts (settled (rules_with opts) h).rows)
+        ap (λ k. or_else k (or_else (defaults_fault (settled (rules_with opts flag) h).rows (rules_with opts flag)) (check_fault (shape_with command opts flag) (finished (rules_with opts flag) h) false))) settle_is
+        ∙ (ap (λ k. or_else k (check_fault (shape_with command opts flag) (finished (rules_with opts flag) h) false)) (no_default_faults opts flag (settled (rules_with opts flag) h).rows)
         ∙ check_is)
 
-  end_passes : (files : List Text) → is_one_or_more files ≡ true → length files ≤ usize_max → end_fault (held_at command opts files) ≡ []
+  end_passes : (files : List Text) → is_one_or_more files ≡ true → length files ≤ usize_max → end_fault (held_at command opts flag files) ≡ []
   end_passes [] least most = absurd (true≢false (sym least))
   end_passes (f ∷ files) least most = files_pass f files most
 
-  pub level_taken : (words : List Text) → has_option words ≡ false → is_one_or_more (files_of words) ≡ true → length (files_of words) ≤ usize_max → level command opts words ≡ []
+  pub level_taken : (words : List Text) → has_option words ≡ false → is_one_or_more (files_of words) ≡ true → length (files_of words) ≤ usize_max → level command opts flag words ≡ []
   level_taken words none least most =
-      let pass = walk_pass command opts [] words none in
-      ap (λ k. or_else k (end_fault (walk (rules_with opts) [] nothing_held words).held)) pass.passes
+      let pass = walk_pass command opts flag [] words none in
+      ap (λ k. or_else k (end_fault (walk (rules_with opts flag) [] nothing_held words).held)) pass.passes
       ∙ (ap end_fault pass.ends ∙ end_passes (files_of words) least most)
 
 pub files_within : (words : List Text) → length (files_of words) ≤ length words

@@ -2,7 +2,8 @@
 use Rattle.std.proofs.Common.{◌≡◌, ◌∙◌, ◌≤◌, ◌<◌, ◌&&◌, ◌||◌, ◌==◌, ◌++◌, inl, inr, ℕ, Bool, true, false, List, [], ◌∷◌, Option, Some, None, cond, codes, refl, sym, ap, ap₂, length, arith, append-nil, append_assoc, not, option_map, is_some, string_bytes, subst, true≢false}
 use Rattle.std.proofs.lemmas.Bool.{not-true}
 use Rattle.std.proofs.lemmas.Option.{none-some, same_Some}
-use Rattle.std.specs.Prelude.{drop, find, fold, if◌then◌else◌, option_and_then, slice_get}
+use Rattle.std.specs.Prelude.{drop, fold, if◌then◌else◌, option_and_then, slice_get}
+use Rattle.std.specs.List.{list_any}
 use Rattle.std.specs.Option.{option_map_or}
 use Rattle.std.specs.Str.{bytes_eq}
 use Rattle.std.proofs.lemmas.Slice.Eq.{bytes_eq-Decides}
@@ -18,24 +19,25 @@ use Rattle.clap.specs.declared.ArgMatches.{ArgMatches}
 use Rattle.clap.specs.declared.parser.matches.ArgMatches.TheViews.{out-ArgMatches, out-SubCommand}
 use Rattle.clap.specs.declared.parser.matches.SubCommand.{SubCommand}
 use Rattle.std.specs.Box.{box_value}
-use Rattle.std.specs.Prelude.{Box}
+use Rattle.std.specs.Prelude.{Box, String}
 use Rattle.command_line.specs.CommandLine.{Asks, AsksFor}
-use Rattle.command_line.specs.Given.{AreOptionsOf, IsNumberOf, are_of, decimal, given_in, values_of}
-use Rattle.command_line.specs.Matches.{AreEnough, AreMet, AreOptionsIn, number_in, rows_in}
+use Rattle.command_line.specs.Given.{AreOptionsOf, IsFlagOf, IsNumberOf, IsTextOf, are_of, decimal, given_in, values_of}
+use Rattle.command_line.specs.Matches.{AreEnough, AreMet, AreOptionsIn, has_flag, number_in, rows_in}
 use Rattle.command_line.specs.Plain.{HasDefaults, IsPlain, are_plain, asks_plainly, dashes, files_for, files_of, has_option, taken_by}
 use Rattle.command_line.specs.Program.{program_app}
 use Rattle.command_line.specs.Runnable.{subcommand_of as asked_of}
-use Rattle.command_line.specs.Subcommands.{is_one_or_more, name_of, options_of, wants_files_alone}
+use Rattle.command_line.specs.Subcommands.{is_flag, is_one_or_more, is_repeatable, name_of, options_of, wants_files_alone}
 use Rattle.command_line.specs.declared.asked.Subcommand.{Subcommand}
-use Rattle.command_line.specs.declared.asked.Subcommand.TheVariants.{Scratch, Check, Audit, Show}
+use Rattle.command_line.specs.declared.asked.Subcommand.TheVariants.{Scratch, Check, Audit, Show, Why, Explain}
 use Rattle.command_line.specs.declared.asked.Words.{Words}
 use Rattle.command_line.specs.declared.asked.Words.TheVariants as asked_words
 use Rattle.command_line.proofs.Faults.{IsFault, first_fault, is_fault, next_fault}
 use Rattle.command_line.proofs.Options.{HasFlagsAlone, read_plain}
 use Rattle.command_line.proofs.PlainWords.{are_optional, files_within, level_taken, plain_files, plain_options}
-use Rattle.command_line.proofs.Rules.{Opt, names, options, rules_with}
-use Rattle.command_line.proofs.ToldRows.{told, values_in}
-use Rattle.command_line.proofs.Walks.{IsRead, is_few, level, read}
+use Rattle.command_line.proofs.Rules.{Flag, dot_flag, flag_of, messages_flag, names, options, progress_flag, rules_with}
+use Rattle.command_line.proofs.ToldRows.{first_told, told}
+use Rattle.command_line.proofs.Uses.{is_few}
+use Rattle.command_line.proofs.Walks.{IsRead, level, read}
 
 -- ---- the program
 
@@ -81,15 +83,6 @@ walk_is_fault name words fault = first_fault (kinds_of words) (end_fault (walk_o
 abbrev found_if : Bool → Text → Option (Text × List Text) → Option (Text × List Text)
 found_if t name other = cond (t || false) (Some (name, [])) other
 
-abbrev met_if : Bool → Bool → Bool → Bool → Bool → Option Text
-met_if is_scratch is_check is_audit is_show is_help = option_map (λ (s : Text × List Text). s.0)
-    (found_if is_scratch (codes "scratch") (found_if is_check (codes "check") (found_if is_audit (codes "audit")
-    (found_if is_show (codes "show") (found_if is_help (codes "help") None)))))
-
-command_met : (word : Text) → subcommand_met commands idle word
-    ≡ met_if (bytes_eq (codes "scratch") word) (bytes_eq (codes "check") word) (bytes_eq (codes "audit") word) (bytes_eq (codes "show") word) (bytes_eq (codes "help") word)
-command_met word = refl
-
 -- the subcommand was met, with the words after it
 abbrev stopped_at : Text → List Text → Walk
 stopped_at command words = record start { stopped = Some (command, words) }
@@ -113,11 +106,11 @@ turn_of m word = or_else (other_fault top m word nothing_held) (step_fault top 1
 
 -- the faults of a subcommand on the words after it
 abbrev level_of : Subcommand → List Text → Kinds
-level_of c rest = level (name_of c) (options c) rest
+level_of c rest = level (name_of c) (options c) (flag_of c) rest
 
 -- its rows
 unfoldable rows_of : Subcommand → List Text → List Row
-rows_of c rest = rows_after (rules_with (options c)) [] rest
+rows_of c rest = rows_after (rules_with (options c) (flag_of c)) [] rest
 
 name_walked : (c : Subcommand) → walked top.rules commands start (name_of c) ≡ stopped_at (name_of c) []
 unfolding walked
@@ -125,12 +118,16 @@ name_walked Scratch = refl
 name_walked Check = refl
 name_walked Audit = refl
 name_walked Show = refl
+name_walked Why = refl
+name_walked Explain = refl
 
 name_turn : (c : Subcommand) → turn_fault top commands start (name_of c) ≡ []
 name_turn Scratch = refl
 name_turn Check = refl
 name_turn Audit = refl
 name_turn Show = refl
+name_turn Why = refl
+name_turn Explain = refl
 
 level_is : (c : Subcommand) (rest : List Text) → end_fault (stopped_at (name_of c) rest) [] ≡ or_else (level_of c rest) []
 unfolding defaults_fault
@@ -138,6 +135,8 @@ level_is Scratch rest = refl
 level_is Check rest = refl
 level_is Audit rest = refl
 level_is Show rest = refl
+level_is Why rest = refl
+level_is Explain rest = refl
 
 rows_are : (c : Subcommand) (rest : List Text) → entered program (Some (name_of c, rest)) ≡ Some (name_of c, rows_of c rest)
 unfolding rows_of
@@ -145,6 +144,8 @@ rows_are Scratch rest = refl
 rows_are Check rest = refl
 rows_are Audit rest = refl
 rows_are Show rest = refl
+rows_are Why rest = refl
+rows_are Explain rest = refl
 
 module _ (c : Subcommand) (rest : List Text) where
   walk_is : walk_of (name_of c ∷ rest) ≡ stopped_at (name_of c) rest
@@ -173,13 +174,26 @@ or_none (kind ∷ rest) = refl
 stray : (h : Held) → IsFault (step_fault top 1 h value)
 stray h = is_fault _ _
 
-module _ (name command : Text) (no_scratch : bytes_eq (codes "scratch") command ≡ false) (no_check : bytes_eq (codes "check") command ≡ false)
-    (no_audit : bytes_eq (codes "audit") command ≡ false) (no_show : bytes_eq (codes "show") command ≡ false) where
-  met_help : (t : Bool) → bytes_eq (codes "help") command ≡ t → subcommand_met commands idle command ≡ met_if false false false false t
-  met_help t is =
-      ap₂ (λ x y. met_if x y (bytes_eq (codes "audit") command) (bytes_eq (codes "show") command) (bytes_eq (codes "help") command)) no_scratch no_check
-      ∙ (ap (λ x. met_if false false x (bytes_eq (codes "show") command) (bytes_eq (codes "help") command)) no_audit
-      ∙ ap₂ (met_if false false false) no_show is)
+module _ (name command : Text) (no_name : (c : Subcommand) → bytes_eq (name_of c) command ≡ false) where
+  passed : (c : Subcommand) (other : Option (Text × List Text)) → found_if (bytes_eq (name_of c) command) (name_of c) other ≡ other
+  passed c other = ap (λ t. found_if t (name_of c) other) (no_name c)
+
+  abbrev from : Subcommand → Option (Text × List Text) → Option (Text × List Text)
+  from c other = found_if (bytes_eq (name_of c) command) (name_of c) other
+
+  abbrev help_if : Bool → Option (Text × List Text)
+  help_if t = found_if t (codes "help") None
+
+  none_found : (t : Bool) → from Scratch (from Check (from Audit (from Show (from Why (from Explain (help_if t)))))) ≡ help_if t
+  none_found t =
+      passed Scratch (from Check (from Audit (from Show (from Why (from Explain (help_if t))))))
+      ∙ (passed Check (from Audit (from Show (from Why (from Explain (help_if t)))))
+      ∙ (passed Audit (from Show (from Why (from Explain (help_if t))))
+      ∙ (passed Show (from Why (from Explain (help_if t)))
+      ∙ (passed Why (from Explain (help_if t)) ∙ passed Explain (help_if t)))))
+
+  met_help : (t : Bool) → bytes_eq (codes "help") command ≡ t → subcommand_met commands idle command ≡ option_map (λ (s : Text × List Text). s.0) (help_if t)
+  met_help t is = ap (option_map (λ (s : Text × List Text). s.0)) (none_found (bytes_eq (codes "help") command) ∙ ap help_if is)
 
   turn_is_fault : (rest : List Text) → IsFault (turn_fault top commands start command) → IsFault (fault_of program_app (name ∷ command ∷ rest))
   unfolding walk_fault
@@ -265,22 +279,33 @@ found_at c name command rest is none =
       entered_is = ap (λ w. subcommand_of program_app (name ∷ w ∷ rest)) (sym same) ∙ entered_is_of c rest name;
     }
 
-found_by : (name command : Text) (rest : List Text) (s k a w : Bool)
-    → bytes_eq (codes "scratch") command ≡ s → bytes_eq (codes "check") command ≡ k → bytes_eq (codes "audit") command ≡ a → bytes_eq (codes "show") command ≡ w
+found_by : (name command : Text) (rest : List Text) (s k a w y e : Bool)
+    → bytes_eq (codes "scratch") command ≡ s → bytes_eq (codes "check") command ≡ k → bytes_eq (codes "audit") command ≡ a
+    → bytes_eq (codes "show") command ≡ w → bytes_eq (codes "why") command ≡ y → bytes_eq (codes "explain") command ≡ e
     → fault_of program_app (name ∷ command ∷ rest) ≡ [] → IsFoundIn (name ∷ command ∷ rest)
-found_by name command rest true k a w is_scratch is_check is_audit is_show none = found_at Scratch name command rest is_scratch none
-found_by name command rest false true a w is_scratch is_check is_audit is_show none = found_at Check name command rest is_check none
-found_by name command rest false false true w is_scratch is_check is_audit is_show none = found_at Audit name command rest is_audit none
-found_by name command rest false false false true is_scratch is_check is_audit is_show none = found_at Show name command rest is_show none
-found_by name command rest false false false false is_scratch is_check is_audit is_show none =
-    absurd (other_refused name command is_scratch is_check is_audit is_show (bytes_eq (codes "help") command) refl rest none)
+found_by name command rest true k a w y e is_s is_k is_a is_w is_y is_e none = found_at Scratch name command rest is_s none
+found_by name command rest false true a w y e is_s is_k is_a is_w is_y is_e none = found_at Check name command rest is_k none
+found_by name command rest false false true w y e is_s is_k is_a is_w is_y is_e none = found_at Audit name command rest is_a none
+found_by name command rest false false false true y e is_s is_k is_a is_w is_y is_e none = found_at Show name command rest is_w none
+found_by name command rest false false false false true e is_s is_k is_a is_w is_y is_e none = found_at Why name command rest is_y none
+found_by name command rest false false false false false true is_s is_k is_a is_w is_y is_e none = found_at Explain name command rest is_e none
+found_by name command rest false false false false false false is_s is_k is_a is_w is_y is_e none =
+    absurd (other_refused name command no_name (bytes_eq (codes "help") command) refl rest none)
+  where
+    no_name : (c : Subcommand) → bytes_eq (name_of c) command ≡ false
+    no_name Scratch = is_s
+    no_name Check = is_k
+    no_name Audit = is_a
+    no_name Show = is_w
+    no_name Why = is_y
+    no_name Explain = is_e
 
 found : (words : List Text) → fault_of program_app words ≡ [] → IsFoundIn words
 found [] none = absurd (no_word [] (omega arith) none)
 found (name ∷ []) none = absurd (no_word (name ∷ []) (omega arith) none)
 found (name ∷ command ∷ rest) none =
     found_by name command rest (bytes_eq (codes "scratch") command) (bytes_eq (codes "check") command) (bytes_eq (codes "audit") command)
-    (bytes_eq (codes "show") command) refl refl refl refl none
+    (bytes_eq (codes "show") command) (bytes_eq (codes "why") command) (bytes_eq (codes "explain") command) refl refl refl refl refl refl none
 
 -- ---- the matches
 
@@ -294,7 +319,7 @@ pub record HasRead (words : List Text) (m : ArgMatches) : Type 0 where
   pub subcommand : Subcommand
   pub asked : AsksFor words subcommand
   pub name : subcommand_name_of m ≡ Some (name_of subcommand)
-  pub read : IsRead (options subcommand) (drop 2 words) (rows_in m)
+  pub read : IsRead (options subcommand) (flag_of subcommand) (drop 2 words) (rows_in m)
 
 found_read : (words : List Text) (m : ArgMatches) → subcommand_rows_of m ≡ subcommand_of program_app words → IsFoundIn words → HasRead words m
 unfolding rows_of
@@ -305,7 +330,7 @@ found_read words m matches is =
       subcommand = is.subcommand;
       asked = is.asked;
       name = name-subcommand_rows (out-ArgMatches m).subcommand ∙ ap (option_map (λ (p : Text × List Row). p.0)) met;
-      read = subst (IsRead (options is.subcommand) (drop 2 words)) (sym rows) (read (name_of is.subcommand) (options is.subcommand) (drop 2 words) is.passes);
+      read = subst (IsRead (options is.subcommand) (flag_of is.subcommand) (drop 2 words)) (sym rows) (read (name_of is.subcommand) (options is.subcommand) (flag_of is.subcommand) (drop 2 words) is.passes);
     }
 
 -- a parse that succeeds
@@ -318,13 +343,16 @@ has_read app words m program_is kinds matches =
 -- the subcommand of a name
 abbrev named : Text → Option Subcommand
 named name = cond (bytes_eq (codes "scratch") name) (Some Scratch) (cond (bytes_eq (codes "check") name) (Some Check)
-    (cond (bytes_eq (codes "audit") name) (Some Audit) (cond (bytes_eq (codes "show") name) (Some Show) None)))
+    (cond (bytes_eq (codes "audit") name) (Some Audit) (cond (bytes_eq (codes "show") name) (Some Show)
+    (cond (bytes_eq (codes "why") name) (Some Why) (cond (bytes_eq (codes "explain") name) (Some Explain) None)))))
 
 named_as : (c : Subcommand) → named (name_of c) ≡ Some c
 named_as Scratch = refl
 named_as Check = refl
 named_as Audit = refl
 named_as Show = refl
+named_as Why = refl
+named_as Explain = refl
 
 -- no two subcommands have one name
 same_subcommand : (c d : Subcommand) → name_of c ≡ name_of d → c ≡ d
@@ -332,18 +360,13 @@ same_subcommand c d same = same_Some c d (sym (named_as c) ∙ (ap named same �
 
 -- ---- what was met is what the words ask for
 
-names_are : (c : Subcommand) → names (options c) ≡ options_of c
+names_are : (c : Subcommand) → names (options c) (flag_of c) ≡ options_of c
 names_are Scratch = refl
 names_are Check = refl
 names_are Audit = refl
 names_are Show = refl
-
-first_told : (id : Text) (rows : List Row) → first_of id rows ≡ slice_get (told id rows) 0
-first_told id rows = go (find (λ r. bytes_eq r.id id) rows)
-  where
-    go : (o : Option Row) → option_and_then (λ (r : Row). slice_get r.values 0) o ≡ slice_get (values_in o) 0
-    go None = refl
-    go (Some r) = refl
+names_are Why = refl
+names_are Explain = refl
 
 one_value : (vs : List Text) (x : Text) → is_few vs ≡ true → slice_get vs 0 ≡ Some x → vs ≡ x ∷ []
 one_value [] x few first = absurd (none-some x first)
@@ -355,25 +378,53 @@ number_of [] n few is = sym is
 number_of (v ∷ []) n few is = sym is
 number_of (v ∷ u ∷ vs) n few is = absurd (true≢false (sym few))
 
-module _ (words : List Text) (opts : List Opt) (rows : List Row) (is : IsRead opts words rows) where
+text_of : (vs : List Text) (text : Option Text) → is_few vs ≡ true → slice_get vs 0 ≡ text → IsTextOf vs text
+text_of [] text few is = sym is
+text_of (v ∷ []) text few is = sym is
+text_of (v ∷ u ∷ vs) text few is = absurd (true≢false (sym few))
+
+module _ (words : List Text) (c : Subcommand) (rows : List Row) (is : IsRead (options c) (flag_of c) words rows) where
   -- the number of an option
-  number_read : (name : Text) (n : ℕ) → bytes_eq (codes "FILE") name ≡ false → number_in name rows ≡ n → IsNumberOf (values_of (Some name) (given_in None words)) n
-  number_read name n part number = subst (λ vs. IsNumberOf vs n) (is.values (Some name) part)
-      (number_of (told name rows) n (is.few name part) (sym (ap (λ o. option_map_or decimal o 1) (first_told name rows)) ∙ number))
+  number_read : (name : Text) (n : ℕ) → bytes_eq (codes "FILE") name ≡ false → is_repeatable name ≡ false → is_flag name ≡ false
+      → number_in name rows ≡ n → IsNumberOf (values_of (Some name) (given_in None words)) n
+  number_read name n part once valued number = subst (λ vs. IsNumberOf vs n) (is.values (Some name) part valued)
+      (number_of (told name rows) n (is.few name part once valued) (sym (ap (λ o. option_map_or decimal o 1) (first_told name rows)) ∙ number))
 
-  value_read : (name v : Text) → bytes_eq (codes "FILE") name ≡ false → first_of name rows ≡ Some v → values_of (Some name) (given_in None words) ≡ v ∷ []
-  value_read name v part first = sym (is.values (Some name) part) ∙ one_value (told name rows) v (is.few name part) (sym (first_told name rows) ∙ first)
+  value_read : (name v : Text) → bytes_eq (codes "FILE") name ≡ false → is_repeatable name ≡ false → is_flag name ≡ false
+      → first_of name rows ≡ Some v → values_of (Some name) (given_in None words) ≡ v ∷ []
+  value_read name v part once valued first = sym (is.values (Some name) part valued)
+      ∙ one_value (told name rows) v (is.few name part once valued) (sym (first_told name rows) ∙ first)
 
-  options_read : (w : Words) → AreOptionsIn rows w → AreOptionsOf (given_in None words) w
-  options_read (asked_words.Scratch w) met = number_read (codes "profile") w.profile refl met
-  options_read (asked_words.Check w) met = record {
-    cache = value_read (codes "cache") (string_bytes w.cache) refl met.cache;
-    jobs = number_read (codes "jobs") w.jobs refl met.jobs;
-    profile = number_read (codes "profile") w.profile refl met.profile;
-    form = number_read (codes "form") w.form refl met.form;
+  text_read : (name : Text) (text : Option Text) → bytes_eq (codes "FILE") name ≡ false → is_repeatable name ≡ false → is_flag name ≡ false
+      → first_of name rows ≡ text → IsTextOf (values_of (Some name) (given_in None words)) text
+  text_read name text part once valued first = subst (λ vs. IsTextOf vs text) (is.values (Some name) part valued)
+      (text_of (told name rows) text (is.few name part once valued) (sym (first_told name rows) ∙ first))
+
+  flag_read : (g : Flag) (b : Bool) → flag_of c ≡ Some g → has_flag g.name rows ≡ b → IsFlagOf (values_of (Some g.name) (given_in None words)) b
+  flag_read g b has set = sym set ∙ is.set g has
+
+  options_read : (w : Words) → c ≡ asked_of w → AreOptionsIn rows w → AreOptionsOf (given_in None words) w
+  options_read (asked_words.Scratch w) same met = record {
+    profile = number_read (codes "profile") w.profile refl refl refl met.profile;
+    messages = flag_read messages_flag w.messages (ap flag_of same) met.messages;
   }
-  options_read (asked_words.Audit files) met = tt
-  options_read (asked_words.Show files) met = tt
+  options_read (asked_words.Check w) same met = record {
+    cache = value_read (codes "cache") (string_bytes w.cache) refl refl refl met.cache;
+    jobs = number_read (codes "jobs") w.jobs refl refl refl met.jobs;
+    profile = number_read (codes "profile") w.profile refl refl refl met.profile;
+    form = number_read (codes "form") w.form refl refl refl met.form;
+    messages = flag_read messages_flag w.messages (ap flag_of same) met.messages;
+  }
+  options_read (asked_words.Audit w) same met = record {
+    sources = sym (is.values (Some (codes "source")) refl refl) ∙ met.sources;
+    progress = flag_read progress_flag w.progress (ap flag_of same) met.progress;
+  }
+  options_read (asked_words.Show w) same met = record {
+    dot = flag_read dot_flag w.dot (ap flag_of same) met.dot;
+    of_key = text_read (codes "of") (option_map string_bytes w.of) refl refl refl met.of_key;
+  }
+  options_read (asked_words.Why w) same met = text_read (codes "of") (option_map string_bytes w.of) refl refl refl met
+  options_read (asked_words.Explain asked) same met = tt
 
 -- the words that were met are those that were asked for
 pub asked_are_met : (words : List Text) (m : ArgMatches) (w : Words) → HasRead words m → AreMet m w → Asks words w
@@ -384,8 +435,8 @@ asked_are_met words m w is met =
       subcommand = is.asked ∙ ap (λ c. Some (name_of c)) same;
       known = subst (λ names. are_of names (given_in None rest) ≡ true) (names_are is.subcommand ∙ ap options_of same) is.read.known;
       gives = record {
-        options = options_read rest (options is.subcommand) (rows_in m) is.read w met.options;
-        files = sym (is.read.values None tt) ∙ met.files;
+        options = options_read rest is.subcommand (rows_in m) is.read w same met.options;
+        files = sym (is.read.values None tt refl) ∙ met.files;
       };
     }
 
@@ -445,6 +496,8 @@ optional Scratch alone = refl
 optional Check alone = absurd (true≢false (sym alone))
 optional Audit alone = refl
 optional Show alone = refl
+optional Why alone = refl
+optional Explain alone = refl
 
 -- words that ask plainly are taken
 taken : (c : Subcommand) (words files : List Text) → AsksPlainly c words files → length words ≤ usize_max → fault_of program_app words ≡ []
@@ -455,7 +508,7 @@ taken c (name ∷ command ∷ rest) files is most =
     let within = files_within rest in
     ap (λ w. fault_of program_app (name ∷ w ∷ rest)) same
     ∙ (fault_is c rest name
-    ∙ ap (λ k. or_else k []) (level_taken (name_of c) (options c) (optional c is.plain.alone) rest is.plain.no_option is.plain.enough (omega (arith, within, most))))
+    ∙ ap (λ k. or_else k []) (level_taken (name_of c) (options c) (flag_of c) (optional c is.plain.alone) rest is.plain.no_option is.plain.enough (omega (arith, within, most))))
 
 -- a parse of words that ask plainly fails only because memory runs out
 pub only_memory : (app : App) (c : Subcommand) (words files : List Text) (e : Error) → app ≡ program_app → files_for c words ≡ Some files → length words ≤ usize_max
@@ -466,6 +519,10 @@ only_memory app c words files e program_is plain most has =
 
 -- ---- what is read of plain words
 
+none_from : {Z : Type 0} (o : Option (String Z)) → option_map string_bytes o ≡ None → o ≡ None
+none_from None none = refl
+none_from (Some s) none = absurd (none-some (string_bytes s) (sym none))
+
 module _ (c : Subcommand) (words files : List Text) (plain : files_for c words ≡ Some files) where
   abbrev asked_plainly : AsksPlainly c words files
   asked_plainly = asks c words files plain
@@ -473,15 +530,27 @@ module _ (c : Subcommand) (words files : List Text) (plain : files_for c words �
   number_of_none : (name : Text) (n : ℕ) → IsNumberOf (values_of (Some name) (given_in None (drop 2 words))) n → n ≡ 1
   number_of_none name n number = subst (λ vs. IsNumberOf vs n) (plain_options name (drop 2 words) asked_plainly.plain.no_option) number
 
+  no_text : {Z : Type 0} (name : Text) (o : Option (String Z)) → IsTextOf (values_of (Some name) (given_in None (drop 2 words))) (option_map string_bytes o) → o ≡ None
+  no_text name o text = none_from o (subst (λ vs. IsTextOf vs (option_map string_bytes o)) (plain_options name (drop 2 words) asked_plainly.plain.no_option) text)
+
+  no_flag : (name : Text) (b : Bool) → IsFlagOf (values_of (Some name) (given_in None (drop 2 words))) b → b ≡ false
+  no_flag name b set = set ∙ ap (list_any (bytes_eq (codes "true"))) (plain_options name (drop 2 words) asked_plainly.plain.no_option)
+
   defaults : (w : Words) → AreOptionsOf (given_in None (drop 2 words)) w → HasDefaults w
-  defaults (asked_words.Scratch w) gives = number_of_none (codes "profile") w.profile gives
+  defaults (asked_words.Scratch w) gives = (number_of_none (codes "profile") w.profile gives.profile, no_flag (codes "messages") w.messages gives.messages)
   defaults (asked_words.Check w) gives = (
     number_of_none (codes "jobs") w.jobs gives.jobs,
     number_of_none (codes "profile") w.profile gives.profile,
     number_of_none (codes "form") w.form gives.form,
+    no_flag (codes "messages") w.messages gives.messages,
   )
-  defaults (asked_words.Audit files) gives = tt
-  defaults (asked_words.Show files) gives = tt
+  defaults (asked_words.Audit w) gives = (
+    sym gives.sources ∙ plain_options (codes "source") (drop 2 words) asked_plainly.plain.no_option,
+    no_flag (codes "progress") w.progress gives.progress,
+  )
+  defaults (asked_words.Show w) gives = (no_flag (codes "dot") w.dot gives.dot, no_text (codes "of") w.of gives.of_key)
+  defaults (asked_words.Why w) gives = no_text (codes "of") w.of gives
+  defaults (asked_words.Explain asked) gives = tt
 
   -- what plain words ask for is just this
   pub plain_asked : (w : Words) → Asks words w → IsPlain c files w
@@ -495,11 +564,16 @@ module _ (c : Subcommand) (words files : List Text) (plain : files_for c words �
     pub plain_named : subcommand_name_of m ≡ Some (name_of c)
     plain_named = is.name ∙ (sym is.asked ∙ asked_plainly.asked)
 
+    -- the rows have no value of an option
+    nothing_first : (name : Text) → bytes_eq (codes "FILE") name ≡ false → is_flag name ≡ false → first_of name (rows_in m) ≡ None
+    nothing_first name part valued = first_told name (rows_in m)
+        ∙ ap (λ vs. slice_get vs 0) (is.read.values (Some name) part valued ∙ plain_options name (drop 2 words) asked_plainly.plain.no_option)
+
     -- the rows have FILEs that are enough
     pub plain_enough : AreEnough c (rows_in m)
     plain_enough = record {
       alone = asked_plainly.plain.alone;
-      files = ap is_one_or_more (is.read.values None tt ∙ plain_files (drop 2 words) asked_plainly.plain.no_option) ∙ asked_plainly.plain.enough;
-      profile = first_told (codes "profile") (rows_in m)
-          ∙ ap (λ vs. slice_get vs 0) (is.read.values (Some (codes "profile")) refl ∙ plain_options (codes "profile") (drop 2 words) asked_plainly.plain.no_option);
+      files = ap is_one_or_more (is.read.values None tt refl ∙ plain_files (drop 2 words) asked_plainly.plain.no_option) ∙ asked_plainly.plain.enough;
+      profile = nothing_first (codes "profile") refl refl;
+      of_key = nothing_first (codes "of") refl refl;
     }

@@ -1,9 +1,9 @@
 -- What the rows of a parse have of an argument.
-use Rattle.std.proofs.Common.{◌≡◌, ◌∙◌, ◌||◌, ◌++◌, Bool, true, false, List, [], ◌∷◌, Option, Some, cond, refl, ap, true≢false}
+use Rattle.std.proofs.Common.{◌≡◌, ◌∙◌, ◌||◌, ◌++◌, Bool, true, false, List, [], ◌∷◌, Option, Some, None, cond, refl, ap, true≢false}
 use Rattle.std.proofs.lemmas.Slice.Eq.{bytes_eq-Decides}
-use Rattle.std.specs.Prelude.{find, if◌then◌else◌, option_map, unwrap_or}
+use Rattle.std.specs.Prelude.{find, if◌then◌else◌, option_and_then, option_map, slice_get, unwrap_or}
 use Rattle.std.specs.Str.{bytes_eq}
-use Rattle.clap.specs.Walk.{Row, has_row, more_values, with_values, without}
+use Rattle.clap.specs.Walk.{Row, first_of, has_row, more_values, with_values, without}
 use Rattle.clap.specs.Words.{Text, all_of}
 use Rattle.clap.specs.declared.builder.value_parser.Reading.{Reading}
 use Rattle.clap.specs.declared.parser.ValueSource.{ValueSource}
@@ -63,3 +63,10 @@ told_none id [] none = refl
 told_none id (r ∷ rest) none =
     let parts = neither (bytes_eq r.id id) (has_row id rest) none in
     rw parts.0 (told_none id rest parts.1)
+
+pub first_told : (id : Text) (rows : List Row) → first_of id rows ≡ slice_get (told id rows) 0
+first_told id rows = go (find (λ r. bytes_eq r.id id) rows)
+  where
+    go : (o : Option Row) → option_and_then (λ (r : Row). slice_get r.values 0) o ≡ slice_get (values_in o) 0
+    go None = refl
+    go (Some r) = refl

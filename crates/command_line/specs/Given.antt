@@ -1,14 +1,17 @@
 -- What the words behind a subcommand give, by the words alone.
 use Rattle.std.specs.Prelude.{◌≡◌, ℕ, Bool, true, false, List, [], ◌∷◌, Option, Some, None}
-use Rattle.std.specs.Prelude.{codes, if◌then◌else◌, map, string_bytes}
+use Rattle.std.specs.Prelude.{codes, if◌then◌else◌, map, option_map, string_bytes}
 use Rattle.std.specs.List.{list_all, list_any}
 use Rattle.std.specs.Str.{bytes_eq}
 use Rattle.std.specs.Str.Parse.{digits_value, without_leading_plus}
 use Rattle.clap.specs.Lexer.{long_of}
 use Rattle.command_line.specs.Plain.{dashes}
 use Rattle.command_line.specs.Runnable.{files_of_words}
-use Rattle.command_line.specs.Subcommands.{Text}
+use Rattle.command_line.specs.Subcommands.{Text, is_flag}
+use Rattle.command_line.specs.declared.asked.AuditWords.{AuditWords}
 use Rattle.command_line.specs.declared.asked.CheckWords.{CheckWords}
+use Rattle.command_line.specs.declared.asked.ScratchWords.{ScratchWords}
+use Rattle.command_line.specs.declared.asked.ShowWords.{ShowWords}
 use Rattle.command_line.specs.declared.asked.Words.{Words}
 use Rattle.command_line.specs.declared.asked.Words.TheVariants as words
 
@@ -16,10 +19,11 @@ use Rattle.command_line.specs.declared.asked.Words.TheVariants as words
 abbrev pub Given : Type 0
 Given = Option Text × Text
 
--- `--NAME=VALUE` gives its VALUE, `--NAME` the next word
+-- `--NAME=VALUE` gives its VALUE, `--NAME` the next word, and a flag `true`
 abbrev pub given_to : Text → Option Text → List Given → (Text → List Given) → List Given
 given_to name (Some value) rest behind = (Some name, value) ∷ rest
-given_to name None rest behind = behind name
+given_to name None rest behind =
+    if is_flag name then (Some name, codes "true") ∷ rest else behind name
 
 -- any other word is a FILE
 abbrev pub given_by : Text → Option (Text × Option Text) → List Given → (Text → List Given)
@@ -65,19 +69,49 @@ IsNumberOf [] n = n ≡ 1
 IsNumberOf (text ∷ []) n = n ≡ decimal text
 IsNumberOf _ n = ⊥
 
--- The folder of the cache is the one value of `--cache`, and the numbers are those of their options.
+-- a flag was given
+abbrev pub IsFlagOf : List Text → Bool → Type 0
+IsFlagOf texts b = b ≡ list_any (bytes_eq (codes "true")) texts
+
+-- the one text that was given, and none if none was
+abbrev pub IsTextOf : List Text → Option Text → Type 0
+IsTextOf [] text = text ≡ None
+IsTextOf (given ∷ []) text = text ≡ Some given
+IsTextOf _ text = ⊥
+
+-- The profile is the number of its option, and the flag is set if it was given.
+pub record AreOptionsOfScratch (given : List Given) (w : ScratchWords) : Type 0 where
+  pub profile : IsNumberOf (values_of (Some (codes "profile")) given) w.profile
+  pub messages : IsFlagOf (values_of (Some (codes "messages")) given) w.messages
+
+-- The folder of the cache is the one value of `--cache`, the numbers are those of their
+-- options, and the flag is set if it was given.
 pub record AreOptionsOfCheck (given : List Given) (w : CheckWords) : Type 0 where
   pub cache : values_of (Some (codes "cache")) given ≡ string_bytes w.cache ∷ []
   pub jobs : IsNumberOf (values_of (Some (codes "jobs")) given) w.jobs
   pub profile : IsNumberOf (values_of (Some (codes "profile")) given) w.profile
   pub form : IsNumberOf (values_of (Some (codes "form")) given) w.form
+  pub messages : IsFlagOf (values_of (Some (codes "messages")) given) w.messages
+
+-- The sources are the values of `--source` in their order, and the flag is set if it was given.
+pub record AreOptionsOfAudit (given : List Given) (w : AuditWords) : Type 0 where
+  pub sources : values_of (Some (codes "source")) given ≡ map string_bytes w.sources.items
+  pub progress : IsFlagOf (values_of (Some (codes "progress")) given) w.progress
+
+-- The flag is set if it was given, and the record is the one that `--of` names.
+pub record AreOptionsOfShow (given : List Given) (w : ShowWords) : Type 0 where
+  pub dot : IsFlagOf (values_of (Some (codes "dot")) given) w.dot
+  pub of_key : IsTextOf (values_of (Some (codes "of")) given) (option_map string_bytes w.of)
 
 -- the values of the options
 abbrev pub AreOptionsOf : List Given → Words → Type 0
-AreOptionsOf given (words.Scratch w) =
-    IsNumberOf (values_of (Some (codes "profile")) given) w.profile
+AreOptionsOf given (words.Scratch w) = AreOptionsOfScratch given w
 AreOptionsOf given (words.Check w) = AreOptionsOfCheck given w
-AreOptionsOf given _ = Unit {0}
+AreOptionsOf given (words.Audit w) = AreOptionsOfAudit given w
+AreOptionsOf given (words.Show w) = AreOptionsOfShow given w
+AreOptionsOf given (words.Why w) =
+    IsTextOf (values_of (Some (codes "of")) given) (option_map string_bytes w.of)
+AreOptionsOf given (words.Explain asked) = Unit {0}
 
 -- The values are those of the options, and the FILEs are all other words.
 pub record IsGivenBy (given : List Given) (w : Words) : Type 0 where

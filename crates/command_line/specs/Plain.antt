@@ -1,6 +1,7 @@
 -- Plain words: a subcommand with its FILEs, and no option.
 use Rattle.std.specs.Prelude.{◌≡◌, ◌==◌, ◌&&◌, ◌||◌, Bool, true, false, not, List, [], ◌∷◌}
-use Rattle.std.specs.Prelude.{Option, Some, None, codes, if◌then◌else◌, is_some, option_and_then}
+use Rattle.std.specs.Prelude.{Option, Some, None, codes, if◌then◌else◌, is_some, map, option_and_then}
+use Rattle.std.specs.Prelude.{string_bytes}
 use Rattle.std.specs.Str.{bytes_eq}
 use Rattle.command_line.specs.Runnable.{files_of_words, subcommand_of}
 use Rattle.command_line.specs.Subcommands.{Text, is_one_or_more, name_of, wants_files_alone}
@@ -55,11 +56,15 @@ files_for subcommand given = option_and_then (taken_by subcommand) (words_behind
 abbrev pub asks_plainly : Subcommand → List Text → Bool
 asks_plainly subcommand given = is_some (files_for subcommand given)
 
--- each number is the one that stands where nothing is said
+-- the options are as they stand where nothing is said
 abbrev pub HasDefaults : Words → Type 0
-HasDefaults (words.Scratch w) = w.profile ≡ 1
-HasDefaults (words.Check w) = (w.jobs ≡ 1) × (w.profile ≡ 1) × (w.form ≡ 1)
-HasDefaults _ = Unit {0}
+HasDefaults (words.Scratch w) = (w.profile ≡ 1) × (w.messages ≡ false)
+HasDefaults (words.Check w) =
+    (w.jobs ≡ 1) × (w.profile ≡ 1) × (w.form ≡ 1) × (w.messages ≡ false)
+HasDefaults (words.Audit w) = (map string_bytes w.sources.items ≡ []) × (w.progress ≡ false)
+HasDefaults (words.Show w) = (w.dot ≡ false) × (w.of ≡ None)
+HasDefaults (words.Why w) = w.of ≡ None
+HasDefaults (words.Explain asked) = Unit {0}
 
 -- What was read is the subcommand with just these FILEs.
 pub record IsPlain (subcommand : Subcommand) (files : List Text) (w : Words) : Type 0 where

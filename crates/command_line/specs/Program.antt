@@ -3,16 +3,17 @@ use Rattle.std.specs.Prelude.{ℕ, List, Some, [], ◌∷◌, pos, true, codes, 
 use Rattle.clap.specs.Lexer.{usize_max}
 use Rattle.clap.specs.Simple.{on_top}
 use Rattle.clap.specs.Words.{App, Rule, Text, new_app, new_rule, with_rule, with_subcommand}
-use Rattle.clap.specs.declared.builder.ArgAction.TheVariants.{Append}
+use Rattle.clap.specs.declared.builder.ArgAction.TheVariants.{Append, SetTrue}
 use Rattle.clap.specs.declared.builder.ValueParser.TheVariants as parser
 use Rattle.command_line.specs.Runnable.{most_form, most_jobs, most_profile}
 use Rattle.command_line.specs.Subcommands.{name_of}
 use Rattle.command_line.specs.declared.asked.Subcommand.{Subcommand}
-use Rattle.command_line.specs.declared.asked.Subcommand.TheVariants.{Scratch, Check, Audit, Show}
+use Rattle.command_line.specs.declared.asked.Subcommand.TheVariants.{Scratch, Check, Audit, Show, Why, Explain}
 
--- one FILE or more
+-- one FILE or code, or more
 abbrev pub files_rule : Rule
 files_rule = record (new_rule (codes "FILE")) {
+  value_names = 1;
   required = true;
   range = Some (record { start_inclusive = 1; end_inclusive = usize_max });
   action = Some Append;
@@ -34,13 +35,27 @@ number_rule name most =
 abbrev pub profile_rule : Rule
 profile_rule = number_rule (codes "profile") most_profile
 
+-- an option without a value
+abbrev pub flag_rule : Text → Rule
+flag_rule name = record (new_rule name) { long = Some name; action = Some SetTrue }
+
+-- FILE, each time that it is given
+abbrev pub source_rule : Rule
+source_rule = record (option_rule (codes "source")) { action = Some Append }
+
+-- KEY
+abbrev pub key_rule : Rule
+key_rule = option_rule (codes "of")
+
 -- the options of a subcommand
 abbrev pub rules_of : Subcommand → List Rule
-rules_of Scratch = profile_rule ∷ []
-rules_of Check = cache_rule ∷ number_rule (codes "jobs") most_jobs ∷ profile_rule
-    ∷ number_rule (codes "form") most_form ∷ []
-rules_of Audit = []
-rules_of Show = []
+rules_of Scratch = profile_rule ∷ flag_rule (codes "messages") ∷ []
+rules_of Check = cache_rule ∷ number_rule (codes "jobs") most_jobs
+    ∷ number_rule (codes "form") most_form ∷ profile_rule ∷ flag_rule (codes "messages") ∷ []
+rules_of Audit = source_rule ∷ flag_rule (codes "progress") ∷ []
+rules_of Show = key_rule ∷ flag_rule (codes "dot") ∷ []
+rules_of Why = key_rule ∷ []
+rules_of Explain = []
 
 -- a subcommand before its FILEs
 abbrev pub options_app : Subcommand → App
@@ -61,6 +76,11 @@ abbrev pub checker_app : App
 checker_app = with_subcommand
     (with_subcommand required_app (subcommand_app Scratch).top) (subcommand_app Check).top
 
+-- and with the subcommands on chains
+abbrev pub chains_app : App
+chains_app = with_subcommand (with_subcommand
+    (with_subcommand checker_app (subcommand_app Audit).top) (subcommand_app Show).top)
+    (subcommand_app Why).top
+
 abbrev pub program_app : App
-program_app = with_subcommand
-    (with_subcommand checker_app (subcommand_app Audit).top) (subcommand_app Show).top
+program_app = with_subcommand chains_app (subcommand_app Explain).top

@@ -1,7 +1,8 @@
 -- The program's subcommands.
-use Rattle.std.specs.Prelude.{ℕ, Bool, true, false, List, [], ◌∷◌, codes}
+use Rattle.std.specs.Prelude.{◌||◌, ℕ, Bool, true, false, List, [], ◌∷◌, codes}
+use Rattle.std.specs.Str.{bytes_eq}
 use Rattle.command_line.specs.declared.asked.Subcommand.{Subcommand}
-use Rattle.command_line.specs.declared.asked.Subcommand.TheVariants.{Scratch, Check, Audit, Show}
+use Rattle.command_line.specs.declared.asked.Subcommand.TheVariants.{Scratch, Check, Audit, Show, Why, Explain}
 
 abbrev pub Text : Type 0
 Text = List ℕ
@@ -12,15 +13,29 @@ name_of Scratch = codes "scratch"
 name_of Check = codes "check"
 name_of Audit = codes "audit"
 name_of Show = codes "show"
+name_of Why = codes "why"
+name_of Explain = codes "explain"
 
 -- the names of its options
 abbrev pub options_of : Subcommand → List Text
-options_of Scratch = codes "profile" ∷ []
-options_of Check = codes "cache" ∷ codes "jobs" ∷ codes "profile" ∷ codes "form" ∷ []
-options_of Audit = []
-options_of Show = []
+options_of Scratch = codes "profile" ∷ codes "messages" ∷ []
+options_of Check = codes "cache" ∷ codes "jobs" ∷ codes "form" ∷ codes "profile"
+    ∷ codes "messages" ∷ []
+options_of Audit = codes "source" ∷ codes "progress" ∷ []
+options_of Show = codes "of" ∷ codes "dot" ∷ []
+options_of Why = codes "of" ∷ []
+options_of Explain = []
 
--- FILEs are all that it wants; `check` wants a cache, too
+-- an option without a value
+abbrev pub is_flag : Text → Bool
+is_flag name = bytes_eq name (codes "messages") || (bytes_eq name (codes "progress")
+    || bytes_eq name (codes "dot"))
+
+-- an option that may be given again
+abbrev pub is_repeatable : Text → Bool
+is_repeatable name = bytes_eq name (codes "source")
+
+-- FILEs, or codes, are all that it wants; `check` wants a cache, too
 abbrev pub wants_files_alone : Subcommand → Bool
 wants_files_alone Check = false
 wants_files_alone _ = true

@@ -17,6 +17,10 @@ pub enum Subcommand {
     Audit,
     /// Print the last session of a chain.
     Show,
+    /// Say why the queries of the last session of a chain were executed.
+    Why,
+    /// Say what codes mean.
+    Explain,
 }
 
 impl Subcommand {
@@ -29,6 +33,8 @@ impl Subcommand {
             Subcommand::Check => "check",
             Subcommand::Audit => "audit",
             Subcommand::Show => "show",
+            Subcommand::Why => "why",
+            Subcommand::Explain => "explain",
         }
     }
 
@@ -43,6 +49,8 @@ impl Subcommand {
             "check" => Some(Subcommand::Check),
             "audit" => Some(Subcommand::Audit),
             "show" => Some(Subcommand::Show),
+            "why" => Some(Subcommand::Why),
+            "explain" => Some(Subcommand::Explain),
             _ => None,
         }
     }
@@ -53,6 +61,8 @@ impl Subcommand {
 pub struct ScratchWords {
     /// The number of the language's profile, 1 or 2.
     pub profile: u8,
+    /// Whether a diagnostic's line has its sentence.
+    pub messages: bool,
     /// The source files of the project.
     pub files: Vec<String>,
 }
@@ -68,7 +78,40 @@ pub struct CheckWords {
     pub profile: u8,
     /// The number of the form in which the session is written, 1 or 2.
     pub form: u8,
+    /// Whether a diagnostic's line has its sentence.
+    pub messages: bool,
     /// The source files of the project.
+    pub files: Vec<String>,
+}
+
+/// The values of `audit`.
+#[derive(Drop)]
+pub struct AuditWords {
+    /// The source files of which the last session has to be. If there are none it may be of any.
+    pub sources: Vec<String>,
+    /// Whether a line is written for each session as soon as it is taken.
+    pub progress: bool,
+    /// The files of the chain.
+    pub files: Vec<String>,
+}
+
+/// The values of `show`.
+#[derive(Drop)]
+pub struct ShowWords {
+    /// Whether the session is printed as a graph.
+    pub dot: bool,
+    /// The key of the record to which the graph is cut down, in its text.
+    pub of: Option<String>,
+    /// The files of the chain.
+    pub files: Vec<String>,
+}
+
+/// The values of `why`.
+#[derive(Drop)]
+pub struct WhyWords {
+    /// The key of the one record that is asked about, in its text.
+    pub of: Option<String>,
+    /// The files of the chain.
     pub files: Vec<String>,
 }
 
@@ -80,9 +123,13 @@ pub enum Words {
     /// Check the project of these files over the last session of the cache.
     Check(CheckWords),
     /// Audit the chain of these session files.
-    Audit(Vec<String>),
+    Audit(AuditWords),
     /// Print the last session of the chain of these session files.
-    Show(Vec<String>),
+    Show(ShowWords),
+    /// Say why the queries of the last session of the chain of these session files were executed.
+    Why(WhyWords),
+    /// Say what these codes mean.
+    Explain(Vec<String>),
 }
 
 /// Why the words ask for no subcommand.

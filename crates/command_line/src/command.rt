@@ -2,19 +2,19 @@
 ghost use Rattle.std.specs.Prelude.{◌≡◌, IfOk, false, fold};
 ghost use Rattle.clap.specs.Words.{app_of, rule_of, with_rule, with_subcommand};
 ghost use Rattle.clap.specs.declared.builder.Command.TheViews.{out-Command};
-ghost use Rattle.command_line.specs.Program.{cache_rule, checker_app, files_rule, number_rule};
-ghost use Rattle.command_line.specs.Program.{options_app, profile_rule, program_app, required_app, rules_of, subcommand_app};
+ghost use Rattle.command_line.specs.Program.{cache_rule, checker_app, files_rule, flag_rule, key_rule, number_rule};
+ghost use Rattle.command_line.specs.Program.{options_app, profile_rule, program_app, required_app, rules_of, source_rule, subcommand_app};
 
 use crate::asked::Subcommand;
 use crate::help;
-use crate::help::{PURPOSE, STATUSES, VERSION, files, outcome, purpose};
+use crate::help::{PURPOSE, STATUSES, VERSION, files, outcome, purpose, value_name};
 use clap::{Arg, ArgAction, Command, value_parser};
 use std::alloc::{AllocError, Global};
 
 /// The program's name, which stands for the first word where there is none.
 pub(crate) const PROGRAM: &str = "mjrg";
 
-/// The positional that has the names of the files.
+/// The positional that has the names of the files, and of `explain` the codes.
 pub(crate) const FILE: &str = "FILE";
 
 /// The option that has the folder of the cache.
@@ -28,6 +28,21 @@ pub(crate) const PROFILE: &str = "profile";
 
 /// The option that has the number of the form.
 pub(crate) const FORM: &str = "form";
+
+/// The flag for the sentences of diagnostics.
+pub(crate) const MESSAGES: &str = "messages";
+
+/// The flag for a line of each session that an audit takes.
+pub(crate) const PROGRESS: &str = "progress";
+
+/// The flag for the graph of a session.
+pub(crate) const DOT: &str = "dot";
+
+/// The option that has the key of a record.
+pub(crate) const OF: &str = "of";
+
+/// The option that has the source files of the last session.
+pub(crate) const SOURCE: &str = "source";
 
 /// The most workers that `check` can have.
 pub(crate) const MOST_JOBS: u8 = 64;
@@ -44,7 +59,9 @@ pub(crate) fn program<'a>(alloc: Global) -> Result<Command<'a>, AllocError>
 {
     let program = checker(alloc)?;
     let program = with_command(alloc, program, Subcommand::Audit)?;
-    with_command(alloc, program, Subcommand::Show)
+    let program = with_command(alloc, program, Subcommand::Show)?;
+    let program = with_command(alloc, program, Subcommand::Why)?;
+    with_command(alloc, program, Subcommand::Explain)
 }
 
 // The program with `scratch` and `check`.
@@ -98,9 +115,16 @@ fn options_of<'a>(alloc: Global, which: Subcommand) -> Result<Command<'a>, Alloc
         .about(purpose(which))
         .after_help(outcome(which));
     match which {
-        Subcommand::Scratch => command.arg(profile(alloc)),
+        Subcommand::Scratch => scratch_options(alloc, command),
         Subcommand::Check => check_options(alloc, command),
-        Subcommand::Audit | Subcommand::Show => Ok(command),
+        Subcommand::Audit => command
+            .arg(source(alloc))?
+            .arg(flag(alloc, PROGRESS, help::PROGRESS)),
+        Subcommand::Show => command
+            .arg(key(alloc, help::DOT_OF))?
+            .arg(flag(alloc, DOT, help::DOT)),
+        Subcommand::Why => command.arg(key(alloc, help::WHY_OF)),
+        Subcommand::Explain => Ok(command),
     }
 }
 
@@ -111,11 +135,23 @@ fn check_options<'a>(alloc: Global, command: Command<'a>) -> Result<Command<'a>,
         app_of made ≡ fold with_rule (app_of command.entry) (rules_of Subcommand.Check)) }
     ensures local { IfOk result (λ made. (out-Command made).has_globals ≡ false) }
 {
-    command
+    let command = command
         .arg(cache(alloc))?
         .arg(number(alloc, JOBS, MOST_JOBS, help::JOBS))?
+        .arg(number(alloc, FORM, MOST_FORM, help::FORM))?;
+    scratch_options(alloc, command)
+}
+
+// A command with the options of `scratch`.
+fn scratch_options<'a>(alloc: Global, command: Command<'a>) -> Result<Command<'a>, AllocError>
+    requires { (out-Command command).has_globals ≡ false }
+    ensures app { IfOk result (λ made.
+        app_of made ≡ fold with_rule (app_of command.entry) (rules_of Subcommand.Scratch)) }
+    ensures local { IfOk result (λ made. (out-Command made).has_globals ≡ false) }
+{
+    command
         .arg(profile(alloc))?
-        .arg(number(alloc, FORM, MOST_FORM, help::FORM))
+        .arg(flag(alloc, MESSAGES, help::MESSAGES))
 }
 
 fn cache<'a>(alloc: Global) -> Arg<'a>
@@ -136,7 +172,7 @@ fn profile<'a>(alloc: Global) -> Arg<'a>
     number(alloc, PROFILE, MOST_PROFILE, help::PROFILE)
 }
 
-// An option that has a number from 1 on. (That it is 1 where it is left out is said by the help and made by the
+// An option that has a number from 1 on. (That it is 1 if it is left out is said by the help and made by the
 // reader: a default of `clap`'s would be a match like one that was given.)
 fn number<'a>(alloc: Global, name: &'a str, most: u8, help: &'a str) -> Arg<'a>
     ensures rule { rule_of result ≡ number_rule name.entry.now most }
@@ -149,12 +185,42 @@ fn number<'a>(alloc: Global, name: &'a str, most: u8, help: &'a str) -> Arg<'a>
         .help(help)
 }
 
+// An option without a value.
+fn flag<'a>(alloc: Global, name: &'a str, help: &'a str) -> Arg<'a>
+    ensures rule { rule_of result ≡ flag_rule name.entry.now }
+    ensures local { result.global ≡ false }
+{
+    Arg::new(alloc, name)
+        .long(name)
+        .action(ArgAction::SetTrue)
+        .help(help)
+}
+
+fn key<'a>(alloc: Global, help: &'a str) -> Arg<'a>
+    ensures rule { rule_of result ≡ key_rule }
+    ensures local { result.global ≡ false }
+{
+    Arg::new(alloc, OF).long(OF).value_name("KEY").help(help)
+}
+
+fn source<'a>(alloc: Global) -> Arg<'a>
+    ensures rule { rule_of result ≡ source_rule }
+    ensures local { result.global ≡ false }
+{
+    Arg::new(alloc, SOURCE)
+        .long(SOURCE)
+        .value_name("FILE")
+        .action(ArgAction::Append)
+        .help(help::SOURCE)
+}
+
 // The last positional, with one value or more.
 fn files_of<'a>(alloc: Global, which: Subcommand) -> Arg<'a>
     ensures rule { rule_of result ≡ files_rule }
     ensures local { result.global ≡ false }
 {
     Arg::new(alloc, FILE)
+        .value_name(value_name(which))
         .required(true)
         .num_args(1..)
         .action(ArgAction::Append)

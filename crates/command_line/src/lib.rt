@@ -2,9 +2,13 @@
 #![tactic(auto)]
 
 mod asked;
+mod chain_help;
 mod command;
+mod given;
 mod help;
 mod reading;
 
-pub use asked::{CheckWords, ScratchWords, Subcommand, Words, WordsFault};
+pub use asked::{
+    AuditWords, CheckWords, ScratchWords, ShowWords, Subcommand, WhyWords, Words, WordsFault,
+};
 pub use reading::words;

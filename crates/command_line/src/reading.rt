@@ -1,25 +1,29 @@
 //! The command line as `clap` reads it.
-ghost use Rattle.std.specs.Prelude.{◌≡◌, ◌<◌, ◌≤◌, Some, None, IfOk, IfSome, IsOkUnless, IsTrue};
-ghost use Rattle.std.specs.Prelude.{List, codes, map, option_map, string_bytes, vec_len};
+ghost use Rattle.std.specs.Prelude.{◌≡◌, ◌<◌, Some, None, IfOk, IfSome, IsOkUnless, IsTrue};
+ghost use Rattle.std.specs.Prelude.{List, codes, map, string_bytes, vec_len};
 ghost use Rattle.clap.specs.Words.{first_of, found_of, kind_of, rows_of, subcommand_name_of};
 ghost use Rattle.command_line.specs.CommandLine.{Asks};
-ghost use Rattle.command_line.specs.Matches.{AreEnough, AreMet, AreOptionsIn, files_in, number_in, rows_in};
+ghost use Rattle.command_line.specs.Matches.{AreEnough, AreMet, AreOptionsIn, files_in, has_flag, rows_in};
 ghost use Rattle.command_line.specs.Plain.{IsPlain, asks_plainly, files_for};
 ghost use Rattle.command_line.specs.Runnable.{IsRunnable, files_of_words, subcommand_of};
 ghost use Rattle.command_line.specs.Subcommands.{Text, name_of};
 
-use crate::asked::{CheckWords, ScratchWords, Subcommand, Words, WordsFault};
-use crate::command::{
-    CACHE, FILE, FORM, JOBS, MOST_FORM, MOST_JOBS, MOST_PROFILE, PROFILE, PROGRAM, program,
+use crate::asked::{
+    AuditWords, CheckWords, ScratchWords, ShowWords, Subcommand, WhyWords, Words, WordsFault,
 };
+use crate::command::{
+    CACHE, DOT, FILE, FORM, JOBS, MESSAGES, MOST_FORM, MOST_JOBS, MOST_PROFILE, OF, PROFILE,
+    PROGRAM, PROGRESS, SOURCE, program,
+};
+use crate::given::{first, flag, number, text, values};
 use clap::error::ErrorKind;
 use clap::{ArgMatches, Error};
-use std::alloc::{AllocError, Global};
+use std::alloc::Global;
 
 /// Reads a command line, whose first word is the program's name. An empty list is read as the name
 /// alone. The options have the values that the words give them, a number that isn't given is 1, and the
-/// files are all other words. Which other words are refused, and which ask for help or for the version,
-/// is `clap`'s to say.
+/// files or codes are all other words. `--of` without `--dot` is refused at `show`. Which other words are refused,
+/// and which ask for help or for the version, is `clap`'s to say.
 pub fn words(alloc: Global, list: Vec<String>) -> Result<Words, WordsFault>
     ensures runnable { IfOk result IsRunnable }
     ensures asked { IfOk result (Asks (map string_bytes list.items)) }
@@ -54,7 +58,7 @@ fn read(alloc: Global, list: &[String]) -> Result<Words, WordsFault>
     }
 }
 
-// What the matches ask for. Each test that fails here is one that `clap` has made already.
+// What the matches ask for. Each test that fails here is one that `clap` has made already, but that of `show --of`.
 fn choose(alloc: Global, matches: &ArgMatches<'_>) -> Result<Words, WordsFault>
     ensures runnable { IfOk result IsRunnable }
     ensures met { IfOk result (AreMet matches.now) }
@@ -86,15 +90,17 @@ fn words_of(
     ensures taken { AreEnough subcommand (rows_of (found_of given.now))
         → IsOkUnless result WordsFault.OutOfMemory }
 {
-    let files = values(alloc, given)?;
+    let files = values(alloc, given, FILE)?;
     if files.is_empty() {
         return Err(unreadable(alloc));
     }
     match subcommand {
         Subcommand::Scratch => scratch_words(alloc, given, files),
         Subcommand::Check => check_words(alloc, given, files),
-        Subcommand::Audit => Ok(Words::Audit(files)),
-        Subcommand::Show => Ok(Words::Show(files)),
+        Subcommand::Audit => audit_words(alloc, given, files),
+        Subcommand::Show => show_words(alloc, given, files),
+        Subcommand::Why => why_words(alloc, given, files),
+        Subcommand::Explain => Ok(Words::Explain(files)),
     }
 }
 
@@ -113,7 +119,11 @@ fn scratch_words(
         → IsOkUnless result WordsFault.OutOfMemory }
 {
     match number(given, PROFILE, MOST_PROFILE) {
-        Some(profile) => Ok(Words::Scratch(ScratchWords { profile, files })),
+        Some(profile) => Ok(Words::Scratch(ScratchWords {
+            profile,
+            messages: flag(given, MESSAGES),
+            files,
+        })),
         None => Err(unreadable(alloc)),
     }
 }
@@ -144,63 +154,78 @@ fn check_words(
         jobs: usize::from(jobs),
         profile,
         form,
+        messages: flag(given, MESSAGES),
         files,
     }))
 }
 
-// The first value of an argument, as it was given.
-fn first<'a>(given: &ArgMatches<'a>, id: &str) -> Option<&'a str>
-    ensures { option_map (λ text. text.now) result
-        ≡ first_of id.now (rows_of (found_of given.now)) }
+// The words of `audit` on these files.
+fn audit_words(
+    alloc: Global,
+    given: &ArgMatches<'_>,
+    files: Vec<String>,
+) -> Result<Words, WordsFault>
+    requires { 0 < vec_len files }
+    ensures runnable { IfOk result IsRunnable }
+    ensures subcommand { IfOk result (λ words. subcommand_of words ≡ Subcommand.Audit) }
+    ensures files { IfOk result (λ words. map string_bytes files.items ≡ files_of_words words) }
+    ensures options { IfOk result (AreOptionsIn (rows_of (found_of given.now))) }
+    ensures taken { IsOkUnless result WordsFault.OutOfMemory }
 {
-    given.get_str(id)
+    let sources = values(alloc, given, SOURCE)?;
+    Ok(Words::Audit(AuditWords {
+        sources,
+        progress: flag(given, PROGRESS),
+        files,
+    }))
 }
 
-// The number that an option has, which is 1 where it isn't given.
-fn number(given: &ArgMatches<'_>, id: &str, most: u8) -> Option<u8>
-    requires { 1 ≤ most }
-    ensures some { IfSome result (λ number. 1 ≤ number) }
-    ensures most { IfSome result (λ number. number ≤ most) }
-    ensures given { IfSome result (λ number.
-        number_in id.now (rows_of (found_of given.now)) ≡ number) }
-    ensures none { first_of id.now (rows_of (found_of given.now)) ≡ None → result ≡ Some 1 }
+// The words of `show` on these files. A record is asked for only of the graph.
+fn show_words(
+    alloc: Global,
+    given: &ArgMatches<'_>,
+    files: Vec<String>,
+) -> Result<Words, WordsFault>
+    requires { 0 < vec_len files }
+    ensures runnable { IfOk result IsRunnable }
+    ensures subcommand { IfOk result (λ words. subcommand_of words ≡ Subcommand.Show) }
+    ensures files { IfOk result (λ words. map string_bytes files.items ≡ files_of_words words) }
+    ensures options { IfOk result (AreOptionsIn (rows_of (found_of given.now))) }
+    ensures taken { IfSome (first_of (codes "of") (rows_of (found_of given.now)))
+        (λ key. IsTrue (has_flag (codes "dot") (rows_of (found_of given.now))))
+        → IsOkUnless result WordsFault.OutOfMemory }
 {
-    let Some(text) = first(given, id) else {
-        return Some(1);
-    };
-    let number: u8 = text.parse().ok()?;
-    if number == 0 || number > most {
-        return None;
+    let dot = flag(given, DOT);
+    let of = text(alloc, given, OF)?;
+    if of.is_some() && !dot {
+        return Err(refused(alloc, "error: --of wants --dot\n"));
     }
-    Some(number)
+    Ok(Words::Show(ShowWords { dot, of, files }))
+}
+
+// The words of `why` on these files.
+fn why_words(alloc: Global, given: &ArgMatches<'_>, files: Vec<String>) -> Result<Words, WordsFault>
+    requires { 0 < vec_len files }
+    ensures runnable { IfOk result IsRunnable }
+    ensures subcommand { IfOk result (λ words. subcommand_of words ≡ Subcommand.Why) }
+    ensures files { IfOk result (λ words. map string_bytes files.items ≡ files_of_words words) }
+    ensures options { IfOk result (AreOptionsIn (rows_of (found_of given.now))) }
+    ensures taken { IsOkUnless result WordsFault.OutOfMemory }
+{
+    let of = text(alloc, given, OF)?;
+    Ok(Words::Why(WhyWords { of, files }))
 }
 
 fn unreadable(alloc: Global) -> WordsFault {
-    match String::from_str(alloc, "error: the words were not read\n") {
+    refused(alloc, "error: the words were not read\n")
+}
+
+// The words are refused with this text.
+fn refused(alloc: Global, why: &str) -> WordsFault {
+    match String::from_str(alloc, why) {
         Ok(text) => WordsFault::Refused(text),
         Err(_) => WordsFault::OutOfMemory,
     }
-}
-
-// The values of FILE.
-fn values(alloc: Global, given: &ArgMatches<'_>) -> Result<Vec<String>, AllocError>
-    ensures { IfOk result (λ files.
-        files_in (rows_of (found_of given.now)) ≡ map string_bytes files.items) }
-{
-    match given.get_strs(FILE) {
-        Some(texts) => copies(alloc, texts),
-        None => Ok(Vec::new(alloc)),
-    }
-}
-
-fn copies(alloc: Global, texts: &[&str]) -> Result<Vec<String>, AllocError>
-    ensures { IfOk result (λ list. map string_bytes list.items ≡ map (λ text. text.now) texts.now) }
-{
-    let mut list = Vec::new(alloc);
-    for text in texts {
-        list.push(String::from_str(alloc, text)?)?;
-    }
-    Ok(list)
 }
 
 fn refusal(alloc: Global, error: &Error) -> WordsFault

@@ -45,6 +45,16 @@ const FILES: &[(&[&str], Subcommand, &[&str])] = &[
         Subcommand::Show,
         &["a", "b", "--"],
     ),
+    (
+        &["mjrg", "why", "s0", "s1", "s0"],
+        Subcommand::Why,
+        &["s0", "s1", "s0"],
+    ),
+    (
+        &["mjrg", "explain", "E318", "--", "14.9"],
+        Subcommand::Explain,
+        &["E318", "14.9"],
+    ),
 ];
 
 /// Whether the texts are these.
@@ -56,19 +66,36 @@ fn are_texts(texts: &[String], want: &[&str]) -> bool {
             .all(|(text, word)| text.as_str() == *word)
 }
 
-/// Whether these words ask for the subcommand with these files, and for profile 1.
+/// Whether these words ask for the subcommand with these files, and for nothing else.
 fn are_asked(words: &Words, subcommand: Subcommand, want: &[&str]) -> bool {
     match words {
         Words::Scratch(asked) => {
             subcommand == Subcommand::Scratch
                 && asked.profile == 1
+                && !asked.messages
                 && are_texts(asked.files.as_slice(), want)
         }
-        Words::Audit(files) => {
-            subcommand == Subcommand::Audit && are_texts(files.as_slice(), want)
+        Words::Audit(asked) => {
+            subcommand == Subcommand::Audit
+                && asked.sources.is_empty()
+                && !asked.progress
+                && are_texts(asked.files.as_slice(), want)
         }
         Words::Check(_) => false,
-        Words::Show(files) => subcommand == Subcommand::Show && are_texts(files.as_slice(), want),
+        Words::Show(asked) => {
+            subcommand == Subcommand::Show
+                && !asked.dot
+                && asked.of.is_none()
+                && are_texts(asked.files.as_slice(), want)
+        }
+        Words::Why(asked) => {
+            subcommand == Subcommand::Why
+                && asked.of.is_none()
+                && are_texts(asked.files.as_slice(), want)
+        }
+        Words::Explain(codes) => {
+            subcommand == Subcommand::Explain && are_texts(codes.as_slice(), want)
+        }
     }
 }
 
@@ -94,16 +121,18 @@ fn reads_the_files(rt: HostRuntime) -> Result<(), Fail> {
     Ok(())
 }
 
-/// Command lines of `scratch`, the profile that they give, and the files.
-const SCRATCHES: &[(&[&str], u8, &[&str])] = &[
+/// Command lines of `scratch`, the profile that they give, whether they want sentences, and the files.
+const SCRATCHES: &[(&[&str], u8, bool, &[&str])] = &[
     (
         &["mjrg", "scratch", "--profile", "2", "M.java"],
         2,
+        false,
         &["M.java"],
     ),
     (
-        &["mjrg", "scratch", "b", "--profile=+01", "a"],
+        &["mjrg", "scratch", "b", "--profile=+01", "--messages", "a"],
         1,
+        true,
         &["b", "a"],
     ),
     (
@@ -114,30 +143,179 @@ const SCRATCHES: &[(&[&str], u8, &[&str])] = &[
             "--profile=2",
             "--",
             "--profile",
-            "1",
+            "--messages",
         ],
         2,
-        &["2", "--profile", "1"],
+        false,
+        &["2", "--profile", "--messages"],
     ),
 ];
 
-/// Whether this command line asks to check these files from scratch in this profile.
-fn name_scratch(alloc: Global, given: &[&str], profile: u8, want: &[&str]) -> Result<bool, Fail> {
+/// Whether this command line asks to check these files from scratch so.
+fn name_scratch(
+    alloc: Global,
+    given: &[&str],
+    profile: u8,
+    messages: bool,
+    want: &[&str],
+) -> Result<bool, Fail> {
     match words(alloc, list(alloc, given)?)? {
-        Words::Scratch(asked) => {
-            Ok(asked.profile == profile && are_texts(asked.files.as_slice(), want))
+        Words::Scratch(asked) => Ok(
+            asked.profile == profile
+                && asked.messages == messages
+                && are_texts(asked.files.as_slice(), want),
+        ),
+        _ => Ok(false),
+    }
+}
+
+#[test]
+fn reads_the_options_of_a_scratch(rt: HostRuntime) -> Result<(), Fail> {
+    for (given, profile, messages, want) in SCRATCHES {
+        assert!(rt;
+            name_scratch(rt.alloc(), given, *profile, *messages, want)?,
+            "{given:?}"
+        );
+    }
+    Ok(())
+}
+
+/// Command lines of `audit`, the sources that they give, whether they want lines of progress, and the session files.
+const AUDITS: &[(&[&str], &[&str], bool, &[&str])] = &[
+    (
+        &[
+            "mjrg",
+            "audit",
+            "s0",
+            "--source",
+            "b",
+            "s1",
+            "--source=a",
+            "--source=",
+        ],
+        &["b", "a", ""],
+        false,
+        &["s0", "s1"],
+    ),
+    (
+        &[
+            "mjrg",
+            "audit",
+            "--progress",
+            "--source=--source",
+            "--",
+            "--source",
+            "a",
+        ],
+        &["--source"],
+        true,
+        &["--source", "a"],
+    ),
+    (&["mjrg", "audit", "a", "--progress"], &[], true, &["a"]),
+];
+
+/// Whether this command line asks for an audit of these session files over these sources.
+fn name_audit(
+    alloc: Global,
+    given: &[&str],
+    sources: &[&str],
+    progress: bool,
+    want: &[&str],
+) -> Result<bool, Fail> {
+    match words(alloc, list(alloc, given)?)? {
+        Words::Audit(asked) => Ok(
+            are_texts(asked.sources.as_slice(), sources)
+                && asked.progress == progress
+                && are_texts(asked.files.as_slice(), want),
+        ),
+        _ => Ok(false),
+    }
+}
+
+#[test]
+fn reads_the_options_of_an_audit(rt: HostRuntime) -> Result<(), Fail> {
+    for (given, sources, progress, want) in AUDITS {
+        assert!(rt;
+            name_audit(rt.alloc(), given, sources, *progress, want)?,
+            "{given:?}"
+        );
+    }
+    Ok(())
+}
+
+/// Command lines of `show` and `why` with options, whether they want the graph, the key of the record that they ask
+/// about, and the session files.
+const KEYS: &[(&[&str], bool, Option<&str>, &[&str])] = &[
+    (
+        &["mjrg", "show", "--dot", "s0", "s1"],
+        true,
+        None,
+        &["s0", "s1"],
+    ),
+    (
+        &["mjrg", "show", "s0", "--of", "CheckBody M main", "--dot"],
+        true,
+        Some("CheckBody M main"),
+        &["s0"],
+    ),
+    (
+        &["mjrg", "show", "--dot", "--of=--dot", "--", "--of"],
+        true,
+        Some("--dot"),
+        &["--of"],
+    ),
+    (
+        &["mjrg", "show", "s0", "--of=", "--dot"],
+        true,
+        Some(""),
+        &["s0"],
+    ),
+    (
+        &["mjrg", "why", "--of", "Answer", "s0", "s1"],
+        false,
+        Some("Answer"),
+        &["s0", "s1"],
+    ),
+    (
+        &["mjrg", "why", "s0", "--of=Tree a.java", "--", "--dot"],
+        false,
+        Some("Tree a.java"),
+        &["s0", "--dot"],
+    ),
+];
+
+/// Whether the key is this one, or is missing as this one is.
+fn is_key(key: &Option<String>, want: Option<&str>) -> bool {
+    match (key, want) {
+        (Some(key), Some(text)) => key.as_str() == text,
+        (None, None) => true,
+        _ => false,
+    }
+}
+
+/// Whether this command line asks for the graph, or why, of this record in these session files.
+fn name_key(
+    alloc: Global,
+    given: &[&str],
+    dot: bool,
+    key: Option<&str>,
+    want: &[&str],
+) -> Result<bool, Fail> {
+    match words(alloc, list(alloc, given)?)? {
+        Words::Show(asked) => Ok(
+            asked.dot == dot && is_key(&asked.of, key) && are_texts(asked.files.as_slice(), want),
+        ),
+        Words::Why(asked) => {
+            Ok(!dot && is_key(&asked.of, key) && are_texts(asked.files.as_slice(), want))
         }
         _ => Ok(false),
     }
 }
 
 #[test]
-fn reads_the_profile_of_a_scratch(rt: HostRuntime) -> Result<(), Fail> {
-    for (given, profile, want) in SCRATCHES {
-        assert!(rt;
-            name_scratch(rt.alloc(), given, *profile, want)?,
-            "{given:?}"
-        );
+fn reads_the_keys_of_show_and_why(rt: HostRuntime) -> Result<(), Fail> {
+    for (given, dot, key, want) in KEYS {
+        assert!(rt; name_key(rt.alloc(), given, *dot, *key, want)?, "{given:?}");
     }
     Ok(())
 }
@@ -149,6 +327,7 @@ struct Check {
     jobs: usize,
     profile: u8,
     form: u8,
+    messages: bool,
     files: &'static [&'static str],
 }
 
@@ -159,6 +338,7 @@ const CHECKS: &[Check] = &[
         jobs: 1,
         profile: 1,
         form: 1,
+        messages: false,
         files: &["M.java"],
     },
     Check {
@@ -167,6 +347,7 @@ const CHECKS: &[Check] = &[
         jobs: 64,
         profile: 1,
         form: 1,
+        messages: false,
         files: &["b", "a", "b"],
     },
     Check {
@@ -175,6 +356,7 @@ const CHECKS: &[Check] = &[
         jobs: 7,
         profile: 1,
         form: 1,
+        messages: false,
         files: &["-"],
     },
     Check {
@@ -183,6 +365,7 @@ const CHECKS: &[Check] = &[
         jobs: 1,
         profile: 1,
         form: 1,
+        messages: false,
         files: &["a", "--jobs", "--"],
     },
     Check {
@@ -200,6 +383,7 @@ const CHECKS: &[Check] = &[
         jobs: 1,
         profile: 1,
         form: 2,
+        messages: false,
         files: &["check"],
     },
     Check {
@@ -211,12 +395,14 @@ const CHECKS: &[Check] = &[
             "a",
             "--cache=--form",
             "--form=1",
+            "--messages",
             "--jobs=2",
         ],
         cache: "--form",
         jobs: 2,
         profile: 2,
         form: 1,
+        messages: true,
         files: &["a"],
     },
 ];
@@ -229,6 +415,7 @@ fn is_check(words: &Words, want: &Check) -> bool {
                 && asked.jobs == want.jobs
                 && asked.profile == want.profile
                 && asked.form == want.form
+                && asked.messages == want.messages
                 && are_texts(asked.files.as_slice(), want.files)
         }
         _ => false,
@@ -261,6 +448,33 @@ const REFUSED: &[&[&str]] = &[
     &["mjrg", "audit", "--profile=1", "a"],
     &["mjrg", "show", "--form=1", "a"],
     &["mjrg", "show"],
+    &["mjrg", "scratch", "--messages", "--messages", "M.java"],
+    &["mjrg", "scratch", "--messages=true", "M.java"],
+    &["mjrg", "audit", "--messages", "a"],
+    &["mjrg", "audit", "--source", "a"],
+    &["mjrg", "audit", "--progress", "--progress", "a"],
+    &["mjrg", "audit", "--progress=true", "a"],
+    &["mjrg", "audit", "--of", "Answer", "a"],
+    &["mjrg", "show", "--dot", "--dot", "a"],
+    &["mjrg", "show", "--dot=true", "a"],
+    &["mjrg", "show", "--dot", "--of"],
+    &["mjrg", "show", "--dot", "--of", "a"],
+    &[
+        "mjrg",
+        "show",
+        "--dot",
+        "--of",
+        "Answer",
+        "--of=Answer",
+        "a",
+    ],
+    &["mjrg", "show", "--of", "Answer", "a"],
+    &["mjrg", "why"],
+    &["mjrg", "why", "--of", "Answer", "--of=Answer", "a"],
+    &["mjrg", "why", "--dot", "a"],
+    &["mjrg", "why", "a", "--of"],
+    &["mjrg", "explain"],
+    &["mjrg", "explain", "--messages", "E318"],
 ];
 
 /// Whether a command line is refused with a text.
@@ -295,6 +509,16 @@ const TOLD: &[(&[&str], bool, &str)] = &[
         &["another"],
         false,
         "error: 'mjrg' requires a subcommand but one was not provided\n",
+    ),
+    (
+        &["mjrg", "show", "--of", "Answer", "s0"],
+        false,
+        "error: --of wants --dot\n",
+    ),
+    (
+        &["mjrg", "show", "--of=", "s0"],
+        false,
+        "error: --of wants --dot\n",
     ),
 ];
 
