@@ -8,7 +8,7 @@ use Rattle.command_line.specs.CommandLine.{AsksFor, Asks}
 use Rattle.command_line.specs.Subcommands.{name_of}
 use Rattle.command_line.specs.declared.asked.CheckWords.{CheckWords}
 use Rattle.command_line.specs.declared.asked.Subcommand.{Subcommand}
-use Rattle.command_line.specs.declared.asked.Subcommand.TheVariants.{Scratch, Check, Audit, Show}
+use Rattle.command_line.specs.declared.asked.Subcommand.TheVariants.{Scratch, Check, Audit, Show, Why, Explain}
 use Rattle.command_line.specs.declared.asked.Words.{Words}
 use Rattle.command_line.specs.declared.asked.Words.TheVariants as words
 use Rattle.program_run.specs.Believed.{ChecksByRules, PrintsBelieved}
@@ -42,15 +42,18 @@ not_check given other check asks differs =
     let same : name_of Check ≡ name_of other = same_Some (name_of Check) (name_of other) (sym check ∙ asks) in
     true_false (ap (λ name. bytes_eq (codes "check") name) same ∙ differs)
 
-asked_for : (given : List (List ℕ)) (report : Report) (a b c d : Option (List ℕ)) (asked : Words) → AsksFor given Check → Asks given asked → Reports asked report
-    → IsWritten report a b c d → PrintsBelieved given a b
-asked_for given report a b c d (words.Check asked) check asks reports written = inl (record { asked = asked; asks = asks; checks = by_rules asked report a b c d reports written })
-asked_for given report a b c d (words.Scratch asked) check asks reports written = absurd (not_check given Scratch check asks.subcommand refl)
-asked_for given report a b c d (words.Audit names) check asks reports written = absurd (not_check given Audit check asks.subcommand refl)
-asked_for given report a b c d (words.Show names) check asks reports written = absurd (not_check given Show check asks.subcommand refl)
+asked_for : (given : List (List ℕ)) (told : List ℕ) (report : Report) (a b c d : Option (List ℕ)) (asked : Words) → AsksFor given Check → Asks given asked
+    → Reports asked told report → IsWritten report a b c d → PrintsBelieved given a b
+asked_for given told report a b c d (words.Check asked) check asks reports written =
+    inl (record { asked = asked; asks = asks; checks = by_rules asked report a b c d reports.1 written })
+asked_for given told report a b c d (words.Scratch asked) check asks reports written = absurd (not_check given Scratch check asks.subcommand refl)
+asked_for given told report a b c d (words.Audit asked) check asks reports written = absurd (not_check given Audit check asks.subcommand refl)
+asked_for given told report a b c d (words.Show asked) check asks reports written = absurd (not_check given Show check asks.subcommand refl)
+asked_for given told report a b c d (words.Why asked) check asks reports written = absurd (not_check given Why check asks.subcommand refl)
+asked_for given told report a b c d (words.Explain asked) check asks reports written = absurd (not_check given Explain check asks.subcommand refl)
 
 pub believed : (given : List (List ℕ)) (number : ℕ) (a b c d : Option (List ℕ)) → AsksFor given Check → Prints given number a b c d → PrintsBelieved given a b
 believed given number a b c d check prints = elim prints.reports [
-  | inl reports ↦ asked_for given prints.report a b c d reports.asked check reports.asks reports.reports prints.written
-  | inr help ↦ inr (record { report = prints.report; help = help; written = prints.written.answer })
+  | inl reports ↦ asked_for given reports.told prints.report a b prints.between d reports.asked check reports.asks reports.reports prints.written
+  | inr help ↦ inr (record { report = prints.report; before = c; after = prints.between; help = help; written = prints.written.answer })
 ]

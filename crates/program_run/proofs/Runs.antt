@@ -1,15 +1,19 @@
 -- What a run writes and ends with.
-use Rattle.std.proofs.Common.{◌≡◌, ◌⊎◌, inl, inr, ℕ, List, [], ◌∷◌, Option, Some, is_some, map, string_bytes, String, Vec, refl, sym, ap, arith}
+use Rattle.std.proofs.Common.{◌≡◌, ◌∙◌, ◌⊎◌, inl, inr, ℕ, List, [], ◌∷◌, Option, Some, is_some, map, string_bytes, String, Vec, refl, sym, ap, subst, arith}
 use Rattle.std.specs.declared.alloc.Global.{Global}
 use Rattle.mj_project.specs.Projects.{names_of, sources_view}
 use Rattle.command_line.specs.declared.asked.Subcommand.{Subcommand}
 use Rattle.command_line.proofs.ProgramWords.{plain_asked}
-use Rattle.command_line.specs.Plain.{files_for}
-use Rattle.program_run.specs.Runs.{EndsWithAnswer, HasAnswer, ReportsAsked, ReportsRefusal, TellsHelp, IsWritten, Prints, PrintsPlain, PrintsRefusal, status_number}
+use Rattle.command_line.specs.Plain.{HasDefaults, files_for}
+use Rattle.command_line.specs.declared.asked.Words.{Words}
+use Rattle.command_line.specs.declared.asked.Words.TheVariants as words
+use Rattle.program_run.specs.Audits.{file_names, told_of}
+use Rattle.program_run.specs.Runs.{EndsWithAnswer, HasAnswer, Reports, ReportsAsked, ReportsRefusal, TellsHelp, IsWritten, Prints, PrintsPlain, PrintsRefusal, status_number}
 use Rattle.program_run.specs.Statuses.{IsStatus}
 use Rattle.program_run.specs.declared.report.Report.{Report}
 use Rattle.program_run.specs.declared.report.Status.{Status}
 use Rattle.program_run.specs.declared.report.Status.TheVariants as status
+use Rattle.program_run.proofs.Streams.{appends_behind}
 
 pub names_of_sources : (files : List (String Global × Vec ℕ Global)) → names_of (sources_view files) ≡ map (λ file. string_bytes file.0) files
 names_of_sources [] = refl
@@ -40,32 +44,46 @@ delivered Says report status.OutOfMemory a b c d says (inr written) (inl ends) =
 delivered Says report status.OutOfMemory a b c d says (inr written) (inr ends) = absurd cc
 
 -- the report on what the words ask for, or help
-pub prints : (given : List (List ℕ)) (report : Report) (s : Status) (out_old out_new err_old err_new : Option (List ℕ))
-    → (HasAnswer report.status → ReportsAsked given report ⊎ TellsHelp given report)
-    → (s ≡ status.Refused) ⊎ ((s ≡ report.status) × IsWritten report out_old out_new err_old err_new)
+pub prints : (given : List (List ℕ)) (report : Report) (s : Status) (out_old out_new err_old between err_new : Option (List ℕ))
+    → (HasAnswer report.status → ReportsAsked given err_old between report ⊎ TellsHelp given err_old between report)
+    → (s ≡ status.Refused) ⊎ ((s ≡ report.status) × IsWritten report out_old out_new between err_new)
     → EndsWithAnswer (status_number s)
     → Prints given (status_number s) out_old out_new err_old err_new
-prints given report s a b c d reports ends number =
-    let all = delivered (λ r. ReportsAsked given r ⊎ TellsHelp given r) report s a b c d reports ends number in
-    record { report = report; reports = all.0; written = all.1; ends = all.2 }
+prints given report s a b c m d reports ends number =
+    let all = delivered (λ r. ReportsAsked given c m r ⊎ TellsHelp given c m r) report s a b m d reports ends number in
+    record { report = report; between = m; reports = all.0; written = all.1; ends = all.2 }
 
-plain_reports : (subcommand : Subcommand) (given names : List (List ℕ)) → files_for subcommand given ≡ Some names → (report : Report)
-    → ReportsAsked given report ⊎ TellsHelp given report → ReportsAsked given report
-plain_reports subcommand given names plain report (inl reports) = reports
-plain_reports subcommand given names plain report (inr help) = absurd (help.other subcommand (ap is_some plain))
+plain_reports : (subcommand : Subcommand) (given names : List (List ℕ)) → files_for subcommand given ≡ Some names → (before after : Option (List ℕ)) (report : Report)
+    → ReportsAsked given before after report ⊎ TellsHelp given before after report → ReportsAsked given before after report
+plain_reports subcommand given names plain before after report (inl reports) = reports
+plain_reports subcommand given names plain before after report (inr help) = absurd (help.other subcommand (ap is_some plain))
+
+-- plain words have nothing said before the report
+plain_silent : (asked : Words) → HasDefaults asked → (told : List ℕ) (report : Report) → Reports asked told report → told ≡ []
+plain_silent (words.Scratch w) plain told report reports = reports.0
+plain_silent (words.Check w) plain told report reports = reports.0
+plain_silent (words.Audit w) plain told report reports = reports.told_is ∙ ap (λ progress. told_of progress (file_names w) reports.each) plain.1
+plain_silent (words.Show w) plain told report reports = reports.0
+plain_silent (words.Why w) plain told report reports = reports.0
+plain_silent (words.Explain w) plain told report reports = reports.0
 
 -- the report on what plain words ask for
 pub prints_plain : (subcommand : Subcommand) (given names : List (List ℕ)) (number : ℕ) (out_old out_new err_old err_new : Option (List ℕ))
     → files_for subcommand given ≡ Some names → Prints given number out_old out_new err_old err_new
     → PrintsPlain subcommand names number out_old out_new err_old err_new
 prints_plain subcommand given names number a b c d plain is =
-    let reports = plain_reports subcommand given names plain is.report is.reports in
+    let reports = plain_reports subcommand given names plain c is.between is.report is.reports in
+    let asked = plain_asked subcommand given names plain reports.asked reports.asks in
+    let silent = plain_silent reports.asked asked.defaults reports.told is.report reports.reports in
     record {
       asked = reports.asked;
-      plain = plain_asked subcommand given names plain reports.asked reports.asks;
+      plain = asked;
       report = is.report;
-      reports = reports.reports;
-      written = is.written;
+      reports = subst (λ (told : List ℕ). Reports reports.asked told is.report) silent reports.reports;
+      written = record {
+        notes = appends_behind c is.between d reports.told (string_bytes is.report.notes) silent reports.said is.written.notes;
+        answer = is.written.answer;
+      };
       ends = is.ends;
     }
 
@@ -77,18 +95,19 @@ silent s Said (inr said) (inl ends) = let out : s ≡ status.OutOfMemory = said.
 silent s Said (inr said) (inr ends) = let out : s ≡ status.OutOfMemory = said.0 in absurd cc
 
 -- the report on a chain that is refused
-pub prints_refusal : {File : Type 0} (held : File → Option (List ℕ)) (given : List (List ℕ)) (report : Report) (s : Status) (out_old out_new err_old err_new : Option (List ℕ))
-    → (report.status ≡ status.ChainRefused → ReportsRefusal held given report)
-    → (s ≡ status.Refused) ⊎ ((s ≡ report.status) × IsWritten report out_old out_new err_old err_new)
+pub prints_refusal : {File : Type 0} (held : File → Option (List ℕ)) (given : List (List ℕ)) (report : Report) (s : Status)
+    (out_old out_new err_old between err_new : Option (List ℕ))
+    → (report.status ≡ status.ChainRefused → ReportsRefusal held given err_old between report)
+    → (s ≡ status.Refused) ⊎ ((s ≡ report.status) × IsWritten report out_old out_new between err_new)
     → status_number s ≡ 3
     → PrintsRefusal held given out_old out_new err_old err_new
-prints_refusal held given report status.Clean a b c d reports written number = absurd cc
-prints_refusal held given report status.Diagnostics a b c d reports written number = absurd cc
-prints_refusal held given report status.Refused a b c d reports written number = absurd cc
-prints_refusal held given report status.ChainRefused a b c d reports (inl refused) number = absurd cc
-prints_refusal held given report status.ChainRefused a b c d reports (inr written) number =
-    record { report = report; reports = reports (sym written.0); written = written.1 }
-prints_refusal held given report status.OutOfMemory a b c d reports written number = absurd cc
+prints_refusal held given report status.Clean a b c m d reports written number = absurd cc
+prints_refusal held given report status.Diagnostics a b c m d reports written number = absurd cc
+prints_refusal held given report status.Refused a b c m d reports written number = absurd cc
+prints_refusal held given report status.ChainRefused a b c m d reports (inl refused) number = absurd cc
+prints_refusal held given report status.ChainRefused a b c m d reports (inr written) number =
+    record { report = report; between = m; reports = reports (sym written.0); written = written.1 }
+prints_refusal held given report status.OutOfMemory a b c m d reports written number = absurd cc
 
 -- out of memory is no refused chain
 pub no_refusal : (s : Status) (Said : Type 0) → (s ≡ status.Refused) ⊎ ((s ≡ status.OutOfMemory) × Said) → status_number s ≡ 3 → ⊥

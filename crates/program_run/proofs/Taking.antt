@@ -49,3 +49,8 @@ nothing_left (x ∷ xs) e = absurd (omega (arith, e))
 
 pub all_of : {A : Type 0} (ys rest all : List A) → rest ≡ [] → ys ++ rest ≡ all → ys ≡ all
 all_of ys rest all none is = sym (append-nil ys) ∙ (ap (λ (l : List _). ys ++ l) (sym none) ∙ is)
+
+-- there are as many files as names
+pub as_many : {A B C : Type 0} (f : A → C) (g : B → C) (xs : List A) (ys : List B) (m n : ℕ) → m ≡ length xs → n ≡ length ys → map f xs ≡ map g ys → m ≡ n
+as_many f g xs ys m n xs_many ys_many same =
+    xs_many ∙ (sym (many_map f xs) ∙ (ap (λ (l : List _). length l) same ∙ (many_map g ys ∙ sym ys_many)))

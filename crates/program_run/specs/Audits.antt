@@ -1,24 +1,50 @@
--- What an audit of files of these names ends with, and what is written of a chain that is shown.
-use Rattle.std.specs.Prelude.{◌≡◌, ◌⊎◌, ℕ, List, [], ◌∷◌, ◌++◌, Option, Some, None, codes, decimal, length, slice_get, String, string_bytes}
+-- What an audit of the files that the words name ends with, and what it says of each of them.
+use Rattle.std.specs.Prelude.{◌≡◌, ◌≢◌, ◌⊎◌, ℕ, Bool, true, false, List, [], ◌∷◌, ◌++◌, Option, Some, None, codes, decimal, length, map, slice_get, String, string_bytes}
+use Rattle.std.specs.Io.KnownBytes.{Appends}
 use Rattle.std.specs.List.{AllByRecursion}
 use Rattle.std.specs.declared.alloc.Global.{Global}
+use Rattle.mj_project.specs.Projects.{SourceFile, names_of}
 use Rattle.mj_rules.specs.AnswerWords.{AnswerValue, text_of}
 use Rattle.result_bytes.specs.declared.value.Value.{Value}
 use Rattle.result_bytes.specs.declared.value.Value.TheVariants as values
-use Rattle.sessions.specs.Sessions.{AreTaken, IsSession, SessionValue}
-use Rattle.session_text.specs.SessionText.{text_of as session_text}
+use Rattle.sessions.specs.Sessions.{IsSession, SessionValue}
+use Rattle.sessions.specs.Spelling.{file_of}
 use Rattle.audit_graph.specs.declared.fault.AuditFault.{AuditFault}
 use Rattle.audit_graph.specs.declared.fault.AuditFault.TheVariants as chain
 use Rattle.session_file.specs.declared.fault.FileFault.TheVariants as file
-use Rattle.audit_replay.specs.Audits.{last_of}
 use Rattle.profiles.specs.declared.profile.Profile.{Profile}
-use Rattle.mini_java.specs.Headline.{ChainRefuses, IsAcceptedChain}
+use Rattle.cached_check.specs.Lines.{counts_of}
+use Rattle.mini_java.specs.Headline.{ChainRefuses, ChainRefusesAgainst, IsAcceptedAgainst, IsAcceptedChain}
 use Rattle.mini_java.specs.Taken.{HasTaken}
 use Rattle.mini_java.specs.declared.auditor.ChainAuditor.{ChainAuditor}
+use Rattle.command_line.specs.declared.asked.AuditWords.{AuditWords}
+use Rattle.program_run.specs.Unread.{NamesFail}
 use Rattle.program_run.specs.declared.failure.Failure.{Failure}
 use Rattle.program_run.specs.declared.failure.Failure.TheVariants as failure
 use Rattle.program_run.specs.declared.report.Report.{Report}
 use Rattle.program_run.specs.declared.report.Status.TheVariants as status
+
+-- ---- what is said of each file
+
+-- c0000/s0003.mjrg: session 3, 12 executed, 40 green
+abbrev pub progress_line : List ℕ → SessionValue → List ℕ
+progress_line name s =
+    name ++ codes ": session " ++ decimal s.number ++ codes ", " ++ counts_of s ++ codes "\n"
+
+-- a line for each file with its session
+abbrev pub progress_of : List (List ℕ) → List SessionValue → List ℕ
+progress_of (name ∷ names) (s ∷ ss) = progress_line name s ++ progress_of names ss
+progress_of _ _ = []
+
+-- the line on the file that was taken last, if it is wanted
+abbrev pub told_last : Bool → List ℕ → Option SessionValue → List ℕ
+told_last true name (Some s) = progress_line name s
+told_last _ name _ = []
+
+-- the lines on the files that were taken, if they are wanted
+abbrev pub told_of : Bool → List (List ℕ) → List SessionValue → List ℕ
+told_of true names sessions = progress_of names sessions
+told_of false names sessions = []
 
 -- ---- accepted
 
@@ -36,29 +62,64 @@ pub record IsAcceptedReport (v : Value) (sessions runs : ℕ) (report : Report) 
   pub line : string_bytes report.notes ≡ accepted_line sessions runs
   pub status : report.status ≡ status.Clean
 
--- Files of these names, as many as there are names, were accepted, and their answer is written.
-pub record AuditsTo (names : List (List ℕ)) (report : Report) : Type 0 where
+-- the project of the sources of these names, if there are any
+abbrev pub IsProjectOf : List (List ℕ) → Option (List SourceFile) → Type 0
+IsProjectOf [] project = project ≡ None
+IsProjectOf (name ∷ names) (Some project) = names_of project ≡ name ∷ names
+IsProjectOf (name ∷ names) None = ⊥
+
+-- the files are accepted, and if there is a project the last session is one of just its files
+abbrev pub IsAcceptedOver : Option (List SourceFile) → List (List ℕ) → Profile → Value → ℕ → ℕ
+    → Type 0
+IsAcceptedOver None files profile v sessions runs = IsAcceptedChain files profile v sessions runs
+IsAcceptedOver (Some project) files profile v sessions runs =
+    IsAcceptedAgainst project files profile v sessions runs
+
+-- the files are refused, or if there is a project the last session isn't one of just its files
+abbrev pub RefusesOver : Option (List SourceFile) → List (List ℕ) → AuditFault → Type 0
+RefusesOver None files fault = ChainRefuses files fault
+RefusesOver (Some project) files fault = ChainRefusesAgainst project files fault
+
+-- the names of an audit: those of its files, and those of its sources
+abbrev pub file_names : AuditWords → List (List ℕ)
+file_names asked = map string_bytes asked.files.items
+
+abbrev pub source_names : AuditWords → List (List ℕ)
+source_names asked = map string_bytes asked.sources.items
+
+-- Files of these names, as many as there are names, were accepted, each with the line on its session
+-- before the report if that is wanted. The last session is one of just the sources, if there are
+-- any, and its answer is written.
+pub record AuditsTo (asked : AuditWords) (told : List ℕ) (report : Report) : Type 0 where
   pub files : List (List ℕ)
-  pub many : length files ≡ length names
+  pub many : length files ≡ length (file_names asked)
+  pub each : List SessionValue
+  pub spelled : map file_of each ≡ files
+  pub sessions_are : AllByRecursion IsSession each
+  pub told_is : told ≡ told_of asked.progress (file_names asked) each
   pub v : Value
   pub sessions : ℕ
   pub runs : ℕ
   pub profile : Profile
-  pub accepted : IsAcceptedChain files profile v sessions runs
+  pub project : Option (List SourceFile)
+  pub named : IsProjectOf (source_names asked) project
+  pub accepted : IsAcceptedOver project files profile v sessions runs
   pub written : IsAcceptedReport v sessions runs report
 
 -- ---- refused
 
--- the files were taken: they are those of sessions each of which passes over the one before
-pub record WereTaken (files : List (List ℕ)) : Type 0 where
-  pub auditor : ChainAuditor
-  pub taken : HasTaken files auditor
-
--- The auditor took all these files.
-pub record TookAll (names : List (List ℕ)) (auditor : ChainAuditor) : Type 0 where
+-- The auditor took these files, in front of those of other names, and said what is wanted of each.
+pub record TookFront (names : List (List ℕ)) (progress : Bool) (before after : Option (List ℕ))
+    (auditor : ChainAuditor) : Type 0 where
   pub files : List (List ℕ)
-  pub many : length files ≡ length names
   pub taken : HasTaken files auditor
+  pub told : Appends before after (told_of progress names taken.sessions)
+
+-- The auditor took all files of these names, and said what is wanted of each.
+pub record TookAll (names : List (List ℕ)) (progress : Bool) (before after : Option (List ℕ))
+    (auditor : ChainAuditor) : Type 0 where
+  pub front : TookFront names progress before after auditor
+  pub many : length front.files ≡ length names
 
 -- Behind the files taken an opened file is refused, by the bytes that it held where its type tells
 -- them, whatever may follow.
@@ -67,6 +128,23 @@ pub record RefusesOpened {File : Type 0} (held : File → Option (List ℕ)) (fr
   pub opened : File
   pub refused : (bytes : List ℕ) → held opened ≡ Some bytes → (rest : List (List ℕ))
       → ChainRefuses (front ++ bytes ∷ rest) fault
+
+-- One more file was taken, whose session stands behind the others.
+pub record TakesNext (old new : ChainAuditor) : Type 0 where
+  pub file : List ℕ
+  pub session : SessionValue
+  pub taken : (front : List (List ℕ)) → HasTaken front old → HasTaken (front ++ file ∷ []) new
+  pub behind : (front : List (List ℕ)) (was : HasTaken front old)
+      → (taken front was).sessions ≡ was.sessions ++ session ∷ []
+
+-- One more file was taken, whose session stands behind the others, and what is wanted of it was said.
+pub record TakesMore (front : List (List ℕ)) (sessions : List SessionValue) (name : List ℕ)
+    (progress : Bool) (new : ChainAuditor) (before after : Option (List ℕ)) : Type 0 where
+  pub file : List ℕ
+  pub session : SessionValue
+  pub taken : HasTaken (front ++ file ∷ []) new
+  pub behind : taken.sessions ≡ sessions ++ session ∷ []
+  pub told : Appends before after (told_last progress name (Some session))
 
 -- a file whose reading failed can't be read, and any other fault is the chain's
 abbrev pub failure_of : String Global → AuditFault → Failure
@@ -82,44 +160,64 @@ FailsBehind held front name (failure.Chain fault) = RefusesOpened held front fau
 FailsBehind held front name failure.OutOfMemory = Unit {0}
 FailsBehind held front name _ = ⊥
 
+-- why nothing is said of a file that was taken: standard error takes no line, or memory ran out
+abbrev pub TellFails : Bool → Failure → Type 0
+TellFails progress failure.Untold = progress ≡ true
+TellFails progress failure.OutOfMemory = Unit {0}
+TellFails progress _ = ⊥
+
+-- why the file of this name isn't taken behind these, or nothing is said of it
+abbrev pub TakeFails : {File : Type 0} → (File → Option (List ℕ)) → List (List ℕ) → List ℕ
+    → Bool → Option (List ℕ) → Option (List ℕ) → Failure → Type 0
+TakeFails held front name progress before after (failure.CannotRead path) =
+    FailsBehind held front name (failure.CannotRead path) × (before ≡ after)
+TakeFails held front name progress before after (failure.Chain fault) =
+    FailsBehind held front name (failure.Chain fault) × (before ≡ after)
+TakeFails held front name progress before after why = TellFails progress why
+
 -- The files in front of the first name that fails were taken.
 pub record StopsAt {File : Type 0} (held : File → Option (List ℕ)) (names : List (List ℕ))
-    (failure : Failure) : Type 0 where
-  pub front : List (List ℕ)
-  pub taken : WereTaken front
+    (progress : Bool) (before after : Option (List ℕ)) (failure : Failure) : Type 0 where
+  pub auditor : ChainAuditor
+  pub took : TookFront names progress before after auditor
   pub name : List ℕ
-  pub here : slice_get names (length front) ≡ Some name
-  pub fails : FailsBehind held front name failure
+  pub here : slice_get names (length took.files) ≡ Some name
+  pub fails : FailsBehind held took.files name failure
 
 -- all files were taken, and the chain of them is refused
-pub record RefusesAll (names : List (List ℕ)) (fault : AuditFault) : Type 0 where
-  pub files : List (List ℕ)
-  pub many : length files ≡ length names
-  pub refused : ChainRefuses files fault
+pub record RefusesAll (asked : AuditWords) (before after : Option (List ℕ))
+    (fault : AuditFault) : Type 0 where
+  pub auditor : ChainAuditor
+  pub took : TookAll (file_names asked) asked.progress before after auditor
+  pub project : Option (List SourceFile)
+  pub named : IsProjectOf (source_names asked) project
+  pub refused : RefusesOver project took.front.files fault
 
--- Why files of these names aren't accepted: one of them stops the audit, or all were taken and their
--- chain is refused.
-abbrev pub AuditFails : {File : Type 0} → (File → Option (List ℕ)) → List (List ℕ) → Failure
-    → Type 0
-AuditFails held names (failure.Chain fault) =
-    StopsAt held names (failure.Chain fault) ⊎ RefusesAll names fault
-AuditFails held names failure.OutOfMemory = Unit {0}
-AuditFails held names why = StopsAt held names why
+-- why not all files of these names are taken
+abbrev pub IsStopped : {File : Type 0} → (File → Option (List ℕ)) → List (List ℕ) → Bool
+    → Option (List ℕ) → Option (List ℕ) → Failure → Type 0
+IsStopped held names progress before after (failure.CannotRead path) =
+    StopsAt held names progress before after (failure.CannotRead path)
+IsStopped held names progress before after (failure.Chain fault) =
+    StopsAt held names progress before after (failure.Chain fault)
+IsStopped held names progress before after why = TellFails progress why
 
--- ---- shown
+-- there are sources, and they can't be read or are no project
+abbrev pub SourcesFail : List (List ℕ) → Failure → Type 0
+SourcesFail names why = (names ≢ []) × NamesFail names why
 
--- It is the last of so many sessions, each of which is taken from the one before.
-pub record IsLastOf (many : ℕ) (last : Option SessionValue) : Type 0 where
-  pub sessions : List SessionValue
-  pub each : AllByRecursion IsSession sessions
-  pub taken : AreTaken None sessions
-  pub are_many : length sessions ≡ many
-  pub is_last : last_of None sessions ≡ last
-
--- The text of the last of so many sessions stands on standard output alone.
-pub record ShowsLast (many : ℕ) (report : Report) : Type 0 where
-  pub session : SessionValue
-  pub last : IsLastOf many (Some session)
-  pub text : string_bytes report.answer ≡ session_text session
-  pub notes : string_bytes report.notes ≡ []
-  pub status : report.status ≡ status.Clean
+-- Why an audit doesn't accept: its sources can't be read or are no project, one of its files stops
+-- it, or all were taken and their chain is refused, or standard error takes no line on a file.
+abbrev pub AuditFails : {File : Type 0} → (File → Option (List ℕ)) → AuditWords
+    → Option (List ℕ) → Option (List ℕ) → Failure → Type 0
+AuditFails held asked before after (failure.CannotRead path) =
+    SourcesFail (source_names asked) (failure.CannotRead path)
+    ⊎ StopsAt held (file_names asked) asked.progress before after (failure.CannotRead path)
+AuditFails held asked before after (failure.Project fault) =
+    SourcesFail (source_names asked) (failure.Project fault)
+AuditFails held asked before after (failure.Chain fault) =
+    StopsAt held (file_names asked) asked.progress before after (failure.Chain fault)
+    ⊎ RefusesAll asked before after fault
+AuditFails held asked before after failure.Untold = asked.progress ≡ true
+AuditFails held asked before after failure.OutOfMemory = Unit {0}
+AuditFails held asked before after _ = ⊥

@@ -45,7 +45,9 @@ pub record PrintsByRules (given : List (List ℕ)) (out_old out_new : Option (Li
 -- The words get help.
 pub record PrintsHelp (given : List (List ℕ)) (out_old out_new : Option (List ℕ)) : Type 0 where
   pub report : Report
-  pub help : TellsHelp given report
+  pub before : Option (List ℕ)
+  pub after : Option (List ℕ)
+  pub help : TellsHelp given before after report
   pub written : Appends out_old out_new (string_bytes report.answer)
 
 -- words that ask for a check get its answer, by the rules, or help

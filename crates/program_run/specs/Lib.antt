@@ -6,4 +6,6 @@ pub mod Failures
 pub mod Lines
 pub mod Refusals
 pub mod Runs
+pub mod Shows
 pub mod Statuses
+pub mod Unread

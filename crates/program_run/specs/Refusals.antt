@@ -5,6 +5,7 @@ use Rattle.audit_graph.specs.declared.fault.AuditFault.TheVariants as chain
 use Rattle.session_text.specs.FaultWords.{fault_words}
 use Rattle.cached_check.specs.declared.fault.CheckFault.{CheckFault}
 use Rattle.cached_check.specs.declared.fault.CheckFault.TheVariants as cache
+use Rattle.code_words.specs.Explained.{unknown_text_of}
 use Rattle.command_line.specs.declared.asked.WordsFault.TheVariants as words
 use Rattle.program_run.specs.Lines.{refusal_words}
 use Rattle.program_run.specs.declared.failure.Failure.{Failure}
@@ -48,6 +49,10 @@ refused_line words = codes "refused: " ++ words ++ codes "\n"
 abbrev pub unreadable_line : List ℕ → List ℕ
 unreadable_line name = codes "cannot read " ++ name ++ codes "\n"
 
+-- no record Diags M
+abbrev pub no_record_line : List ℕ → List ℕ
+no_record_line key = codes "no record " ++ key ++ codes "\n"
+
 -- why no session is kept, behind the notes of the check; out of memory has no text
 abbrev pub cache_words : CheckFault → List ℕ
 cache_words (cache.CannotRead path) = unreadable_line (string_bytes path)
@@ -60,6 +65,9 @@ abbrev pub AreNotes : Failure → List ℕ → Type 0
 AreNotes (failure.Words (words.Refused text)) notes = notes ≡ string_bytes text
 AreNotes (failure.Words _) notes = notes ≡ []
 AreNotes (failure.CannotRead name) notes = notes ≡ unreadable_line (string_bytes name)
+AreNotes failure.Untold notes = notes ≡ []
+AreNotes (failure.NoRecord key) notes = notes ≡ no_record_line (string_bytes key)
+AreNotes (failure.UnknownCode code) notes = notes ≡ unknown_text_of (string_bytes code)
 AreNotes (failure.Project fault) notes = notes ≡ refusal_words fault
 AreNotes (failure.Chain fault) notes = notes ≡ refused_line (chain_words fault)
 AreNotes (failure.SessionFile fault) notes = notes ≡ refused_line (fault_words fault)

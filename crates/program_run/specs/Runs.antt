@@ -1,5 +1,5 @@
 -- What a run writes.
-use Rattle.std.specs.Prelude.{◌≡◌, ◌⊎◌, ℕ, List, [], IsTrue, Option, String, map, string_bytes, vec_len}
+use Rattle.std.specs.Prelude.{◌≡◌, ◌⊎◌, ℕ, false, List, [], IsTrue, Option, None, String, map, string_bytes}
 use Rattle.std.specs.Io.KnownBytes.{Appends}
 use Rattle.std.specs.declared.alloc.Global.{Global}
 use Rattle.mj_project.specs.Projects.{SourceFile, names_of}
@@ -8,37 +8,47 @@ use Rattle.profiles.specs.declared.profile.Profile.{Profile}
 use Rattle.mj_rules.specs.AnswerWords.{AnswerValue, text_of}
 use Rattle.mj_rules.specs.Rules.{Rules}
 use Rattle.audit_graph.specs.declared.fault.AuditFault.{AuditFault}
+use Rattle.code_words.specs.Explained.{explained, first_unknown}
 use Rattle.command_line.specs.CommandLine.{Asks}
 use Rattle.command_line.specs.Plain.{IsPlain, asks_plainly}
-use Rattle.command_line.specs.Runnable.{files_of_words, subcommand_of}
+use Rattle.command_line.specs.declared.asked.AuditWords.{AuditWords}
+use Rattle.command_line.specs.declared.asked.ScratchWords.{ScratchWords}
 use Rattle.command_line.specs.declared.asked.Subcommand.{Subcommand}
-use Rattle.command_line.specs.declared.asked.Subcommand.TheVariants.{Audit}
 use Rattle.command_line.specs.declared.asked.Words.{Words}
 use Rattle.command_line.specs.declared.asked.Words.TheVariants as words
-use Rattle.program_run.specs.Audits.{AuditFails, AuditsTo, ShowsLast, StopsAt}
+use Rattle.diagnostic_lines.specs.Lines.{IsFaultText, is_clean}
+use Rattle.program_run.specs.Audits.{AuditFails, AuditsTo, StopsAt}
 use Rattle.program_run.specs.Checks.{ChecksAsked}
 use Rattle.program_run.specs.Endings.{status_of_answer}
 use Rattle.program_run.specs.Failures.{MayFail}
-use Rattle.program_run.specs.Lines.{is_clean, IsFaultText}
 use Rattle.program_run.specs.Refusals.{AreNotes, chain_words, refused_line, unreadable_line}
+use Rattle.program_run.specs.Shows.{SaysWhy, ShowsLast}
 use Rattle.program_run.specs.declared.failure.Failure.{Failure}
 use Rattle.program_run.specs.declared.failure.Failure.TheVariants as failure
 use Rattle.program_run.specs.declared.report.Report.{Report}
 use Rattle.program_run.specs.declared.report.Status.{Status}
 use Rattle.program_run.specs.declared.report.Status.TheVariants as status
 
--- The answer that the rules of the profile of this number give files of these names: its text, a line
--- for each of its diagnostics with its place, and the status that it ends with.
-pub record ReportsOn (number : ℕ) (names : List (List ℕ)) (report : Report) : Type 0 where
+-- The answer that the rules of the profile asked for give files of the names asked for: its text, a
+-- line for each of its diagnostics with its place, with its sentence and its source line if they are
+-- wanted, and the status that it ends with.
+pub record ReportsOn (asked : ScratchWords) (report : Report) : Type 0 where
   pub profile : Profile
-  pub numbered : profile_number profile ≡ number
+  pub numbered : profile_number profile ≡ asked.profile
   pub files : List SourceFile
   pub answer : AnswerValue
-  pub named : names_of files ≡ names
+  pub named : names_of files ≡ map string_bytes asked.files.items
   pub rules : Rules profile files answer
   pub text : string_bytes report.answer ≡ text_of answer
-  pub lines : IsFaultText files answer (string_bytes report.notes)
+  pub lines : IsFaultText asked.messages files answer (string_bytes report.notes)
   pub status : report.status ≡ status_of_answer (is_clean answer)
+
+-- The text on each of these codes stands on standard output alone.
+pub record Explains (asked : List (String Global)) (report : Report) : Type 0 where
+  pub known : first_unknown asked ≡ None
+  pub text : string_bytes report.answer ≡ explained asked
+  pub notes : string_bytes report.notes ≡ []
+  pub status : report.status ≡ status.Clean
 
 -- Both texts of a report stand behind what the two streams held before.
 pub record IsWritten (report : Report)
@@ -61,41 +71,51 @@ status_number status.Refused = 2
 status_number status.ChainRefused = 3
 status_number status.OutOfMemory = 4
 
--- the report on what the words ask for
-abbrev pub Reports : Words → Report → Type 0
-Reports (words.Scratch asked) report =
-    ReportsOn asked.profile (map string_bytes asked.files.items) report
-Reports (words.Check asked) report = ChecksAsked asked report
-Reports (words.Audit names) report = AuditsTo (map string_bytes names.items) report
-Reports (words.Show names) report = ShowsLast (vec_len names) report
+-- The report on what the words ask for, and what was said on standard error before. Only an audit
+-- says something there, on each file as it is taken.
+abbrev pub Reports : Words → List ℕ → Report → Type 0
+Reports (words.Scratch asked) told report = (told ≡ []) × ReportsOn asked report
+Reports (words.Check asked) told report = (told ≡ []) × ChecksAsked asked report
+Reports (words.Audit asked) told report = AuditsTo asked told report
+Reports (words.Show asked) told report = (told ≡ []) × ShowsLast asked report
+Reports (words.Why asked) told report = (told ≡ []) × SaysWhy asked report
+Reports (words.Explain asked) told report =
+    (told ≡ []) × Explains asked.items report
 
--- The report on what these words ask for.
-pub record ReportsAsked (given : List (List ℕ)) (report : Report) : Type 0 where
+-- The report on what these words ask for, when standard error has what is said before.
+pub record ReportsAsked (given : List (List ℕ)) (before after : Option (List ℕ))
+    (report : Report) : Type 0 where
   pub asked : Words
   pub asks : Asks given asked
-  pub reports : Reports asked report
+  pub told : List ℕ
+  pub said : Appends before after told
+  pub reports : Reports asked told report
 
 -- Help: nothing stands on standard error. Plain words get none.
-pub record TellsHelp (given : List (List ℕ)) (report : Report) : Type 0 where
+pub record TellsHelp (given : List (List ℕ)) (before after : Option (List ℕ))
+    (report : Report) : Type 0 where
   pub other : (subcommand : Subcommand) → IsTrue (asks_plainly subcommand given) → ⊥
+  pub said : before ≡ after
   pub notes : string_bytes report.notes ≡ []
   pub ends : report.status ≡ status.Clean
 
--- The report on what the words ask for, or help, is written, and the run ends with its status.
+-- The report on what the words ask for, or help, is written behind what is said before, and the run
+-- ends with its status.
 pub record Prints (given : List (List ℕ)) (status : ℕ)
     (out_old out_new err_old err_new : Option (List ℕ)) : Type 0 where
   pub report : Report
-  pub reports : ReportsAsked given report ⊎ TellsHelp given report
-  pub written : IsWritten report out_old out_new err_old err_new
+  pub between : Option (List ℕ)
+  pub reports : ReportsAsked given err_old between report ⊎ TellsHelp given err_old between report
+  pub written : IsWritten report out_old out_new between err_new
   pub ends : status ≡ status_number report.status
 
--- The report on just this is written: the subcommand, on files of these names.
+-- The report on just this is written: the subcommand, on files of these names. Nothing is said before.
 pub record PrintsPlain (subcommand : Subcommand) (names : List (List ℕ)) (status : ℕ)
     (out_old out_new err_old err_new : Option (List ℕ)) : Type 0 where
   pub asked : Words
   pub plain : IsPlain subcommand names asked
   pub report : Report
-  pub reports : Reports asked report
+  pub reports : Reports asked [] report
   pub written : IsWritten report out_old out_new err_old err_new
   pub ends : status ≡ status_number report.status
 
@@ -103,17 +123,17 @@ pub record PrintsPlain (subcommand : Subcommand) (names : List (List ℕ)) (stat
 
 -- The words ask for an audit of files, which refuses their chain with this fault.
 pub record RefusesAudit {File : Type 0} (held : File → Option (List ℕ)) (given : List (List ℕ))
-    (fault : AuditFault) : Type 0 where
-  pub asked : Words
-  pub asks : Asks given asked
-  pub audit : subcommand_of asked ≡ Audit
-  pub fails : AuditFails held (files_of_words asked) (failure.Chain fault)
+    (before after : Option (List ℕ)) (fault : AuditFault) : Type 0 where
+  pub asked : AuditWords
+  pub asks : Asks given (words.Audit asked)
+  pub fails : AuditFails held asked before after (failure.Chain fault)
 
--- The fault of a refused chain stands on standard error alone.
+-- The fault of a refused chain stands on standard error, behind what is said before, and nothing on
+-- standard output.
 pub record ReportsRefusal {File : Type 0} (held : File → Option (List ℕ)) (given : List (List ℕ))
-    (report : Report) : Type 0 where
+    (before after : Option (List ℕ)) (report : Report) : Type 0 where
   pub fault : AuditFault
-  pub refuses : RefusesAudit held given fault
+  pub refuses : RefusesAudit held given before after fault
   pub line : string_bytes report.notes ≡ refused_line (chain_words fault)
   pub silent : string_bytes report.answer ≡ []
   pub ends : report.status ≡ status.ChainRefused
@@ -122,24 +142,25 @@ pub record ReportsRefusal {File : Type 0} (held : File → Option (List ℕ)) (g
 pub record PrintsRefusal {File : Type 0} (held : File → Option (List ℕ)) (given : List (List ℕ))
     (out_old out_new err_old err_new : Option (List ℕ)) : Type 0 where
   pub report : Report
-  pub reports : ReportsRefusal held given report
-  pub written : IsWritten report out_old out_new err_old err_new
+  pub between : Option (List ℕ)
+  pub reports : ReportsRefusal held given err_old between report
+  pub written : IsWritten report out_old out_new between err_new
 
--- The audit of files of these names stops at one that can't be read, whose name stands on standard
--- error alone.
+-- The plain audit of files of these names stops at one that can't be read, whose name stands on
+-- standard error alone.
 pub record ReportsUnreadable {File : Type 0} (held : File → Option (List ℕ))
-    (names : List (List ℕ)) (report : Report) : Type 0 where
+    (names : List (List ℕ)) (before after : Option (List ℕ)) (report : Report) : Type 0 where
   pub path : String Global
-  pub stops : StopsAt held names (failure.CannotRead path)
+  pub stops : StopsAt held names false before after (failure.CannotRead path)
   pub line : string_bytes report.notes ≡ unreadable_line (string_bytes path)
   pub silent : string_bytes report.answer ≡ []
 
 -- ---- refused runs
 
--- Why the run fails stands on standard error alone.
+-- Why the run fails stands on standard error, and nothing on standard output.
 pub record ReportsFailure {File : Type 0} (held : File → Option (List ℕ)) (given : List (List ℕ))
-    (report : Report) : Type 0 where
+    (before after : Option (List ℕ)) (report : Report) : Type 0 where
   pub why : Failure
-  pub fails : MayFail held given why
+  pub fails : MayFail held given before after why
   pub notes : AreNotes why (string_bytes report.notes)
   pub silent : string_bytes report.answer ≡ []

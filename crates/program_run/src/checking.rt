@@ -8,11 +8,11 @@ ghost use Rattle.program_run.specs.Failures.{CheckFails, ProjectFails};
 
 use crate::failure::Failure;
 use crate::files::read_files;
-use crate::lines::fault_text_of;
 use crate::report::{Report, Status};
 use crate::terms::{form_of, profile_of};
 use cached_check::{Beginning, answer_in, begin, keep, next_session, summary_text};
 use command_line::CheckWords;
+use diagnostic_lines::fault_text_of;
 use mj_rules::{Project, render};
 use sessions::{Session, Terms};
 use std::alloc::{AllocError, Global};
@@ -38,6 +38,7 @@ pub(crate) fn check<R: Files + AllocGlobal, T: Threads + Wait + Sync>(
         jobs,
         profile,
         form,
+        messages,
         files,
     } = asked;
     let project = Project::new(rt.alloc(), read_files(rt, files)?)?;
@@ -45,7 +46,7 @@ pub(crate) fn check<R: Files + AllocGlobal, T: Threads + Wait + Sync>(
         profile: profile_of(profile),
         form: form_of(form),
     };
-    check_project(rt, threads, &project, terms, cache.as_str(), jobs)
+    check_project(rt, threads, &project, terms, messages, cache.as_str(), jobs)
 }
 
 // The report on a check of the project over the cache of this folder.
@@ -54,19 +55,20 @@ fn check_project<R: Files + AllocGlobal, T: Threads + Wait + Sync>(
     threads: &T,
     project: &Project,
     terms: Terms,
+    messages: bool,
     cache: &str,
     jobs: usize,
 ) -> Result<Report, Failure>
     requires some { 1 ≤ jobs }
     requires most { jobs ≤ 64 }
-    ensures reports { IfOk result (ChecksTo terms cache.now (names_of project.now)) }
+    ensures reports { IfOk result (ChecksTo terms messages cache.now (names_of project.now)) }
     ensures failed { IfErr result (ProjectFails cache.now) }
 {
     let alloc = rt.alloc();
     let Beginning { past, place, notes } = begin(rt, cache)?;
     let followed = held_again(&past)?;
     let session = next_session(threads, alloc, past, project, terms, jobs)?;
-    let report = session_report(alloc, project, notes.as_str(), &session)?;
+    let report = session_report(alloc, project, messages, notes.as_str(), &session)?;
     keep(rt, threads, cache, place, &session, jobs, notes)?;
     // (the run ends here: the memory of both sessions is left to the system, which frees all of it at once)
     forget(session);
@@ -86,15 +88,16 @@ fn held_again(past: &Option<Arc<Session>>) -> Result<Option<Arc<Session>>, Alloc
 fn session_report(
     alloc: Global,
     project: &Project,
+    messages: bool,
     notes: &str,
     session: &Session,
 ) -> Result<Report, AllocError>
     requires { IsAnswered session.now }
-    ensures { IfOk result (TellsSession project.now notes.now session.now) }
+    ensures { IfOk result (TellsSession project.now messages notes.now session.now) }
 {
     let answer = answer_in(session);
     let mut told = String::from_str(alloc, notes)?;
-    told.push_str(fault_text_of(alloc, project, answer)?.as_str())?;
+    told.push_str(fault_text_of(alloc, project, answer, messages)?.as_str())?;
     told.push_str(summary_text(alloc, session)?.as_str())?;
     Ok(Report {
         notes: told,

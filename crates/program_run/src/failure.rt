@@ -16,6 +16,12 @@ pub enum Failure {
     Words(WordsFault),
     /// The file of this name can't be read.
     CannotRead(String),
+    /// Standard error takes no line on a file that was taken.
+    Untold,
+    /// The session has no record of the key that these words name.
+    NoRecord(String),
+    /// There is no such code.
+    UnknownCode(String),
     /// The files are no project.
     Project(ProjectFault),
     /// The files are no accepted chain of sessions.

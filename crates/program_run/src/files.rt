@@ -1,7 +1,7 @@
 //! The files that the words name.
 ghost use Rattle.std.specs.Prelude.{◌≡◌, ◌≢◌, IfOk, IfErr, map, string_bytes};
 ghost use Rattle.std.specs.IoError.{error_kind};
-ghost use Rattle.program_run.specs.Failures.{AreUnread, IsUnread};
+ghost use Rattle.program_run.specs.Unread.{AreUnread, IsUnread};
 ghost use Rattle.program_run.specs.declared.failure.Failure.TheVariants as failures;
 
 use crate::failure::Failure;

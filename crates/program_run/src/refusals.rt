@@ -2,12 +2,14 @@
 ghost use Rattle.std.specs.Prelude.{◌≡◌, ◌++◌, IfOk, OnOk, string_bytes};
 ghost use Rattle.session_text.specs.FaultWords.{fault_words};
 ghost use Rattle.program_run.specs.Endings.{status_of_failure};
-ghost use Rattle.program_run.specs.Refusals.{cache_words, chain_words, one, refused_line, three, two, unreadable_line};
+ghost use Rattle.program_run.specs.Lines.{refusal_words};
+ghost use Rattle.program_run.specs.Refusals.{cache_words, chain_words, no_record_line, one, refused_line, three, two, unreadable_line};
 ghost use Rattle.program_run.specs.declared.failure.Failure.TheVariants as failure;
 ghost use Rattle.program_run.specs.declared.report.Status.TheVariants as status;
 
 use audit_graph::AuditFault;
 use cached_check::CheckFault;
+use mj_rules::ProjectFault;
 use session_file::FileFault;
 use session_text::write_fault;
 use std::alloc::{AllocError, Global};
@@ -18,6 +20,32 @@ pub(crate) fn unreadable(alloc: Global, name: &str) -> Result<String, AllocError
     ensures { IfOk result (λ text. string_bytes text ≡ unreadable_line name.now) }
 {
     format!(in alloc; "cannot read {name}\n")
+}
+
+/// What is said of a key of which the session has no record.
+pub(crate) fn no_record(alloc: Global, key: &str) -> Result<String, AllocError>
+    ensures { IfOk result (λ text. string_bytes text ≡ no_record_line key.now) }
+{
+    format!(in alloc; "no record {key}\n")
+}
+
+/// A refusal of the files, with its number, its name and its argument. Out of memory has no text.
+pub(crate) fn refusal_text(alloc: Global, fault: ProjectFault) -> Result<String, AllocError>
+    ensures text { IfOk result (λ text. string_bytes text ≡ refusal_words fault) }
+    ensures refused { IfOk result (λ _.
+        status_of_failure (failure.Project fault) ≡ status.Refused) }
+{
+    match fault {
+        ProjectFault::RepeatedFile(file) => {
+            format!(in alloc; "refused: 3.1 RepeatedFile({file})\n")
+        }
+        ProjectFault::NoFiles => String::from_str(alloc, "refused: 3.2 NoFiles\n"),
+        ProjectFault::TooManyFiles => String::from_str(alloc, "refused: 3.3 TooManyFiles\n"),
+        ProjectFault::BadFileName(file) => {
+            format!(in alloc; "refused: 3.4 BadFileName({file})\n")
+        }
+        ProjectFault::OutOfMemory => Err(AllocError),
+    }
 }
 
 /// Why no session is kept. Out of memory has no text.

@@ -3,10 +3,10 @@ ghost use Rattle.std.specs.Prelude.{◌≡◌, ◌⊎◌, [], OnOk, codes, strin
 ghost use Rattle.std.specs.Io.KnownBytes.{Appends};
 ghost use Rattle.std.specs.IoError.{error_kind};
 ghost use Rattle.program_run.specs.Endings.{status_of_answer};
-ghost use Rattle.program_run.specs.Lines.{is_clean};
+ghost use Rattle.diagnostic_lines.specs.Lines.{is_clean};
 ghost use Rattle.program_run.specs.Runs.{IsWritten, status_number};
 
-use crate::lines::is_clean;
+use diagnostic_lines::is_clean;
 use mj_rules::Answer;
 use std::alloc::Global;
 use std::io;
@@ -58,8 +58,8 @@ pub struct Report {
 }
 
 impl Report {
-    /// The help that was asked for.
-    pub fn help(alloc: Global, text: String) -> Self
+    /// What was asked for.
+    pub fn clean(alloc: Global, text: String) -> Self
         ensures notes { string_bytes result.notes ≡ [] }
         ensures answer { string_bytes result.answer ≡ string_bytes text }
         ensures status { result.status ≡ Status.Clean }
@@ -142,7 +142,7 @@ pub fn no_words<E: Write>(error: &io::Error, err: &mut E) -> Status
 
 // Writes and flushes.
 #[tactic(auto, using(crate::proofs::Streams::appends_kept))]
-fn write<W: Write>(writer: &mut W, bytes: &[u8]) -> io::Result<()>
+pub(crate) fn write<W: Write>(writer: &mut W, bytes: &[u8]) -> io::Result<()>
     ensures { OnOk result (Appends (W.contents writer.old) (W.contents writer.new) bytes.now) }
 {
     writer.write_all(bytes)?;

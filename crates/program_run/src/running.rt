@@ -1,29 +1,35 @@
 //! One run of the program.
-ghost use Rattle.std.specs.Prelude.{◌≡◌, ◌≢◌, ◌⊎◌, ℕ, List, map, Some, [], IfOk, IfErr, IsTrue, string_bytes};
+ghost use Rattle.std.specs.Prelude.{◌≡◌, ◌≢◌, ◌⊎◌, ℕ, List, false, map, Some, [], IfOk, IfErr, IsTrue, string_bytes};
 ghost use Rattle.command_line.specs.CommandLine.{AsksFor};
 ghost use Rattle.command_line.specs.Plain.{asks_plainly, files_for};
 ghost use Rattle.command_line.specs.Runnable.{IsScratchable};
 ghost use Rattle.command_line.specs.declared.asked.Subcommand.{Subcommand};
+ghost use Rattle.diagnostic_lines.specs.Lines.{IsFaultText, is_clean};
 ghost use Rattle.mj_rules.specs.AnswerWords.{text_of};
 ghost use Rattle.program_run.specs.Audits.{StopsAt};
-ghost use Rattle.program_run.specs.Endings.{status_of_answer, status_of_failure};
 ghost use Rattle.program_run.specs.Believed.{PrintsBelieved};
-ghost use Rattle.program_run.specs.Failures.{MayFail, ScratchFails};
-ghost use Rattle.program_run.specs.Lines.{is_clean, IsFaultText};
+ghost use Rattle.program_run.specs.Endings.{status_of_answer, status_of_failure};
+ghost use Rattle.program_run.specs.Failures.{MayFail};
 ghost use Rattle.program_run.specs.Refusals.{AreNotes};
 ghost use Rattle.program_run.specs.Runs.{EndsWithAnswer, HasAnswer, Prints, PrintsPlain, PrintsRefusal, ReportsAsked, ReportsFailure, ReportsOn, ReportsRefusal, ReportsUnreadable, TellsHelp};
 ghost use Rattle.program_run.specs.Statuses.{IsStatus};
+ghost use Rattle.program_run.specs.Unread.{NamesFail};
 
 use crate::auditing::audit;
 use crate::checking::check;
+use crate::explaining::explain_codes;
 use crate::failure::Failure;
 use crate::files::read_files;
-use crate::lines::{fault_text, refusal_text};
-use crate::refusals::{cache_refusal, chain_refusal, file_refusal, unreadable};
+use crate::refusals::{
+    cache_refusal, chain_refusal, file_refusal, no_record, refusal_text, unreadable,
+};
 use crate::report::{Report, Status, deliver, no_memory};
 use crate::showing::show;
 use crate::terms::profile_of;
+use crate::why::why;
+use code_words::unknown_text;
 use command_line::{ScratchWords, Words, WordsFault, words};
+use diagnostic_lines::fault_text;
 use fault_lines::ReadProject;
 use mj_rules::{Answer, Project, answer_for_as, render};
 use std::alloc::{AllocError, Global};
@@ -33,7 +39,8 @@ use std::sync::Wait;
 use std::thread::Threads;
 
 /// Does what the words of the command line ask for; the first is the program's name. Writes standard error, then
-/// standard output, and gives the exit status. Only a check starts threads.
+/// standard output, and gives the exit status. Only a check starts threads, and only an audit writes to standard error
+/// before it is done, if that is asked for.
 pub fn run<R: Files + AllocGlobal, T: Threads + Wait + Sync, W: Write, E: Write>(
     rt: &R,
     threads: &T,
@@ -58,7 +65,7 @@ pub fn run<R: Files + AllocGlobal, T: Threads + Wait + Sync, W: Write, E: Write>
         (map string_bytes list.items) (W.contents out.old) (W.contents out.new)
         (E.contents err.old) (E.contents err.new) }
 {
-    let status = match report_of(rt, threads, list) {
+    let status = match report_of(rt, threads, list, err) {
         Ok(report) => deliver(&report, out, err),
         Err(AllocError) => no_memory(err),
     };
@@ -67,26 +74,30 @@ pub fn run<R: Files + AllocGlobal, T: Threads + Wait + Sync, W: Write, E: Write>
 
 // The texts and the end of a run with these words.
 #[tactic(auto, using(crate::proofs::Failures::reports_refusal, crate::proofs::Failures::reports_failure))]
-fn report_of<R: Files + AllocGlobal, T: Threads + Wait + Sync>(
+fn report_of<R: Files + AllocGlobal, T: Threads + Wait + Sync, E: Write>(
     rt: &R,
     threads: &T,
     list: Vec<String>,
+    err: &mut E,
 ) -> Result<Report, AllocError>
     ensures answer { IfOk result (λ report. HasAnswer report.status
-        → ReportsAsked (map string_bytes list.items) report
-        ⊎ TellsHelp (map string_bytes list.items) report) }
+        → ReportsAsked (map string_bytes list.items) (E.contents err.old) (E.contents err.new) report
+        ⊎ TellsHelp (map string_bytes list.items) (E.contents err.old) (E.contents err.new) report) }
     ensures refused { IfOk result (λ report. report.status ≡ Status.ChainRefused
-        → ReportsRefusal R.File.Read.remaining (map string_bytes list.items) report) }
-    // The report of an audit is `Refused` only because a file can't be read.
+        → ReportsRefusal R.File.Read.remaining (map string_bytes list.items)
+        (E.contents err.old) (E.contents err.new) report) }
+    // The report of a plain audit is `Refused` only because a file can't be read.
     ensures unreadable { (names : List (List ℕ))
         → files_for Subcommand.Audit (map string_bytes list.items) ≡ Some names → IfOk result (λ report.
         report.status ≡ Status.Refused
-        → ReportsUnreadable R.File.Read.remaining names report) }
+        → ReportsUnreadable R.File.Read.remaining names
+        (E.contents err.old) (E.contents err.new) report) }
     // Why a run is refused.
     ensures failed { IfOk result (λ report. report.status ≡ Status.Refused
-        → ReportsFailure R.File.Read.remaining (map string_bytes list.items) report) }
+        → ReportsFailure R.File.Read.remaining (map string_bytes list.items)
+        (E.contents err.old) (E.contents err.new) report) }
 {
-    match perform(rt, threads, list) {
+    match perform(rt, threads, list, err) {
         Ok(report) => Ok(report),
         Err(failure) => failure_report(rt.alloc(), failure),
     }
@@ -94,43 +105,52 @@ fn report_of<R: Files + AllocGlobal, T: Threads + Wait + Sync>(
 
 // What the words ask for.
 #[tactic(auto, using(crate::proofs::Failures::has_answer, crate::proofs::Failures::refused_stops))]
-fn perform<R: Files + AllocGlobal, T: Threads + Wait + Sync>(
+fn perform<R: Files + AllocGlobal, T: Threads + Wait + Sync, E: Write>(
     rt: &R,
     threads: &T,
     list: Vec<String>,
+    err: &mut E,
 ) -> Result<Report, Failure>
-    ensures reports { IfOk result (ReportsAsked (map string_bytes list.items)) }
+    ensures reports { IfOk result (ReportsAsked (map string_bytes list.items)
+        (E.contents err.old) (E.contents err.new)) }
     ensures answered { IfOk result (λ report. HasAnswer report.status) }
     ensures plain { (subcommand : Subcommand)
         → IsTrue (asks_plainly subcommand (map string_bytes list.items))
         → IfErr result (λ failure. status_of_failure failure ≢ Status.Clean) }
-    ensures refused { IfErr result
-        (MayFail R.File.Read.remaining (map string_bytes list.items)) }
+    ensures refused { IfErr result (MayFail R.File.Read.remaining (map string_bytes list.items)
+        (E.contents err.old) (E.contents err.new)) }
     ensures audit { (names : List (List ℕ))
         → files_for Subcommand.Audit (map string_bytes list.items) ≡ Some names
         → IfErr result (λ failure. status_of_failure failure ≡ Status.Refused
-        → StopsAt R.File.Read.remaining names failure) }
+        → StopsAt R.File.Read.remaining names false (E.contents err.old) (E.contents err.new)
+        failure) }
 {
     match words(rt.alloc(), list)? {
         Words::Scratch(asked) => scratch(rt, asked),
         Words::Check(asked) => check(rt, threads, asked),
-        Words::Audit(names) => audit(rt, names),
-        Words::Show(names) => show(rt, names),
+        Words::Audit(asked) => audit(rt, asked, err),
+        Words::Show(asked) => show(rt, asked),
+        Words::Why(asked) => why(rt, asked),
+        Words::Explain(asked) => explain_codes(rt.alloc(), asked),
     }
 }
 
 // The report on these files, by the rules of the profile.
 fn scratch<R: Files + AllocGlobal>(rt: &R, asked: ScratchWords) -> Result<Report, Failure>
     requires { IsScratchable asked }
-    ensures reports { IfOk result (ReportsOn asked.profile (map string_bytes asked.files.items)) }
-    ensures failed { IfErr result (ScratchFails (map string_bytes asked.files.items)) }
+    ensures reports { IfOk result (ReportsOn asked) }
+    ensures failed { IfErr result (NamesFail (map string_bytes asked.files.items)) }
 {
     let alloc = rt.alloc();
-    let ScratchWords { profile, files } = asked;
+    let ScratchWords {
+        profile,
+        messages,
+        files,
+    } = asked;
     let project = Project::new(alloc, read_files(rt, files)?)?;
     let read = ReadProject::new(alloc, &project)?;
     let answer = answer_for_as(alloc, profile_of(profile), &project, read.trees())?;
-    Ok(answer_report(alloc, &read, &answer)?)
+    Ok(answer_report(alloc, &read, &answer, messages)?)
 }
 
 // What is written of an answer.
@@ -138,15 +158,16 @@ fn answer_report(
     alloc: Global,
     project: &ReadProject,
     answer: &Answer,
+    messages: bool,
 ) -> Result<Report, AllocError>
     ensures notes { IfOk result (λ report.
-        IsFaultText project.now answer.now (string_bytes report.notes)) }
+        IsFaultText messages project.now answer.now (string_bytes report.notes)) }
     ensures answer { IfOk result (λ report. string_bytes report.answer ≡ text_of answer.now) }
     ensures status { IfOk result (λ report.
         report.status ≡ status_of_answer (is_clean answer.now)) }
 {
     Ok(Report {
-        notes: fault_text(alloc, project, answer)?,
+        notes: fault_text(alloc, project, answer, messages)?,
         answer: render(alloc, answer)?,
         status: Status::of_answer(answer),
     })
@@ -163,9 +184,12 @@ fn failure_report(alloc: Global, failure: Failure) -> Result<Report, AllocError>
     ensures told { IfOk result (λ report. report.status ≢ Status.OutOfMemory) }
 {
     match failure {
-        Failure::Words(WordsFault::Help(text)) => Ok(Report::help(alloc, text)),
+        Failure::Words(WordsFault::Help(text)) => Ok(Report::clean(alloc, text)),
         Failure::Words(WordsFault::Refused(text)) => Ok(Report::refusal(alloc, text)),
         Failure::CannotRead(name) => Ok(Report::refusal(alloc, unreadable(alloc, &name)?)),
+        Failure::Untold => Ok(Report::refusal(alloc, String::new(alloc))),
+        Failure::NoRecord(key) => Ok(Report::refusal(alloc, no_record(alloc, &key)?)),
+        Failure::UnknownCode(code) => Ok(Report::refusal(alloc, unknown_text(alloc, &code)?)),
         Failure::Cache(fault) => Ok(Report::refusal(alloc, cache_refusal(alloc, fault)?)),
         Failure::Project(fault) => Ok(Report::refusal(alloc, refusal_text(alloc, fault)?)),
         Failure::Chain(fault) => Ok(Report::chain_refusal(alloc, chain_refusal(alloc, fault)?)),

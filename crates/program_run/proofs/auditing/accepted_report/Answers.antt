@@ -6,6 +6,6 @@ returns c = record {
   answer = c.audited_answer.result.now;
   value = c.audited_answer.ensures;
   text = c.in_ok-render.ensures;
-  line = c.in_ok-accepted_note.ensures;
+  line = c.in_ok-accepted_text.ensures;
   status = refl;
 }

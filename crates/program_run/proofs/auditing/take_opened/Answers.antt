@@ -3,8 +3,13 @@ use Rattle.std.specs.Io.Buffered.{reader_remaining}
 use Rattle.program_run.proofs.Opened.{buffered_holds, fails_behind}
 use Rattle.program_run.proofs.auditing.take_opened.Goals as goal
 
-pub returns-in-Err-clause-failed : goal.returns-in-Err-clause-failed
-returns-in-Err-clause-failed g c = λ front taken. rw c.failure_in.ensures
+pub returns-in-Ok-take-clause-taken : goal.returns-in-Ok-take-clause-taken
+returns-in-Ok-take-clause-taken g c =
+    let more = c.in-Ok-take.ensures.taken.1 in
+    record { file = c.in-Ok-take.ensures.taken.0; session = more.session; taken = more.taken; behind = more.behind }
+
+pub returns-clause-failed : goal.returns-clause-failed
+returns-clause-failed g c = λ front taken. rw c.failure_in.ensures
     (fails_behind g.F.Read.remaining front c.args.name c.args.file c.in-Err.fault
     (λ bytes told.
     let held : reader_remaining g.F.Read.remaining c.new-feed.result.reader ≡ Some bytes =

@@ -1,6 +1,6 @@
 use Rattle.std.proofs.Common.{◌≡◌, ◌∷◌, ◌++◌, ◌∙◌, map, string_bytes, sym, ap}
 use Rattle.std.specs.Vec.Iter.{into_iter_items}
-use Rattle.program_run.specs.Failures.{AreUnread}
+use Rattle.program_run.specs.Unread.{AreUnread}
 use Rattle.program_run.proofs.Failures.{one_unread, told_as}
 use Rattle.program_run.proofs.Taking.{one_of}
 use Rattle.program_run.proofs.files.read_files.Goals as goal

@@ -11,7 +11,7 @@ returns-clause-status g c = rw c.number.ensures (is_status c.match-report_of.sta
 -- src/running.rt:22:1
 pub returns-clause-answer : goal.returns-clause-answer
 returns-clause-answer g c = rw c.number.ensures (elim c.match-report_of.branch [
-  | in-Ok w ↦ (rw (w.out-is, w.err-is, w.status-is) (prints _ _ _ _ _ _ _ w.in-Ok.ensures.answer w.deliver-status.ensures))
+  | in-Ok w ↦ (rw (w.out-is, w.err-is, w.status-is) (prints _ _ _ _ _ _ _ _ w.in-Ok.ensures.answer w.deliver-status.ensures))
   | in-Err w ↦ (rw w.status-is (λ ends. absurd (silent _ _ w.no_memory-status.ensures ends)))
 ])
 
@@ -24,6 +24,6 @@ returns-clause-believed g c = λ asks ends. believed (map string_bytes c.args.li
 
 pub returns-clause-refused : goal.returns-clause-refused
 returns-clause-refused g c = rw c.number.ensures (elim c.match-report_of.branch [
-  | in-Ok w ↦ (rw (w.out-is, w.err-is, w.status-is) (prints_refusal _ _ _ _ _ _ _ _ w.in-Ok.ensures.refused w.deliver-status.ensures))
+  | in-Ok w ↦ (rw (w.out-is, w.err-is, w.status-is) (prints_refusal _ _ _ _ _ _ _ _ _ w.in-Ok.ensures.refused w.deliver-status.ensures))
   | in-Err w ↦ (rw w.status-is (λ number. absurd (no_refusal _ _ w.no_memory-status.ensures number)))
 ])

@@ -1,6 +1,6 @@
 use Rattle.std.proofs.Common.{◌∙◌, ap, map, string_bytes}
 use Rattle.mj_project.specs.Projects.{names_of, sources_view}
-use Rattle.program_run.specs.Failures.{ScratchFails}
+use Rattle.program_run.specs.Unread.{NamesFail}
 use Rattle.program_run.specs.declared.failure.Failure.TheVariants as failure
 use Rattle.program_run.proofs.Failures.{told_as}
 use Rattle.program_run.proofs.Runs.{names_of_sources}
@@ -22,7 +22,7 @@ returns-clause-reports g c = record {
 
 pub returns-in_err-project-clause-failed : goal.returns-in_err-project-clause-failed
 returns-in_err-project-clause-failed g c = told_as c.from_residual-in_err-project.result (failure.Project c.in_err-project.field-0.0)
-    (ScratchFails (map string_bytes c.args.asked.files.items)) c.from_residual-in_err-project.ensures.1
+    (NamesFail (map string_bytes c.args.asked.files.items)) c.from_residual-in_err-project.ensures.1
     (record {
       files = sources_view c.in_ok-read_files.field-0.items;
       named = names_of_sources _ ∙ c.in_ok-read_files.ensures.named;

@@ -1,0 +1,5 @@
+class Main {
+public static void main(String[] a) {
+/*abcdefghijabcdefghijabcdefghijabcdefghijabcdefghijabcdefghijabcdefghijabcdefghijabcdefghijabcdefghijabcdefghijabcdefghijabcdefg*/System.out.println(x);//0123456789012345678901234567890123456789012345
+}
+}

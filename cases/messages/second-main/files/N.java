@@ -1,0 +1,3 @@
+
+
+class N { public static void main(String[] a) { { } } }

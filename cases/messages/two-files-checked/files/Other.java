@@ -1,0 +1,5 @@
+class Other {
+    int n;
+    boolean n;
+    Missing m;
+}

@@ -1,0 +1,5 @@
+class Main {
+	public static void main(String[] a) {
+		System.out.println(1	+true);
+	}
+}

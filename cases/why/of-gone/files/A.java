@@ -1,0 +1,1 @@
+class A { public int f() { return 2; } }

@@ -1,0 +1,30 @@
+-- Why files can't be read, or are no project.
+use Rattle.std.specs.Prelude.{◌≡◌, ◌≢◌, ℕ, List, Contains, string_bytes}
+use Rattle.mj_project.specs.Projects.{SourceFile, Refuses, names_of}
+use Rattle.mj_project.specs.declared.project.ProjectFault.{ProjectFault}
+use Rattle.mj_project.specs.declared.project.ProjectFault.TheVariants as project
+use Rattle.program_run.specs.declared.failure.Failure.{Failure}
+use Rattle.program_run.specs.declared.failure.Failure.TheVariants as failure
+
+-- the file of this name can't be read, or memory ran out
+abbrev pub IsUnread : List ℕ → Failure → Type 0
+IsUnread name (failure.CannotRead path) = string_bytes path ≡ name
+IsUnread name failure.OutOfMemory = Unit {0}
+IsUnread name why = ⊥
+
+-- the file of one of these names can't be read, or memory ran out
+abbrev pub AreUnread : List (List ℕ) → Failure → Type 0
+AreUnread names (failure.CannotRead path) = Contains names (string_bytes path)
+AreUnread names failure.OutOfMemory = Unit {0}
+AreUnread names why = ⊥
+
+-- Files of these names are no project for this reason, unless it is that memory ran out.
+pub record RefusesNames (names : List (List ℕ)) (fault : ProjectFault) : Type 0 where
+  pub files : List SourceFile
+  pub named : names_of files ≡ names
+  pub refused : fault ≢ project.OutOfMemory → Refuses files fault
+
+-- why files of these names make no project: one can't be read, they are none, or memory ran out
+abbrev pub NamesFail : List (List ℕ) → Failure → Type 0
+NamesFail names (failure.Project fault) = RefusesNames names fault
+NamesFail names why = AreUnread names why
