@@ -8,12 +8,11 @@ import tempfile
 from pathlib import Path
 
 sys.dont_write_bytecode = True
-from incremental import check, edit_body, measured, project, session_files, summed  # noqa: E402
-from measuring import program_path  # noqa: E402
-from shapes import SHAPES  # noqa: E402
-from terms import lengthen  # noqa: E402
+from chains import lengthen, session_files  # noqa: E402
+from measuring import asked, check, least_time, measured, summed  # noqa: E402
+from projects import edit_body, edit_file  # noqa: E402
+from shapes import SHAPES, ordinary  # noqa: E402
 
-TOP = Path(__file__).resolve().parent.parent
 SESSIONS, MANY, FEW = 10, 100, 3
 # What the lines say of the form, and the words for it.
 FORMS = {"": [], " in form 2": ["--form", "2"]}
@@ -25,7 +24,7 @@ def told(about, program, folder, names, files, runs):
     audits = [measured([program, "audit", *files], folder) for _ in range(runs)]
     seconds, peak = min(seconds for seconds, _ in audits), max(peak for _, peak in audits)
     summing = min(summed(files, folder) for _ in range(runs))
-    scratch = min(measured([program, "scratch", *names], folder)[0] for _ in range(runs))
+    scratch = least_time([program, "scratch", *names], folder, runs)
     print(f"{about}: {sum(sizes)} bytes in {len(files)} files: {seconds:.3f} s, {seconds / summing:.1f} times sha256sum, "
           f"{seconds / scratch:.1f} times scratch, peak {peak / max(sizes):.1f} times the largest file", flush=True)
     return seconds, peak
@@ -41,7 +40,7 @@ def unchanged_chain(program, folder, names, count, words):
 
 def unchanged(program, runs, form, words):
     with tempfile.TemporaryDirectory() as folder:
-        names = project(folder)
+        names = ordinary(folder)
         files = unchanged_chain(program, folder, names, MANY, words)
         told(f"a first session{form}", program, folder, names, files[:1], runs)
         few = told(f"{SESSIONS} unchanged sessions{form}", program, folder, names, files[:SESSIONS], runs)
@@ -52,9 +51,9 @@ def unchanged(program, runs, form, words):
 
 def edited(program, runs, form, words):
     with tempfile.TemporaryDirectory() as folder:
-        names = project(folder)
+        names = ordinary(folder)
         for number in range(SESSIONS):
-            edit_body(folder, names[number + 1], number + 7)
+            edit_file(folder, names[number + 1], edit_body, number + 7)
             check(program, folder, names, *words)
         told(f"{SESSIONS} sessions with a body edited each{form}", program, folder, names, session_files(folder), runs)
 
@@ -70,10 +69,8 @@ def by_shapes(program, runs, form, words):
 
 def main():
     parser = argparse.ArgumentParser(description=__doc__)
-    parser.add_argument("program", nargs="?", type=program_path, default=str(TOP / "mjrg"))
     parser.add_argument("--only", choices=["chains", "shapes"], help="one of both parts")
-    parser.add_argument("--runs", type=int, default=3, help="runs of which the shortest counts")
-    given = parser.parse_args()
+    given = asked(parser)
     for form, words in FORMS.items():
         if given.only != "shapes":
             unchanged(given.program, given.runs, form, words)

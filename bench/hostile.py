@@ -15,10 +15,10 @@ import time
 from pathlib import Path
 
 sys.dont_write_bytecode = True
-from measuring import program_path  # noqa: E402
+from measuring import asked  # noqa: E402
+from shapes import MAIN  # noqa: E402
 
 MOST = 1_048_576
-MAIN = "class M { public static void main(String[] a) { System.out.println(1); } }\n"
 
 
 def filled(head, items, tail):
@@ -50,15 +50,17 @@ def ring():
         parts.append(part)
 
 
+def ordinary_methods(letter):
+    """Forty methods with nothing at fault, whose names begin with this letter."""
+    for i in range(40):
+        yield (f"public int {letter}{i}(int x, boolean b) {{ int y; y = x * (n + {i}); while (b && y < 9) y = y + 1; "
+               f"return this.{letter}{i}(y, !b); }}\n")
+
+
 KINDS = {
     "ordinary methods": lambda: filled(
-        "class A { int n; ",
-        (f"public int m{i}(int x, boolean b) {{ int y; y = x * (n + {i}); while (b && y < 9) y = y + 1; "
-         f"return this.m{i}(y, !b); }}\n" for i in range(40)),
-        "}\n") + "".join(
-        f"class B{k} extends A {{ int n; " + "".join(
-            f"public int p{i}(int x, boolean b) {{ int y; y = x * (n + {i}); while (b && y < 9) y = y + 1; "
-            f"return this.p{i}(y, !b); }}\n" for i in range(40)) + "}\n" for k in range(210)),
+        "class A { int n; ", ordinary_methods("m"), "}\n") + "".join(
+        f"class B{k} extends A {{ int n; " + "".join(ordinary_methods("p")) + "}\n" for k in range(210)),
     "faulty fields": lambda: filled("class A { ", (f"C f{i};" for i in numbers()), "}\n"),
     "repeated fields": lambda: filled("class A { ", ("int f;" for _ in numbers()), "}\n"),
     "undeclared names in one body": lambda: filled(
@@ -120,10 +122,8 @@ def shown(seconds, ordinary, limit):
 
 def main():
     parser = argparse.ArgumentParser(description=__doc__.splitlines()[0])
-    parser.add_argument("program", nargs="?", type=program_path, default=str(Path(__file__).resolve().parent.parent / "mjrg"))
-    parser.add_argument("--runs", type=int, default=3, help="runs of which the shortest counts")
     parser.add_argument("--limit", type=int, default=60, help="seconds after which a run is given up")
-    given = parser.parse_args()
+    given = asked(parser)
     ordinary = None
     with tempfile.TemporaryDirectory() as folder:
         for kind, text in KINDS.items():

@@ -20,45 +20,11 @@ import tempfile
 from pathlib import Path
 
 sys.dont_write_bytecode = True
-from measuring import A_LITERAL, measured, program_path  # noqa: E402
+from chains import session_files  # noqa: E402
+from measuring import asked, measured  # noqa: E402
 from projects import write_project  # noqa: E402
 from rechecks import by_shapes  # noqa: E402
 from terms import by_terms  # noqa: E402
-
-TOP = Path(__file__).resolve().parent.parent
-
-CLASSES, FIELDS, METHODS = 400, 4, 5
-
-
-def project(folder):
-    """Writes 400 classes with 2,000 methods. Answers the names of the files, in order."""
-    return write_project(folder, CLASSES, FIELDS, METHODS)
-
-
-def edit_body(folder, name, number):
-    """Changes a literal of one method of a file."""
-    path = Path(folder, name)
-    path.write_text(A_LITERAL.sub(f"sum = {number};", path.read_text(), count=1))
-
-
-def add_field(folder, name):
-    """Adds a field to the first class of a file, which others extend."""
-    path = Path(folder, name)
-    path.write_text(path.read_text().replace("{\n", "{\n    boolean added;\n", 1))
-
-
-def check(program, folder, names, *words):
-    return measured([program, "check", "--cache", "cache", *words, *names], folder)
-
-
-def session_files(folder):
-    return sorted(str(path) for path in Path(folder, "cache").glob("c*/s*.mjrg"))
-
-
-def summed(files, folder):
-    """Seconds that sha256sum takes for files."""
-    return measured(["sha256sum", *files], folder)[0]
-
 
 # Projects by their classes, fields and methods, and how many classes stand in a file.
 PROJECTS = {
@@ -70,11 +36,11 @@ PROJECTS = {
 
 def check_by(program, folder, names, jobs):
     """Seconds of a first session by so many workers and of an unchanged one, and the files that they made."""
-    cache = Path(folder, f"cache{jobs}")
-    shutil.rmtree(cache, ignore_errors=True)
-    words = [program, "check", "--cache", cache.name, "--jobs", str(jobs), *names]
-    took = [measured(words, folder)[0] for _ in range(2)]
-    return took, [str(path) for path in sorted(cache.glob("c*/s*.mjrg"))]
+    cache = f"cache{jobs}"
+    shutil.rmtree(Path(folder, cache), ignore_errors=True)
+    words = [program, "check", "--cache", cache, "--jobs", str(jobs), *names]
+    took = [measured(words, folder).seconds for _ in range(2)]
+    return took, session_files(folder, cache)
 
 
 def times_by(program, folder, names, numbers, runs):
@@ -104,11 +70,9 @@ def by_workers(program, numbers, runs):
 
 def main():
     parser = argparse.ArgumentParser(description=__doc__, formatter_class=argparse.RawDescriptionHelpFormatter)
-    parser.add_argument("program", nargs="?", type=program_path, default=str(TOP / "mjrg"))
     parser.add_argument("--only", choices=["shapes", "terms", "jobs"], help="one of the parts")
     parser.add_argument("--jobs", type=int, nargs="+", default=[1, 2, 4, 8], help="numbers of workers")
-    parser.add_argument("--runs", type=int, default=3, help="runs of which the shortest counts")
-    given = parser.parse_args()
+    given = asked(parser)
     if given.only in (None, "shapes"):
         by_shapes(given.program, given.runs)
     if given.only in (None, "terms"):

@@ -1,13 +1,17 @@
 """Runs a program, and tells how long it took and how much memory it had."""
+import collections
+import multiprocessing
 import os
-import re
 import shutil
 import subprocess
 import sys
+import tempfile
 import time
+from pathlib import Path
 
-# A literal that an edit of a body changes.
-A_LITERAL = re.compile(r"\bsum = \d+;")
+TOP = Path(__file__).resolve().parent.parent
+
+Run = collections.namedtuple("Run", "seconds peak")
 
 
 def program_path(word):
@@ -18,14 +22,62 @@ def program_path(word):
     return os.path.abspath(found)
 
 
-def measured(words, folder):
-    """Seconds and peak bytes of one run, which has to end in status 0."""
+def asked(parser, runs=3):
+    """What this parser reads of the command line, of which the program and the number of runs are the last."""
+    parser.add_argument("program", nargs="?", type=program_path, default=str(TOP / "mjrg"))
+    parser.add_argument("--runs", type=int, default=runs, help="runs of which the shortest counts")
+    return parser.parse_args()
+
+
+def measured(words, folder, statuses=(0,)):
+    """Seconds and peak bytes of one run, which has to end in one of these statuses."""
     started = time.perf_counter()
     child = subprocess.Popen(words, cwd=folder, stdin=subprocess.DEVNULL, stdout=subprocess.DEVNULL,
                              stderr=subprocess.PIPE)
     told = child.stderr.read()
     _, status, usage = os.wait4(child.pid, 0)
     child.returncode = os.waitstatus_to_exitcode(status)
-    if child.returncode != 0:
+    if child.returncode not in statuses:
         sys.exit(f"{words[0]} ended with status {child.returncode}: {told[:400]!r}")
-    return time.perf_counter() - started, usage.ru_maxrss * 1024
+    return Run(time.perf_counter() - started, usage.ru_maxrss * 1024)
+
+
+def least_time(words, folder, runs, statuses=(0,)):
+    """The least seconds of so many runs."""
+    return min(measured(words, folder, statuses).seconds for _ in range(runs))
+
+
+def repeated(program, steps, data, count, runs):
+    """The least seconds in which a program does each of these steps on such bytes so many times, and `sha256sum` sums them.
+    What a run costs without any repetition is taken off each time."""
+    with tempfile.TemporaryDirectory() as folder:
+        file, empty = Path(folder, "bytes"), Path(folder, "empty")
+        file.write_bytes(data)
+        empty.write_bytes(b"")
+        took = {}
+        for step in steps:
+            none = least_time([program, step, "0", str(file)], folder, runs)
+            took[step] = least_time([program, step, str(count), str(file)], folder, runs) - none
+        summing = least_time(["sha256sum"] + [str(file)] * count, folder, runs)
+        took["sha256sum"] = summing - least_time(["sha256sum"] + [str(empty)] * count, folder, runs)
+    return took
+
+
+def elsewhere(run, *given):
+    """Runs a function that needs much memory in another process: what a program has at most is told together with what the
+    process that started it has had."""
+    ran = multiprocessing.Process(target=run, args=given)
+    ran.start()
+    ran.join()
+    if ran.exitcode != 0:
+        sys.exit(1)
+
+
+def check(program, folder, names, *words):
+    """Makes the next session of these files, in the cache of their folder."""
+    return measured([program, "check", "--cache", "cache", *words, *names], folder)
+
+
+def summed(files, folder):
+    """Seconds that sha256sum takes for files."""
+    return measured(["sha256sum", *files], folder).seconds

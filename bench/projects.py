@@ -1,5 +1,6 @@
-"""Writes MiniJava projects that javac takes too."""
+"""Writes MiniJava projects that javac takes too, and edits their files."""
 import random
+import re
 from pathlib import Path
 
 TYPES = ["int", "boolean", "int[]"]
@@ -9,6 +10,9 @@ MAIN = """class Main {
     }
 }
 """
+# A literal that an edit of a body changes, and the head of a class that isn't the main one.
+A_LITERAL = re.compile(r"\bsum = \d+;")
+A_CLASS = re.compile(r"class \w+(?: extends \w+)? \{(?!\s*public static void)")
 
 
 def class_name(number):
@@ -55,16 +59,43 @@ def class_text(number, fields, methods, chance):
     return "".join(lines) + "}\n"
 
 
+def written(folder, texts):
+    """Writes files by their names. Answers the names, in order."""
+    Path(folder).mkdir(parents=True, exist_ok=True)
+    for name, text in texts.items():
+        Path(folder, name).write_text(text)
+    return list(texts)
+
+
 def write_project(folder, classes, fields, methods, in_one_file=40):
     """Writes the project into the folder. Answers the names of its files, in order."""
     chance = random.Random(classes)
-    folder = Path(folder)
-    folder.mkdir(parents=True, exist_ok=True)
     texts = [class_text(number, fields, methods, chance) for number in range(classes)]
-    names = []
-    for start in range(0, classes, in_one_file):
-        name = f"Part{start // in_one_file:04d}.java"
-        (folder / name).write_text("".join(texts[start:start + in_one_file]))
-        names.append(name)
-    (folder / "Main.java").write_text(MAIN)
-    return ["Main.java"] + names
+    parts = {f"Part{start // in_one_file:04d}.java": "".join(texts[start:start + in_one_file])
+             for start in range(0, classes, in_one_file)}
+    return written(folder, {"Main.java": MAIN, **parts})
+
+
+def edit_body(text, number):
+    """A literal of one method is another one."""
+    return A_LITERAL.sub(f"sum = {number};", text, count=1)
+
+
+def add_field(text, number):
+    """A class has one field more."""
+    return A_CLASS.sub(lambda head: f"{head[0]} boolean added{number};", text, count=1)
+
+
+EDITS = {
+    "unchanged": lambda text, number: text,
+    "a body edited": edit_body,
+    "a field added": add_field,
+}
+
+
+def edit_file(folder, name, edit, number):
+    """Edits a file. Answers the text that it had."""
+    path = Path(folder, name)
+    text = path.read_text()
+    path.write_text(edit(text, number))
+    return text

@@ -8,27 +8,14 @@ import argparse
 import subprocess
 import sys
 import tempfile
-import time
 from pathlib import Path
 
 sys.dont_write_bytecode = True
-from measuring import program_path  # noqa: E402
+from measuring import asked, least_time  # noqa: E402
 from projects import write_project  # noqa: E402
 
 
-def least_time(words, folder, runs):
-    best = None
-    for _ in range(runs):
-        started = time.perf_counter()
-        done = subprocess.run(words, cwd=folder, stdout=subprocess.DEVNULL, stderr=subprocess.PIPE)
-        taken = time.perf_counter() - started
-        if done.returncode != 0:
-            sys.exit(f"{words[0]} ended with status {done.returncode}: {done.stderr[:400]!r}")
-        best = taken if best is None else min(best, taken)
-    return best
-
-
-def measured(program, classes, fields, methods, runs):
+def compared(program, classes, fields, methods, runs):
     with tempfile.TemporaryDirectory() as folder:
         names = write_project(folder, classes, fields, methods)
         size = sum((Path(folder) / name).stat().st_size for name in names)
@@ -41,14 +28,12 @@ def measured(program, classes, fields, methods, runs):
 
 def main():
     parser = argparse.ArgumentParser(description=__doc__, formatter_class=argparse.RawDescriptionHelpFormatter)
-    parser.add_argument("program", nargs="?", type=program_path, default=str(Path(__file__).resolve().parent.parent / "mjrg"))
     parser.add_argument("--fields", type=int, default=4, help="fields of a class beside its own (4)")
     parser.add_argument("--methods", type=int, default=0, help="long methods of a class (0: fields alone)")
-    parser.add_argument("--runs", type=int, default=3, help="runs of each program (3)")
-    options = parser.parse_args()
+    options = asked(parser)
     subprocess.run([options.program, "--help"], stdout=subprocess.DEVNULL, check=True)
-    few = measured(options.program, 400, options.fields, options.methods, options.runs)
-    many = measured(options.program, 4000, options.fields, options.methods, options.runs)
+    few = compared(options.program, 400, options.fields, options.methods, options.runs)
+    many = compared(options.program, 4000, options.fields, options.methods, options.runs)
     print(f"4,000 classes take {many / few:.1f} times as long as 400")
 
 

@@ -10,75 +10,53 @@ one after a field was added to a class that others extend, beside `mjrg scratch`
 file. Nothing is asserted.
 """
 import argparse
-import hashlib
-import shutil
 import sys
 import tempfile
 from pathlib import Path
 
 sys.dont_write_bytecode = True
-from codec import items, least_time, name  # noqa: E402
-from incremental import add_field, check, edit_body, project, session_files, summed  # noqa: E402
-from measuring import measured as one_run, program_path  # noqa: E402
-
-TOP = Path(__file__).resolve().parent.parent
+from chains import session_files, session_of  # noqa: E402
+from measuring import asked, check, elsewhere, measured, program_path, repeated, summed  # noqa: E402
+from projects import EDITS  # noqa: E402
+from rechecks import edited  # noqa: E402
+from shapes import ordinary  # noqa: E402
 
 FILES = 2000
-# What stands in front of a session of form 1, which is written as 0, and of profile 1.
-HEAD = b"MJRG" + bytes([0, 1])
-
-
-def eight(number):
-    return number.to_bytes(8, "big")
-
-
-def record(kind, file, result):
-    """An input: no edges, and the mark of inputs."""
-    key = bytes([kind]) + (name(file) if file else b"\x00") + b"\x00"
-    return key + b"\x00" + eight(0) + hashlib.sha256(result).digest() + eight(len(result)) + result
-
-
-def source(number, size):
-    """A file's text, which may be there or not, behind its kind."""
-    text = (f"class C{number} {{ }} " * (size // 12 + 1)).encode()[:size]
-    return b"\x01\x01" + eight(len(text)) + text
 
 
 def session(size):
     """The file of a first session of about so many bytes."""
-    files = [f"file{number:04}.java" for number in range(FILES)]
-    records = [record(0, "", b"\x00" + items([name(file) for file in files]))]
-    records += [record(1, file, source(number, size // FILES)) for number, file in enumerate(files)]
-    body = HEAD + (0).to_bytes(4, "big") + bytes(32) + items(records)
-    return body + hashlib.sha256(body).digest()
+    texts = {b"file%04d.java" % number: (b"class C%d { } " % number * (size // FILES // 12 + 1))[:size // FILES]
+             for number in range(FILES)}
+    return session_of(texts)
 
 
-def measured(program, size, count, runs):
-    with tempfile.TemporaryDirectory() as folder:
-        path = Path(folder, "session")
-        path.write_bytes(session(size))
-        size = path.stat().st_size
-        took = {}
-        for step in ("read-session", "write-session"):
-            none = least_time([program, step, "0", str(path)], runs)
-            took[step] = least_time([program, step, str(count), str(path)], runs) - none
-        empty = Path(folder, "empty")
-        empty.write_bytes(b"")
-        summing = least_time(["sha256sum"] + [str(path)] * count, runs)
-        summing -= least_time(["sha256sum"] + [str(empty)] * count, runs)
-    times = {"read": took["read-session"], "write": took["write-session"] - took["read-session"], "sha256sum": summing}
-    print(f"a session of {size} bytes, {count} times")
+def of_bench(program, size, count, runs):
+    """Tells how long reading and writing such a session takes. Answers the seconds of each."""
+    data = session(size)
+    took = repeated(program, ("read-session", "write-session"), data, count, runs)
+    times = {"read": took["read-session"], "write": took["write-session"] - took["read-session"], "sha256sum": took["sha256sum"]}
+    print(f"a session of {len(data)} bytes, {count} times")
     for step, seconds in times.items():
-        print(f"{step}: {seconds / count:.3f} s, {seconds / max(summing, 1e-6):.1f} times sha256sum")
+        print(f"{step}: {seconds / count:.3f} s, {seconds / max(times['sha256sum'], 1e-6):.1f} times sha256sum")
     return times
 
 
-def changed(program, folder, names, change):
-    """Seconds and peak bytes of a check behind a first session, after a change of the files."""
-    shutil.rmtree(Path(folder, "cache"), ignore_errors=True)
-    check(program, folder, names)
-    change()
-    return check(program, folder, names)
+def by_sizes(program, count, runs):
+    """Tells how long reading and writing a session of 5 MB takes, and one of 50 MB."""
+    small, large = (of_bench(program, size, count, runs) for size in (5_000_000, 50_000_000))
+    for step in ("read", "write"):
+        print(f"{step}: ten times the bytes take {large[step] / small[step]:.1f} times as long")
+
+
+def turns(program, folder, names, number):
+    """What is run in turn, by its name."""
+    def behind(edit):
+        return lambda: edited(program, folder, names, edit, number)[1]
+
+    return {"first session": lambda: check(program, folder, names), **{title: behind(edit) for title, edit in EDITS.items()},
+            "scratch": lambda: measured([program, "scratch", *names], folder),
+            "javac": lambda: measured(["javac", "-proc:none", "-nowarn", "-d", "classes", *names], folder)}
 
 
 def checks(program, runs):
@@ -86,16 +64,7 @@ def checks(program, runs):
     took = {}
     for number in range(runs):
         with tempfile.TemporaryDirectory() as folder:
-            names = project(folder)
-            turns = {
-                "first session": lambda: check(program, folder, names),
-                "unchanged": lambda: changed(program, folder, names, lambda: None),
-                "a body edited": lambda: changed(program, folder, names, lambda: edit_body(folder, names[5], number + 7)),
-                "a field added": lambda: changed(program, folder, names, lambda: add_field(folder, names[5])),
-                "scratch": lambda: one_run([program, "scratch", *names], folder),
-                "javac": lambda: one_run(["javac", "-proc:none", "-nowarn", "-d", "classes", *names], folder),
-            }
-            for turn, run in turns.items():
+            for turn, run in turns(program, folder, ordinary(folder), number + 7).items():
                 took.setdefault(turn, []).append(run())
             file = session_files(folder)[0]
             size = Path(file).stat().st_size
@@ -110,16 +79,11 @@ def checks(program, runs):
 
 def main():
     parser = argparse.ArgumentParser(description=__doc__, formatter_class=argparse.RawDescriptionHelpFormatter)
-    parser.add_argument("program", nargs="?", type=program_path, default=str(TOP / "mjrg"))
     parser.add_argument("--bench", type=program_path, metavar="CODEC_BENCH", help="the built program codec_bench")
     parser.add_argument("--count", type=int, default=5, help="repetitions of reading and writing")
-    parser.add_argument("--runs", type=int, default=3, help="runs of which the shortest counts")
-    given = parser.parse_args()
+    given = asked(parser)
     if given.bench:
-        small = measured(given.bench, 5_000_000, given.count, given.runs)
-        large = measured(given.bench, 50_000_000, given.count, given.runs)
-        for step in ("read", "write"):
-            print(f"{step}: ten times the bytes take {large[step] / small[step]:.1f} times as long")
+        elsewhere(by_sizes, given.bench, given.count, given.runs)
     checks(given.program, given.runs)
 
 

@@ -1,17 +1,7 @@
 """Writes the projects on which checks are timed: an ordinary one, many files, one great body, and a chain of classes."""
-from pathlib import Path
-
-from projects import write_project
+from projects import write_project, written
 
 MAIN = "class M { public static void main(String[] a) { System.out.println(1); } }\n"
-
-
-def written(folder, texts):
-    """Writes files by their names. Answers the names, in order."""
-    Path(folder).mkdir(parents=True, exist_ok=True)
-    for name, text in texts.items():
-        Path(folder, name).write_text(text)
-    return list(texts)
 
 
 def ordinary(folder):

@@ -8,12 +8,10 @@ import argparse
 import subprocess
 import sys
 import tempfile
-import time
-from pathlib import Path
 
 sys.dont_write_bytecode = True
-from measuring import program_path  # noqa: E402
-from projects import MAIN, method_lines  # noqa: E402
+from measuring import asked, least_time  # noqa: E402
+from projects import MAIN, method_lines, written  # noqa: E402
 
 LIMIT = 1_048_576
 
@@ -47,55 +45,35 @@ def shapes():
     yield "nested comments", "class A { " + "/*" * 260_000 + "*/" * 260_000 + " }\n"
 
 
-def least_time(words, folder, runs, good):
-    best = None
-    for _ in range(runs):
-        started = time.perf_counter()
-        done = subprocess.run(words, cwd=folder, stdout=subprocess.DEVNULL, stderr=subprocess.PIPE)
-        taken = time.perf_counter() - started
-        if done.returncode not in good:
-            sys.exit(f"{words[0]} ended with status {done.returncode}: {done.stderr[:400]!r}")
-        best = taken if best is None else min(best, taken)
-    return best
+# javac as a parser alone.
+PARSE = ["javac", "-proc:none", "-XDshould-stop.ifError=PARSE", "-XDshould-stop.ifNoError=PARSE"]
 
 
-def measured(program, name, text, runs, base):
+def times_of(program, text, runs, statuses):
+    """The least seconds of `mjrg scratch` over this text, of javac, which has to end in one of these statuses, and of reading."""
     with tempfile.TemporaryDirectory() as folder:
-        Path(folder, "Main.java").write_text(MAIN)
-        Path(folder, "First.java").write_text("class A { }\n")
-        Path(folder, "Text.java").write_text(text)
-        files = ["Main.java", "First.java", "Text.java"]
-        ours = least_time([program, "scratch"] + files, folder, runs, (1,)) - base["mjrg"]
-        parse = ["javac", "-proc:none", "-XDshould-stop.ifError=PARSE", "-XDshould-stop.ifNoError=PARSE"]
-        # javac's comments don't nest and its literals end at 2147483647, so some of these texts it refuses
-        javac = least_time(parse + ["Text.java"], folder, runs, (0, 1)) - base["javac"]
-        reading = least_time(["cat", "Text.java"], folder, runs, (0,))
-    size = len(text)
+        files = written(folder, {"Main.java": MAIN, "First.java": "class A { }\n", "Text.java": text})
+        return {"mjrg": least_time([program, "scratch", *files], folder, runs, (1,)),
+                "javac": least_time([*PARSE, "Text.java"], folder, runs, statuses),
+                "reading": least_time(["cat", "Text.java"], folder, runs)}
+
+
+def compared(program, name, text, runs, base):
+    # javac's comments don't nest and its literals end at 2147483647, so some of these texts it refuses
+    took = times_of(program, text, runs, (0, 1))
+    ours, javac, size = took["mjrg"] - base["mjrg"], took["javac"] - base["javac"], len(text)
     print(f"{name}: {size} bytes, mjrg {size / max(ours, 1e-6) / 1e6:.1f} MB/s, time beside javac's parser "
-          f"{ours / max(javac, 1e-6):.2f}, time beside reading {ours / max(reading, 1e-6):.1f}")
-
-
-def startup(program, runs):
-    with tempfile.TemporaryDirectory() as folder:
-        Path(folder, "Main.java").write_text(MAIN)
-        Path(folder, "First.java").write_text("class A { }\n")
-        Path(folder, "Text.java").write_text("class A { }\n")
-        files = ["Main.java", "First.java", "Text.java"]
-        parse = ["javac", "-proc:none", "-XDshould-stop.ifError=PARSE", "-XDshould-stop.ifNoError=PARSE", "Text.java"]
-        return {"mjrg": least_time([program, "scratch"] + files, folder, runs, (1,)),
-                "javac": least_time(parse, folder, runs, (0,))}
+          f"{ours / max(javac, 1e-6):.2f}, time beside reading {ours / max(took['reading'], 1e-6):.1f}")
 
 
 def main():
     parser = argparse.ArgumentParser(description=__doc__, formatter_class=argparse.RawDescriptionHelpFormatter)
-    parser.add_argument("program", nargs="?", type=program_path, default=str(Path(__file__).resolve().parent.parent / "mjrg"))
-    parser.add_argument("--runs", type=int, default=5, help="runs of each program, of which the least counts (5)")
-    options = parser.parse_args()
+    options = asked(parser, runs=5)
     subprocess.run([options.program, "--help"], stdout=subprocess.DEVNULL, check=True)
-    base = startup(options.program, options.runs)
+    base = times_of(options.program, "class A { }\n", options.runs, (0,))
     print(f"start: mjrg {base['mjrg']:.4f} s, javac {base['javac']:.3f} s")
     for name, text in shapes():
-        measured(options.program, name, text, options.runs, base)
+        compared(options.program, name, text, options.runs, base)
 
 
 if __name__ == "__main__":

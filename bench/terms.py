@@ -1,52 +1,15 @@
 """Times checks of unchanged sources over a session of another profile, and behind sessions of form 2, of 400 classes with
 2,000 methods, beside an unchanged check in one profile and form 1."""
-import hashlib
-import multiprocessing
 import shutil
 import tempfile
 from pathlib import Path
 
-from measuring import measured
+from chains import lengthen, session_path
+from measuring import check
 from shapes import ordinary
 
 # Behind how many sessions of form 2 a check is timed.
 BEHIND = (1, 2, 10, 50)
-# How many bytes stand in front of a session's number, and in front of its records.
-NUMBER_AT, RECORDS_AT = 6, 42
-
-
-def check(program, folder, names, *words):
-    return measured([program, "check", "--cache", "cache", *words, *names], folder)[0]
-
-
-def session_path(folder, number):
-    return Path(folder, "cache", "c0000", f"s{number:04}.mjrg")
-
-
-def once_more(file, before):
-    """The file of an unchanged session once more, behind the one before: its number and link are others."""
-    number = int.from_bytes(before[NUMBER_AT:NUMBER_AT + 4], "big") + 1
-    body = file[:NUMBER_AT] + number.to_bytes(4, "big") + hashlib.sha256(before).digest() + file[RECORDS_AT:-32]
-    return body + hashlib.sha256(body).digest()
-
-
-def lengthen(folder, count):
-    """Makes a chain, whose last session is an unchanged one, so many sessions long. Another process does it: what a program
-    has at most is told together with what this process had when it started it."""
-    writer = multiprocessing.Process(target=write_sessions, args=(folder, count))
-    writer.start()
-    writer.join()
-    if writer.exitcode != 0:
-        raise OSError(f"no chain of {count} sessions can be written")
-
-
-def write_sessions(folder, count):
-    """Writes the sessions behind those that are there, each an unchanged one."""
-    there = len(list(session_path(folder, 0).parent.iterdir()))
-    unchanged = before = session_path(folder, there - 1).read_bytes()
-    for number in range(there, count):
-        before = once_more(unchanged, before)
-        session_path(folder, number).write_bytes(before)
 
 
 def least_checks(program, folder, names, number, runs, terms):
@@ -55,7 +18,7 @@ def least_checks(program, folder, names, number, runs, terms):
     for _ in range(runs):
         took = []
         for words in terms:
-            took.append(check(program, folder, names, *words))
+            took.append(check(program, folder, names, *words).seconds)
             session_path(folder, number).unlink()
         least = [min(pair) for pair in zip(took, least or took)]
     return least

@@ -19,8 +19,10 @@ import tempfile
 from pathlib import Path
 
 sys.dont_write_bytecode = True
-from measuring import measured, program_path  # noqa: E402
-from rechecks import EDITS, checked, times_of  # noqa: E402
+from chains import session_files, session_path  # noqa: E402
+from measuring import check, measured, program_path  # noqa: E402
+from projects import EDITS, edit_file  # noqa: E402
+from rechecks import times_of  # noqa: E402
 from shapes import SHAPES  # noqa: E402
 
 # What valgrind says of all instructions.
@@ -32,9 +34,9 @@ AUDITED = 3
 def chain(program, folder, names):
     """Writes unchanged sessions, which no check touches. Answers the session files."""
     for _ in range(AUDITED):
-        checked(program, folder, names)
+        check(program, folder, names)
     shutil.move(Path(folder, "cache"), Path(folder, "audited"))
-    return sorted(str(path) for path in Path(folder, "audited").glob("c*/s*.mjrg"))
+    return session_files(folder, "audited")
 
 
 def least_times(programs, folder, names, runs):
@@ -44,7 +46,7 @@ def least_times(programs, folder, names, runs):
     for turn in range(runs):
         for place in range(len(programs)) if turn % 2 == 0 else reversed(range(len(programs))):
             took = times_of(programs[place], folder, names, 1)
-            took["audit"] = measured([programs[place], "audit", *files], folder)[0]
+            took["audit"] = measured([programs[place], "audit", *files], folder).seconds
             least[place] = {title: min(seconds, least[place].get(title, seconds)) for title, seconds in took.items()}
     return least
 
@@ -63,17 +65,16 @@ def instructions(words, folder):
 def counted(program, folder, names, files):
     """The instructions of `scratch`, of a first check, of one behind it after each edit, and of an audit of these session files."""
     counts = {"scratch": instructions([program, "scratch", *names], folder)}
-    path, text = Path(folder, names[-1]), Path(folder, names[-1]).read_text()
-    check = [program, "check", "--cache", "cache", *names]
+    words = [program, "check", "--cache", "cache", *names]
     for title, edit in EDITS.items():
         if Path(folder, "cache").exists():
             # The first session stays, and what an edit's check has written behind it goes.
-            Path(folder, "cache", "c0000", "s0001.mjrg").unlink()
+            session_path(folder, 1).unlink()
         else:
-            counts["first"] = instructions(check, folder)
-        path.write_text(edit(text, 7))
-        counts[title] = instructions(check, folder)
-        path.write_text(text)
+            counts["first"] = instructions(words, folder)
+        text = edit_file(folder, names[-1], edit, 7)
+        counts[title] = instructions(words, folder)
+        Path(folder, names[-1]).write_text(text)
     shutil.rmtree(Path(folder, "cache"))
     counts["audit"] = instructions([program, "audit", *files], folder)
     return counts
