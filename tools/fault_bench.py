@@ -10,11 +10,10 @@ import subprocess
 import tempfile
 from pathlib import Path
 
+import built
+from built import SECONDS, TOP
 from random_projects import Project
 
-TOP = Path(__file__).resolve().parent.parent
-BUILT = TOP / "crates" / "cli" / "out" / "cli"
-SECONDS = 60
 M1 = "class M { public static void main(String[] a) { System.out.println(%s); } }"
 TWO = "class A { public int f() { return %s; } public int g() { return 2; } }"
 OVERRIDING = "class A { public A g() { return this; } } class B extends A { public B g() { return this; } }"
@@ -91,7 +90,8 @@ class Command:
         self.cut, self.ways = cut or {}, ways
         self.chain = [f"cache/c0000/s{number:04}.mjrg" for number in range(len(checked))]
         names = [file for file, _ in project[version]]
-        self.words = words + {"audit": self.chain, "show": self.chain, "help": []}.get(words[0], names)
+        chain = dict.fromkeys(("audit", "show", "why"), self.chain)
+        self.words = words + {**chain, "help": [], "explain": []}.get(words[0], names)
 
 
 def commands(projects):
@@ -147,6 +147,39 @@ def of_terms():
             Command("audit in form 2", project, ["audit"], [0, 1, 0], terms=IN_FORM_2),
             Command("audit of both profiles and forms", project, ["audit"], [0, 0, 1], terms=MIXED),
             Command("show in form 2", project, ["show"], [0, 1, 0], terms=IN_FORM_2)]
+
+
+def of_chains():
+    """What is said of a chain beside its last session's records: causes, graphs, sources, and each file as it is taken."""
+    one, two, faulty, profiles = (*(worked()[name] for name in ("one class", "two classes", "a fault")), overriding())
+    check = ["check", "--cache", "cache"]
+    return [Command("why of one session", one, ["why"], [0]), Command("why of an edit", two, ["why"], [0, 1]),
+            Command("why of a key", two, ["why", "--of", "Answer"], [0, 1]),
+            Command("why of a key that isn't there", one, ["why", "--of", "Diags N"], [0, 1]),
+            Command("why in form 2", profiles, ["why"], [0, 1, 1], terms=IN_FORM_2),
+            Command("why over another profile", profiles, ["why"], [0, 0], terms=["", "--profile 2"]),
+            Command("why of a session that is cut", one, ["why"], [0, 1], cut={1: 1000}),
+            Command("graph of an edit", two, ["show", "--dot"], [0, 1]),
+            Command("graph of a key", two, ["show", "--dot", "--of", "Answer"], [0, 1]),
+            Command("graph of a key that isn't there", one, ["show", "--dot", "--of", "Answers"], [0]),
+            Command("messages of scratch", faulty, ["scratch", "--messages"]),
+            Command("messages of check", faulty, [*check, "--messages"], [0], 1),
+            Command("explain", one, ["explain", "E304", "14.9", "3.1"]),
+            Command("explain of an unknown code", one, ["explain", "E304", "E999"]),
+            Command("audit against its sources", two, ["audit", "--source", "M.java"], [0, 1, 0]),
+            Command("audit against other sources", two, ["audit", "--source", "M.java"], [0, 1, 0], 1),
+            Command("audit against no source", one, ["audit", "--source", "nowhere"], [0]),
+            Command("audit with progress", one, ["audit", "--progress"], [0, 1, 0]),
+            Command("audit with progress of a session that is cut", one, ["audit", "--progress"], [0, 1, 0], cut={2: 1000})]
+
+
+def behind_progress(right, error):
+    """Standard error without the lines on files that the run took, as the right one has them, of a run that says them."""
+    for line in right.splitlines(keepends=True):
+        if not re.fullmatch(rb"cache/c\d+/s\d+\.mjrg: session \d+, \d+ executed, \d+ green\n", line) or not error.startswith(line):
+            break
+        error = error[len(line):]
+    return error
 
 
 Outcome = collections.namedtuple("Outcome", "status error output files folders")
@@ -249,26 +282,24 @@ def tried(ways, program, shim_path, command):
     return command.name, {way: counts for way, counts in came.items() if counts}, wrong
 
 
-def arguments(parser):
-    """Adds the arguments of both tools."""
-    parser.add_argument("program", metavar="PROGRAM", nargs="?", default=BUILT, type=Path,
-                        help="the executable (crates/cli/out/cli)")
-    parser.add_argument("--long", action="store_true")
-    parser.add_argument("--brief", action="store_true")
-    parser.add_argument("--only", metavar="WORDS", default="")
-    parser.add_argument("--jobs", metavar="N", type=int, default=os.cpu_count())
+def arguments(about):
+    """A parser of the arguments of both tools."""
+    made = built.arguments(about)
+    made.add_argument("--long", action="store_true")
+    made.add_argument("--brief", action="store_true")
+    made.add_argument("--only", metavar="WORDS", default="")
+    made.add_argument("--jobs", metavar="N", type=int, default=os.cpu_count())
+    return made
 
 
-def asked(parser, options):
-    """The program and the commands that are asked for."""
-    program = options.program.resolve()
-    if not (program.is_file() and os.access(program, os.X_OK)):
-        parser.error(f"no program at {program}: tools/build builds it")
+def asked(parser):
+    """What this parser reads of the command line, and the commands that are asked for."""
+    options = built.asked(parser)
     if compiler() is None:
         parser.error("there is no C compiler for tools/faults.c")
     projects = {**worked(), **(longer() if options.long else {})}
-    made = commands(projects) + others() + of_terms()
-    return program, [command for command in made if options.only in command.name]
+    made = commands(projects) + others() + of_terms() + of_chains()
+    return options, [command for command in made if options.only in command.name]
 
 
 def compiler():

@@ -8,6 +8,9 @@ import copy
 import random
 import re
 from dataclasses import dataclass, field
+from pathlib import Path
+
+from session_format import FORMS, PROFILES
 
 PLAIN = ["int", "boolean", "int[]"]
 # One phrase in so many is made for another type than the one that is wanted.
@@ -128,6 +131,11 @@ class Phrases:
         return f"System.out.println({self.expression('int')});"
 
 
+def random_terms(chance):
+    """The words of a command for a random profile, and those for a random form."""
+    return ["--profile", str(chance.choice(PROFILES))], ["--form", str(chance.choice(FORMS))]
+
+
 class Project:
     """A project that is edited at random. The same seed gives the same texts and edits."""
 
@@ -226,6 +234,15 @@ class Project:
     def texts(self):
         """The names of the files and their texts, in order."""
         return [(file.name, file_text(file)) for file in self.files]
+
+    def write(self, folder):
+        """Writes the files into this folder, in place of those that were there. Returns their names, in order."""
+        for old in Path(folder).glob("*.java"):
+            old.unlink()
+        texts = self.texts()
+        for name, text in texts:
+            (Path(folder) / name).write_text(text)
+        return [name for name, _ in texts]
 
     # Edits. One that finds nothing to be edited does nothing.
 

@@ -1,6 +1,6 @@
 """Session files by their byte format alone: records and sessions, spelled as a file, and read back from one.
 
-tools/sessions and tools/forge use it. Nothing is asked of the program, and little is tested here: a session may be
+tools/ and bench/ use it. Nothing is asked of the program, and little is tested here: a session may be
 spelled that is none, and of what is read just the version and the lengths are looked at, and in form 2 that the
 previous session has each green record's result.
 """
@@ -10,6 +10,8 @@ from dataclasses import dataclass
 
 INPUT, EXECUTED, GREEN = 0, 1, 2
 NO_LINK = bytes(32)
+# What stands in front of what is there, and in place of what isn't.
+SOME, NONE = b"\x01", b"\x00"
 # The numbers of the profiles and of the forms.
 PROFILES = FORMS = (1, 2)
 # Kinds by their numbers.
@@ -23,6 +25,11 @@ def count(number):
     return struct.pack(">Q", number)
 
 
+def token(number):
+    """The number of a token, or a literal."""
+    return struct.pack(">I", number)
+
+
 def name(text):
     """A name with its length in front, which is 0 where there is none."""
     return bytes([len(text)]) + text
@@ -30,6 +37,11 @@ def name(text):
 
 def items(parts):
     return count(len(parts)) + b"".join(parts)
+
+
+def source(text):
+    """A file's text, which is there."""
+    return SOME + count(len(text)) + text
 
 
 def sha256(data):
@@ -114,6 +126,13 @@ def chain(sessions, first=0):
         files.append(session.spelled(number, link))
         link = sha256(files[-1])
     return files
+
+
+def once_more(file, before):
+    """The file of a session once more, behind the one before: its number and link are others."""
+    number = int.from_bytes(before[6:10], "big") + 1
+    body = file[:6] + struct.pack(">I", number) + sha256(before) + file[42:-32]
+    return body + sha256(body)
 
 
 class Bytes:
