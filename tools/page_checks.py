@@ -7,7 +7,7 @@ from pathlib import Path
 
 TOP = Path(__file__).resolve().parent.parent
 # The most words of a page, as wc -w counts them.
-MOST_WORDS = {"README.md": 2500, "docs/PROOFS.md": 4000, "docs/ARCHITECTURE.md": 4500, "docs/DECISIONS.md": 5500,
+MOST_WORDS = {"README.md": 1900, "docs/PROOFS.md": 4000, "docs/ARCHITECTURE.md": 4500, "docs/DECISIONS.md": 5500,
               "docs/CONTRIBUTING.md": 2400, "bench/README.md": 1500}
 # The pages in whose tables each contract, definition, mutant and file of crates/ has to be there.
 OF_CRATES = ("docs/PROOFS.md", "docs/ARCHITECTURE.md", "docs/EVIDENCE.md")
